@@ -1,0 +1,84 @@
+-- Code words: each byte has a word of bits, and a field is written as raw bits and words.
+use Rattle.std.specs.Prelude.{◌≡◌, ℕ, zero, suc, ◌+◌, ◌*◌, ◌/◌, ◌%◌, ◌^◌, ◌<◌, ◌==◌, if◌then◌else◌, Bool, true, false, List, [], ◌∷◌, ◌++◌, length, map, take, drop, slice_index_or, Option, Some, None, option_and_then, nat_lt, Result, Ok, Err}
+use Rattle.std.specs.List.{range_with_len}
+use Rattle.q3_bits.specs.declared.reader.ReadError.{ReadError}
+use Rattle.q3_bits.specs.declared.reader.ReadError.TheVariants.{End}
+use Rattle.q3_bits.specs.Bits.{low_bits, number_of}
+
+-- the word of a byte
+abbrev pub word_of : List (List Bool) → ℕ → List Bool
+word_of words byte = slice_index_or words byte []
+
+-- there is a word for each byte, and none begins another
+pub record IsCode (words : List (List Bool)) : Type 0 where
+  pub count : length words ≡ 256
+  pub prefix_free : (i j : ℕ) (rest : List Bool) → i < 256 → j < 256 → word_of words i ++ rest ≡ word_of words j → i ≡ j
+
+-- the plain code: the word of a byte is its eight bits
+unfoldable pub plain_words : List (List Bool)
+plain_words = map (low_bits 8) (range_with_len 0 256)
+
+-- the words of a number's bytes, so many, least byte first
+unfoldable pub bytes_bits : List (List Bool) → ℕ → ℕ → List Bool
+bytes_bits words zero value = []
+bytes_bits words (suc count) value = word_of words (value % 256) ++ bytes_bits words count (value / 256)
+
+-- a field of so many bits: those over whole bytes go first, raw, and then the bytes as their words
+unfoldable pub field_bits : List (List Bool) → ℕ → ℕ → List Bool
+field_bits words width value = low_bits (width % 8) value ++ bytes_bits words (width / 8) (value / 2 ^ (width % 8))
+
+infixl 10 ◌>>=◌
+abbrev ◌>>=◌ : {A B : Type 0} → Option A → (A → Option B) → Option B
+o >>= f = option_and_then f o
+
+-- so many raw bits from the front, as a number, and what is behind them
+unfoldable pub raw_at : ℕ → List Bool → Option (ℕ × List Bool)
+raw_at count bits = if nat_lt (length bits) count then None else Some (number_of (take count bits), drop count bits)
+
+-- what is behind a word that begins the bits
+unfoldable pub behind : List Bool → List Bool → Option (List Bool)
+behind [] bits = Some bits
+behind (w ∷ word) [] = None
+behind (true ∷ word) (true ∷ bits) = behind word bits
+behind (false ∷ word) (false ∷ bits) = behind word bits
+behind (w ∷ word) (b ∷ bits) = None
+
+abbrev pub or_else : Option (List Bool) → ℕ → Option (ℕ × List Bool) → Option (ℕ × List Bool)
+or_else (Some rest) byte others = Some (byte, rest)
+or_else None byte others = others
+
+-- the first of these bytes whose word begins the bits, counted from `byte`, and what is behind the word
+unfoldable pub byte_from : ℕ → List (List Bool) → List Bool → Option (ℕ × List Bool)
+byte_from byte [] bits = None
+byte_from byte (word ∷ words) bits = or_else (behind word bits) byte (byte_from (byte + 1) words bits)
+
+-- so many bytes by their words, least byte first
+unfoldable pub bytes_at : List (List Bool) → ℕ → List Bool → Option (ℕ × List Bool)
+bytes_at words zero bits = Some (0, bits)
+bytes_at words (suc count) bits = do
+  first ← byte_from 0 words bits
+  others ← bytes_at words count first.1
+  Some (first.0 + 256 * others.0, others.1)
+
+-- the value of a field of so many bits at the front, and what is behind it
+unfoldable pub field_at : List (List Bool) → ℕ → List Bool → Option (ℕ × List Bool)
+field_at words width bits = do
+  raw ← raw_at (width % 8) bits
+  bytes ← bytes_at words (width / 8) raw.1
+  Some (raw.0 + 2 ^ (width % 8) * bytes.0, bytes.1)
+
+-- the bits are the front of a field's text that goes on
+abbrev pub IsCutShort : List (List Bool) → ℕ → List Bool → Type 0
+IsCutShort words width bits = (value : ℕ) × (more : List Bool) × (bits ++ more ≡ field_bits words width value)
+
+-- why there is no value at the front: with words that leave no bits over, the bits have ended
+abbrev pub cause_of : List (List Bool) → ℕ → List Bool → ReadError
+cause_of words width bits = End
+
+abbrev pub or_cause : Option (ℕ × List Bool) → ReadError → Result (ℕ × List Bool) ReadError
+or_cause (Some found) cause = Ok found
+or_cause None cause = Err cause
+
+-- what a reader answers: the value and what is behind it, or why there is none
+unfoldable pub field_read : List (List Bool) → ℕ → List Bool → Result (ℕ × List Bool) ReadError
+field_read words width bits = or_cause (field_at words width bits) (cause_of words width bits)

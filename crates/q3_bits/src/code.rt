@@ -1,0 +1,77 @@
+//! Code words: the bits that stand for each byte of a message. Keeps the rule "code words".
+
+ghost use Rattle.std.specs.Prelude.{◌≡◌, ◌≤◌, Bool, List, IfOk, IfSome, length, min, take};
+ghost use Rattle.q3_bits.specs.Bits.{number_of};
+ghost use Rattle.q3_bits.specs.Words.{plain_words, word_of, byte_from};
+
+use std::alloc::{AllocError, Global};
+use std::marker::Model;
+
+/// Want of memory, and nothing else.
+pub type NoMemory = AllocError;
+
+/// The bits of a code word, least first, in the low `length` bits of a number.
+#[derive(Clone, Copy)]
+pub struct Word {
+    pub bits: u32,
+    pub length: u8,
+}
+
+/// A table of 256 code words, one for each byte. To a caller it is the list of the words.
+#[derive(Drop)]
+pub struct Code {
+    words: Vec<Word>,
+}
+
+impl Model for Code {
+    ghost use Rattle.std.specs.Prelude.{◌≡◌, Bool, List, length};
+    ghost use Rattle.q3_bits.specs.Table.{words_of, AreShort};
+
+    ghost Value = { List (List Bool) };
+
+    ghost view = { λ c. words_of c.words.items };
+
+    ghost invariant = { AreShort };
+}
+
+impl Code {
+    ghost use Rattle.q3_bits.specs.Table.{bits_of_word, IsWord};
+    ghost use Rattle.q3_bits.specs.Place.{behind_length};
+
+    /// The plain code: the word of a byte is its eight bits, least first.
+    /// `Err` is want of memory.
+    pub fn plain(alloc: Global) -> Result<Code, NoMemory>
+        ensures { IfOk result (λ code. code ≡ plain_words) }
+    {
+        let mut words = Vec::with_capacity(alloc, 256)?;
+        for bits in 0..256 {
+            words.push(Word { bits, length: 8 })?;
+        }
+        Ok(Code { words })
+    }
+
+    /// The word of a byte.
+    pub(crate) fn word(&self, byte: u8) -> Word
+        ensures bits { bits_of_word result ≡ word_of self.now byte }
+        ensures word { IsWord result }
+    {
+        self.words[byte as usize]
+    }
+
+    /// The first byte whose word begins the bits to be read, and the word's length.
+    /// `window` is the number that the next `count` of them spell: 24, or all where fewer are left.
+    pub(crate) fn find(&self, window: u32, count: u32) -> Option<(u8, u8)>
+        requires { count ≤ 24 }
+        ensures found { (left : List Bool) → count ≡ min 24 (length left) → window ≡ number_of (take count left)
+            → behind_length left result ≡ byte_from 0 self.now left }
+        ensures short { IfSome result (λ found. found.1 ≤ count) }
+    {
+        for (byte, word) in self.words.iter().enumerate() {
+            let length = u32::from(word.length);
+            if length <= count && window % (1 << length) == word.bits {
+                return Some((byte as u8, word.length));
+            }
+        }
+        None
+    }
+}
