@@ -1,5 +1,5 @@
 -- What a writer and a reader of bits are to their callers.
-use Rattle.std.specs.Prelude.{ℕ, Bool, List, Result, Ok, Err}
+use Rattle.std.specs.Prelude.{◌≡◌, ℕ, Bool, List, ◌++◌, Result, Ok, Err}
 use Rattle.q3_bits.specs.declared.reader.ReadError.{ReadError}
 
 -- what was written so far, by which words, and how many bytes the message may have
@@ -18,3 +18,8 @@ pub record Reading : Type 0 where
 abbrev pub with_rest : {T : Type 0} → {E : Type 0} → List Bool → Result T E → Result (T × List Bool) E
 with_rest left (Ok value) = Ok (value, left)
 with_rest left (Err e) = Err e
+
+-- a front of the text was written behind what stood there
+abbrev pub Extends : Writing → Writing → List Bool → Type 0
+Extends old new text = (written : List Bool) × (rest : List Bool) × (written ++ rest ≡ text)
+    × (new ≡ record old { bits = old.bits ++ written })

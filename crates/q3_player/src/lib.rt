@@ -1,2 +1,11 @@
-//! To come.
+//! Player states, and the delta in which a message carries one.
 #![tactic(auto)]
+
+pub mod laws;
+pub mod reading;
+pub mod state;
+pub mod writing;
+
+pub use reading::{PlayerError, read_player};
+pub use state::PlayerState;
+pub use writing::write_player;

@@ -1,0 +1,4 @@
+pub mod State
+pub mod Delta
+pub mod Spelling
+pub mod Laws
