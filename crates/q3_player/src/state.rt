@@ -20,6 +20,7 @@ impl PlayerState {
     ghost use Rattle.q3_player.specs.State.{zero_player, normal_player};
 
     /// The state with nothing in it.
+    #[tactic(auto, unfolding(crate::specs::State::zero_player))]
     pub fn zero() -> PlayerState
         ensures { result ≡ zero_player }
     {
@@ -37,8 +38,8 @@ impl PlayerState {
         ensures { result ≡ normal_player self.now }
     {
         let mut words = [0; 64];
-        for (word, given) in words[..FIELDS].iter_mut().zip(&self.words) {
-            *word = given % (1 << 16);
+        for k in 0..FIELDS {
+            words[k] = self.words[k] % (1 << 16);
         }
         PlayerState { words, ..*self }
     }

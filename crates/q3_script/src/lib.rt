@@ -1,2 +1,14 @@
-//! To come.
+//! The script language: each line of a script is an event of a replay.
 #![tactic(auto)]
+
+pub mod address;
+pub mod cause;
+pub mod event;
+mod line;
+mod number;
+mod script;
+
+pub use address::Address;
+pub use cause::{LineCause, ScriptError, ScriptKind};
+pub use event::Event;
+pub use script::read_script;

@@ -1,0 +1,4 @@
+pub mod Numbers
+pub mod Lines
+pub mod Grammar
+pub mod Script

@@ -1,0 +1,55 @@
+//! Kinds of scripts, and why a script is refused.
+
+ghost use Rattle.std.specs.Prelude.{◌≡◌};
+ghost use Rattle.q3_script.specs.declared.cause.ScriptError.TheVariants.{NoMemory};
+
+use std::alloc::{AllocError, AllocFailed};
+
+/// The command that takes the script.
+#[derive(Clone, Copy, Debug, PartialEq, Eq)]
+pub enum ScriptKind {
+    Replay,
+}
+
+/// Why a line is refused: the first cause in this order.
+#[derive(Clone, Copy, Debug, PartialEq, Eq)]
+pub enum LineCause {
+    /// The file is longer than a script may be; its line is 0.
+    Large,
+    /// The script has its 65,536 events already.
+    Many,
+    /// The first word isn't one of a line that the command takes.
+    Word,
+    /// The line has too many or too few words.
+    Count,
+    /// A word isn't its number, or is out of its range.
+    Number,
+    /// A word isn't a field, or its index doesn't rise.
+    Fields,
+    /// The word isn't an address.
+    Address,
+}
+
+/// Why no script could be read.
+#[derive(Clone, Copy, Debug, PartialEq, Eq)]
+pub enum ScriptError {
+    NoMemory,
+    /// The first bad line, counted from 1, and its first cause.
+    Line { line: u32, cause: LineCause },
+}
+
+impl From<AllocError> for ScriptError {
+    ghost from_gives = { λ _ e. e ≡ NoMemory };
+
+    fn from(_: AllocError) -> ScriptError {
+        ScriptError::NoMemory
+    }
+}
+
+impl<T: Drop> From<AllocFailed<T>> for ScriptError {
+    ghost from_gives = { λ _ e. e ≡ NoMemory };
+
+    fn from(_: AllocFailed<T>) -> ScriptError {
+        ScriptError::NoMemory
+    }
+}

@@ -1,0 +1,28 @@
+//! The events of a replay.
+
+use crate::address::Address;
+use q3_player::PlayerState;
+
+/// What one line of a script says: one call of one end, or something that the game hands in.
+/// `c` is the number of a client, of which there is one at this stage, 0.
+#[derive(Clone, Copy, Debug, PartialEq, Eq)]
+pub enum Event {
+    /// A client joins, with its challenge, its qport, how many old moves it repeats, and its address.
+    Client {
+        c: u8,
+        challenge: u32,
+        qport: u16,
+        dup: u8,
+        address: Address,
+    },
+    /// The server's time, in milliseconds.
+    Time { time: u32 },
+    /// The whole state of a client's player.
+    Player { c: u8, player: PlayerState },
+    /// The server makes a datagram for the client.
+    Serve { c: u8 },
+    /// The datagram of this number, counted from 1, arrives.
+    Deliver { datagram: u32 },
+    /// The client's newest accepted snapshot is printed.
+    Show { c: u8 },
+}

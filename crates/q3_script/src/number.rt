@@ -1,0 +1,65 @@
+//! Numbers in decimal, and the words that are made of several.
+
+ghost use Rattle.std.specs.Prelude.{◌≡◌, ◌≤◌, IfSome, option_map};
+ghost use Rattle.q3_script.specs.Numbers.{number_at, cut, address_at, pair_at};
+
+use crate::address::Address;
+
+/// The number that a word spells, if it is one from `low` to `high`: digits alone, with no 0 before others.
+pub fn number(word: &[u8], low: u32, high: u32) -> Option<u32>
+    ensures { result ≡ number_at low high word.now }
+{
+    if word.is_empty() || (word.len() > 1 && word[0] == b'0') {
+        return None;
+    }
+    let mut value: u32 = 0;
+    for byte in word {
+        if !byte.is_ascii_digit() {
+            return None;
+        }
+        value = value.checked_mul(10)?.checked_add(u32::from(byte - b'0'))?;
+    }
+    (low <= value && value <= high).then_some(value)
+}
+
+/// What stands before and behind the first such byte.
+pub fn cut_at(text: &[u8], byte: u8) -> Option<(&[u8], &[u8])>
+    ensures { option_map (λ parts. (parts.0.now, parts.1.now)) result ≡ cut byte text.now }
+{
+    for (k, other) in text.iter().enumerate() {
+        if *other == byte {
+            return Some((&text[..k], &text[k + 1..]));
+        }
+    }
+    None
+}
+
+/// The address that a word spells.
+#[tactic(auto, unfolding(crate::specs::Numbers::address_at))]
+pub fn address(word: &[u8]) -> Option<Address>
+    ensures { result ≡ address_at word.now }
+{
+    let (host, port) = cut_at(word, b':')?;
+    let (a, others) = cut_at(host, b'.')?;
+    let (b, others) = cut_at(others, b'.')?;
+    let (c, d) = cut_at(others, b'.')?;
+    let a = number(a, 0, 255)?;
+    let b = number(b, 0, 255)?;
+    let c = number(c, 0, 255)?;
+    let d = number(d, 0, 255)?;
+    let port = number(port, 1, 65_535)? as u16;
+    Some(Address {
+        host: (a << 24) + (b << 16) + (c << 8) + d,
+        port,
+    })
+}
+
+/// The index of a field and its word.
+#[tactic(auto, unfolding(crate::specs::Numbers::pair_at))]
+pub fn pair(word: &[u8]) -> Option<(usize, u32)>
+    ensures { result ≡ pair_at word.now }
+{
+    let (index, value) = cut_at(word, b':')?;
+    let index = number(index, 0, 63)? as usize;
+    Some((index, number(value, 0, u32::MAX)?))
+}
