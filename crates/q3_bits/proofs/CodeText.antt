@@ -1,0 +1,156 @@
+-- The laws of code words, bytes and fields.
+use Rattle.std.proofs.Common.{◌≡◌, ℕ, zero, suc, ◌+◌, ◌-◌, ◌*◌, ◌/◌, ◌%◌, ◌^◌, ◌<◌, ◌≤◌, Bool, true, false, cond, eqb, ltb, List, [], ◌∷◌, ◌++◌, length, get_or, take, drop, map, Option, Some, None, refl, sym, ap, subst, ◌∙◌, add-one, append_assoc, arith, inl, inr}
+use Rattle.std.specs.Prelude.{option_and_then}
+use Rattle.std.specs.List.{range_with_len}
+use Rattle.std.proofs.lemmas.Bool.{cases_lt, ltb-false, ltb-true, le-ltb, lt-ltb, cases_eq, cases_order}
+use Rattle.std.proofs.lemmas.Option.{same_Some, some_pair_parts, option_and_then_some}
+use Rattle.std.proofs.lemmas.Bool.Decides.{nat_tests}
+use Rattle.std.proofs.lemmas.Grind.{pow_more}
+use Rattle.std.proofs.lemmas.List.{length-append, length-take, length-drop, length-map, take-append-drop, take_at, drop_at, drop_all, take_all, drop-drop, append-nil, nil_from_length, append_cancel_left, get_or-map}
+use Rattle.std.proofs.lemmas.List.FromFn.{length-map-range_with_len, get_or-map-range_with_len}
+use Rattle.std.proofs.Math.Seq.{take-append-add}
+use Rattle.std.proofs.lemmas.Nat.{pow_pos, shr-shr, mod_below, pow-add}
+use Rattle.q3_bits.specs.Bits.{bit, low_bits, number_of, bits_of}
+use Rattle.q3_bits.specs.Words.{word_of, IsCode, plain_words, bytes_bits, field_bits, raw_at, behind, or_else, byte_from, bytes_at, field_at, IsCutShort}
+use Rattle.q3_bits.proofs.Numbers.{length-low_bits, number_of-lt, number_of-low_bits, low_bits-number_of, low_bits-add, low_bits-zero}
+
+-- ---- how the definitions go on
+
+pow_suc : (b n : ℕ) → b ^ suc n ≡ b * b ^ n
+pow_suc b n = ap (λ (j : ℕ). b ^ j) (sym (add-one n)) ∙ pow_more b n ∙ omega arith
+
+behind-nil : (bits : List Bool) → behind [] bits ≡ Some bits
+unfolding behind
+behind-nil bits = refl
+
+byte_from-nil : (byte : ℕ) (bits : List Bool) → byte_from byte [] bits ≡ None
+unfolding byte_from
+byte_from-nil byte bits = refl
+
+byte_from-cons : (byte : ℕ) (word : List Bool) (words : List (List Bool)) (bits : List Bool) → byte_from byte (word ∷ words) bits ≡ or_else (behind word bits) byte (byte_from (byte + 1) words bits)
+unfolding byte_from
+byte_from-cons byte word words bits = refl
+
+bytes_at-zero : (words : List (List Bool)) (bits : List Bool) → bytes_at words 0 bits ≡ Some (0, bits)
+unfolding bytes_at
+bytes_at-zero words bits = refl
+
+bytes_bits-zero : (words : List (List Bool)) (value : ℕ) → bytes_bits words 0 value ≡ []
+unfolding bytes_bits
+bytes_bits-zero words value = refl
+
+bytes_bits-suc : (words : List (List Bool)) (count value : ℕ) → bytes_bits words (suc count) value ≡ word_of words (value % 256) ++ bytes_bits words count (value / 256)
+unfolding bytes_bits
+bytes_bits-suc words count value = refl
+
+-- ---- a word
+
+-- what is behind a word stands behind it
+pub behind_some : (word bits rest : List Bool) → behind word bits ≡ Some rest → bits ≡ word ++ rest
+unfolding behind
+behind_some [] bits rest e = cc
+behind_some (true ∷ word) [] rest e = absurd cc
+behind_some (false ∷ word) [] rest e = absurd cc
+behind_some (true ∷ word) (true ∷ bits) rest e = ap (λ (x : List Bool). true ∷ x) (behind_some word bits rest e)
+behind_some (true ∷ word) (false ∷ bits) rest e = absurd cc
+behind_some (false ∷ word) (true ∷ bits) rest e = absurd cc
+behind_some (false ∷ word) (false ∷ bits) rest e = ap (λ (x : List Bool). false ∷ x) (behind_some word bits rest e)
+
+pub behind-append : (word rest : List Bool) → behind word (word ++ rest) ≡ Some rest
+unfolding behind
+behind-append [] rest = refl
+behind-append (true ∷ word) rest = behind-append word rest
+behind-append (false ∷ word) rest = behind-append word rest
+
+none_from : {A : Type 0} (o : Option A) → ((x : A) → o ≡ Some x → ⊥) → o ≡ None
+none_from None never = refl
+none_from (Some x) never = absurd (never x refl)
+
+-- bits that are no word and a rest have nothing behind the word
+pub behind_none : (word bits : List Bool) → ((rest : List Bool) → bits ≡ word ++ rest → ⊥) → behind word bits ≡ None
+behind_none word bits never = none_from (behind word bits) (λ rest e. never rest (behind_some word bits rest e))
+
+-- ---- a byte
+
+-- the first word of these that begins the bits
+pub byte_from_first : (words : List (List Bool)) (byte k : ℕ) (bits rest : List Bool) → k < length words → bits ≡ word_of words k ++ rest
+    → ((j : ℕ) (other : List Bool) → j < k → bits ≡ word_of words j ++ other → ⊥) → byte_from byte words bits ≡ Some (byte + k, rest)
+byte_from_first [] byte k bits rest lt begins first = absurd (omega arith)
+byte_from_first (word ∷ words) byte zero bits rest lt begins first =
+    let found : behind word bits ≡ Some rest = ap (behind word) begins ∙ behind-append word rest in
+    let same : byte + zero ≡ byte = omega arith in
+    rw (byte_from-cons, found, same) refl
+byte_from_first (word ∷ words) byte (suc k) bits rest lt begins first =
+    let passed : behind word bits ≡ None = behind_none word bits (λ other e. first 0 other (omega arith) e) in
+    let next : byte + suc k ≡ byte + 1 + k = omega arith in
+    rw (byte_from-cons, passed, next) (byte_from_first words (byte + 1) k bits rest (omega arith) begins (λ j other below e. first (suc j) other (omega arith) e))
+
+-- a byte that is read has a word, which begins the bits
+abbrev HasWord : List (List Bool) → ℕ → List Bool → ℕ × List Bool → Type 0
+HasWord words byte bits found = (k : ℕ) × (k < length words) × (found.0 ≡ byte + k) × (bits ≡ word_of words k ++ found.1)
+
+HasWord-cons : (word : List Bool) (words : List (List Bool)) (byte : ℕ) (bits : List Bool) (found : ℕ × List Bool) (o : Option (List Bool)) → behind word bits ≡ o
+    → or_else o byte (byte_from (byte + 1) words bits) ≡ Some found → (byte_from (byte + 1) words bits ≡ Some found → HasWord words (byte + 1) bits found) → HasWord (word ∷ words) byte bits found
+HasWord-cons word words byte bits found (Some rest) b e later =
+    let parts = some_pair_parts byte found.0 rest found.1 e in
+    (0, omega arith, omega (arith, parts.0), behind_some word bits rest b ∙ ap (λ (x : List Bool). word ++ x) parts.1)
+HasWord-cons word words byte bits found None b e later =
+    let at = later e in
+    (suc at.0, omega (arith, at.1), omega (arith, at.2), at.3)
+
+pub byte_from_some : (words : List (List Bool)) (byte : ℕ) (bits : List Bool) (found : ℕ × List Bool) → byte_from byte words bits ≡ Some found → HasWord words byte bits found
+byte_from_some [] byte bits found e = absurd (let none = byte_from-nil byte bits in cc)
+byte_from_some (word ∷ words) byte bits found e =
+    HasWord-cons word words byte bits found (behind word bits) refl (rw byte_from-cons at e) (λ later. byte_from_some words (byte + 1) bits found later)
+
+-- of two fronts of the same bits the shorter begins the longer
+begins_longer : (a b rest bits : List Bool) (n : ℕ) → a ++ rest ≡ b ++ bits → length a + n ≡ length b → a ++ take n rest ≡ b
+begins_longer a b rest bits n e longer = sym (take-append-add a rest n) ∙ rw (e, longer) (take_at b bits (length b) refl)
+
+-- two words that both begin the same bits are one
+same_word : (words : List (List Bool)) (code : IsCode words) (i j : ℕ) (a b : List Bool) → i < 256 → j < 256 → word_of words i ++ a ≡ word_of words j ++ b → i ≡ j
+same_word words code i j a b lt lt' e =
+    let word = word_of words i in
+    let other = word_of words j in
+    elim (cases_lt (length word) (length other)) [
+      | inl shorter ↦ code.prefix_free i j (take (length other - length word) a) lt lt' (begins_longer word other a b (length other - length word) e (omega arith))
+      | inr longer ↦ sym (code.prefix_free j i (take (length word - length other) b) lt' lt (begins_longer other word b a (length word - length other) (sym e) (omega arith)))
+    ]
+
+-- a byte's word is read as that byte
+pub byte_again : (words : List (List Bool)) (code : IsCode words) (byte : ℕ) (rest : List Bool) → byte < 256 → byte_from 0 words (word_of words byte ++ rest) ≡ Some (byte, rest)
+byte_again words code byte rest lt =
+    let found = byte_from_first words 0 byte (word_of words byte ++ rest) rest (omega (arith, code.count)) refl (λ j other below e. let same = same_word words code byte j rest other lt (omega arith) e in omega arith) in
+    let start : 0 + byte ≡ byte = omega arith in
+    rw start at found
+
+-- ---- bytes
+
+-- bytes that are read were put: their words stand at the front
+pub bytes_at_some : (words : List (List Bool)) (code : IsCode words) (count : ℕ) (bits : List Bool) (found : ℕ × List Bool) → bytes_at words count bits ≡ Some found
+    → (found.0 < 256 ^ count) × (bits ≡ bytes_bits words count found.0 ++ found.1)
+unfolding bytes_at
+bytes_at_some words code zero bits found e =
+    let parts = some_pair_parts 0 found.0 bits found.1 e in
+    (omega arith, rw bytes_bits-zero parts.1)
+bytes_at_some words code (suc count) bits found e =
+    option_and_then_some (λ first. option_and_then (λ others. Some (first.0 + 256 * others.0, others.1)) (bytes_at words count first.1)) (byte_from 0 words bits) found e
+      (λ first is-first e'. option_and_then_some (λ others. Some (first.0 + 256 * others.0, others.1)) (bytes_at words count first.1) found e' (λ others is-others e''.
+        let parts = some_pair_parts (first.0 + 256 * others.0) found.0 others.1 found.1 e'' in
+        let word = byte_from_some words 0 bits first is-first in
+        let later = bytes_at_some words code count first.1 others is-others in
+        let byte : first.0 ≡ word.0 = omega (arith, word.2) in
+        let small : word.0 < 256 = omega (arith, word.1, code.count) in
+        let low : found.0 % 256 ≡ word.0 = omega (arith, parts.0) in
+        let high : found.0 / 256 ≡ others.0 = omega (arith, parts.0) in
+        (subst (λ (n : ℕ). found.0 < n) (sym (pow_suc 256 count)) (omega (arith, later.0, parts.0)),
+         word.3 ∙ rw (bytes_bits-suc, low, high, append_assoc, ← parts.1, ← later.1) refl)))
+
+-- bytes that are put are read again
+pub bytes_again : (words : List (List Bool)) (code : IsCode words) (count value : ℕ) (rest : List Bool) → value < 256 ^ count → bytes_at words count (bytes_bits words count value ++ rest) ≡ Some (value, rest)
+unfolding bytes_at
+bytes_again words code zero value rest lt = let none : value ≡ 0 = omega arith in rw (bytes_bits-zero, none) refl
+bytes_again words code (suc count) value rest lt =
+    let high : value / 256 < 256 ^ count = omega (arith, pow_suc 256 count) in
+    let whole : value % 256 + 256 * (value / 256) ≡ value = omega arith in
+    rw (bytes_bits-suc, append_assoc, byte_again words code (value % 256) (bytes_bits words count (value / 256) ++ rest) (omega arith), bytes_again words code count (value / 256) rest high, whole) refl
