@@ -3,16 +3,17 @@ use Rattle.std.proofs.Common.{◌≡◌, ℕ, zero, suc, ◌+◌, ◌-◌, ◌*�
 use Rattle.std.specs.Prelude.{option_and_then}
 use Rattle.std.specs.List.{range_with_len}
 use Rattle.std.proofs.lemmas.Bool.{cases_lt, ltb-false, ltb-true, le-ltb, lt-ltb, cases_eq, cases_order}
-use Rattle.std.proofs.lemmas.Option.{same_Some, some_pair_parts, option_and_then_some}
+use Rattle.std.proofs.lemmas.Option.{none-some, some_pair_parts, option_and_then_some}
 use Rattle.std.proofs.lemmas.Bool.Decides.{nat_tests}
 use Rattle.std.proofs.lemmas.Grind.{pow_more}
-use Rattle.std.proofs.lemmas.List.{length-append, length-take, length-drop, length-map, take-append-drop, take_at, drop_at, drop_all, take_all, drop-drop, append-nil, nil_from_length, append_cancel_left, get_or-map}
+use Rattle.std.proofs.lemmas.List.{length-append, length-take-le, length-take, length-drop, length-map, take-append-drop, take_at, drop_at, drop_all, take_all, drop-drop, append-nil, nil_from_length, append_cancel_left, get_or-map}
 use Rattle.std.proofs.lemmas.List.FromFn.{length-map-range_with_len, get_or-map-range_with_len}
 use Rattle.std.proofs.Math.Seq.{take-append-add}
-use Rattle.std.proofs.lemmas.Nat.{pow_pos, shr-shr, mod_below, pow-add}
+use Rattle.std.proofs.lemmas.Nat.{pow-add, shr_high, shr_below, mod_low, mul-add-lt, mod_below, pow_pos}
+use Rattle.std.proofs.Math.Nat.{mod-add-div}
 use Rattle.q3_bits.specs.Bits.{bit, low_bits, number_of, bits_of}
 use Rattle.q3_bits.specs.Words.{word_of, IsCode, plain_words, bytes_bits, field_bits, raw_at, behind, or_else, byte_from, bytes_at, field_at, IsCutShort}
-use Rattle.q3_bits.proofs.Numbers.{length-low_bits, number_of-lt, number_of-low_bits, low_bits-number_of, low_bits-add, low_bits-zero}
+use Rattle.q3_bits.proofs.Numbers.{length-low_bits, number_of-lt, number_of-low_bits, low_bits-number_of, low_bits-mod, low_bits-add, low_bits-zero}
 
 -- ---- how the definitions go on
 
@@ -154,3 +155,127 @@ bytes_again words code (suc count) value rest lt =
     let high : value / 256 < 256 ^ count = omega (arith, pow_suc 256 count) in
     let whole : value % 256 + 256 * (value / 256) ≡ value = omega arith in
     rw (bytes_bits-suc, append_assoc, byte_again words code (value % 256) (bytes_bits words count (value / 256) ++ rest) (omega arith), bytes_again words code count (value / 256) rest high, whole) refl
+
+-- ---- raw bits
+
+guard_some : {A : Type 0} (b : Bool) (x y : A) → cond b None (Some x) ≡ Some y → (b ≡ false) × (x ≡ y)
+guard_some true x y e = absurd cc
+guard_some false x y e = (refl, cc)
+
+-- raw bits that are read are the low bits of their number
+pub raw_at_some : (count : ℕ) (bits : List Bool) (found : ℕ × List Bool) → raw_at count bits ≡ Some found → (found.0 < 2 ^ count) × (bits ≡ low_bits count found.0 ++ found.1)
+unfolding raw_at
+raw_at_some count bits found e =
+    let guarded = guard_some (ltb (length bits) count) (number_of (take count bits), drop count bits) found e in
+    let enough : count ≤ length bits = ltb-false _ _ guarded.0 in
+    let number : number_of (take count bits) ≡ found.0 = ap (λ (p : ℕ × List Bool). p.0) guarded.1 in
+    let rest : drop count bits ≡ found.1 = ap (λ (p : ℕ × List Bool). p.1) guarded.1 in
+    let long : length (take count bits) ≡ count = length-take-le count bits enough in
+    let spelt : low_bits count found.0 ≡ take count bits = rw (← number) (subst (λ (n : ℕ). low_bits n (number_of (take count bits)) ≡ take count bits) long (low_bits-number_of (take count bits))) in
+    (rw (← number) (subst (λ (n : ℕ). number_of (take count bits) < 2 ^ n) long (number_of-lt (take count bits))), rw (spelt, ← rest) (sym (take-append-drop count bits)))
+
+-- the low bits of a number are read again as its remainder
+pub raw_again : (count value : ℕ) (rest : List Bool) → raw_at count (low_bits count value ++ rest) ≡ Some (value % 2 ^ count, rest)
+unfolding raw_at
+raw_again count value rest =
+    let long = length-low_bits count value in
+    let enough : ltb (length (low_bits count value ++ rest)) count ≡ false = le-ltb _ _ (omega (arith, length-append (low_bits count value) rest)) in
+    rw (enough, take_at (low_bits count value) rest count long, drop_at (low_bits count value) rest count long, number_of-low_bits) refl
+
+-- ---- a field
+
+pow_bytes : (count : ℕ) → 2 ^ (8 * count) ≡ 256 ^ count
+pow_bytes zero = refl
+pow_bytes (suc count) = ap (λ (n : ℕ). 2 ^ n) (omega arith) ∙ pow-add 2 8 (8 * count) ∙ rw (pow_bytes count, pow_suc 256 count) refl
+
+-- a width is its raw bits and its bytes
+pow_width : (width : ℕ) → 2 ^ width ≡ 2 ^ (width % 8) * 256 ^ (width / 8)
+pow_width width = ap (λ (n : ℕ). 2 ^ n) (omega arith) ∙ pow-add 2 (width % 8) (8 * (width / 8)) ∙ ap (λ (n : ℕ). 2 ^ (width % 8) * n) (pow_bytes (width / 8))
+
+pub field_bits-is : (words : List (List Bool)) (width value : ℕ) → field_bits words width value ≡ low_bits (width % 8) value ++ bytes_bits words (width / 8) (value / 2 ^ (width % 8))
+unfolding field_bits
+field_bits-is words width value = refl
+
+-- a field that is read was put: its value fits the width, and its text stands at the front
+pub field_at_some : (words : List (List Bool)) (code : IsCode words) (width : ℕ) (bits : List Bool) (found : ℕ × List Bool) → field_at words width bits ≡ Some found
+    → (found.0 < 2 ^ width) × (bits ≡ field_bits words width found.0 ++ found.1)
+unfolding field_at
+field_at_some words code width bits found e =
+    let part = 2 ^ (width % 8) in
+    option_and_then_some (λ raw. option_and_then (λ bytes. Some (raw.0 + part * bytes.0, bytes.1)) (bytes_at words (width / 8) raw.1)) (raw_at (width % 8) bits) found e
+      (λ raw is-raw e'. option_and_then_some (λ bytes. Some (raw.0 + part * bytes.0, bytes.1)) (bytes_at words (width / 8) raw.1) found e' (λ bytes is-bytes e''.
+        let parts = some_pair_parts (raw.0 + part * bytes.0) found.0 bytes.1 found.1 e'' in
+        let first = raw_at_some (width % 8) bits raw is-raw in
+        let later = bytes_at_some words code (width / 8) raw.1 bytes is-bytes in
+        let sum : found.0 ≡ bytes.0 * part + raw.0 = sym parts.0 ∙ grind arith in
+        let low : low_bits (width % 8) found.0 ≡ low_bits (width % 8) raw.0 = sym (low_bits-mod (width % 8) found.0) ∙ ap (λ (n : ℕ). low_bits (width % 8) (n % part)) sum ∙ ap (low_bits (width % 8)) (mod_low bytes.0 (width % 8) raw.0 first.0) in
+        let high : found.0 / part ≡ bytes.0 = ap (λ (n : ℕ). n / part) sum ∙ shr_high bytes.0 (width % 8) raw.0 first.0 in
+        (omega (arith, sum, pow_width width, mul-add-lt bytes.0 part raw.0 (256 ^ (width / 8)) later.0 first.0),
+         first.1 ∙ rw (field_bits-is, low, high, append_assoc, ← parts.1, ← later.1) refl)))
+
+-- a field that is put is read again
+pub field_again : (words : List (List Bool)) (code : IsCode words) (width value : ℕ) (rest : List Bool) → value < 2 ^ width → field_at words width (field_bits words width value ++ rest) ≡ Some (value, rest)
+unfolding field_at
+field_again words code width value rest lt =
+    let high : value / 2 ^ (width % 8) < 256 ^ (width / 8) = subst (λ (n : ℕ). value / 2 ^ (width % 8) < n) (pow_bytes (width / 8)) (shr_below value (8 * (width / 8)) (width % 8) (subst (λ (n : ℕ). value < 2 ^ n) (omega arith) lt)) in
+    let whole : value % 2 ^ (width % 8) + 2 ^ (width % 8) * (value / 2 ^ (width % 8)) ≡ value = mod-add-div value (2 ^ (width % 8)) in
+    rw (field_bits-is, append_assoc, raw_again, bytes_again words code (width / 8) (value / 2 ^ (width % 8)) rest high, whole) refl
+
+-- ---- the plain code
+
+pub plain_word : (byte : ℕ) → byte < 256 → word_of plain_words byte ≡ low_bits 8 byte
+unfolding plain_words
+plain_word byte lt = get_or-map-range_with_len (low_bits 8) 0 256 byte byte [] lt (omega arith)
+
+pub length-plain_words : length plain_words ≡ 256
+unfolding plain_words
+length-plain_words = length-map-range_with_len (low_bits 8) 0 256
+
+same_byte : (i j : ℕ) (rest : List Bool) → i < 256 → j < 256 → low_bits 8 i ++ rest ≡ low_bits 8 j → i ≡ j
+same_byte i j rest lt lt' e =
+    let none : rest ≡ [] = nil_from_length rest (omega (arith, length-append (low_bits 8 i) rest, length-low_bits 8 i, length-low_bits 8 j, ap length e)) in
+    let same : low_bits 8 i ≡ low_bits 8 j = sym (append-nil (low_bits 8 i)) ∙ rw none at e in
+    omega (arith, number_of-low_bits 8 i, number_of-low_bits 8 j, ap number_of same)
+
+pub plain_is_code : IsCode plain_words
+plain_is_code = record {
+  count = length-plain_words;
+  prefix_free = λ i j rest lt lt' e. same_byte i j rest lt lt' (rw (plain_word i lt, plain_word j lt') at e);
+}
+
+plain_bytes : (count value : ℕ) → bytes_bits plain_words count value ≡ low_bits (8 * count) value
+plain_bytes zero value = rw (bytes_bits-zero, low_bits-zero) refl
+plain_bytes (suc count) value =
+    let more : 8 * suc count ≡ 8 + 8 * count = omega arith in
+    rw (bytes_bits-suc, plain_word (value % 256) (omega arith), plain_bytes count (value / 256), more, low_bits-add 8 (8 * count) value, low_bits-mod 8 value) refl
+
+-- by the plain code a field is its value's bits
+pub plain_field : (width value : ℕ) → field_bits plain_words width value ≡ low_bits width value
+plain_field width value =
+    let whole : width % 8 + 8 * (width / 8) ≡ width = omega arith in
+    field_bits-is plain_words width value ∙ rw (plain_bytes, ← low_bits-add (width % 8) (8 * (width / 8)) value, whole) refl
+
+-- bits that are fewer than the width are the front of a field
+plain_front : (width : ℕ) (bits : List Bool) → length bits ≤ width → bits ++ low_bits (width - length bits) 0 ≡ field_bits plain_words width (number_of bits)
+plain_front width bits few =
+    let long : width ≡ length bits + (width - length bits) = omega arith in
+    let none : number_of bits / 2 ^ length bits ≡ 0 = ap (λ (n : ℕ). n / 2 ^ length bits) (omega arith) ∙ shr_high 0 (length bits) (number_of bits) (number_of-lt bits) in
+    sym (plain_field width (number_of bits) ∙ ap (λ (n : ℕ). low_bits n (number_of bits)) long ∙ low_bits-add (length bits) (width - length bits) (number_of bits)
+      ∙ rw (low_bits-number_of, none) refl)
+
+-- by the plain code a field is read wherever its bits are there
+plain_reads : (width : ℕ) (bits : List Bool) → width ≤ length bits → field_at plain_words width bits ≡ Some (number_of (take width bits), drop width bits)
+plain_reads width bits enough =
+    let front = take width bits in
+    let long : length front ≡ width = length-take-le width bits enough in
+    let text : field_bits plain_words width (number_of front) ≡ front = plain_field width (number_of front) ∙ subst (λ (n : ℕ). low_bits n (number_of front) ≡ front) long (low_bits-number_of front) in
+    let whole : field_bits plain_words width (number_of front) ++ drop width bits ≡ bits = rw text (take-append-drop width bits) in
+    ap (field_at plain_words width) (sym whole) ∙ field_again plain_words plain_is_code width (number_of front) (drop width bits) (subst (λ (n : ℕ). number_of front < 2 ^ n) long (number_of-lt front))
+
+-- and where nothing is read the bits have ended
+pub plain_ends : (width : ℕ) (bits : List Bool) → field_at plain_words width bits ≡ None → IsCutShort plain_words width bits
+plain_ends width bits e =
+    elim (cases_lt (length bits) width) [
+      | inl few ↦ (number_of bits, low_bits (width - length bits) 0, plain_front width bits (omega arith))
+      | inr enough ↦ absurd (none-some (number_of (take width bits), drop width bits) (sym e ∙ plain_reads width bits enough))
+    ]

@@ -112,6 +112,10 @@ pub low_bits-number_of : (bits : List Bool) → low_bits (length bits) (number_o
 low_bits-number_of [] = rw low_bits-zero refl
 low_bits-number_of (b ∷ bits) = rw (low_bits-suc, number_of-cons, eqb_bit, half_bit, low_bits-number_of bits) refl
 
+-- bits above those that are taken don't matter
+pub low_bits-mod : (count value : ℕ) → low_bits count (value % 2 ^ count) ≡ low_bits count value
+low_bits-mod count value = sym (ap (low_bits count) (number_of-low_bits count value)) ∙ subst (λ (n : ℕ). low_bits n (number_of (low_bits count value)) ≡ low_bits count value) (length-low_bits count value) (low_bits-number_of (low_bits count value))
+
 -- the low bits of a number are its lowest and those of the rest
 pub low_bits-add : (m n value : ℕ) → low_bits (m + n) value ≡ low_bits m value ++ low_bits n (value / 2 ^ m)
 low_bits-add zero n value = rw (low_bits-zero value) (let same : value / 2 ^ 0 ≡ value = omega arith in let none : zero + n ≡ n = omega arith in rw (same, none) refl)
