@@ -1,19 +1,21 @@
 -- The laws of code words, bytes and fields.
-use Rattle.std.proofs.Common.{◌≡◌, ℕ, zero, suc, ◌+◌, ◌-◌, ◌*◌, ◌/◌, ◌%◌, ◌^◌, ◌<◌, ◌≤◌, Bool, true, false, cond, eqb, ltb, List, [], ◌∷◌, ◌++◌, length, get_or, take, drop, map, Option, Some, None, refl, sym, ap, subst, ◌∙◌, add-one, append_assoc, arith, inl, inr}
+use Rattle.std.proofs.Common.{◌≡◌, ℕ, zero, suc, ◌+◌, ◌-◌, ◌*◌, ◌/◌, ◌%◌, ◌^◌, ◌<◌, ◌≤◌, Bool, true, false, cond, eqb, ltb, List, [], ◌∷◌, ◌++◌, length, get_or, take, drop, min, map, Option, Some, None, refl, sym, ap, subst, ◌∙◌, add-one, append_assoc, arith, inl, inr}
 use Rattle.std.specs.Prelude.{option_and_then}
 use Rattle.std.specs.List.{range_with_len}
 use Rattle.std.proofs.lemmas.Bool.{cases_lt, ltb-false, ltb-true, le-ltb, lt-ltb, cases_eq, cases_order}
 use Rattle.std.proofs.lemmas.Option.{none-some, some_pair_parts, option_and_then_some}
 use Rattle.std.proofs.lemmas.Bool.Decides.{nat_tests}
 use Rattle.std.proofs.lemmas.Grind.{pow_more}
-use Rattle.std.proofs.lemmas.List.{length-append, length-take-le, length-take, length-drop, length-map, take-append-drop, take_at, drop_at, drop_all, take_all, drop-drop, append-nil, nil_from_length, append_cancel_left, get_or-map}
+use Rattle.std.proofs.lemmas.List.{length-append, length-take-le, length-take, length-drop, length-map, take-append-drop, take_at, drop_at, drop_all, drop_more, take-take, take_all, drop-drop, append-nil, nil_from_length, append_cancel_left, get_or-map}
 use Rattle.std.proofs.lemmas.List.FromFn.{length-map-range_with_len, get_or-map-range_with_len}
 use Rattle.std.proofs.Math.Seq.{take-append-add}
 use Rattle.std.proofs.lemmas.Nat.{pow-add, shr_high, shr_below, mod_low, mul-add-lt, mod_below, pow_pos}
-use Rattle.std.proofs.Math.Nat.{mod-add-div}
+use Rattle.std.proofs.Math.Nat.{mod-add-div, mod-eq_of_lt}
 use Rattle.q3_bits.specs.Bits.{bit, low_bits, number_of, bits_of}
 use Rattle.q3_bits.specs.Words.{word_of, IsCode, plain_words, bytes_bits, field_bits, raw_at, behind, or_else, byte_from, bytes_at, field_at, IsCutShort}
-use Rattle.q3_bits.proofs.Numbers.{length-low_bits, number_of-lt, number_of-low_bits, low_bits-number_of, low_bits-mod, low_bits-add, low_bits-zero}
+use Rattle.q3_bits.specs.declared.code.Word.{Word}
+use Rattle.q3_bits.specs.Table.{bits_of_word, words_of, IsWord}
+use Rattle.q3_bits.proofs.Numbers.{number_of-mod, length-low_bits, number_of-lt, number_of-low_bits, low_bits-number_of, low_bits-mod, low_bits-add, low_bits-zero}
 
 -- ---- how the definitions go on
 
@@ -71,6 +73,21 @@ none_from (Some x) never = absurd (never x refl)
 pub behind_none : (word bits : List Bool) → ((rest : List Bool) → bits ≡ word ++ rest → ⊥) → behind word bits ≡ None
 behind_none word bits never = none_from (behind word bits) (λ rest e. never rest (behind_some word bits rest e))
 
+-- a word of the low bits of a number begins the bits that spell the number
+pub behind-low_bits : (count number : ℕ) (bits : List Bool) → count ≤ length bits → number_of (take count bits) ≡ number → behind (low_bits count number) bits ≡ Some (drop count bits)
+behind-low_bits count number bits enough e =
+    let long : length (take count bits) ≡ count = length-take-le count bits enough in
+    let spelt : low_bits count number ≡ take count bits = rw (← e) (subst (λ (n : ℕ). low_bits n (number_of (take count bits)) ≡ take count bits) long (low_bits-number_of (take count bits))) in
+    rw spelt (ap (behind (take count bits)) (sym (take-append-drop count bits)) ∙ behind-append (take count bits) (drop count bits))
+
+-- and no others
+pub behind-low_bits_none : (count number : ℕ) (bits : List Bool) → number < 2 ^ count → (count ≤ length bits → number_of (take count bits) ≡ number → ⊥) → behind (low_bits count number) bits ≡ None
+behind-low_bits_none count number bits fits never =
+    let long = length-low_bits count number in
+    behind_none (low_bits count number) bits (λ rest e.
+      never (omega (arith, long, length-append (low_bits count number) rest, ap length e))
+        (rw (e, take_at (low_bits count number) rest count long) (number_of-low_bits count number ∙ mod-eq_of_lt fits)))
+
 -- ---- a byte
 
 -- the first word of these that begins the bits
@@ -124,6 +141,42 @@ byte_again words code byte rest lt =
     let found = byte_from_first words 0 byte (word_of words byte ++ rest) rest (omega (arith, code.count)) refl (λ j other below e. let same = same_word words code byte j rest other lt (omega arith) e in omega arith) in
     let start : 0 + byte ≡ byte = omega arith in
     rw start at found
+
+-- ---- a table of words
+
+-- what a window of the bits tells of a word
+record IsWindow (count window : ℕ) (left : List Bool) : Type 0 where
+  within : count ≡ min 24 (length left)
+  spells : window ≡ number_of (take count left)
+
+window_of_word : (count window : ℕ) (left : List Bool) (long : ℕ) → IsWindow count window left → long ≤ count → window % 2 ^ long ≡ number_of (take long left)
+window_of_word count window left long w short = rw (w.spells, number_of-mod, take-take) refl
+
+-- the place of a word that begins the bits
+pub word_hit : (words : List Word) (i count window : ℕ) (left : List Bool) (d : Word) → i < length words → IsWord (get_or words i d) → count ≡ min 24 (length left) → window ≡ number_of (take count left)
+    → (get_or words i d).length ≤ count → window % 2 ^ (get_or words i d).length ≡ (get_or words i d).bits
+    → byte_from i (drop i (words_of words)) left ≡ Some (i, drop (get_or words i d).length left)
+word_hit words i count window left d lt is within spells short same =
+    let word = get_or words i d in
+    let found : behind (bits_of_word word) left ≡ Some (drop word.length left) = behind-low_bits word.length word.bits left (omega arith) (sym (window_of_word count window left word.length (record { within = within; spells = spells }) short) ∙ same) in
+    let here : drop i (words_of words) ≡ bits_of_word word ∷ drop (i + 1) (words_of words) = drop_more (words_of words) i [] (omega (arith, length-map words bits_of_word)) ∙ rw (get_or-map bits_of_word words i d [] lt) refl in
+    rw (here, byte_from-cons, found) refl
+
+-- one word on, where it doesn't begin them
+pub word_miss : (words : List Word) (i count window : ℕ) (left : List Bool) (d : Word) → i < length words → IsWord (get_or words i d) → count ≡ min 24 (length left) → window ≡ number_of (take count left)
+    → ((get_or words i d).length ≤ count → window % 2 ^ (get_or words i d).length ≡ (get_or words i d).bits → ⊥)
+    → byte_from i (drop i (words_of words)) left ≡ byte_from (i + 1) (drop (i + 1) (words_of words)) left
+word_miss words i count window left d lt is within spells never =
+    let word = get_or words i d in
+    let passed : behind (bits_of_word word) left ≡ None = behind-low_bits_none word.length word.bits left is.fits (λ enough same.
+      let short : word.length ≤ count = omega (arith, is.short) in
+      never short (window_of_word count window left word.length (record { within = within; spells = spells }) short ∙ same)) in
+    let here : drop i (words_of words) ≡ bits_of_word word ∷ drop (i + 1) (words_of words) = drop_more (words_of words) i [] (omega (arith, length-map words bits_of_word)) ∙ rw (get_or-map bits_of_word words i d [] lt) refl in
+    rw (here, byte_from-cons, passed) refl
+
+-- behind the last word
+pub word_end : (words : List Word) (i : ℕ) (left : List Bool) → length words ≤ i → byte_from i (drop i (words_of words)) left ≡ None
+word_end words i left past = rw (drop_all i (words_of words) (omega (arith, length-map words bits_of_word)), byte_from-nil) refl
 
 -- ---- bytes
 
@@ -181,6 +234,14 @@ raw_again count value rest =
     let long = length-low_bits count value in
     let enough : ltb (length (low_bits count value ++ rest)) count ≡ false = le-ltb _ _ (omega (arith, length-append (low_bits count value) rest)) in
     rw (enough, take_at (low_bits count value) rest count long, drop_at (low_bits count value) rest count long, number_of-low_bits) refl
+
+pub raw_at_few : (count : ℕ) (bits : List Bool) → length bits < count → raw_at count bits ≡ None
+unfolding raw_at
+raw_at_few count bits few = rw (lt-ltb _ _ few) refl
+
+pub raw_at_enough : (count : ℕ) (bits : List Bool) → count ≤ length bits → raw_at count bits ≡ Some (number_of (take count bits), drop count bits)
+unfolding raw_at
+raw_at_enough count bits enough = rw (le-ltb _ _ enough) refl
 
 -- ---- a field
 
