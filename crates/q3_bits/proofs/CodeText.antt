@@ -1,5 +1,5 @@
 -- The laws of code words, bytes and fields.
-use Rattle.std.proofs.Common.{◌≡◌, ℕ, zero, suc, ◌+◌, ◌-◌, ◌*◌, ◌/◌, ◌%◌, ◌^◌, ◌<◌, ◌≤◌, Bool, true, false, cond, eqb, ltb, List, [], ◌∷◌, ◌++◌, length, get_or, take, drop, min, map, Option, Some, None, refl, sym, ap, subst, ◌∙◌, add-one, append_assoc, arith, inl, inr}
+use Rattle.std.proofs.Common.{◌≡◌, ℕ, zero, suc, ◌+◌, ◌-◌, ◌*◌, ◌/◌, ◌%◌, ◌^◌, ◌<◌, ◌≤◌, Bool, true, false, cond, eqb, ltb, List, [], ◌∷◌, ◌++◌, length, get_or, take, drop, min, map, Option, Some, None, Result, Ok, Err, refl, sym, ap, subst, ◌∙◌, add-one, append_assoc, arith, inl, inr}
 use Rattle.std.specs.Prelude.{option_and_then}
 use Rattle.std.specs.List.{range_with_len}
 use Rattle.std.proofs.lemmas.Bool.{cases_lt, ltb-false, ltb-true, le-ltb, lt-ltb, cases_eq, cases_order}
@@ -9,10 +9,12 @@ use Rattle.std.proofs.lemmas.Grind.{pow_more}
 use Rattle.std.proofs.lemmas.List.{length-append, length-take-le, length-take, length-drop, length-map, take-append-drop, take_at, drop_at, drop_all, drop_more, take-take, take_all, drop-drop, append-nil, nil_from_length, append_cancel_left, get_or-map}
 use Rattle.std.proofs.lemmas.List.FromFn.{length-map-range_with_len, get_or-map-range_with_len}
 use Rattle.std.proofs.Math.Seq.{take-append-add}
-use Rattle.std.proofs.lemmas.Nat.{pow-add, shr_high, shr_below, mod_low, mul-add-lt, mod_below, pow_pos}
-use Rattle.std.proofs.Math.Nat.{mod-add-div, mod-eq_of_lt}
+use Rattle.std.proofs.lemmas.Nat.{pow-add, shr_high, shr_below, shl_whole, mod_low, mul-add-lt, mod_below, pow_pos}
+use Rattle.std.proofs.Math.Nat.{mod-add-div, mod-eq_of_lt, pow-le-pow_right}
 use Rattle.q3_bits.specs.Bits.{bit, low_bits, number_of, bits_of}
-use Rattle.q3_bits.specs.Words.{word_of, IsCode, plain_words, bytes_bits, field_bits, raw_at, behind, or_else, byte_from, bytes_at, field_at, IsCutShort}
+use Rattle.q3_bits.specs.Words.{word_of, IsCode, plain_words, bytes_bits, field_bits, raw_at, behind, or_else, byte_from, bytes_at, field_at, field_read, IsCutShort}
+use Rattle.q3_bits.specs.declared.reader.ReadError.{ReadError}
+use Rattle.q3_bits.specs.declared.reader.ReadError.TheVariants.{End}
 use Rattle.q3_bits.specs.declared.code.Word.{Word}
 use Rattle.q3_bits.specs.Table.{bits_of_word, words_of, IsWord}
 use Rattle.q3_bits.proofs.Numbers.{number_of-mod, length-low_bits, number_of-lt, number_of-low_bits, low_bits-number_of, low_bits-mod, low_bits-add, low_bits-zero}
@@ -180,6 +182,34 @@ word_end words i left past = rw (drop_all i (words_of words) (omega (arith, leng
 
 -- ---- bytes
 
+-- what is read behind the low bytes of a number, as read with them
+abbrev pub onto : ℕ → ℕ → Option (ℕ × List Bool) → Option (ℕ × List Bool)
+onto number scale (Some found) = Some (number + scale * found.0, found.1)
+onto number scale None = None
+
+pub onto_nothing : (o : Option (ℕ × List Bool)) → onto 0 1 o ≡ o
+onto_nothing (Some found) = let same : 0 + 1 * found.0 ≡ found.0 = omega arith in rw same refl
+onto_nothing None = refl
+
+pub bytes_end : (words : List (List Bool)) (number scale : ℕ) (bits : List Bool) → onto number scale (bytes_at words 0 bits) ≡ Some (number, bits)
+bytes_end words number scale bits = let same : number + scale * 0 ≡ number = omega arith in rw (bytes_at-zero, same) refl
+
+-- one byte more was read
+pub bytes_more : (words : List (List Bool)) (count left number scale : ℕ) (bits : List Bool) (found : ℕ × List Bool) → count ≡ left + 1 → byte_from 0 words bits ≡ Some found
+    → onto number scale (bytes_at words count bits) ≡ onto (number + scale * found.0) (256 * scale) (bytes_at words left found.1)
+unfolding bytes_at
+bytes_more words count left number scale bits found e first = rw (e, add-one, first) (under (bytes_at words left found.1))
+  where
+    under : (o : Option (ℕ × List Bool)) → onto number scale (option_and_then (λ others. Some (found.0 + 256 * others.0, others.1)) o) ≡ onto (number + scale * found.0) (256 * scale) o
+    under (Some others) = let same : number + scale * (found.0 + 256 * others.0) ≡ number + scale * found.0 + 256 * scale * others.0 = grind arith in rw same refl
+    under None = refl
+
+-- no byte is there
+pub bytes_stop : (words : List (List Bool)) (count number scale : ℕ) (bits : List Bool) → 0 < count → byte_from 0 words bits ≡ None → onto number scale (bytes_at words count bits) ≡ None
+unfolding bytes_at
+bytes_stop words zero number scale bits some e = absurd (omega arith)
+bytes_stop words (suc count) number scale bits some e = rw e refl
+
 -- bytes that are read were put: their words stand at the front
 pub bytes_at_some : (words : List (List Bool)) (code : IsCode words) (count : ℕ) (bits : List Bool) (found : ℕ × List Bool) → bytes_at words count bits ≡ Some found
     → (found.0 < 256 ^ count) × (bits ≡ bytes_bits words count found.0 ++ found.1)
@@ -249,6 +279,14 @@ pow_bytes : (count : ℕ) → 2 ^ (8 * count) ≡ 256 ^ count
 pow_bytes zero = refl
 pow_bytes (suc count) = ap (λ (n : ℕ). 2 ^ n) (omega arith) ∙ pow-add 2 8 (8 * count) ∙ rw (pow_bytes count, pow_suc 256 count) refl
 
+-- a byte shifted behind the bytes below it
+pub byte_shifted : (number byte k : ℕ) → k < 4 → number < 256 ^ k → byte < 256
+    → (byte * 2 ^ (8 * k) % 2 ^ 32 ≡ 256 ^ k * byte) × (number + byte * 2 ^ (8 * k) % 2 ^ 32 < 256 ^ (k + 1)) × (256 ^ (k + 1) ≡ 256 * 256 ^ k) × (256 ^ (k + 1) ≤ 2 ^ 32)
+byte_shifted number byte k few fits small =
+    let whole : byte * 2 ^ (8 * k) % 2 ^ 32 ≡ 256 ^ k * byte = shl_whole byte 8 (8 * k) 32 small (omega arith) ∙ rw (pow_bytes k) (grind arith) in
+    let more : 256 ^ (k + 1) ≡ 256 * 256 ^ k = pow_more 256 k ∙ grind arith in
+    (whole, omega (arith, whole, more, mul-add-lt byte (256 ^ k) number 256 small fits), more, pow-le-pow_right {n = 256} (omega arith) {i = k + 1} {j = 4} (omega arith))
+
 -- a width is its raw bits and its bytes
 pow_width : (width : ℕ) → 2 ^ width ≡ 2 ^ (width % 8) * 256 ^ (width / 8)
 pow_width width = ap (λ (n : ℕ). 2 ^ n) (omega arith) ∙ pow-add 2 (width % 8) (8 * (width / 8)) ∙ ap (λ (n : ℕ). 2 ^ (width % 8) * n) (pow_bytes (width / 8))
@@ -281,6 +319,29 @@ field_again words code width value rest lt =
     let high : value / 2 ^ (width % 8) < 256 ^ (width / 8) = subst (λ (n : ℕ). value / 2 ^ (width % 8) < n) (pow_bytes (width / 8)) (shr_below value (8 * (width / 8)) (width % 8) (subst (λ (n : ℕ). value < 2 ^ n) (omega arith) lt)) in
     let whole : value % 2 ^ (width % 8) + 2 ^ (width % 8) * (value / 2 ^ (width % 8)) ≡ value = mod-add-div value (2 ^ (width % 8)) in
     rw (field_bits-is, append_assoc, raw_again, bytes_again words code (width / 8) (value / 2 ^ (width % 8)) rest high, whole) refl
+
+-- no value is read where the raw bits are not there
+pub field_no_raw : (words : List (List Bool)) (width : ℕ) (bits : List Bool) → raw_at (width % 8) bits ≡ None → field_read words width bits ≡ Err End
+unfolding field_read field_at
+field_no_raw words width bits e = rw e refl
+
+-- nor where one of the bytes is not
+pub field_no_bytes : (words : List (List Bool)) (width : ℕ) (bits : List Bool) (raw : ℕ × List Bool) → raw_at (width % 8) bits ≡ Some raw → bytes_at words (width / 8) raw.1 ≡ None → field_read words width bits ≡ Err End
+unfolding field_read field_at
+field_no_bytes words width bits raw e none = rw (e, none) refl
+
+-- elsewhere the value is their sum
+pub field_found : (words : List (List Bool)) (width : ℕ) (bits : List Bool) (raw bytes : ℕ × List Bool) → raw_at (width % 8) bits ≡ Some raw → bytes_at words (width / 8) raw.1 ≡ Some bytes
+    → field_read words width bits ≡ Ok (raw.0 + 2 ^ (width % 8) * bytes.0, bytes.1)
+unfolding field_read field_at
+field_found words width bits raw bytes e found = rw (e, found) refl
+
+-- the bytes of a field shifted behind its raw bits
+pub field_shifted : (low high width : ℕ) → width ≤ 32 → low < 2 ^ (width % 8) → high < 256 ^ (width / 8)
+    → (high * 2 ^ (width % 8) % 2 ^ 32 ≡ 2 ^ (width % 8) * high) × (low + high * 2 ^ (width % 8) % 2 ^ 32 < 2 ^ width) × (2 ^ width ≤ 2 ^ 32)
+field_shifted low high width most fits fits' =
+    let whole : high * 2 ^ (width % 8) % 2 ^ 32 ≡ 2 ^ (width % 8) * high = shl_whole high (8 * (width / 8)) (width % 8) 32 (rw pow_bytes fits') (omega arith) ∙ grind arith in
+    (whole, omega (arith, whole, pow_width width, mul-add-lt high (2 ^ (width % 8)) low (256 ^ (width / 8)) fits' fits), pow-le-pow_right {n = 2} (omega arith) most)
 
 -- ---- the plain code
 

@@ -8,6 +8,7 @@ use Rattle.std.proofs.lemmas.List.Concat.{flat_map-cons}
 use Rattle.std.proofs.lemmas.Nat.{pow_pos, shr-shr, mod_below, mod-pow-add}
 use Rattle.std.proofs.lemmas.Grind.{pow_more}
 use Rattle.q3_bits.specs.Bits.{bit, low_bits, number_of, bits_of}
+use Rattle.q3_bits.specs.Place.{bits_from}
 
 -- ---- how the definitions go on
 
@@ -48,6 +49,9 @@ length-low_bits (suc count) value = rw low_bits-suc (ap suc (length-low_bits cou
 pub length-bits_of : (bytes : List ℕ) → length (bits_of bytes) ≡ 8 * length bytes
 length-bits_of [] = rw bits_of-nil refl
 length-bits_of (byte ∷ bytes) = rw bits_of-cons (omega (arith, length-append (low_bits 8 byte) (bits_of bytes), length-low_bits 8 byte, length-bits_of bytes))
+
+pub length-bits_from : (bytes : List ℕ) (place : ℕ) → length (bits_from bytes place) ≡ 8 * length bytes - place
+length-bits_from bytes place = omega (arith, length-drop place (bits_of bytes), length-bits_of bytes)
 
 -- ---- a bit by its place
 
