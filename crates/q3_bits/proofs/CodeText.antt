@@ -1,50 +1,45 @@
 -- The laws of code words, bytes and fields.
-use Rattle.std.proofs.Common.{◌≡◌, ℕ, zero, suc, ◌+◌, ◌-◌, ◌*◌, ◌/◌, ◌%◌, ◌^◌, ◌<◌, ◌≤◌, Bool, true, false, cond, eqb, ltb, List, [], ◌∷◌, ◌++◌, length, get_or, take, drop, min, map, Option, Some, None, Result, Ok, Err, refl, sym, ap, subst, ◌∙◌, add-one, append_assoc, arith, inl, inr}
+use Rattle.std.proofs.Common.{◌≡◌, ℕ, zero, suc, ◌+◌, ◌-◌, ◌*◌, ◌/◌, ◌%◌, ◌^◌, ◌<◌, ◌≤◌, Bool, true, false, cond, ltb, List, [], ◌∷◌, ◌++◌, length, get_or, take, drop, min, Option, Some, None, Ok, Err, refl, sym, ap, subst, ◌∙◌, add-one, append_assoc, arith, inl, inr}
 use Rattle.std.specs.Prelude.{option_and_then}
-use Rattle.std.specs.List.{range_with_len}
-use Rattle.std.proofs.lemmas.Bool.{cases_lt, ltb-false, ltb-true, le-ltb, lt-ltb, cases_eq, cases_order}
+use Rattle.std.proofs.lemmas.Bool.{cases_lt, ltb-false, le-ltb, lt-ltb}
 use Rattle.std.proofs.lemmas.Option.{none-some, some_pair_parts, option_and_then_some}
-use Rattle.std.proofs.lemmas.Bool.Decides.{nat_tests}
 use Rattle.std.proofs.lemmas.Grind.{pow_more}
-use Rattle.std.proofs.lemmas.List.{length-append, length-take-le, length-take, length-drop, length-map, take-append-drop, take_at, drop_at, drop_all, drop_more, take-take, take_all, drop-drop, append-nil, nil_from_length, append_cancel_left, get_or-map}
+use Rattle.std.proofs.lemmas.List.{length-append, length-take-le, length-map, take-append-drop, take_at, drop_at, drop_all, drop_more, take-take, append-nil, nil_from_length, get_or-map}
 use Rattle.std.proofs.lemmas.List.FromFn.{length-map-range_with_len, get_or-map-range_with_len}
 use Rattle.std.proofs.Math.Seq.{take-append-add}
-use Rattle.std.proofs.lemmas.Nat.{pow-add, shr_high, shr_below, shl_whole, mod_low, mul-add-lt, mod_below, pow_pos}
+use Rattle.std.proofs.lemmas.Nat.{pow-add, shr_high, shr_below, shl_whole, mod_low, mul-add-lt}
 use Rattle.std.proofs.Math.Nat.{mod-add-div, mod-eq_of_lt, pow-le-pow_right}
-use Rattle.q3_bits.specs.Bits.{bit, low_bits, number_of, bits_of}
+use Rattle.q3_bits.specs.Bits.{low_bits, number_of}
 use Rattle.q3_bits.specs.Words.{word_of, IsCode, plain_words, bytes_bits, field_bits, raw_at, behind, or_else, byte_from, bytes_at, field_at, field_read, IsCutShort}
-use Rattle.q3_bits.specs.declared.reader.ReadError.{ReadError}
 use Rattle.q3_bits.specs.declared.reader.ReadError.TheVariants.{End}
 use Rattle.q3_bits.specs.declared.code.Word.{Word}
 use Rattle.q3_bits.specs.Table.{bits_of_word, words_of, IsWord}
-use Rattle.q3_bits.proofs.Numbers.{number_of-mod, length-low_bits, number_of-lt, number_of-low_bits, low_bits-number_of, low_bits-mod, low_bits-add, low_bits-zero}
+use Rattle.q3_bits.proofs.Numbers.{number_of-mod, length-low_bits, number_of-lt, number_of-low_bits, low_bits-number_of, low_bits-mod, low_bits-add, low_bits-zero, pow_suc}
 
 -- ---- how the definitions go on
 
-pow_suc : (b n : ℕ) → b ^ suc n ≡ b * b ^ n
-pow_suc b n = ap (λ (j : ℕ). b ^ j) (sym (add-one n)) ∙ pow_more b n ∙ omega arith
-
-behind-nil : (bits : List Bool) → behind [] bits ≡ Some bits
-unfolding behind
-behind-nil bits = refl
-
-byte_from-nil : (byte : ℕ) (bits : List Bool) → byte_from byte [] bits ≡ None
+-- no words, no byte
+pub byte_from-nil : (byte : ℕ) (bits : List Bool) → byte_from byte [] bits ≡ None
 unfolding byte_from
 byte_from-nil byte bits = refl
 
-byte_from-cons : (byte : ℕ) (word : List Bool) (words : List (List Bool)) (bits : List Bool) → byte_from byte (word ∷ words) bits ≡ or_else (behind word bits) byte (byte_from (byte + 1) words bits)
+-- the first word, or else a later one
+pub byte_from-cons : (byte : ℕ) (word : List Bool) (words : List (List Bool)) (bits : List Bool) → byte_from byte (word ∷ words) bits ≡ or_else (behind word bits) byte (byte_from (byte + 1) words bits)
 unfolding byte_from
 byte_from-cons byte word words bits = refl
 
-bytes_at-zero : (words : List (List Bool)) (bits : List Bool) → bytes_at words 0 bits ≡ Some (0, bits)
+-- no bytes are 0
+pub bytes_at-zero : (words : List (List Bool)) (bits : List Bool) → bytes_at words 0 bits ≡ Some (0, bits)
 unfolding bytes_at
 bytes_at-zero words bits = refl
 
-bytes_bits-zero : (words : List (List Bool)) (value : ℕ) → bytes_bits words 0 value ≡ []
+-- and have no words
+pub bytes_bits-zero : (words : List (List Bool)) (value : ℕ) → bytes_bits words 0 value ≡ []
 unfolding bytes_bits
 bytes_bits-zero words value = refl
 
-bytes_bits-suc : (words : List (List Bool)) (count value : ℕ) → bytes_bits words (suc count) value ≡ word_of words (value % 256) ++ bytes_bits words count (value / 256)
+-- the lowest byte's word, and those of the others
+pub bytes_bits-suc : (words : List (List Bool)) (count value : ℕ) → bytes_bits words (suc count) value ≡ word_of words (value % 256) ++ bytes_bits words count (value / 256)
 unfolding bytes_bits
 bytes_bits-suc words count value = refl
 
@@ -61,12 +56,14 @@ behind_some (true ∷ word) (false ∷ bits) rest e = absurd cc
 behind_some (false ∷ word) (true ∷ bits) rest e = absurd cc
 behind_some (false ∷ word) (false ∷ bits) rest e = ap (λ (x : List Bool). false ∷ x) (behind_some word bits rest e)
 
+-- a rest stands behind a word that it follows
 pub behind-append : (word rest : List Bool) → behind word (word ++ rest) ≡ Some rest
 unfolding behind
 behind-append [] rest = refl
 behind-append (true ∷ word) rest = behind-append word rest
 behind-append (false ∷ word) rest = behind-append word rest
 
+-- what is never there is none
 none_from : {A : Type 0} (o : Option A) → ((x : A) → o ≡ Some x → ⊥) → o ≡ None
 none_from None never = refl
 none_from (Some x) never = absurd (never x refl)
@@ -87,8 +84,8 @@ pub behind-low_bits_none : (count number : ℕ) (bits : List Bool) → number < 
 behind-low_bits_none count number bits fits never =
     let long = length-low_bits count number in
     behind_none (low_bits count number) bits (λ rest e.
-      never (omega (arith, long, length-append (low_bits count number) rest, ap length e))
-        (rw (e, take_at (low_bits count number) rest count long) (number_of-low_bits count number ∙ mod-eq_of_lt fits)))
+    never (omega (arith, long, length-append (low_bits count number) rest, ap length e))
+    (rw (e, take_at (low_bits count number) rest count long) (number_of-low_bits count number ∙ mod-eq_of_lt fits)))
 
 -- ---- a byte
 
@@ -105,10 +102,11 @@ byte_from_first (word ∷ words) byte (suc k) bits rest lt begins first =
     let next : byte + suc k ≡ byte + 1 + k = omega arith in
     rw (byte_from-cons, passed, next) (byte_from_first words (byte + 1) k bits rest (omega arith) begins (λ j other below e. first (suc j) other (omega arith) e))
 
--- a byte that is read has a word, which begins the bits
+-- the place of a byte among the words, and that its word begins the bits
 abbrev HasWord : List (List Bool) → ℕ → List Bool → ℕ × List Bool → Type 0
 HasWord words byte bits found = (k : ℕ) × (k < length words) × (found.0 ≡ byte + k) × (bits ≡ word_of words k ++ found.1)
 
+-- the first word or a later one
 HasWord-cons : (word : List Bool) (words : List (List Bool)) (byte : ℕ) (bits : List Bool) (found : ℕ × List Bool) (o : Option (List Bool)) → behind word bits ≡ o
     → or_else o byte (byte_from (byte + 1) words bits) ≡ Some found → (byte_from (byte + 1) words bits ≡ Some found → HasWord words (byte + 1) bits found) → HasWord (word ∷ words) byte bits found
 HasWord-cons word words byte bits found (Some rest) b e later =
@@ -118,6 +116,7 @@ HasWord-cons word words byte bits found None b e later =
     let at = later e in
     (suc at.0, omega (arith, at.1), omega (arith, at.2), at.3)
 
+-- a byte that is read has a word, which begins the bits
 pub byte_from_some : (words : List (List Bool)) (byte : ℕ) (bits : List Bool) (found : ℕ × List Bool) → byte_from byte words bits ≡ Some found → HasWord words byte bits found
 byte_from_some [] byte bits found e = absurd (let none = byte_from-nil byte bits in cc)
 byte_from_some (word ∷ words) byte bits found e =
@@ -151,6 +150,7 @@ record IsWindow (count window : ℕ) (left : List Bool) : Type 0 where
   within : count ≡ min 24 (length left)
   spells : window ≡ number_of (take count left)
 
+-- the front of a window spells what the front of the bits spells
 window_of_word : (count window : ℕ) (left : List Bool) (long : ℕ) → IsWindow count window left → long ≤ count → window % 2 ^ long ≡ number_of (take long left)
 window_of_word count window left long w short = rw (w.spells, number_of-mod, take-take) refl
 
@@ -171,8 +171,8 @@ pub word_miss : (words : List Word) (i count window : ℕ) (left : List Bool) (d
 word_miss words i count window left d lt is within spells never =
     let word = get_or words i d in
     let passed : behind (bits_of_word word) left ≡ None = behind-low_bits_none word.length word.bits left is.fits (λ enough same.
-      let short : word.length ≤ count = omega (arith, is.short) in
-      never short (window_of_word count window left word.length (record { within = within; spells = spells }) short ∙ same)) in
+    let short : word.length ≤ count = omega (arith, is.short) in
+    never short (window_of_word count window left word.length (record { within = within; spells = spells }) short ∙ same)) in
     let here : drop i (words_of words) ≡ bits_of_word word ∷ drop (i + 1) (words_of words) = drop_more (words_of words) i [] (omega (arith, length-map words bits_of_word)) ∙ rw (get_or-map bits_of_word words i d [] lt) refl in
     rw (here, byte_from-cons, passed) refl
 
@@ -187,10 +187,12 @@ abbrev pub onto : ℕ → ℕ → Option (ℕ × List Bool) → Option (ℕ × L
 onto number scale (Some found) = Some (number + scale * found.0, found.1)
 onto number scale None = None
 
+-- nothing was read before
 pub onto_nothing : (o : Option (ℕ × List Bool)) → onto 0 1 o ≡ o
 onto_nothing (Some found) = let same : 0 + 1 * found.0 ≡ found.0 = omega arith in rw same refl
 onto_nothing None = refl
 
+-- all bytes were read
 pub bytes_end : (words : List (List Bool)) (number scale : ℕ) (bits : List Bool) → onto number scale (bytes_at words 0 bits) ≡ Some (number, bits)
 bytes_end words number scale bits = let same : number + scale * 0 ≡ number = omega arith in rw (bytes_at-zero, same) refl
 
@@ -219,16 +221,17 @@ bytes_at_some words code zero bits found e =
     (omega arith, rw bytes_bits-zero parts.1)
 bytes_at_some words code (suc count) bits found e =
     option_and_then_some (λ first. option_and_then (λ others. Some (first.0 + 256 * others.0, others.1)) (bytes_at words count first.1)) (byte_from 0 words bits) found e
-      (λ first is-first e'. option_and_then_some (λ others. Some (first.0 + 256 * others.0, others.1)) (bytes_at words count first.1) found e' (λ others is-others e''.
-        let parts = some_pair_parts (first.0 + 256 * others.0) found.0 others.1 found.1 e'' in
-        let word = byte_from_some words 0 bits first is-first in
-        let later = bytes_at_some words code count first.1 others is-others in
-        let byte : first.0 ≡ word.0 = omega (arith, word.2) in
-        let small : word.0 < 256 = omega (arith, word.1, code.count) in
-        let low : found.0 % 256 ≡ word.0 = omega (arith, parts.0) in
-        let high : found.0 / 256 ≡ others.0 = omega (arith, parts.0) in
-        (subst (λ (n : ℕ). found.0 < n) (sym (pow_suc 256 count)) (omega (arith, later.0, parts.0)),
-         word.3 ∙ rw (bytes_bits-suc, low, high, append_assoc, ← parts.1, ← later.1) refl)))
+    (λ first is-first e'. option_and_then_some (λ others. Some (first.0 + 256 * others.0, others.1)) (bytes_at words count first.1) found e' (λ others is-others e''.
+    let parts = some_pair_parts (first.0 + 256 * others.0) found.0 others.1 found.1 e'' in
+    let word = byte_from_some words 0 bits first is-first in
+    let later = bytes_at_some words code count first.1 others is-others in
+    let byte : first.0 ≡ word.0 = omega (arith, word.2) in
+    let small : word.0 < 256 = omega (arith, word.1, code.count) in
+    let low : found.0 % 256 ≡ word.0 = omega (arith, parts.0) in
+    let high : found.0 / 256 ≡ others.0 = omega (arith, parts.0) in (
+      subst (λ (n : ℕ). found.0 < n) (sym (pow_suc 256 count)) (omega (arith, later.0, parts.0)),
+      word.3 ∙ rw (bytes_bits-suc, low, high, append_assoc, ← parts.1, ← later.1) refl,
+    )))
 
 -- bytes that are put are read again
 pub bytes_again : (words : List (List Bool)) (code : IsCode words) (count value : ℕ) (rest : List Bool) → value < 256 ^ count → bytes_at words count (bytes_bits words count value ++ rest) ≡ Some (value, rest)
@@ -241,6 +244,7 @@ bytes_again words code (suc count) value rest lt =
 
 -- ---- raw bits
 
+-- a test that let pass
 guard_some : {A : Type 0} (b : Bool) (x y : A) → cond b None (Some x) ≡ Some y → (b ≡ false) × (x ≡ y)
 guard_some true x y e = absurd cc
 guard_some false x y e = (refl, cc)
@@ -265,16 +269,19 @@ raw_again count value rest =
     let enough : ltb (length (low_bits count value ++ rest)) count ≡ false = le-ltb _ _ (omega (arith, length-append (low_bits count value) rest)) in
     rw (enough, take_at (low_bits count value) rest count long, drop_at (low_bits count value) rest count long, number_of-low_bits) refl
 
+-- fewer bits than are asked for
 pub raw_at_few : (count : ℕ) (bits : List Bool) → length bits < count → raw_at count bits ≡ None
 unfolding raw_at
 raw_at_few count bits few = rw (lt-ltb _ _ few) refl
 
+-- as many, or more
 pub raw_at_enough : (count : ℕ) (bits : List Bool) → count ≤ length bits → raw_at count bits ≡ Some (number_of (take count bits), drop count bits)
 unfolding raw_at
 raw_at_enough count bits enough = rw (le-ltb _ _ enough) refl
 
 -- ---- a field
 
+-- a byte has eight bits
 pow_bytes : (count : ℕ) → 2 ^ (8 * count) ≡ 256 ^ count
 pow_bytes zero = refl
 pow_bytes (suc count) = ap (λ (n : ℕ). 2 ^ n) (omega arith) ∙ pow-add 2 8 (8 * count) ∙ rw (pow_bytes count, pow_suc 256 count) refl
@@ -291,6 +298,7 @@ byte_shifted number byte k few fits small =
 pow_width : (width : ℕ) → 2 ^ width ≡ 2 ^ (width % 8) * 256 ^ (width / 8)
 pow_width width = ap (λ (n : ℕ). 2 ^ n) (omega arith) ∙ pow-add 2 (width % 8) (8 * (width / 8)) ∙ ap (λ (n : ℕ). 2 ^ (width % 8) * n) (pow_bytes (width / 8))
 
+-- a field as it is defined
 pub field_bits-is : (words : List (List Bool)) (width value : ℕ) → field_bits words width value ≡ low_bits (width % 8) value ++ bytes_bits words (width / 8) (value / 2 ^ (width % 8))
 unfolding field_bits
 field_bits-is words width value = refl
@@ -302,15 +310,16 @@ unfolding field_at
 field_at_some words code width bits found e =
     let part = 2 ^ (width % 8) in
     option_and_then_some (λ raw. option_and_then (λ bytes. Some (raw.0 + part * bytes.0, bytes.1)) (bytes_at words (width / 8) raw.1)) (raw_at (width % 8) bits) found e
-      (λ raw is-raw e'. option_and_then_some (λ bytes. Some (raw.0 + part * bytes.0, bytes.1)) (bytes_at words (width / 8) raw.1) found e' (λ bytes is-bytes e''.
-        let parts = some_pair_parts (raw.0 + part * bytes.0) found.0 bytes.1 found.1 e'' in
-        let first = raw_at_some (width % 8) bits raw is-raw in
-        let later = bytes_at_some words code (width / 8) raw.1 bytes is-bytes in
-        let sum : found.0 ≡ bytes.0 * part + raw.0 = sym parts.0 ∙ grind arith in
-        let low : low_bits (width % 8) found.0 ≡ low_bits (width % 8) raw.0 = sym (low_bits-mod (width % 8) found.0) ∙ ap (λ (n : ℕ). low_bits (width % 8) (n % part)) sum ∙ ap (low_bits (width % 8)) (mod_low bytes.0 (width % 8) raw.0 first.0) in
-        let high : found.0 / part ≡ bytes.0 = ap (λ (n : ℕ). n / part) sum ∙ shr_high bytes.0 (width % 8) raw.0 first.0 in
-        (omega (arith, sum, pow_width width, mul-add-lt bytes.0 part raw.0 (256 ^ (width / 8)) later.0 first.0),
-         first.1 ∙ rw (field_bits-is, low, high, append_assoc, ← parts.1, ← later.1) refl)))
+    (λ raw is-raw e'. option_and_then_some (λ bytes. Some (raw.0 + part * bytes.0, bytes.1)) (bytes_at words (width / 8) raw.1) found e' (λ bytes is-bytes e''.
+    let parts = some_pair_parts (raw.0 + part * bytes.0) found.0 bytes.1 found.1 e'' in
+    let first = raw_at_some (width % 8) bits raw is-raw in
+    let later = bytes_at_some words code (width / 8) raw.1 bytes is-bytes in
+    let sum : found.0 ≡ bytes.0 * part + raw.0 = sym parts.0 ∙ grind arith in
+    let low : low_bits (width % 8) found.0 ≡ low_bits (width % 8) raw.0 = sym (low_bits-mod (width % 8) found.0) ∙ ap (λ (n : ℕ). low_bits (width % 8) (n % part)) sum ∙ ap (low_bits (width % 8)) (mod_low bytes.0 (width % 8) raw.0 first.0) in
+    let high : found.0 / part ≡ bytes.0 = ap (λ (n : ℕ). n / part) sum ∙ shr_high bytes.0 (width % 8) raw.0 first.0 in (
+      omega (arith, sum, pow_width width, mul-add-lt bytes.0 part raw.0 (256 ^ (width / 8)) later.0 first.0),
+      first.1 ∙ rw (field_bits-is, low, high, append_assoc, ← parts.1, ← later.1) refl,
+    )))
 
 -- a field that is put is read again
 pub field_again : (words : List (List Bool)) (code : IsCode words) (width value : ℕ) (rest : List Bool) → value < 2 ^ width → field_at words width (field_bits words width value ++ rest) ≡ Some (value, rest)
@@ -345,26 +354,31 @@ field_shifted low high width most fits fits' =
 
 -- ---- the plain code
 
+-- the word of a byte is its bits
 pub plain_word : (byte : ℕ) → byte < 256 → word_of plain_words byte ≡ low_bits 8 byte
 unfolding plain_words
 plain_word byte lt = get_or-map-range_with_len (low_bits 8) 0 256 byte byte [] lt (omega arith)
 
+-- there are 256
 pub length-plain_words : length plain_words ≡ 256
 unfolding plain_words
 length-plain_words = length-map-range_with_len (low_bits 8) 0 256
 
+-- no word begins another
 same_byte : (i j : ℕ) (rest : List Bool) → i < 256 → j < 256 → low_bits 8 i ++ rest ≡ low_bits 8 j → i ≡ j
 same_byte i j rest lt lt' e =
     let none : rest ≡ [] = nil_from_length rest (omega (arith, length-append (low_bits 8 i) rest, length-low_bits 8 i, length-low_bits 8 j, ap length e)) in
     let same : low_bits 8 i ≡ low_bits 8 j = sym (append-nil (low_bits 8 i)) ∙ rw none at e in
     omega (arith, number_of-low_bits 8 i, number_of-low_bits 8 j, ap number_of same)
 
+-- so it is a code
 pub plain_is_code : IsCode plain_words
 plain_is_code = record {
   count = length-plain_words;
   prefix_free = λ i j rest lt lt' e. same_byte i j rest lt lt' (rw (plain_word i lt, plain_word j lt') at e);
 }
 
+-- and its bytes are their bits
 plain_bytes : (count value : ℕ) → bytes_bits plain_words count value ≡ low_bits (8 * count) value
 plain_bytes zero value = rw (bytes_bits-zero, low_bits-zero) refl
 plain_bytes (suc count) value =
@@ -383,7 +397,7 @@ plain_front width bits few =
     let long : width ≡ length bits + (width - length bits) = omega arith in
     let none : number_of bits / 2 ^ length bits ≡ 0 = ap (λ (n : ℕ). n / 2 ^ length bits) (omega arith) ∙ shr_high 0 (length bits) (number_of bits) (number_of-lt bits) in
     sym (plain_field width (number_of bits) ∙ ap (λ (n : ℕ). low_bits n (number_of bits)) long ∙ low_bits-add (length bits) (width - length bits) (number_of bits)
-      ∙ rw (low_bits-number_of, none) refl)
+    ∙ rw (low_bits-number_of, none) refl)
 
 -- by the plain code a field is read wherever its bits are there
 plain_reads : (width : ℕ) (bits : List Bool) → width ≤ length bits → field_at plain_words width bits ≡ Some (number_of (take width bits), drop width bits)

@@ -1,15 +1,13 @@
-use Rattle.std.proofs.Common.{◌≡◌, ◌∙◌, ◌+◌, ◌*◌, ◌^◌, ◌%◌, ◌<◌, ◌-◌, ℕ, zero, sym, ap, subst, arith, refl}
-use Rattle.std.proofs.lemmas.Nat.{shl_whole}
-use Rattle.q3_bits.specs.Words.{bytes_at}
+use Rattle.std.proofs.Common.{◌≡◌, ◌∙◌, ◌+◌, ◌^◌, ◌<◌, ◌-◌, sym, ap, arith}
 use Rattle.q3_bits.specs.Place.{bits_from, placed}
-use Rattle.q3_bits.proofs.CodeText.{onto, onto_nothing, bytes_more, bytes_stop, bytes_end, byte_shifted}
+use Rattle.q3_bits.proofs.CodeText.{bytes_more, bytes_stop, bytes_end, byte_shifted}
 use Rattle.q3_bits.proofs.reader.bytes_from.Goals as goal
 
 pub returns-in_err-byte-clause-bytes : goal.returns-in_err-byte-clause-bytes
 returns-in_err-byte-clause-bytes c =
     ap (placed c.args.bytes.now) c.from_residual.ensures
-      ∙ sym (bytes_stop c.args.code.now (c.args.count - c.loop-k.k) c.loop-k.number (256 ^ c.loop-k.k) (bits_from c.args.bytes.now c.loop-k.end) (omega arith) (sym c.in_err-byte.ensures.byte))
-      ∙ c.loop-k.invariant.bytes
+    ∙ sym (bytes_stop c.args.code.now (c.args.count - c.loop-k.k) c.loop-k.number (256 ^ c.loop-k.k) (bits_from c.args.bytes.now c.loop-k.end) (omega arith) (sym c.in_err-byte.ensures.byte))
+    ∙ c.loop-k.invariant.bytes
 
 pub overflow_add-number : goal.overflow_add-number
 overflow_add-number c =

@@ -9,5 +9,5 @@ abbrev pub invariant-loop-k : goal.invariant-loop-k
 invariant-loop-k l = record {
   fits : l.number < 256 ^ l.k;
   within : l.end ≤ 8 * length l.bytes;
-  bytes : onto l.number (256 ^ l.k) (bytes_at l.code (l.count - l.k) (bits_from l.bytes l.end)) ≡ bytes_at l.code l.count (bits_from l.bytes l.initial.end)
+  bytes : onto l.number (256 ^ l.k) (bytes_at l.code (l.count - l.k) (bits_from l.bytes l.end)) ≡ bytes_at l.code l.count (bits_from l.bytes l.initial.end);
 }

@@ -7,5 +7,5 @@ use Rattle.q3_bits.proofs.reader.window.Given as goal
 abbrev pub invariant-loop-k : goal.invariant-loop-k
 invariant-loop-k l = record {
   bits : l.number ≡ number_of (take l.k (bits_from l.bytes l.place));
-  fits : l.number < 2 ^ l.k
+  fits : l.number < 2 ^ l.k;
 }

@@ -1,4 +1,4 @@
-use Rattle.std.proofs.Common.{◌≡◌, ◌∙◌, ◌≤◌, ◌%◌, ◌*◌, ◌^◌, ℕ, Bool, List, get_or, sym, ap, subst, arith, refl}
+use Rattle.std.proofs.Common.{◌≡◌, ◌∙◌, ◌≤◌, ◌%◌, ◌*◌, ◌^◌, ℕ, Bool, List, get_or, sym, ap, subst, arith}
 use Rattle.std.specs.List.{All}
 use Rattle.std.proofs.lemmas.Nat.{one_shl}
 use Rattle.q3_bits.specs.declared.code.Word.{Word}
@@ -19,7 +19,7 @@ returns-then-window-length-clause-found c = λ left within spells.
     let shift : (1 * 2 ^ c.from-length.result) % 2 ^ 32 ≡ 2 ^ long = one_shl c.from-length.result 32 (omega (arith, is.short, c.from-length.ensures)) ∙ ap (λ (n : ℕ). 2 ^ n) c.from-length.ensures in
     let same = rw shift at c.if-window-length.true in
     sym (word_hit words c.loop-byte.byte c.args.count c.args.window left none c.loop-byte-test.true is within spells short same)
-      ∙ c.loop-byte.invariant left within spells ∙ ap (λ (ws : List (List Bool)). byte_from 0 ws left) view
+    ∙ c.loop-byte.invariant left within spells ∙ ap (λ (ws : List (List Bool)). byte_from 0 ws left) view
 
 pub loop-byte-preserved : goal.loop-byte-preserved
 loop-byte-preserved c = λ left within spells.
@@ -29,10 +29,10 @@ loop-byte-preserved c = λ left within spells.
     let long = (get_or words c.loop-byte.byte none).length in
     let shift : (1 * 2 ^ c.from-length.result) % 2 ^ 32 ≡ 2 ^ long = one_shl c.from-length.result 32 (omega (arith, is.short, c.from-length.ensures)) ∙ ap (λ (n : ℕ). 2 ^ n) c.from-length.ensures in
     let passed = word_miss words c.loop-byte.byte c.args.count c.args.window left none c.loop-byte-test.true is within spells
-      (λ short same. elim c.else-length-count.branch [
-        | else-length-count-via-then-length-count+else-window-length w ↦ w.if-window-length.false (rw shift same)
-        | else-length-count-via-else-length-count w ↦ omega (arith, w.if-length-count.false, c.from-length.ensures)
-      ]) in
+    (λ short same. elim c.else-length-count.branch [
+      | else-length-count-via-then-length-count+else-window-length w ↦ w.if-window-length.false (rw shift same)
+      | else-length-count-via-else-length-count w ↦ omega (arith, w.if-length-count.false, c.from-length.ensures)
+    ]) in
     sym passed ∙ c.loop-byte.invariant left within spells
 
 pub returns-clause-found : goal.returns-clause-found

@@ -1,7 +1,4 @@
-use Rattle.std.proofs.Common.{◌≡◌, ◌∙◌, ◌+◌, ◌*◌, ◌^◌, ◌%◌, ◌/◌, ◌<◌, ◌-◌, ℕ, Result, List, Bool, sym, ap, subst, arith, refl}
-use Rattle.q3_bits.specs.declared.reader.ReadError.{ReadError}
-use Rattle.q3_bits.specs.Streams.{Reading}
-use Rattle.q3_bits.specs.Words.{field_read}
+use Rattle.std.proofs.Common.{sym, arith}
 use Rattle.q3_bits.specs.Place.{bits_from}
 use Rattle.q3_bits.proofs.Numbers.{length-bits_from}
 use Rattle.q3_bits.proofs.CodeText.{field_no_raw, field_no_bytes, field_found, field_shifted}
@@ -24,8 +21,8 @@ pub returns-clause-value : goal.returns-clause-value
 returns-clause-value c =
     let fits = field_shifted c.in-Some.low c.in-Some-bytes_from.high c.args.width c.requires.most c.in-Some.ensures.fits c.in-Some-bytes_from.ensures.fits in
     rw (← c.self.view_is, fits.0) (sym (field_found c.self.inside.code.now c.args.width (bits_from c.self.inside.bytes.now c.self.inside.place)
-      (c.in-Some.low, bits_from c.self.inside.bytes.now c.in-Some.place) (c.in-Some-bytes_from.high, bits_from c.self.inside.bytes.now c.in-Some-bytes_from.place)
-      (sym c.in-Some.ensures.bits) (sym c.in-Some-bytes_from.ensures.bytes)))
+    (c.in-Some.low, bits_from c.self.inside.bytes.now c.in-Some.place) (c.in-Some-bytes_from.high, bits_from c.self.inside.bytes.now c.in-Some-bytes_from.place)
+    (sym c.in-Some.ensures.bits) (sym c.in-Some-bytes_from.ensures.bytes)))
 
 pub returns-clause-fits : goal.returns-clause-fits
 returns-clause-fits c =
