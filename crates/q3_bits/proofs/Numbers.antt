@@ -1,0 +1,160 @@
+-- Numbers and their bits are one another's inverses, and the bits of bytes stand each at its place.
+use Rattle.std.proofs.Common.{◌≡◌, ℕ, zero, suc, ◌+◌, ◌-◌, ◌*◌, ◌/◌, ◌%◌, ◌^◌, ◌<◌, Bool, true, false, eqb, List, [], ◌∷◌, ◌++◌, length, get_or, take, drop, refl, sym, ap, subst, ◌∙◌, add-one, arith, inl, inr}
+use Rattle.std.proofs.lemmas.Bool.{cases_lt, eq-eqb, ne_eqb}
+use Rattle.std.proofs.lemmas.Bool.Decides.{nat_tests}
+use Rattle.std.proofs.lemmas.List.{length-append, length-drop, get_or-drop, get_or_append_left, get_or-append_right}
+use Rattle.std.proofs.lemmas.List.Concat.{flat_map-cons}
+use Rattle.std.proofs.lemmas.Nat.{pow_pos, shr-shr, mod_below, mod-pow-add}
+use Rattle.std.proofs.lemmas.Grind.{pow_more}
+use Rattle.q3_bits.specs.Bits.{bit, low_bits, number_of, bits_of}
+use Rattle.q3_bits.specs.Place.{bits_from}
+
+-- ---- how the definitions go on
+
+-- no bits
+pub low_bits-zero : (value : ℕ) → low_bits 0 value ≡ []
+unfolding low_bits
+low_bits-zero value = refl
+
+-- the lowest bit, and the others of the half
+pub low_bits-more : (count value : ℕ) → low_bits (count + 1) value ≡ eqb (value % 2) 1 ∷ low_bits count (value / 2)
+unfolding low_bits
+low_bits-more count value = rw add-one refl
+
+-- the same at `suc`
+pub low_bits-suc : (count value : ℕ) → low_bits (suc count) value ≡ eqb (value % 2) 1 ∷ low_bits count (value / 2)
+unfolding low_bits
+low_bits-suc count value = refl
+
+-- no bits spell 0
+pub number_of-nil : number_of [] ≡ 0
+unfolding number_of
+number_of-nil = refl
+
+-- the first bit, and twice what the others spell
+pub number_of-cons : (b : Bool) (bits : List Bool) → number_of (b ∷ bits) ≡ bit b + 2 * number_of bits
+unfolding number_of
+number_of-cons b bits = refl
+
+-- no bytes have no bits
+pub bits_of-nil : bits_of [] ≡ []
+unfolding bits_of
+bits_of-nil = refl
+
+-- the bits of the first byte, and those of the others
+pub bits_of-cons : (byte : ℕ) (bytes : List ℕ) → bits_of (byte ∷ bytes) ≡ low_bits 8 byte ++ bits_of bytes
+unfolding bits_of
+bits_of-cons byte bytes = flat_map-cons (low_bits 8) byte bytes
+
+-- ---- lengths
+
+-- as many low bits as were taken
+pub length-low_bits : (count value : ℕ) → length (low_bits count value) ≡ count
+length-low_bits zero value = rw low_bits-zero refl
+length-low_bits (suc count) value = rw low_bits-suc (ap suc (length-low_bits count (value / 2)))
+
+-- eight bits a byte
+pub length-bits_of : (bytes : List ℕ) → length (bits_of bytes) ≡ 8 * length bytes
+length-bits_of [] = rw bits_of-nil refl
+length-bits_of (byte ∷ bytes) = rw bits_of-cons (omega (arith, length-append (low_bits 8 byte) (bits_of bytes), length-low_bits 8 byte, length-bits_of bytes))
+
+-- as many as stand behind the place
+pub length-bits_from : (bytes : List ℕ) (place : ℕ) → length (bits_from bytes place) ≡ 8 * length bytes - place
+length-bits_from bytes place = omega (arith, length-drop place (bits_of bytes), length-bits_of bytes)
+
+-- ---- a bit by its place
+
+-- a half shifted is shifted once more
+halved : (value k : ℕ) → value / 2 / 2 ^ k ≡ value / 2 ^ suc k
+halved value k = shr-shr value 1 k ∙ ap (λ (j : ℕ). value / 2 ^ j) (omega arith)
+
+-- the bit at a place of a number
+pub get_or-low_bits : (count value k : ℕ) → k < count → get_or (low_bits count value) k false ≡ eqb (value / 2 ^ k % 2) 1
+get_or-low_bits zero value k lt = absurd (omega arith)
+get_or-low_bits (suc count) value zero lt = rw low_bits-suc (ap (λ (n : ℕ). eqb (n % 2) 1) (omega arith))
+get_or-low_bits (suc count) value (suc k) lt = rw low_bits-suc (get_or-low_bits count (value / 2) k (omega arith) ∙ ap (λ (n : ℕ). eqb (n % 2) 1) (halved value k))
+
+-- a byte's bits stand behind those of the bytes before it
+pub get_or-bits_of : (bytes : List ℕ) (place : ℕ) → place < 8 * length bytes → get_or (bits_of bytes) place false ≡ eqb (get_or bytes (place / 8) 0 / 2 ^ (place % 8) % 2) 1
+get_or-bits_of [] place lt = absurd (omega arith)
+get_or-bits_of (byte ∷ bytes) place lt =
+    elim (cases_lt place 8) [
+      | inl within ↦
+          rw (bits_of-cons, get_or_append_left (low_bits 8 byte) (bits_of bytes) false place (omega (arith, length-low_bits 8 byte)), get_or-low_bits 8 byte place within)
+          (let first : place / 8 ≡ 0 = omega arith in let same : place % 8 ≡ place = omega arith in rw (first, same) refl)
+      | inr past ↦
+          rw (bits_of-cons, get_or-append_right (low_bits 8 byte) (bits_of bytes) 8 place false (length-low_bits 8 byte) past, get_or-bits_of bytes (place - 8) (omega arith))
+          (let next : place / 8 ≡ suc ((place - 8) / 8) = omega arith in let same : (place - 8) % 8 ≡ place % 8 = omega arith in rw (next, same) refl)
+    ]
+
+-- ---- numbers and bits
+
+-- so many bits spell a number of so many
+pub number_of-lt : (bits : List Bool) → number_of bits < 2 ^ length bits
+number_of-lt [] = rw number_of-nil (omega arith)
+number_of-lt (true ∷ bits) = rw number_of-cons (grind (arith, pow_more, number_of-lt bits))
+number_of-lt (false ∷ bits) = rw number_of-cons (grind (arith, pow_more, number_of-lt bits))
+
+-- the test of the lowest bit, as a number
+bit_eqb : (value : ℕ) → bit (eqb (value % 2) 1) ≡ value % 2
+bit_eqb value = grind (arith, nat_tests)
+
+-- the lowest bit of a number
+eqb_bit : (b : Bool) (n : ℕ) → eqb ((bit b + 2 * n) % 2) 1 ≡ b
+eqb_bit true n = eq-eqb _ _ (omega arith)
+eqb_bit false n = ne_eqb _ _ (λ e. omega arith)
+
+-- the rest of a number
+half_bit : (b : Bool) (n : ℕ) → (bit b + 2 * n) / 2 ≡ n
+half_bit true n = omega arith
+half_bit false n = omega arith
+
+-- and the lowest bit again
+low_bit : (b : Bool) (n : ℕ) → (bit b + 2 * n) % 2 ≡ bit b
+low_bit true n = omega arith
+low_bit false n = omega arith
+
+-- a remainder is its lowest bit and that of the half
+mod_suc : (value n : ℕ) → value % 2 ^ suc n ≡ value % 2 + 2 * (value / 2 % 2 ^ n)
+mod_suc value n = ap (λ (j : ℕ). value % 2 ^ j) (sym (add-one n)) ∙ mod-pow-add value n 1 ∙ omega arith
+
+-- a power's next step
+pub pow_suc : (base n : ℕ) → base ^ suc n ≡ base * base ^ n
+pow_suc base n = ap (λ (j : ℕ). base ^ j) (sym (add-one n)) ∙ pow_more base n ∙ omega arith
+
+-- the low bits of a number spell its remainder
+pub number_of-low_bits : (count value : ℕ) → number_of (low_bits count value) ≡ value % 2 ^ count
+number_of-low_bits zero value = rw (low_bits-zero, number_of-nil) (omega arith)
+number_of-low_bits (suc count) value = rw (low_bits-suc, number_of-cons, bit_eqb, number_of-low_bits count (value / 2)) (sym (mod_suc value count))
+
+-- bits are the low bits of the number that they spell
+pub low_bits-number_of : (bits : List Bool) → low_bits (length bits) (number_of bits) ≡ bits
+low_bits-number_of [] = rw low_bits-zero refl
+low_bits-number_of (b ∷ bits) = rw (low_bits-suc, number_of-cons, eqb_bit, half_bit, low_bits-number_of bits) refl
+
+-- bits above those that are taken don't matter
+pub low_bits-mod : (count value : ℕ) → low_bits count (value % 2 ^ count) ≡ low_bits count value
+low_bits-mod count value = sym (ap (low_bits count) (number_of-low_bits count value)) ∙ subst (λ (n : ℕ). low_bits n (number_of (low_bits count value)) ≡ low_bits count value) (length-low_bits count value) (low_bits-number_of (low_bits count value))
+
+-- the low bits of a number are its lowest and those of the rest
+pub low_bits-add : (m n value : ℕ) → low_bits (m + n) value ≡ low_bits m value ++ low_bits n (value / 2 ^ m)
+low_bits-add zero n value = rw (low_bits-zero value) (let same : value / 2 ^ 0 ≡ value = omega arith in let none : zero + n ≡ n = omega arith in rw (same, none) refl)
+low_bits-add (suc m) n value = let more : suc m + n ≡ suc (m + n) = omega arith in rw (more, low_bits-suc (m + n) value, low_bits-suc m value, low_bits-add m n (value / 2), halved value m) refl
+
+-- one more of the bits that a number spells
+pub number_of-take_more : (bits : List Bool) (k : ℕ) → k < length bits → number_of (take (k + 1) bits) ≡ number_of (take k bits) + bit (get_or bits k false) * 2 ^ k
+number_of-take_more [] k lt = absurd (omega arith)
+number_of-take_more (b ∷ bits) zero lt = rw (number_of-cons, number_of-nil) (omega arith)
+number_of-take_more (b ∷ bits) (suc k) lt =
+    let more : suc k + 1 ≡ suc (k + 1) = omega arith in
+    rw (more, number_of-cons b (take (k + 1) bits), number_of-cons b (take k bits), number_of-take_more bits k (omega arith), pow_suc 2 k) (grind arith)
+
+-- the same behind a place
+pub number_of-take_more_from : (bits : List Bool) (place k : ℕ) → place + k < length bits → number_of (take (k + 1) (drop place bits)) ≡ number_of (take k (drop place bits)) + bit (get_or bits (place + k) false) * 2 ^ k
+number_of-take_more_from bits place k lt = rw (number_of-take_more (drop place bits) k (omega (arith, length-drop place bits)), get_or-drop) refl
+
+-- the number's remainder is what the first bits spell
+pub number_of-mod : (bits : List Bool) (n : ℕ) → number_of bits % 2 ^ n ≡ number_of (take n bits)
+number_of-mod bits zero = rw number_of-nil (omega arith)
+number_of-mod [] (suc n) = rw number_of-nil (omega (arith, mod_suc 0 n, mod_below 0 (2 ^ n) (pow_pos n)))
+number_of-mod (b ∷ bits) (suc n) = rw (number_of-cons b bits, mod_suc, half_bit, low_bit, number_of-cons b (take n bits), number_of-mod bits n) refl
