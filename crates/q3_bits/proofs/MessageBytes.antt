@@ -23,7 +23,8 @@ bit_below_two (suc (suc value)) fits = absurd (omega arith)
 pub bit-lowest : (value : ℕ) → bit (eqb (value % 2) 1) ≡ value % 2
 bit-lowest value = bit_below_two (value % 2) (omega arith)
 
-half_below : (count value : ℕ) → value < 2 ^ suc count → value / 2 < 2 ^ count
+-- the half of a number fits one bit less
+pub half_below : (count value : ℕ) → value < 2 ^ suc count → value / 2 < 2 ^ count
 half_below count value fits = omega (arith, pow-suc 2 count)
 
 -- a number below a power of two is spelled by that many low bits

@@ -142,13 +142,12 @@ impl<'a> Writer<'a> {
         }
     }
 
+    /// Writes one bit.
     fn push_bit(&mut self, bit: bool)
         requires { message_length (length self.old.bits + 1) ≤ self.old.room }
         ensures { self.new ≡ record self.old { bits = self.old.bits ++ bit ∷ [] } }
     {
-        if bit {
-            self.bytes[self.count / 8] |= 1 << (self.count % 8);
-        }
+        self.bytes[self.count / 8] |= u8::from(bit) << (self.count % 8);
         self.count += 1;
     }
 }
