@@ -4,15 +4,16 @@ use Rattle.std.proofs.lemmas.Grind.{common_steps}
 use Rattle.std.proofs.lemmas.Nat.{pow_pos, or_shifted, or_comm, shl_whole}
 use Rattle.std.proofs.lemmas.Bool.{cases_lt, cases_eq}
 use Rattle.std.proofs.Math.Nat.{pow-suc}
-use Rattle.std.proofs.lemmas.List.{append-nil, append_assoc, length-append, length-take-le, take-set, take_more_set, get_or-set_same, get_or-set_other, set-get_or}
+use Rattle.std.proofs.lemmas.List.{append-nil, append_assoc, length-append, length-take-le, take-set, take_more_set, take_more, get_or-set_same, get_or-set_other, set-get_or}
 use Rattle.std.proofs.lemmas.List.Concat.{flat_map-append}
-use Rattle.std.specs.List.{flat_map}
+use Rattle.std.proofs.lemmas.List.Elements.{recursion_from_All, All-take}
+use Rattle.std.specs.List.{flat_map, All, AllByRecursion as ByRecursion}
 use Rattle.std.specs.Int.RustNames.{bit_or}
-use Rattle.q3_bits.specs.Bits.{bit, low_bits, bits_of}
+use Rattle.q3_bits.specs.Bits.{bit, low_bits, bits_of, message_bytes}
 use Rattle.q3_bits.specs.Buffer.{bits_within, writing_of, IsWritten}
 use Rattle.q3_bits.specs.declared.writer.Writer.TheInside.{Inside}
 use mir.Val.{bool_byte}
-use Rattle.q3_bits.proofs.MessageBytes.{length-low_bits, half_below}
+use Rattle.q3_bits.proofs.MessageBytes.{length-low_bits, half_below, number_of-low_bits, message_bytes-byte, message_bytes-short}
 
 -- bytes have eight bits each
 pub length-bits_of : (bytes : List ℕ) → length (bits_of bytes) ≡ 8 * length bytes
@@ -147,3 +148,21 @@ IsWritten-push w b written told room =
         within = room;
         part = part-push w.bytes w.count b (omega arith) written.part written.unused;
         unused = unused-push w.bytes w.count b written.unused }
+
+message_bytes-bits : (whole : List ℕ) (count last : ℕ) → ByRecursion (λ (byte : ℕ). byte < 256) whole → count < 8 → last < 2 ^ count
+    → message_bytes (bits_of whole ++ low_bits count last) ≡ whole ++ last ∷ []
+unfolding bits_of
+message_bytes-bits [] count last fits few small =
+    message_bytes-short (low_bits count last) (omega (arith, length-low_bits count last)) ∙ ap (λ (byte : ℕ). byte ∷ []) (number_of-low_bits count last small)
+message_bytes-bits (byte ∷ whole) count last fits few small =
+    ap message_bytes (append_assoc (low_bits 8 byte) (bits_of whole) (low_bits count last))
+    ∙ message_bytes-byte byte (bits_of whole ++ low_bits count last) fits.0
+    ∙ ap (λ (others : List ℕ). byte ∷ others) (message_bytes-bits whole count last fits.1 few small)
+
+-- the message of the bits that lie in bytes is the front of the bytes
+pub message_bytes-within : (bytes : List ℕ) (count : ℕ) → All (λ (byte : ℕ). byte < 256) bytes → count / 8 < length bytes → get_or bytes (count / 8) 0 < 2 ^ (count % 8)
+    → message_bytes (bits_within bytes count) ≡ take (count / 8 + 1) bytes
+message_bytes-within bytes count fits within part =
+    message_bytes-bits (take (count / 8) bytes) (count % 8) (get_or bytes (count / 8) 0)
+        (recursion_from_All (λ (byte : ℕ). byte < 256) (take (count / 8) bytes) (All-take (λ (byte : ℕ). byte < 256) (count / 8) bytes fits)) (omega arith) part
+    ∙ sym (take_more bytes (count / 8) 0 within)

@@ -1,8 +1,12 @@
-use Rattle.std.proofs.Common.{rules, ◌≡◌, ◌+◌, ◌-◌, ◌*◌, ◌/◌, ◌%◌, ◌^◌, ◌<◌, ◌≤◌, ◌↔◌, ◌++◌, ℕ, [], ◌∷◌, length, take, IsTrue, IsErr, OnOk, OnErr, slice_index, EachIndex, Bool, true, false, nat_eq, nat_lt, List, slice_index_or, slice_set, bit_and, bit_or, Fits, w8, w32, w64, Bor, MutBor}
-use Rattle.q3_bits.specs.Bits.{low_bits, message_bytes, message_length}
-use Rattle.q3_bits.specs.Words.{field_bits, bytes_bits}
+use Rattle.std.proofs.Common.{◌≡◌, ◌∙◌, ◌<◌, ◌≤◌, ltb, length, ap, sym, arith}
+use Rattle.q3_bits.specs.Streams.{Writing}
+use Rattle.q3_bits.specs.Bits.{message_bytes}
+use Rattle.q3_bits.proofs.Written.{length-writing, message_bytes-within}
 use Rattle.q3_bits.proofs.writer.Writer.bytes.Goals as goal
 
--- src/writer.rt:90:5
 pub returns : goal.returns
-returns c = ?
+returns c =
+    let w = c.self.inside in
+    c.front.ensures.front
+    ∙ sym (message_bytes-within w.bytes w.count c.front.ensures.bytes (omega (arith, c.self.invariant.room, c.self.invariant.within)) c.self.invariant.part)
+    ∙ ap (λ (s : Writing). message_bytes s.bits) c.self.view_is
