@@ -11,6 +11,8 @@ use Rattle.std.specs.List.{flat_map, All, AllByRecursion as ByRecursion}
 use Rattle.std.specs.Int.RustNames.{bit_or}
 use Rattle.q3_bits.specs.Bits.{bit, low_bits, bits_of, message_bytes}
 use Rattle.q3_bits.specs.Buffer.{bits_within, writing_of, IsWritten}
+use Rattle.q3_bits.specs.Streams.{Writing}
+use Rattle.q3_bits.specs.Words.{bytes_bits, word_of}
 use Rattle.q3_bits.specs.declared.writer.Writer.TheInside.{Inside}
 use mir.Val.{bool_byte}
 use Rattle.q3_bits.proofs.MessageBytes.{length-low_bits, half_below, number_of-low_bits, message_bytes-byte, message_bytes-short}
@@ -166,3 +168,62 @@ message_bytes-within bytes count fits within part =
     message_bytes-bits (take (count / 8) bytes) (count % 8) (get_or bytes (count / 8) 0)
         (recursion_from_All (λ (byte : ℕ). byte < 256) (take (count / 8) bytes) (All-take (λ (byte : ℕ). byte < 256) (count / 8) bytes fits)) (omega arith) part
     ∙ sym (take_more bytes (count / 8) 0 within)
+
+-- what is left of the low bits, one bit on and at the end
+pub low_bits-next : (count k value : ℕ) → k < count → low_bits (count - k) value ≡ eqb (value % 2) 1 ∷ low_bits (count - (k + 1)) (value / 2)
+unfolding low_bits
+low_bits-next count k value more =
+    let next : count - k ≡ suc (count - (k + 1)) = omega arith in
+    rw next
+pub low_bits-end : (count k value : ℕ) → count ≤ k → low_bits (count - k) value ≡ []
+unfolding low_bits
+low_bits-end count k value past =
+    let none : count - k ≡ 0 = omega arith in
+    rw none
+
+-- what is left of the words of a number's bytes, one byte on and at the end
+pub bytes_bits-next : (words : List (List Bool)) (count k value : ℕ) → k < count
+    → bytes_bits words (count - k) value ≡ word_of words (value % 256) ++ bytes_bits words (count - (k + 1)) (value / 256)
+unfolding bytes_bits
+bytes_bits-next words count k value more =
+    let next : count - k ≡ suc (count - (k + 1)) = omega arith in
+    rw next
+pub bytes_bits-end : (words : List (List Bool)) (count k value : ℕ) → count ≤ k → bytes_bits words (count - k) value ≡ []
+unfolding bytes_bits
+bytes_bits-end words count k value past =
+    let none : count - k ≡ 0 = omega arith in
+    rw none
+
+-- some bits were written behind those at the start, and others are left of the whole
+pub record HasWritten (start now : Writing) (left whole : List Bool) : Type 0 where
+  pub words : now.words ≡ start.words
+  pub room : now.room ≡ start.room
+  pub bits : now.bits ++ left ≡ start.bits ++ whole
+
+-- at the start all is left
+pub HasWritten-none : (start : Writing) (left whole : List Bool) → left ≡ whole → HasWritten start start left whole
+HasWritten-none start left whole same =
+    record { words = refl; room = refl; bits = ap (λ (others : List Bool). start.bits ++ others) same }
+
+-- what is written and what is left are as long as all
+pub HasWritten-length : (start now : Writing) (left whole : List Bool) → HasWritten start now left whole
+    → length now.bits + length left ≡ length start.bits + length whole
+HasWritten-length start now left whole h =
+    omega (arith, ap length h.bits, length-append now.bits left, length-append start.bits whole)
+
+-- a piece more is written
+pub HasWritten-more : (start now next : Writing) (left whole piece others : List Bool) → HasWritten start now left whole → left ≡ piece ++ others
+    → next ≡ record { words = now.words; bits = now.bits ++ piece; room = now.room }
+    → HasWritten start next others whole
+HasWritten-more start now next left whole piece others h cut is =
+    rw is (record {
+        words = h.words;
+        room = h.room;
+        bits = append_assoc now.bits piece others ∙ ap (λ (ys : List Bool). now.bits ++ ys) (sym cut) ∙ h.bits })
+
+-- nothing is left
+pub HasWritten-all : (start now : Writing) (left whole : List Bool) → HasWritten start now left whole → left ≡ []
+    → now ≡ record { words = start.words; bits = start.bits ++ whole; room = start.room }
+HasWritten-all start now left whole h none =
+    let bits : now.bits ≡ start.bits ++ whole = sym (append-nil now.bits) ∙ ap (λ (ys : List Bool). now.bits ++ ys) (sym none) ∙ h.bits in
+    rw (← h.words, ← h.room, ← bits)
