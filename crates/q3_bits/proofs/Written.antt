@@ -12,7 +12,9 @@ use Rattle.std.specs.Int.RustNames.{bit_or}
 use Rattle.q3_bits.specs.Bits.{bit, low_bits, bits_of, message_bytes}
 use Rattle.q3_bits.specs.Buffer.{bits_within, writing_of, IsWritten}
 use Rattle.q3_bits.specs.Streams.{Writing}
+use Rattle.q3_bits.specs.Table.{bits_of_word}
 use Rattle.q3_bits.specs.Words.{bytes_bits, word_of}
+use Rattle.q3_bits.specs.declared.code.Word.{Word}
 use Rattle.q3_bits.specs.declared.writer.Writer.TheInside.{Inside}
 use mir.Val.{bool_byte}
 use Rattle.q3_bits.proofs.MessageBytes.{length-low_bits, half_below, number_of-low_bits, message_bytes-byte, message_bytes-short}
@@ -193,6 +195,16 @@ unfolding bytes_bits
 bytes_bits-end words count k value past =
     let none : count - k ≡ 0 = omega arith in
     rw none
+
+-- the next byte's word, as a table has it
+pub bytes_bits-word : (words table : List (List Bool)) (count k value size : ℕ) (word : Word) → k < count → table ≡ words
+    → bits_of_word word ≡ word_of table (value % 256) → size ≡ word.length
+    → bytes_bits words (count - k) value ≡ low_bits size word.bits ++ bytes_bits words (count - (k + 1)) (value / 256)
+bytes_bits-word words table count k value size word more same is as_long =
+    bytes_bits-next words count k value more
+    ∙ ap (λ (ws : List (List Bool)). word_of ws (value % 256) ++ bytes_bits words (count - (k + 1)) (value / 256)) (sym same)
+    ∙ ap (λ (bits : List Bool). bits ++ bytes_bits words (count - (k + 1)) (value / 256)) (sym is)
+    ∙ ap (λ (n : ℕ). low_bits n word.bits ++ bytes_bits words (count - (k + 1)) (value / 256)) (sym as_long)
 
 -- some bits were written behind those at the start, and others are left of the whole
 pub record HasWritten (start now : Writing) (left whole : List Bool) : Type 0 where
