@@ -13,7 +13,7 @@ use Rattle.q3_bits.specs.Bits.{bit, low_bits, bits_of, message_bytes}
 use Rattle.q3_bits.specs.Buffer.{bits_within, writing_of, IsWritten}
 use Rattle.q3_bits.specs.Streams.{Writing}
 use Rattle.q3_bits.specs.Table.{bits_of_word}
-use Rattle.q3_bits.specs.Words.{bytes_bits, word_of}
+use Rattle.q3_bits.specs.Words.{bytes_bits, field_bits, word_of}
 use Rattle.q3_bits.specs.declared.code.Word.{Word}
 use Rattle.q3_bits.specs.declared.writer.Writer.TheInside.{Inside}
 use mir.Val.{bool_byte}
@@ -239,3 +239,16 @@ pub HasWritten-all : (start now : Writing) (left whole : List Bool) → HasWritt
 HasWritten-all start now left whole h none =
     let bits : now.bits ≡ start.bits ++ whole = sym (append-nil now.bits) ∙ ap (λ (ys : List Bool). now.bits ++ ys) (sym none) ∙ h.bits in
     rw (← h.words, ← h.room, ← bits)
+
+-- a field is as long as its raw bits and its words
+pub length-field_bits : (words : List (List Bool)) (width value : ℕ)
+    → length (field_bits words width value) ≡ width % 8 + length (bytes_bits words (width / 8) (value / 2 ^ (width % 8)))
+unfolding field_bits
+length-field_bits words width value =
+    omega (arith, length-append (low_bits (width % 8) value) (bytes_bits words (width / 8) (value / 2 ^ (width % 8))), length-low_bits (width % 8) value)
+
+-- a field is its raw bits and then its words
+pub field_bits-behind : (bits : List Bool) (words : List (List Bool)) (width value : ℕ)
+    → bits ++ low_bits (width % 8) value ++ bytes_bits words (width / 8) (value / 2 ^ (width % 8)) ≡ bits ++ field_bits words width value
+unfolding field_bits
+field_bits-behind bits words width value = append_assoc bits (low_bits (width % 8) value) (bytes_bits words (width / 8) (value / 2 ^ (width % 8)))
