@@ -76,16 +76,16 @@ bits_within-push bytes count b within part =
     let last = get_or bytes (count / 8) 0 in
     elim (cases_lt (count % 8) 7) [
       | inl lt ↦
-        let same : (count + 1) / 8 ≡ count / 8 = omega arith in
-        let next : (count + 1) % 8 ≡ count % 8 + 1 = omega arith in
-        rw (same, next, take-set, get_or-set_same, low_bits-push (count % 8) (get_or bytes (count / 8) 0) b part) (sym (append_assoc (bits_of (take i bytes)) (low_bits (count % 8) last) (b ∷ [])))
+          let same : (count + 1) / 8 ≡ count / 8 = omega arith in
+          let next : (count + 1) % 8 ≡ count % 8 + 1 = omega arith in
+          rw (same, next, take-set, get_or-set_same, low_bits-push (count % 8) (get_or bytes (count / 8) 0) b part) (sym (append_assoc (bits_of (take i bytes)) (low_bits (count % 8) last) (b ∷ [])))
       | inr le ↦
-        let next : (count + 1) / 8 ≡ count / 8 + 1 = omega arith in
-        let none : (count + 1) % 8 ≡ 0 = omega arith in
-        let seven : count % 8 ≡ 7 = omega arith in
-        let part7 : get_or bytes (count / 8) 0 < 2 ^ 7 = rw seven at part in
-        rw (next, none, seven, take_more_set, low_bits-none, append-nil, bits_of-push)
-            (ap (λ (others : List Bool). bits_of (take i bytes) ++ others) (low_bits-push 7 last b part7) ∙ sym (append_assoc (bits_of (take i bytes)) (low_bits 7 last) (b ∷ [])))
+          let next : (count + 1) / 8 ≡ count / 8 + 1 = omega arith in
+          let none : (count + 1) % 8 ≡ 0 = omega arith in
+          let seven : count % 8 ≡ 7 = omega arith in
+          let part7 : get_or bytes (count / 8) 0 < 2 ^ 7 = rw seven at part in
+          rw (next, none, seven, take_more_set, low_bits-none, append-nil, bits_of-push)
+          (ap (λ (others : List Bool). bits_of (take i bytes) ++ others) (low_bits-push 7 last b part7) ∙ sym (append_assoc (bits_of (take i bytes)) (low_bits 7 last) (b ∷ [])))
     ]
 
 below_next : (power next value : ℕ) (b : Bool) → next ≡ power * 2 → value < power → value + power * bit b < next
@@ -99,14 +99,14 @@ pub part-push : (bytes : List ℕ) (count : ℕ) (b : Bool) → count / 8 < leng
 part-push bytes count b within part unused =
     elim (cases_lt (count % 8) 7) [
       | inl lt ↦
-        let same : (count + 1) / 8 ≡ count / 8 = omega arith in
-        let next : (count + 1) % 8 ≡ suc (count % 8) = omega arith in
-        rw (same, next, get_or-set_same) (below_next (2 ^ (count % 8)) (2 ^ suc (count % 8)) (get_or bytes (count / 8) 0) b (pow-suc 2 (count % 8)) part)
+          let same : (count + 1) / 8 ≡ count / 8 = omega arith in
+          let next : (count + 1) % 8 ≡ suc (count % 8) = omega arith in
+          rw (same, next, get_or-set_same) (below_next (2 ^ (count % 8)) (2 ^ suc (count % 8)) (get_or bytes (count / 8) 0) b (pow-suc 2 (count % 8)) part)
       | inr le ↦
-        let none : (count + 1) % 8 ≡ 0 = omega arith in
-        let other : (count + 1) / 8 ≢ count / 8 = omega arith in
-        let zeros = unused ((count + 1) / 8) (omega arith) in
-        rw (none, get_or-set_other) (omega arith)
+          let none : (count + 1) % 8 ≡ 0 = omega arith in
+          let other : (count + 1) / 8 ≢ count / 8 = omega arith in
+          let zeros = unused ((count + 1) / 8) (omega arith) in
+          rw (none, get_or-set_other) (omega arith)
     ]
 
 -- no bit is written in the bytes behind
@@ -130,8 +130,8 @@ with_bit-or bytes count b byte is part =
     let last = get_or bytes (count / 8) 0 in
     let same = bit-from_byte b byte is in
     let joined : bit_or last ((byte * power) % 2 ^ 8) ≡ last + power * byte =
-        ap (bit_or last) (shl_whole byte 1 (count % 8) 8 same.1 (omega arith)) ∙ or_comm last (byte * power)
-        ∙ or_shifted byte (count % 8) last part ∙ omega arith in
+    ap (bit_or last) (shl_whole byte 1 (count % 8) 8 same.1 (omega arith)) ∙ or_comm last (byte * power)
+    ∙ or_shifted byte (count % 8) last part ∙ omega arith in
     ap (set bytes (count / 8)) (joined ∙ ap (λ (n : ℕ). last + power * n) same.0)
 
 -- a writer has as many bits as it counts
@@ -148,10 +148,11 @@ IsWritten-push w b written told room =
     let most = written.room in
     let within = written.within in
     record {
-        room = written.room;
-        within = room;
-        part = part-push w.bytes w.count b (omega arith) written.part written.unused;
-        unused = unused-push w.bytes w.count b written.unused }
+      room = written.room;
+      within = room;
+      part = part-push w.bytes w.count b (omega arith) written.part written.unused;
+      unused = unused-push w.bytes w.count b written.unused;
+    }
 
 message_bytes-bits : (whole : List ℕ) (count last : ℕ) → ByRecursion (λ (byte : ℕ). byte < 256) whole → count < 8 → last < 2 ^ count
     → message_bytes (bits_of whole ++ low_bits count last) ≡ whole ++ last ∷ []
@@ -168,7 +169,7 @@ pub message_bytes-within : (bytes : List ℕ) (count : ℕ) → All (λ (byte : 
     → message_bytes (bits_within bytes count) ≡ take (count / 8 + 1) bytes
 message_bytes-within bytes count fits within part =
     message_bytes-bits (take (count / 8) bytes) (count % 8) (get_or bytes (count / 8) 0)
-        (recursion_from_All (λ (byte : ℕ). byte < 256) (take (count / 8) bytes) (All-take (λ (byte : ℕ). byte < 256) (count / 8) bytes fits)) (omega arith) part
+    (recursion_from_All (λ (byte : ℕ). byte < 256) (take (count / 8) bytes) (All-take (λ (byte : ℕ). byte < 256) (count / 8) bytes fits)) (omega arith) part
     ∙ sym (take_more bytes (count / 8) 0 within)
 
 -- what is left of the low bits, one bit on and at the end
@@ -177,6 +178,7 @@ unfolding low_bits
 low_bits-next count k value more =
     let next : count - k ≡ suc (count - (k + 1)) = omega arith in
     rw next
+
 pub low_bits-end : (count k value : ℕ) → count ≤ k → low_bits (count - k) value ≡ []
 unfolding low_bits
 low_bits-end count k value past =
@@ -190,6 +192,7 @@ unfolding bytes_bits
 bytes_bits-next words count k value more =
     let next : count - k ≡ suc (count - (k + 1)) = omega arith in
     rw next
+
 pub bytes_bits-end : (words : List (List Bool)) (count k value : ℕ) → count ≤ k → bytes_bits words (count - k) value ≡ []
 unfolding bytes_bits
 bytes_bits-end words count k value past =
@@ -229,9 +232,10 @@ pub HasWritten-more : (start now next : Writing) (left whole piece others : List
     → HasWritten start next others whole
 HasWritten-more start now next left whole piece others h cut is =
     rw is (record {
-        words = h.words;
-        room = h.room;
-        bits = append_assoc now.bits piece others ∙ ap (λ (ys : List Bool). now.bits ++ ys) (sym cut) ∙ h.bits })
+      words = h.words;
+      room = h.room;
+      bits = append_assoc now.bits piece others ∙ ap (λ (ys : List Bool). now.bits ++ ys) (sym cut) ∙ h.bits;
+    })
 
 -- nothing is left
 pub HasWritten-all : (start now : Writing) (left whole : List Bool) → HasWritten start now left whole → left ≡ []

@@ -1,22 +1,37 @@
-use Rattle.std.proofs.Common.{rules, ◌≡◌, ◌≤◌, Bool, List, IfOk, IfSome, length, min, take, ℕ, ◌+◌, ◌-◌, ◌*◌, ◌<◌, ◌/◌, ◌%◌, true, false, nat_eq, nat_lt, [], ◌∷◌, ◌++◌, slice_index_or, slice_set, bit_and, bit_or, Fits, w8, w32, w64, Bor, MutBor}
-use Rattle.q3_bits.specs.Bits.{number_of}
-use Rattle.q3_bits.specs.Words.{plain_words, word_of, byte_from}
-use Rattle.q3_bits.specs.Table.{bits_of_word, IsWord}
-use Rattle.q3_bits.specs.Place.{behind_length}
+use Rattle.std.proofs.Common.{◌≡◌, ◌∙◌, ◌+◌, ◌++◌, [], ◌∷◌, List, Bool, map, ap, refl, sym, arith}
+use Rattle.std.proofs.lemmas.List.{map_push, length_push}
+use Rattle.std.proofs.lemmas.List.Elements.{All-nil, All-push}
+use Rattle.std.proofs.lemmas.List.FromFn.{map-range_with_len_more}
+use Rattle.std.specs.List.{range_with_len}
+use Rattle.q3_bits.specs.Bits.{low_bits}
+use Rattle.q3_bits.specs.Table.{IsWord, bits_of_word}
+use Rattle.q3_bits.specs.Words.{plain_words}
+use Rattle.q3_bits.specs.declared.code.Word.{Word}
 use Rattle.q3_bits.proofs.code.Code.plain.Goals as goal
 
--- src/code.rt:47:9
 pub loop-bits-init : goal.loop-bits-init
-loop-bits-init c = ?
+loop-bits-init c =
+    rw c.in_ok-words.ensures.items (record { count = refl; each = All-nil IsWord; words = refl })
 
--- src/code.rt:47:9
 pub loop-bits-preserved : goal.loop-bits-preserved
-loop-bits-preserved c = ?
+loop-bits-preserved c =
+    let items = c.loop-bits.words.items in
+    let word : Word = record { bits = c.loop-bits.bits; length = 8 } in
+    let h = c.loop-bits.invariant in
+    let t = c.loop-bits-test.true in
+    rw c.in_ok-push.ensures.items (record {
+      count = length_push items word ∙ ap (λ n. n + 1) h.count;
+      each = All-push IsWord items word h.each (record { short = omega arith; fits = omega arith });
+      words = map_push bits_of_word items word ∙ ap (λ (ws : List (List Bool)). ws ++ low_bits 8 c.loop-bits.bits ∷ []) h.words ∙ sym (map-range_with_len_more (low_bits 8) 0 c.loop-bits.bits c.loop-bits.bits (omega arith));
+    })
 
--- src/code.rt:50:9
 pub invariant_of-result : goal.invariant_of-result
-invariant_of-result c = ?
+invariant_of-result c =
+    let h = c.loop-bits.invariant in
+    record { count = omega (arith, h.count); each = h.each }
 
--- src/code.rt:43:5
 pub returns : goal.returns
-returns c = ?
+unfolding plain_words
+returns c =
+    let all : c.loop-bits.bits ≡ 256 = omega arith in
+    c.loop-bits.invariant.words ∙ ap (λ n. map (low_bits 8) (range_with_len 0 n)) all

@@ -1,7 +1,7 @@
-use Rattle.std.proofs.Common.{◌≡◌, ◌∙◌, ◌<◌, ◌≤◌, ltb, length, ap, sym, arith}
+use Rattle.std.proofs.Common.{◌∙◌, ap, sym, arith}
 use Rattle.q3_bits.specs.Streams.{Writing}
 use Rattle.q3_bits.specs.Bits.{message_bytes}
-use Rattle.q3_bits.proofs.Written.{length-writing, message_bytes-within}
+use Rattle.q3_bits.proofs.Written.{message_bytes-within}
 use Rattle.q3_bits.proofs.writer.Writer.bytes.Goals as goal
 
 pub returns : goal.returns
