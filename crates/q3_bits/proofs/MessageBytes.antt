@@ -14,6 +14,7 @@ unfolding low_bits
 length-low_bits zero value = refl
 length-low_bits (suc count) value = ap suc (length-low_bits count (value / 2))
 
+-- a test for 1 decides a number below two
 bit_below_two : (value : ℕ) → value < 2 → bit (eqb value 1) ≡ value
 bit_below_two zero fits = refl
 bit_below_two (suc zero) fits = refl

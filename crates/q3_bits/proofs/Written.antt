@@ -88,6 +88,7 @@ bits_within-push bytes count b within part =
           (ap (λ (others : List Bool). bits_of (take i bytes) ++ others) (low_bits-push 7 last b part7) ∙ sym (append_assoc (bits_of (take i bytes)) (low_bits 7 last) (b ∷ [])))
     ]
 
+-- a bit more fits one place more
 below_next : (power next value : ℕ) (b : Bool) → next ≡ power * 2 → value < power → value + power * bit b < next
 below_next power next value true twice fits = omega arith
 below_next power next value false twice fits = omega arith
@@ -154,6 +155,7 @@ IsWritten-push w b written told room =
       unused = unused-push w.bytes w.count b written.unused;
     }
 
+-- whole bytes and the low bits of one more are those bytes
 message_bytes-bits : (whole : List ℕ) (count last : ℕ) → ByRecursion (λ (byte : ℕ). byte < 256) whole → count < 8 → last < 2 ^ count
     → message_bytes (bits_of whole ++ low_bits count last) ≡ whole ++ last ∷ []
 unfolding bits_of
@@ -172,20 +174,21 @@ message_bytes-within bytes count fits within part =
     (recursion_from_All (λ (byte : ℕ). byte < 256) (take (count / 8) bytes) (All-take (λ (byte : ℕ). byte < 256) (count / 8) bytes fits)) (omega arith) part
     ∙ sym (take_more bytes (count / 8) 0 within)
 
--- what is left of the low bits, one bit on and at the end
+-- what is left of the low bits, one bit on
 pub low_bits-next : (count k value : ℕ) → k < count → low_bits (count - k) value ≡ eqb (value % 2) 1 ∷ low_bits (count - (k + 1)) (value / 2)
 unfolding low_bits
 low_bits-next count k value more =
     let next : count - k ≡ suc (count - (k + 1)) = omega arith in
     rw next
 
+-- nothing is left of the low bits at the end
 pub low_bits-end : (count k value : ℕ) → count ≤ k → low_bits (count - k) value ≡ []
 unfolding low_bits
 low_bits-end count k value past =
     let none : count - k ≡ 0 = omega arith in
     rw none
 
--- what is left of the words of a number's bytes, one byte on and at the end
+-- what is left of the words of a number's bytes, one byte on
 pub bytes_bits-next : (words : List (List Bool)) (count k value : ℕ) → k < count
     → bytes_bits words (count - k) value ≡ word_of words (value % 256) ++ bytes_bits words (count - (k + 1)) (value / 256)
 unfolding bytes_bits
@@ -193,6 +196,7 @@ bytes_bits-next words count k value more =
     let next : count - k ≡ suc (count - (k + 1)) = omega arith in
     rw next
 
+-- nothing is left of the words at the end
 pub bytes_bits-end : (words : List (List Bool)) (count k value : ℕ) → count ≤ k → bytes_bits words (count - k) value ≡ []
 unfolding bytes_bits
 bytes_bits-end words count k value past =
