@@ -1,2 +1,4 @@
 pub mod Numbers
 pub mod CodeText
+pub mod MessageBytes
+pub mod Written

@@ -1,6 +1,6 @@
 //! A writer of bit messages. Keeps the rules "bit order of a field" and "padding and the longest message".
 
-ghost use Rattle.std.specs.Prelude.{◌≡◌, ◌+◌, ◌-◌, ◌*◌, ◌/◌, ◌%◌, ◌^◌, ◌<◌, ◌≤◌, ◌↔◌, ◌++◌, ℕ, [], ◌∷◌, length, take, IsTrue, IsErr, OnOk, OnErr, slice_index, EachIndex};
+ghost use Rattle.std.specs.Prelude.{◌≡◌, ◌+◌, ◌-◌, ◌*◌, ◌/◌, ◌%◌, ◌^◌, ◌<◌, ◌≤◌, ◌↔◌, ◌++◌, ℕ, [], ◌∷◌, length, take, IsTrue, IsErr, OnOk, OnErr, slice_index, EachIndex, All};
 ghost use Rattle.q3_bits.specs.Bits.{low_bits, message_bytes, message_length};
 ghost use Rattle.q3_bits.specs.Words.{field_bits, bytes_bits};
 
@@ -40,6 +40,15 @@ fn zeros<const N: usize>() -> [u8; N]
     ensures { (k : ℕ) → slice_index result k ≡ 0 }
 {
     [0; N]
+}
+
+/// So many of the first bytes.
+fn front(bytes: &[u8], count: usize) -> &[u8]
+    requires { count ≤ length bytes.now }
+    ensures front { result.now ≡ take count bytes.now }
+    ensures bytes { All (λ byte. byte < 256) bytes.now }
+{
+    &bytes[..count]
 }
 
 impl<'a> Writer<'a> {
@@ -90,7 +99,7 @@ impl<'a> Writer<'a> {
     pub fn bytes(&self) -> &[u8]
         ensures { result.now ≡ message_bytes self.now.bits }
     {
-        &self.bytes[..self.count / 8 + 1]
+        front(&self.bytes, self.count / 8 + 1)
     }
 
     /// Whether so many bits more fit.
@@ -142,13 +151,12 @@ impl<'a> Writer<'a> {
         }
     }
 
+    /// Writes one bit.
     fn push_bit(&mut self, bit: bool)
         requires { message_length (length self.old.bits + 1) ≤ self.old.room }
         ensures { self.new ≡ record self.old { bits = self.old.bits ++ bit ∷ [] } }
     {
-        if bit {
-            self.bytes[self.count / 8] |= 1 << (self.count % 8);
-        }
+        self.bytes[self.count / 8] |= u8::from(bit) << (self.count % 8);
         self.count += 1;
     }
 }
