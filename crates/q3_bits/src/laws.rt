@@ -7,30 +7,25 @@ ghost use Rattle.q3_bits.specs.Laws.{ReadWasPut, PutIsRead, PlainBitsEnd, Messag
 /// The plain code has a word for each byte, and none begins another.
 pub fn plain_is_a_code()
     ensures { IsCode plain_words }
-{
-}
+{}
 
 /// What is read was put: the value fits the width, and its text stands at the front of the bits.
 pub fn read_was_put()
     ensures { ReadWasPut }
-{
-}
+{}
 
 /// What is put is read back, with whatever follows it.
 pub fn put_is_read()
     ensures { PutIsRead }
-{
-}
+{}
 
 /// By the plain code nothing is read only where the bits end.
 pub fn plain_bits_end()
     ensures { PlainBitsEnd }
-{
-}
+{}
 
 /// The bytes of a message hold its bits, and then zeros.
 pub fn message_holds_bits()
     ensures holds { MessageHoldsBits }
     ensures bytes { MessageIsBytes }
-{
-}
+{}

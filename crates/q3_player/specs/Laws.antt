@@ -27,3 +27,8 @@ ReadIsSpelled = (words : List (List Bool)) (from to : PlayerState) (bits rest : 
 abbrev pub SpelledIsRead : Type 0
 SpelledIsRead = (words : List (List Bool)) (from to : PlayerState) (text rest : List Bool) → IsCode words
     → SpellsPlayer words from to text → player_at words from (text ++ rest) ≡ Ok (to, rest)
+
+-- what is written against a normal state is read back as the normal form of the other, with whatever follows it
+abbrev pub WrittenIsRead : Type 0
+WrittenIsRead = (words : List (List Bool)) (from to : PlayerState) (rest : List Bool) → IsCode words → IsNormal from
+    → length to.words ≡ 64 → SameArrays from to → player_at words from (player_delta words from to ++ rest) ≡ Ok (normal_player to, rest)

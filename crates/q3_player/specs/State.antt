@@ -9,12 +9,12 @@ field_count = 2
 -- the state with nothing in it
 unfoldable pub zero_player : PlayerState
 zero_player = record {
-    words = replicate 64 0;
-    stats = replicate 16 (pos 0);
-    persistant = replicate 16 (pos 0);
-    ammo = replicate 16 (pos 0);
-    powerups = replicate 16 0;
-  }
+  words = replicate 64 0;
+  stats = replicate 16 (pos 0);
+  persistant = replicate 16 (pos 0);
+  ammo = replicate 16 (pos 0);
+  powerups = replicate 16 0;
+}
 
 -- a word of an unsigned field of 16 bits, cut to them
 abbrev pub norm : ℕ → ℕ

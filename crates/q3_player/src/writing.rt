@@ -11,11 +11,7 @@ use q3_bits::{Overflow, Writer};
 
 /// Writes what changed from one state to another, whose arrays are the same.
 /// `Overflow` comes exactly where the text doesn't fit the writer's room; a front of it was then written.
-pub fn write_player(
-    w: &mut Writer,
-    from: &PlayerState,
-    to: &PlayerState,
-) -> Result<(), Overflow>
+pub fn write_player(w: &mut Writer, from: &PlayerState, to: &PlayerState) -> Result<(), Overflow>
     requires { SameArrays from.now to.now }
     ensures overflow { IsErr result ↔
         (w.old.room < message_length (length w.old.bits + length (player_delta w.old.words from.now to.now))) }
