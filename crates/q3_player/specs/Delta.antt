@@ -1,5 +1,5 @@
 -- The player delta: the one text that is written, and what a reader answers.
-use Rattle.std.specs.Prelude.{ℕ, zero, suc, ◌+◌, ◌==◌, ◌&&◌, Bool, true, false, if◌then◌else◌, List, [], ◌∷◌, ◌++◌, take, nat_lt, Result, Ok, Err}
+use Rattle.std.specs.Prelude.{ℕ, suc, ◌+◌, ◌==◌, ◌&&◌, Bool, if◌then◌else◌, List, [], ◌∷◌, ◌++◌, take, nat_lt, Result, Ok, Err}
 use Rattle.q3_bits.specs.Words.{field_bits, field_read}
 use Rattle.q3_bits.specs.declared.reader.ReadError.{ReadError}
 use Rattle.q3_player.specs.declared.state.PlayerState.{PlayerState}

@@ -1,9 +1,8 @@
 -- Laws of the player delta.
-use Rattle.std.specs.Prelude.{◌≡◌, ◌<◌, ◌≤◌, ℕ, Bool, List, ◌++◌, length, take, drop, Result, Ok, Err}
+use Rattle.std.specs.Prelude.{◌≡◌, ◌≤◌, ℕ, Bool, List, ◌++◌, length, drop, Ok}
 use Rattle.q3_bits.specs.Words.{IsCode}
 use Rattle.q3_player.specs.declared.state.PlayerState.{PlayerState}
-use Rattle.q3_player.specs.declared.reading.PlayerError.{PlayerError}
-use Rattle.q3_player.specs.State.{field_count, normal_player, IsNormal, SameArrays}
+use Rattle.q3_player.specs.State.{normal_player, IsNormal, SameArrays}
 use Rattle.q3_player.specs.Delta.{last_changed, player_delta, player_at}
 use Rattle.q3_player.specs.Spelling.{SpellsPlayer}
 

@@ -1,5 +1,5 @@
 -- The spellings of a player delta that a reader accepts: also a larger count, and a field marked as changed that isn't.
-use Rattle.std.specs.Prelude.{◌≡◌, ◌⊎◌, ℕ, zero, suc, ◌^◌, ◌<◌, ◌≤◌, Bool, List, [], ◌∷◌, ◌++◌}
+use Rattle.std.specs.Prelude.{◌≡◌, ◌⊎◌, ℕ, suc, ◌^◌, ◌<◌, ◌≤◌, Bool, List, [], ◌∷◌, ◌++◌}
 use Rattle.q3_bits.specs.Words.{field_bits}
 use Rattle.q3_player.specs.declared.state.PlayerState.{PlayerState}
 use Rattle.q3_player.specs.State.{field_count}

@@ -51,6 +51,8 @@ fn write_fields(
         ≡ record w.old { bits = w.old.bits ++ fields_text w.old.words count from.now.words to.now.words }) }
     ensures front { Extends w.old w.new (fields_text w.old.words count from.now.words to.now.words) }
 {
+    // what stands there fits the room
+    prove!(w.length() > 0);
     for k in 0..count {
         write_field(w, from.words[k], to.words[k])?;
     }

@@ -1,0 +1,4 @@
+pub mod LastChanged
+pub mod FieldTexts
+pub mod FieldsRead
+pub mod Spelled
