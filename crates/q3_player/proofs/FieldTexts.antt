@@ -1,5 +1,5 @@
 -- The text of the first fields, as a loop writes it.
-use Rattle.std.proofs.Common.{◌≡◌, ℕ, zero, suc, ◌+◌, ◌-◌, ◌*◌, ◌/◌, ◌%◌, ◌^◌, ◌≤◌, ◌<◌, ◌↔◌, Bool, true, false, cond, eqb, List, [], ◌∷◌, ◌++◌, length, take, drop, get_or, refl, sym, ap, ◌∙◌, append_assoc, arith}
+use Rattle.std.proofs.Common.{◌≡◌, ℕ, suc, ◌+◌, ◌-◌, ◌/◌, ◌%◌, ◌≤◌, ◌<◌, Bool, List, [], ◌++◌, length, drop, get_or, refl, sym, ap, subst, ◌∙◌, append_assoc, arith}
 use Rattle.std.proofs.lemmas.List.{append-nil, length-append, drop_more}
 use Rattle.q3_bits.specs.Bits.{message_length, low_bits}
 use Rattle.q3_bits.specs.Words.{field_bits, bytes_bits}
@@ -18,13 +18,13 @@ field_bits-norm words value =
     rw (one, cut, low, high) refl
 
 -- what is left of the text, one field on
-pub fields_text-next : (words : List (List Bool)) (count k : ℕ) (from to : List ℕ) → k < count → k < length from → k < length to
+pub fields_text-next : (words same : List (List Bool)) (count k : ℕ) (from to : List ℕ) → same ≡ words → k < count → k < length from → k < length to
     → fields_text words (count - k) (drop k from) (drop k to)
-    ≡ field_text words (get_or from k 0) (get_or to k 0) ++ fields_text words (count - (k + 1)) (drop (k + 1) from) (drop (k + 1) to)
+    ≡ field_text same (get_or from k 0) (get_or to k 0) ++ fields_text words (count - (k + 1)) (drop (k + 1) from) (drop (k + 1) to)
 unfolding fields_text
-fields_text-next words count k from to more within within' =
+fields_text-next words same count k from to is more within within' =
     let next : count - k ≡ suc (count - (k + 1)) = omega arith in
-    rw (next, drop_more from k 0 within, drop_more to k 0 within') refl
+    rw (is, next, drop_more from k 0 within, drop_more to k 0 within') refl
 
 -- nothing is left at the end
 pub fields_text-end : (words : List (List Bool)) (count k : ℕ) (from to : List ℕ) → count ≤ k → fields_text words (count - k) from to ≡ []
@@ -45,11 +45,18 @@ pub HasWritten-none : (start : Writing) (whole : List Bool) → message_length (
 HasWritten-none start whole fits =
     record { written = []; parts = refl; behind = rw append-nil refl; fits = fits }
 
--- what is written and what is left are as long as all
-pub HasWritten-length : (start now : Writing) (left whole : List Bool) → HasWritten start now left whole
-    → length now.bits + length left ≡ length start.bits + length whole
-HasWritten-length start now left whole h =
-    rw h.behind (omega (arith, ap length h.parts, length-append h.written left, length-append start.bits h.written))
+-- the words stay
+pub HasWritten-words : (start now : Writing) (left whole : List Bool) → HasWritten start now left whole → now.words ≡ start.words
+HasWritten-words start now left whole h = ap (λ (w : Writing). w.words) h.behind
+
+-- a piece that doesn't fit is part of a whole that doesn't
+pub HasWritten-overflow : (start now : Writing) (left whole piece others : List Bool) → HasWritten start now left whole → left ≡ piece ++ others
+    → now.room < message_length (length now.bits + length piece)
+    → start.room < message_length (length start.bits + length whole)
+HasWritten-overflow start now left whole piece others h cut over =
+    let room : now.room ≡ start.room = ap (λ (w : Writing). w.room) h.behind in
+    let bits : now.bits ≡ start.bits ++ h.written = ap (λ (w : Writing). w.bits) h.behind in
+    omega (arith, ap length bits, length-append start.bits h.written, ap length h.parts, length-append h.written left, ap length cut, length-append piece others)
 
 -- a piece more is written
 pub HasWritten-more : (start now next : Writing) (left whole piece others : List Bool) → HasWritten start now left whole → left ≡ piece ++ others
@@ -68,18 +75,23 @@ HasWritten-more start now next left whole piece others h cut is enough =
       fits = omega (arith, length-append now.bits piece);
     })
 
+-- a front of a text was written behind what stands before the text
+pub Extends-behind : (start now next : Writing) (before text others : List Bool) → now ≡ record { words = start.words; bits = start.bits ++ before; room = start.room }
+    → Extends now next text → Extends start next (before ++ text ++ others)
+Extends-behind start now next before text others behind front =
+    let room : now.room ≡ start.room = ap (λ (w : Writing). w.room) behind in
+    let words : now.words ≡ start.words = ap (λ (w : Writing). w.words) behind in
+    let bits : now.bits ≡ start.bits ++ before = ap (λ (w : Writing). w.bits) behind in
+    let more : now.bits ++ front.0 ≡ start.bits ++ (before ++ front.0) = rw bits (append_assoc start.bits before front.0) in
+    let regrouped : (before ++ front.0) ++ (front.1 ++ others) ≡ before ++ (front.0 ++ front.1) ++ others = simp append_assoc in
+    (before ++ front.0, front.1 ++ others, regrouped ∙ ap (λ (ys : List Bool). before ++ ys ++ others) front.2, front.3 ∙ rw (words, room, more) refl)
+
 -- a front of the next piece is written
 pub HasWritten-front : (start now next : Writing) (left whole piece others : List Bool) → HasWritten start now left whole → left ≡ piece ++ others
     → Extends now next piece → Extends start next whole
 HasWritten-front start now next left whole piece others h cut front =
-    let room : now.room ≡ start.room = ap (λ (w : Writing). w.room) h.behind in
-    let words : now.words ≡ start.words = ap (λ (w : Writing). w.words) h.behind in
-    let bits : now.bits ≡ start.bits ++ h.written = ap (λ (w : Writing). w.bits) h.behind in
-    let more : now.bits ++ front.0 ≡ start.bits ++ (h.written ++ front.0) = rw bits (append_assoc start.bits h.written front.0) in
-    let regrouped : (h.written ++ front.0) ++ (front.1 ++ others) ≡ h.written ++ ((front.0 ++ front.1) ++ others) = simp append_assoc in
-    (h.written ++ front.0, front.1 ++ others,
-    regrouped ∙ ap (λ (ys : List Bool). h.written ++ (ys ++ others)) front.2 ∙ ap (λ (ys : List Bool). h.written ++ ys) (sym cut) ∙ h.parts,
-    front.3 ∙ rw (words, room, more) refl)
+    let all : h.written ++ piece ++ others ≡ whole = append_assoc h.written piece others ∙ ap (λ (ys : List Bool). h.written ++ ys) (sym cut) ∙ h.parts in
+    subst (Extends start next) all (Extends-behind start now next h.written piece others h.behind front)
 
 -- nothing is left
 pub HasWritten-all : (start now : Writing) (left whole : List Bool) → HasWritten start now left whole → left ≡ []
@@ -87,3 +99,11 @@ pub HasWritten-all : (start now : Writing) (left whole : List Bool) → HasWritt
 HasWritten-all start now left whole h none =
     let all : h.written ≡ whole = sym (append-nil h.written) ∙ ap (λ (ys : List Bool). h.written ++ ys) (sym none) ∙ h.parts in
     h.behind ∙ rw all refl
+
+-- the whole fits
+pub HasWritten-fits : (start now : Writing) (left whole : List Bool) → HasWritten start now left whole → left ≡ []
+    → start.room < message_length (length start.bits + length whole) → ⊥
+HasWritten-fits start now left whole h none over =
+    let bits : now.bits ≡ start.bits ++ whole = ap (λ (w : Writing). w.bits) (HasWritten-all start now left whole h none) in
+    let fits = h.fits in
+    omega (arith, ap length bits, length-append start.bits whole)

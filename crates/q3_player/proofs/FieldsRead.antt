@@ -1,7 +1,7 @@
 -- Reading fields one after the other, as a loop does.
-use Rattle.std.proofs.Common.{◌≡◌, ℕ, suc, ◌-◌, ◌+◌, ◌≤◌, ◌<◌, Bool, List, [], ◌∷◌, ◌++◌, length, take, drop, get_or, set, Result, Ok, Err, refl, sym, ap, ◌∙◌, append_assoc, add-one, arith}
-use Rattle.std.proofs.lemmas.List.{append-nil, drop_more, drop-drop, drop-set-lt, take-append-drop, take_more_set, length-set}
-use Rattle.q3_bits.specs.Streams.{Reading, with_rest}
+use Rattle.std.proofs.Common.{◌≡◌, ℕ, suc, ◌-◌, ◌+◌, ◌≤◌, ◌<◌, Bool, List, [], ◌∷◌, ◌++◌, length, take, drop, get_or, set, Result, Ok, Err, refl, sym, ap, ◌∙◌, append_assoc, arith}
+use Rattle.std.proofs.lemmas.List.{drop_more, drop-drop, drop-set-lt, take-append-drop, take_more_set, length-set}
+use Rattle.q3_bits.specs.Streams.{Reading}
 use Rattle.q3_bits.specs.declared.reader.ReadError.{ReadError}
 use Rattle.q3_player.specs.Delta.{◌>>=◌, field_after, fields_after}
 

@@ -1,5 +1,5 @@
 -- The count of fields that a delta carries.
-use Rattle.std.proofs.Common.{◌≡◌, ℕ, zero, suc, ◌+◌, ◌≤◌, ◌<◌, Bool, false, cond, eqb, ◌&&◌, List, [], ◌∷◌, ◌++◌, length, take, drop, get_or, refl, sym, ap, ◌∙◌, add-one, arith, inl, inr}
+use Rattle.std.proofs.Common.{◌≡◌, ◌≢◌, ℕ, zero, suc, ◌+◌, ◌≤◌, ◌<◌, false, cond, eqb, ◌&&◌, List, [], ◌∷◌, ◌++◌, length, take, drop, get_or, refl, sym, ap, ◌∙◌, add-one, arith, inl, inr}
 use Rattle.std.proofs.lemmas.Bool.{cases_Bool, eqb-true, ne_eqb, eq-eqb, and_parts}
 use Rattle.std.proofs.lemmas.List.{take_more, length-take-le}
 use Rattle.q3_player.specs.Delta.{last_changed}
@@ -20,7 +20,7 @@ last_changed-push (a ∷ from) (b ∷ to) x y same =
     ]
 
 -- one word more is compared
-pub last_changed-more : (from to : List ℕ) (k : ℕ) → k < length from → k < length to
+last_changed-more : (from to : List ℕ) (k : ℕ) → k < length from → k < length to
     → last_changed (take (k + 1) from) (take (k + 1) to) ≡ cond (eqb (get_or from k 0) (get_or to k 0)) (last_changed (take k from) (take k to)) (k + 1)
 last_changed-more from to k within within' =
     let long : length (take k from) ≡ k = length-take-le k from (omega arith) in
@@ -29,14 +29,17 @@ last_changed-more from to k within within' =
     (last_changed-push (take k from) (take k to) (get_or from k 0) (get_or to k 0) (long ∙ sym long')
     ∙ ap (λ (n : ℕ). cond (eqb (get_or from k 0) (get_or to k 0)) (last_changed (take k from) (take k to)) (n + 1)) long)
 
--- the count is the first
-abbrev first_count : Bool → ℕ → ℕ
-first_count same others = cond (eqb others 0 && same) 0 (others + 1)
+-- it differs
+pub last_changed-differs : (from to : List ℕ) (k : ℕ) → k < length from → k < length to → get_or from k 0 ≢ get_or to k 0
+    → last_changed (take (k + 1) from) (take (k + 1) to) ≡ k + 1
+last_changed-differs from to k within within' differs =
+    last_changed-more from to k within within' ∙ rw (ne_eqb (get_or from k 0) (get_or to k 0) differs) refl
 
--- how the count goes on
-pub last_changed-cons : (x y : ℕ) (from to : List ℕ) → last_changed (x ∷ from) (y ∷ to) ≡ first_count (eqb x y) (last_changed from to)
-unfolding last_changed
-last_changed-cons x y from to = refl
+-- it is as it was
+pub last_changed-same : (from to : List ℕ) (k : ℕ) → k < length from → k < length to → get_or from k 0 ≡ get_or to k 0
+    → last_changed (take (k + 1) from) (take (k + 1) to) ≡ last_changed (take k from) (take k to)
+last_changed-same from to k within within' same =
+    last_changed-more from to k within within' ∙ rw (eq-eqb (get_or from k 0) (get_or to k 0) same) refl
 
 -- from the count on the words agree
 pub last_changed-agrees : (from to : List ℕ) → length from ≡ length to → drop (last_changed from to) from ≡ drop (last_changed from to) to

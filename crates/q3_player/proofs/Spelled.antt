@@ -1,17 +1,17 @@
 -- The spellings of a delta: what is written is one of them, and a reader takes each of them and no other text.
-use Rattle.std.proofs.Common.{◌≡◌, ℕ, zero, suc, ◌+◌, ◌^◌, ◌≤◌, ◌<◌, Bool, true, false, cond, eqb, ltb, ◌&&◌, List, [], ◌∷◌, ◌++◌, length, take, drop, map, replicate, Option, Some, None, Result, Ok, Err, refl, sym, ap, subst, ◌∙◌, append_assoc, add-one, arith, inl, inr, ◌⊎◌}
-use Rattle.std.proofs.lemmas.Bool.{cases_Bool, eqb-true, eqb-false, ne_eqb, eq-eqb, and_parts, ltb-false, le-ltb}
+use Rattle.std.proofs.Common.{◌≡◌, ℕ, zero, suc, ◌^◌, ◌<◌, Bool, true, false, cond, eqb, ltb, ◌&&◌, List, [], ◌∷◌, ◌++◌, length, take, drop, map, replicate, Option, Some, None, Result, Ok, Err, refl, sym, ap, subst, ◌∙◌, append_assoc, add-one, arith, inl, inr}
+use Rattle.std.proofs.lemmas.Bool.{cases_Bool, eqb-true, eqb-false, and_parts, ltb-false, le-ltb}
 use Rattle.std.proofs.lemmas.List.{length-take-le, take-append-drop}
 use Rattle.q3_bits.specs.Words.{IsCode, field_bits, field_at, field_read, or_cause, cause_of}
 use Rattle.q3_bits.specs.Laws.{ReadWasPut, PutIsRead}
 use Rattle.q3_bits.specs.declared.reader.ReadError.{ReadError}
 use Rattle.q3_player.specs.declared.state.PlayerState.{PlayerState}
 use Rattle.q3_player.specs.declared.reading.PlayerError.{PlayerError}
-use Rattle.q3_player.specs.declared.reading.PlayerError.TheVariants.{Bits, Count, Arrays}
+use Rattle.q3_player.specs.declared.reading.PlayerError.TheVariants.{Count, Arrays}
 use Rattle.q3_player.specs.State.{field_count, norm, normal_words, normal_player, IsNormal, SameArrays}
 use Rattle.q3_player.specs.Delta.{last_changed, field_text, fields_text, changed_count, player_delta, ◌>>=◌, field_after, fields_after, bits_error, player_at}
 use Rattle.q3_player.specs.Spelling.{SpellsField, SpellsFields, SpellsPlayer}
-use Rattle.q3_player.proofs.LastChanged.{last_changed-cons, last_changed-agrees, last_changed-le}
+use Rattle.q3_player.proofs.LastChanged.{last_changed-agrees, last_changed-le}
 use Rattle.q3_player.proofs.FieldTexts.{field_bits-norm}
 
 -- ---- steps that did not fail
@@ -180,9 +180,9 @@ pub delta_is_spelled : (words : List (List Bool)) (from to : PlayerState) → Is
 unfolding player_delta
 delta_is_spelled words from to normal long arrays =
     let table = normal_words-parts from.words (ap (λ (p : PlayerState). p.words) normal) in
-    let old = take field_count from.words in
-    let new = take field_count to.words in
-    let others = replicate 62 0 in
+    let old : List ℕ = take field_count from.words in
+    let new : List ℕ = take field_count to.words in
+    let others : List ℕ = replicate 62 0 in
     let count = changed_count from to in
     let as_long : length old ≡ length new = table.long ∙ sym (length-take-le field_count to.words (omega arith)) in
     let spelled = fields_are_spelled words old new others (drop field_count to.words) table.table as_long in
@@ -209,6 +209,10 @@ at_fields words from fields = bits_error (field_read words 1 fields.1) >>= at_ar
 abbrev some_fields : List (List Bool) → PlayerState → ℕ × List Bool → Result (List ℕ × List Bool) PlayerError
 some_fields words from count = cond (ltb field_count count.0) (Err (Count count.0)) (bits_error (fields_after words count.0 from.words count.1))
 
+-- three texts and what is behind them
+in_three : (bits one two three rest : List Bool) → bits ≡ one ++ (two ++ (three ++ rest)) → bits ≡ one ++ two ++ three ++ rest
+in_three bits one two three rest whole = whole ∙ simp append_assoc
+
 -- a state that is read was spelled so
 pub player_was_spelled : ReadWasPut → (words : List (List Bool)) (from to : PlayerState) (bits rest : List Bool) → IsCode words → player_at words from bits ≡ Ok (to, rest)
     → (text : List Bool) × (bits ≡ text ++ rest) × SpellsPlayer words from to text
@@ -231,8 +235,8 @@ player_was_spelled law words from to bits rest code e =
     let last : fields.0.1 ≡ one ++ rest = put.1 ∙ ap (λ (n : ℕ). field_bits words 1 n ++ arrays.0.1) none ∙ ap (λ (ys : List Bool). one ++ ys) left in
     let whole : bits ≡ eight ++ (spelled.0 ++ (one ++ rest)) =
       counted.1 ∙ ap (λ (ys : List Bool). eight ++ ys) (spelled.1 ∙ ap (λ (ys : List Bool). spelled.0 ++ ys) last) in
-    ((eight ++ spelled.0) ++ one,
-    whole ∙ simp append_assoc,
+    (eight ++ spelled.0 ++ one,
+    in_three bits eight spelled.0 one rest whole,
     record {
       count = count.0.0;
       fields = spelled.0;

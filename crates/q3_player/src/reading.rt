@@ -28,6 +28,7 @@ impl From<ReadError> for PlayerError {
 }
 
 /// Reads a state against another. After a refusal `into` may hold anything.
+#[tactic(auto, unfolding(crate::specs::Delta::player_at))]
 pub fn read_player(
     r: &mut Reader,
     from: &PlayerState,

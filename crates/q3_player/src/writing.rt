@@ -11,6 +11,7 @@ use q3_bits::{Overflow, Writer};
 
 /// Writes what changed from one state to another, whose arrays are the same.
 /// `Overflow` comes exactly where the text doesn't fit the writer's room; a front of it was then written.
+#[tactic(auto, unfolding(crate::specs::Delta::player_delta))]
 pub fn write_player(w: &mut Writer, from: &PlayerState, to: &PlayerState) -> Result<(), Overflow>
     requires { SameArrays from.now to.now }
     ensures overflow { IsErr result ↔

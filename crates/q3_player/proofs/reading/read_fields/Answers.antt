@@ -1,4 +1,4 @@
-use Rattle.std.proofs.Common.{◌∙◌, ◌<◌, length, arith}
+use Rattle.std.proofs.Common.{◌∙◌, arith}
 use Rattle.std.proofs.lemmas.Result.{err_from_is_err_and}
 use Rattle.q3_player.proofs.FieldsRead.{HasRead-none, HasRead-more, HasRead-ends, HasRead-all}
 use Rattle.q3_player.proofs.reading.read_fields.Goals as goal
