@@ -50,8 +50,8 @@ HasRead-more start now next count k from into y h more within words place read =
     let within' : k < length into = omega (arith, h.long) in
     let first : field_after start.words (get_or from k 0) now.left ≡ Ok (y, next.left) = ap (λ ws. field_after ws (get_or from k 0) now.left) (sym h.words) ∙ sym read in
     let one : with_front (take k into) (fields_after start.words (count - k) (drop k from) now.left)
-      ≡ with_front (take k into ++ y ∷ []) (fields_after start.words (count - (k + 1)) (drop (k + 1) from) next.left) =
-      rw (step, drop_more from k 0 within, first) (regroup (take k into) y (fields_after start.words (count - (k + 1)) (drop (k + 1) from) next.left)) in
+    ≡ with_front (take k into ++ y ∷ []) (fields_after start.words (count - (k + 1)) (drop (k + 1) from) next.left) =
+    rw (step, drop_more from k 0 within, first) (regroup (take k into) y (fields_after start.words (count - (k + 1)) (drop (k + 1) from) next.left)) in
     record {
       words = words ∙ h.words;
       place = place ∙ h.place;

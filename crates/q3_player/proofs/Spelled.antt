@@ -60,6 +60,13 @@ unfolding field_read
 bits_were_put law words code width bits found e =
     law words width found.0 bits found.1 code (or_cause_ok (field_at words width bits) (cause_of words width bits) found e)
 
+-- they are the text of the value, and the rest
+bits_were : ReadWasPut → (words : List (List Bool)) → IsCode words → (width : ℕ) (bits : List Bool) (found : ℕ × List Bool) (value : ℕ) (rest : List Bool)
+    → field_read words width bits ≡ Ok found → found.0 ≡ value → found.1 ≡ rest → bits ≡ field_bits words width value ++ rest
+bits_were law words code width bits found value rest e is left =
+    let put = bits_were_put law words code width bits found e in
+    rw (← is, ← left) put.1
+
 -- bits that are put are read
 bits_are_read : PutIsRead → (words : List (List Bool)) → IsCode words → (width value : ℕ) (rest : List Bool) → value < 2 ^ width
     → field_read words width (field_bits words width value ++ rest) ≡ Ok (value, rest)
@@ -72,20 +79,18 @@ field_was_spelled : ReadWasPut → (words : List (List Bool)) → IsCode words �
 unfolding field_after
 field_was_spelled law words code from bits found e =
     let mark = bind_ok (field_read words 1 bits) (λ mark. cond (eqb mark.0 0) (Ok (from, mark.1)) (field_read words 16 mark.1)) found e in
-    let put = bits_were_put law words code 1 bits mark.0 mark.1 in
     elim (cases_Bool (eqb mark.0.0 0)) [
       | inl as_it_was ↦
           let parts = answer_parts from found.0 mark.0.1 found.1 (rw as_it_was at mark.2) in
-          let none : mark.0.0 ≡ 0 = eqb-true mark.0.0 0 as_it_was in
-          (field_bits words 1 0,
-          put.1 ∙ ap (λ (n : ℕ). field_bits words 1 n ++ mark.0.1) none ∙ ap (λ (rest : List Bool). field_bits words 1 0 ++ rest) parts.1,
-          inl (sym parts.0, refl))
+          (field_bits words 1 0, bits_were law words code 1 bits mark.0 0 found.1 mark.1 (eqb-true mark.0.0 0 as_it_was) parts.1, inl (sym parts.0, refl))
       | inr changed ↦
+          let put = bits_were_put law words code 1 bits mark.0 mark.1 in
           let some : mark.0.0 ≡ 1 = omega (arith, put.0, eqb-false mark.0.0 0 changed) in
-          let value = bits_were_put law words code 16 mark.0.1 found (rw changed at mark.2) in
-          (field_bits words 1 1 ++ field_bits words 16 found.0,
-          put.1 ∙ ap (λ (n : ℕ). field_bits words 1 n ++ mark.0.1) some ∙ ap (λ (rest : List Bool). field_bits words 1 1 ++ rest) value.1 ∙ sym (append_assoc (field_bits words 1 1) (field_bits words 16 found.0) found.1),
-          inr (value.0, refl))
+          let value = bits_were_put law words code 16 mark.0.1 found (rw changed at mark.2) in (
+            field_bits words 1 1 ++ field_bits words 16 found.0,
+            bits_were law words code 1 bits mark.0 1 (field_bits words 16 found.0 ++ found.1) mark.1 some value.1 ∙ sym (append_assoc (field_bits words 1 1) (field_bits words 16 found.0) found.1),
+            inr (value.0, refl),
+          )
     ]
 
 -- a field that is spelled so is read
@@ -123,10 +128,11 @@ fields_were_spelled law words code (suc count) (x ∷ from) bits found e =
     let others = bind_ok (fields_after words count from first.0.1) (λ others. Ok (first.0.0 ∷ others.0, others.1)) found first.2 in
     let parts = answer_parts (first.0.0 ∷ others.0.0) found.0 others.0.1 found.1 others.2 in
     let one = field_was_spelled law words code x bits first.0 first.1 in
-    let more = fields_were_spelled law words code count from first.0.1 others.0 others.1 in
-    (one.0 ++ more.0,
-    one.1 ∙ ap (λ (rest : List Bool). one.0 ++ rest) (more.1 ∙ ap (λ (rest : List Bool). more.0 ++ rest) parts.1) ∙ sym (append_assoc one.0 more.0 found.1),
-    (first.0.0, others.0.0, one.0, more.0, sym parts.0, refl, one.2, more.2))
+    let more = fields_were_spelled law words code count from first.0.1 others.0 others.1 in (
+      one.0 ++ more.0,
+      one.1 ∙ ap (λ (rest : List Bool). one.0 ++ rest) (more.1 ∙ ap (λ (rest : List Bool). more.0 ++ rest) parts.1) ∙ sym (append_assoc one.0 more.0 found.1),
+      (first.0.0, others.0.0, one.0, more.0, sym parts.0, refl, one.2, more.2),
+    )
 
 -- fields that are spelled so are read
 fields_are_read : PutIsRead → (words : List (List Bool)) → IsCode words → (count : ℕ) (from to : List ℕ) (text rest : List Bool) → SpellsFields words count from to text
@@ -192,8 +198,8 @@ delta_is_spelled words from to normal long arrays =
       in_table = omega (arith, last_changed-le old new, table.long);
       whole = refl;
       spelled =
-      subst (λ (xs : List ℕ). SpellsFields words count xs (normal_words to.words) (fields_text words count xs to.words)) table.whole
-      (subst (λ (ys : List ℕ). SpellsFields words count (old ++ others) (normal_words to.words) (fields_text words count (old ++ others) ys)) (take-append-drop field_count to.words) spelled);
+          subst (λ (xs : List ℕ). SpellsFields words count xs (normal_words to.words) (fields_text words count xs to.words)) table.whole
+          (subst (λ (ys : List ℕ). SpellsFields words count (old ++ others) (normal_words to.words) (fields_text words count (old ++ others) ys)) (take-append-drop field_count to.words) spelled);
       others = rw (arrays.stats, arrays.persistant, arrays.ammo, arrays.powerups) refl;
     }
 
@@ -219,12 +225,10 @@ pub player_was_spelled : ReadWasPut → (words : List (List Bool)) (from to : Pl
 unfolding player_at
 player_was_spelled law words from to bits rest code e =
     let count = bind_ok (bits_error (field_read words 8 bits)) (λ count. some_fields words from count >>= at_fields words from) (to, rest) e in
-    let counted = bits_were_put law words code 8 bits count.0 (bits_ok (field_read words 8 bits) count.0 count.1) in
     let fields = bind_ok (some_fields words from count.0) (at_fields words from) (to, rest) count.2 in
     let few = guard_ok (ltb field_count count.0.0) (Count count.0.0) (bits_error (fields_after words count.0.0 from.words count.0.1)) fields.0 fields.1 in
     let spelled = fields_were_spelled law words code count.0.0 from.words count.0.1 fields.0 (bits_ok (fields_after words count.0.0 from.words count.0.1) fields.0 few.1) in
     let arrays = bind_ok (bits_error (field_read words 1 fields.0.1)) (at_arrays from fields.0.0) (to, rest) fields.2 in
-    let put = bits_were_put law words code 1 fields.0.1 arrays.0 (bits_ok (field_read words 1 fields.0.1) arrays.0 arrays.1) in
     let end = held_ok (eqb arrays.0.0 0) Arrays (record from { words = fields.0.0 }, arrays.0.1) (to, rest) arrays.2 in
     let none : arrays.0.0 ≡ 0 = eqb-true arrays.0.0 0 end.0 in
     let state : record from { words = fields.0.0 } ≡ to = ap (λ (p : PlayerState × List Bool). p.0) end.1 in
@@ -232,19 +236,21 @@ player_was_spelled law words from to bits rest code e =
     let fields_are : fields.0.0 ≡ to.words = ap (λ (p : PlayerState). p.words) state in
     let eight = field_bits words 8 count.0.0 in
     let one = field_bits words 1 0 in
-    let last : fields.0.1 ≡ one ++ rest = put.1 ∙ ap (λ (n : ℕ). field_bits words 1 n ++ arrays.0.1) none ∙ ap (λ (ys : List Bool). one ++ ys) left in
+    let last : fields.0.1 ≡ one ++ rest = bits_were law words code 1 fields.0.1 arrays.0 0 rest (bits_ok (field_read words 1 fields.0.1) arrays.0 arrays.1) none left in
+    let middle : count.0.1 ≡ spelled.0 ++ (one ++ rest) = rw (← last) spelled.1 in
     let whole : bits ≡ eight ++ (spelled.0 ++ (one ++ rest)) =
-      counted.1 ∙ ap (λ (ys : List Bool). eight ++ ys) (spelled.1 ∙ ap (λ (ys : List Bool). spelled.0 ++ ys) last) in
-    (eight ++ spelled.0 ++ one,
-    in_three bits eight spelled.0 one rest whole,
-    record {
-      count = count.0.0;
-      fields = spelled.0;
-      in_table = ltb-false field_count count.0.0 few.0;
-      whole = refl;
-      spelled = subst (λ (ys : List ℕ). SpellsFields words count.0.0 from.words ys spelled.0) fields_are spelled.2;
-      others = sym state ∙ ap (λ (ys : List ℕ). record from { words = ys }) fields_are;
-    })
+    bits_were law words code 8 bits count.0 count.0.0 (spelled.0 ++ (one ++ rest)) (bits_ok (field_read words 8 bits) count.0 count.1) refl middle in (
+      eight ++ spelled.0 ++ one,
+      in_three bits eight spelled.0 one rest whole,
+      record {
+        count = count.0.0;
+        fields = spelled.0;
+        in_table = ltb-false field_count count.0.0 few.0;
+        whole = refl {a = eight ++ spelled.0 ++ one};
+        spelled = subst (λ (ys : List ℕ). SpellsFields words count.0.0 from.words ys spelled.0) fields_are spelled.2;
+        others = sym state ∙ ap (λ (ys : List ℕ). record from { words = ys }) fields_are;
+      },
+    )
 
 -- a state that is spelled so is read
 pub player_is_read : PutIsRead → (words : List (List Bool)) (from to : PlayerState) (text rest : List Bool) → IsCode words → SpellsPlayer words from to text
@@ -254,6 +260,10 @@ player_is_read law words from to text rest code s =
     let few : s.count < 2 ^ 8 = omega (arith, s.in_table) in
     let within : ltb field_count s.count ≡ false = le-ltb field_count s.count s.in_table in
     let regrouped : text ++ rest ≡ field_bits words 8 s.count ++ (s.fields ++ (field_bits words 1 0 ++ rest)) = rw s.whole (simp append_assoc) in
-    rw (regrouped, bits_are_read law words code 8 s.count (s.fields ++ (field_bits words 1 0 ++ rest)) few, within,
-    fields_are_read law words code s.count from.words to.words s.fields (field_bits words 1 0 ++ rest) s.spelled,
-    bits_are_read law words code 1 0 rest (omega arith)) (ap (λ (p : PlayerState). Ok (p, rest)) (sym s.others))
+    rw (
+      regrouped,
+      bits_are_read law words code 8 s.count (s.fields ++ (field_bits words 1 0 ++ rest)) few,
+      within,
+      fields_are_read law words code s.count from.words to.words s.fields (field_bits words 1 0 ++ rest) s.spelled,
+      bits_are_read law words code 1 0 rest (omega arith),
+    ) (ap (λ (p : PlayerState). Ok (p, rest)) (sym s.others))

@@ -14,11 +14,11 @@ loop-k-preserved c =
     let to = c.args.to.now.words in
     elim c.if-from-k.branch [
       | then-from-k w ↦ record {
-          is = w.count-is ∙ sym (last_changed-differs from to c.loop-k.k (omega arith) (omega arith) w.if-from-k.true);
-          few = omega (arith, w.count-is);
-        }
+        is = w.count-is ∙ sym (last_changed-differs from to c.loop-k.k (omega arith) (omega arith) w.if-from-k.true);
+        few = omega (arith, w.count-is);
+      }
       | else-from-k w ↦ record {
-          is = w.count-is ∙ c.loop-k.invariant.is ∙ sym (last_changed-same from to c.loop-k.k (omega arith) (omega arith) w.if-from-k.false);
-          few = omega (arith, w.count-is);
-        }
+        is = w.count-is ∙ c.loop-k.invariant.is ∙ sym (last_changed-same from to c.loop-k.k (omega arith) (omega arith) w.if-from-k.false);
+        few = omega (arith, w.count-is);
+      }
     ]

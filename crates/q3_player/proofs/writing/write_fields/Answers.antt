@@ -11,11 +11,12 @@ loop-k-preserved c =
     (λ over. false≢true (c.in_ok-write_field.ensures.overflow.1 over))
 
 pub returns-in_err-write_field-clause-overflow : goal.returns-in_err-write_field-clause-overflow
-returns-in_err-write_field-clause-overflow c =
-    (λ _. HasWritten-overflow _ _ _ _ _ _ c.loop-k.invariant
-    (fields_text-next c.args.w.now.words c.loop-k.w.words c.args.count c.loop-k.k c.args.from.now.words c.args.to.now.words (HasWritten-words _ _ _ _ c.loop-k.invariant) c.loop-k-test.true (omega arith) (omega arith))
-    (c.in_err-write_field.ensures.overflow.0 refl),
-    λ _. c.from_residual.ensures.0)
+returns-in_err-write_field-clause-overflow c = (
+  λ _. HasWritten-overflow _ _ _ _ _ _ c.loop-k.invariant
+      (fields_text-next c.args.w.now.words c.loop-k.w.words c.args.count c.loop-k.k c.args.from.now.words c.args.to.now.words (HasWritten-words _ _ _ _ c.loop-k.invariant) c.loop-k-test.true (omega arith) (omega arith))
+      (c.in_err-write_field.ensures.overflow.0 refl),
+  λ _. c.from_residual.ensures.0,
+)
 
 pub returns-in_err-write_field-clause-front : goal.returns-in_err-write_field-clause-front
 returns-in_err-write_field-clause-front c =
@@ -28,5 +29,5 @@ returns-clause-overflow c =
     (λ none. absurd cc, λ over. absurd (HasWritten-fits _ _ _ _ c.loop-k.invariant (fields_text-end c.args.w.now.words c.args.count c.loop-k.k _ _ c.loop-k-test.false) over))
 
 pub returns-clause-ok : goal.returns-clause-ok
-returns-clause-ok c = 
+returns-clause-ok c =
     HasWritten-all _ _ _ _ c.loop-k.invariant (fields_text-end c.args.w.now.words c.args.count c.loop-k.k _ _ c.loop-k-test.false)
