@@ -97,7 +97,8 @@ impl<'a> Writer<'a> {
 
     /// The message: its bits, and zeros to the end of the last byte.
     pub fn bytes(&self) -> &[u8]
-        ensures { result.now ≡ message_bytes self.now.bits }
+        ensures message { result.now ≡ message_bytes self.now.bits }
+        ensures within { length result.now ≤ self.now.room }
     {
         front(&self.bytes, self.count / 8 + 1)
     }

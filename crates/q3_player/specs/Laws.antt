@@ -6,6 +6,10 @@ use Rattle.q3_player.specs.State.{normal_player, IsNormal, SameArrays}
 use Rattle.q3_player.specs.Delta.{last_changed, player_delta, player_at}
 use Rattle.q3_player.specs.Spelling.{SpellsPlayer}
 
+-- the normal form is in normal form
+abbrev pub NormalIsNormal : Type 0
+NormalIsNormal = (player : PlayerState) → length player.words ≡ 64 → IsNormal (normal_player player)
+
 -- the count is the least number from which on the words agree
 abbrev pub LastChangedIsLeast : Type 0
 LastChangedIsLeast = (from to : List ℕ) → length from ≡ length to

@@ -1,8 +1,13 @@
 //! Laws of the player delta, each the contract of a call that does nothing but cite the laws below it.
 
-ghost use Rattle.q3_player.specs.Laws.{LastChangedIsLeast, WrittenIsSpelled, ReadIsSpelled, SpelledIsRead, WrittenIsRead};
+ghost use Rattle.q3_player.specs.Laws.{NormalIsNormal, LastChangedIsLeast, WrittenIsSpelled, ReadIsSpelled, SpelledIsRead, WrittenIsRead};
 
 use q3_bits::laws;
+
+/// The normal form is in normal form.
+pub fn normal_is_normal()
+    ensures { NormalIsNormal }
+{}
 
 /// The count of fields in a delta is the least number from which on all words agree.
 pub fn last_changed_is_least()

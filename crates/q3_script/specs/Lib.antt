@@ -1,4 +1,5 @@
 pub mod Numbers
 pub mod Lines
+pub mod Words
 pub mod Grammar
 pub mod Script

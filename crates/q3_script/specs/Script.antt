@@ -14,6 +14,7 @@ use Rattle.q3_script.specs.Lines.{◌>>=◌, words_of, line_at}
 -- the longest script in bytes, and how many events it may have
 abbrev pub longest_script : ℕ
 longest_script = 67108864
+
 abbrev pub most_events : ℕ
 most_events = 65536
 

@@ -16,13 +16,24 @@ pub enum Event {
         address: Address,
     },
     /// The server's time, in milliseconds.
-    Time { time: u32 },
+    Time {
+        time: u32,
+    },
     /// The whole state of a client's player.
-    Player { c: u8, player: PlayerState },
+    Player {
+        c: u8,
+        player: PlayerState,
+    },
     /// The server makes a datagram for the client.
-    Serve { c: u8 },
+    Serve {
+        c: u8,
+    },
     /// The datagram of this number, counted from 1, arrives.
-    Deliver { datagram: u32 },
+    Deliver {
+        datagram: u32,
+    },
     /// The client's newest accepted snapshot is printed.
-    Show { c: u8 },
+    Show {
+        c: u8,
+    },
 }

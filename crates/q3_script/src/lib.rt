@@ -7,8 +7,12 @@ pub mod event;
 mod line;
 mod number;
 mod script;
+mod words;
 
 pub use address::Address;
 pub use cause::{LineCause, ScriptError, ScriptKind};
 pub use event::Event;
 pub use script::read_script;
+
+#[cfg(test)]
+mod tests;

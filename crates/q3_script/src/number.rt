@@ -1,25 +1,33 @@
 //! Numbers in decimal, and the words that are made of several.
 
-ghost use Rattle.std.specs.Prelude.{◌≡◌, ◌≤◌, IfSome, option_map};
+ghost use Rattle.std.specs.Prelude.{◌≡◌, ◌<◌, ◌≤◌, IfSome, option_map};
 ghost use Rattle.q3_script.specs.Numbers.{number_at, cut, address_at, pair_at};
 
 use crate::address::Address;
 
 /// The number that a word spells, if it is one from `low` to `high`: digits alone, with no 0 before others.
+#[tactic(auto, using(crate::proofs::Decimals::none_at_empty, crate::proofs::Decimals::none_at_zero))]
 pub fn number(word: &[u8], low: u32, high: u32) -> Option<u32>
-    ensures { result ≡ number_at low high word.now }
+    ensures value { result ≡ number_at low high word.now }
+    ensures within { IfSome result (λ n. (low ≤ n) × (n ≤ high)) }
 {
-    if word.is_empty() || (word.len() > 1 && word[0] == b'0') {
+    if word.is_empty() {
         return None;
     }
-    let mut value: u32 = 0;
+    if word.len() > 1 && word[0] == b'0' {
+        return None;
+    }
+    let mut value = 0;
     for byte in word {
         if !byte.is_ascii_digit() {
             return None;
         }
-        value = value.checked_mul(10)?.checked_add(u32::from(byte - b'0'))?;
+        value = 10 * value + u64::from(byte - b'0');
+        if value > u64::from(high) {
+            return None;
+        }
     }
-    (low <= value && value <= high).then_some(value)
+    (u64::from(low) <= value).then_some(value as u32)
 }
 
 /// What stands before and behind the first such byte.
@@ -57,7 +65,8 @@ pub fn address(word: &[u8]) -> Option<Address>
 /// The index of a field and its word.
 #[tactic(auto, unfolding(crate::specs::Numbers::pair_at))]
 pub fn pair(word: &[u8]) -> Option<(usize, u32)>
-    ensures { result ≡ pair_at word.now }
+    ensures value { result ≡ pair_at word.now }
+    ensures within { IfSome result (λ field. field.0 < 64) }
 {
     let (index, value) = cut_at(word, b':')?;
     let index = number(index, 0, 63)? as usize;

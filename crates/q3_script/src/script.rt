@@ -1,14 +1,75 @@
 //! Reads a script.
 
-ghost use Rattle.std.specs.Prelude.{◌≡◌, List, All, IfOk};
+ghost use Rattle.std.specs.Prelude.{◌≡◌, ◌≤◌, List, length, All, IfOk, nat_le, if◌then◌else◌};
 ghost use Rattle.q3_script.specs.declared.event.Event.{Event as EventValue};
-ghost use Rattle.q3_script.specs.Script.{script_at, with_items, Reads};
+ghost use Rattle.q3_script.specs.Lines.{words_of, line_at};
+ghost use Rattle.q3_script.specs.Script.{longest_script, most_events, lines_of, is_passed_over, events_from, script_at, with_items, Reads};
 ghost use Rattle.q3_script.specs.Grammar.{SpellsScript, IsReplayEvent};
 
 use crate::cause::{LineCause, ScriptError, ScriptKind};
 use crate::event::Event;
 use crate::line::read_line;
 use std::alloc::Global;
+
+/// The longest script, in bytes.
+const LONGEST_SCRIPT: usize = 67_108_864;
+
+/// How many events a script may have.
+const MOST_EVENTS: usize = 65_536;
+
+/// Whether a line is empty or begins with `#`.
+fn passed_over(line: &[u8]) -> bool
+    ensures { result ≡ is_passed_over line.now }
+{
+    line.is_empty() || line[0] == b'#'
+}
+
+/// The event of a line that stands behind so many others.
+fn event_of(line: &[u8], before: usize) -> Result<Event, LineCause>
+    ensures { result ≡ (if nat_le most_events before then Err LineCause.Many else line_at (words_of line.now)) }
+{
+    if before >= MOST_EVENTS {
+        return Err(LineCause::Many);
+    }
+    read_line(line)
+}
+
+/// The events of all lines, up to the first bad one.
+fn events(alloc: Global, bytes: &[u8]) -> Result<Vec<Event>, ScriptError>
+    requires { length bytes.now ≤ longest_script }
+    ensures { Reads (with_items result) (events_from 1 0 (lines_of bytes.now)) }
+{
+    let mut events = Vec::new(alloc);
+    let mut number = 0;
+    for line in bytes.split(|byte| *byte == b'\n') {
+        number += 1;
+        if passed_over(line) {
+            continue;
+        }
+        match event_of(line, events.len()) {
+            Ok(event) => events.push(event)?,
+            Err(cause) => return Err(ScriptError::Line {
+                line: number,
+                cause,
+            }),
+        }
+    }
+    Ok(events)
+}
+
+/// The events of a replay.
+#[tactic(auto, unfolding(crate::specs::Script::script_at))]
+fn replay(alloc: Global, bytes: &[u8]) -> Result<Vec<Event>, ScriptError>
+    ensures { Reads (with_items result) (script_at ScriptKind.Replay bytes.now) }
+{
+    if bytes.len() > LONGEST_SCRIPT {
+        return Err(ScriptError::Line {
+            line: 0,
+            cause: LineCause::Large,
+        });
+    }
+    events(alloc, bytes)
+}
 
 /// The events that a script spells. `Line` is its first bad line, with the first cause for which it is refused;
 /// `NoMemory` is want of memory.
@@ -22,5 +83,7 @@ pub fn read_script(alloc: Global, kind: ScriptKind, bytes: &[u8]) -> Result<Vec<
     // Which line is the first bad one, and why.
     ensures exact { Reads (with_items result) (script_at kind bytes.now) }
 {
-    Err(ScriptError::NoMemory)
+    match kind {
+        ScriptKind::Replay => replay(alloc, bytes),
+    }
 }

@@ -1,1 +1,6 @@
+pub mod ToldPlaces
+pub mod ToldStored
+pub mod ToldHeld
 pub mod Buffered
+pub mod Invariants
+pub mod Agreement

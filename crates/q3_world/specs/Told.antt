@@ -38,6 +38,7 @@ with_contents (file ∷ files) name contents =
 -- the name that a number stands for, and what its file holds
 abbrev pub name_of : Told → ℕ → List ℕ
 name_of told file = slice_index_or told.numbers file []
+
 abbrev pub contents_at : Told → ℕ → List ℕ
 contents_at told file = unwrap_or (contents_of told.files (name_of told file)) []
 

@@ -7,13 +7,14 @@ ghost use Rattle.q3_world.specs.Written.{Adds};
 ghost use Rattle.q3_world.specs.Print.{piece_text, words_text, word_text, Buffers};
 
 use crate::outside::sink::{Failed, Sink};
+use itoa::Integer;
 use std::marker::Model;
 
 /// A piece of a line.
 #[derive(Clone, Copy)]
 pub enum Piece<'a> {
     Text(&'a [u8]),
-    Number(u32),
+    Number(u64),
     /// The words that aren't 0, each as its index and its value.
     Words(&'a [u32; 64]),
 }
@@ -92,8 +93,8 @@ impl Line {
         self.add_number(word, out)
     }
 
-    fn add_number<O: Sink>(&mut self, number: u32, out: &mut O) -> Result<(), Failed>
-        ensures buffers { Buffers (O.written out.old) (O.written out.new) self.old self.new (decimal number) result }
+    fn add_number<I: Integer, O: Sink>(&mut self, number: I, out: &mut O) -> Result<(), Failed>
+        ensures buffers { Buffers (O.written out.old) (O.written out.new) self.old self.new (I.text number) result }
         ensures cause { HasCause (O.faults out.old) (O.faults out.new) result }
     {
         let mut digits = itoa::Buffer::new();

@@ -1,0 +1,10 @@
+pub mod Decimals
+pub mod Cuts
+pub mod Spaces
+pub mod Rising
+pub mod Gather
+pub mod Spelled
+pub mod Addresses
+pub mod SpelledEvents
+pub mod SpelledScripts
+pub mod Steps

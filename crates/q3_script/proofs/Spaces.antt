@@ -1,0 +1,78 @@
+-- The words of a text, the first at the first space.
+use Rattle.std.proofs.Common.{◌≡◌, ℕ, ◌+◌, ◌-◌, ◌<◌, ◌≤◌, Bool, true, false, cond, eqb, ltb, List, [], ◌∷◌, length, take, drop, Option, Some, None, Result, Ok, Err, refl, sym, ap, ◌∙◌, arith, one-add, inl, inr}
+use Rattle.std.specs.List.{slice_split, onto_first, position, position_or_len}
+use Rattle.std.proofs.lemmas.Bool.{cases_Bool, ltb-false}
+use Rattle.std.proofs.lemmas.List.{take_all, drop_all}
+use Rattle.q3_script.specs.declared.cause.LineCause.{LineCause}
+use Rattle.q3_script.specs.declared.cause.LineCause.TheVariants.{Count}
+use Rattle.q3_script.specs.Lines.{words_of}
+use Rattle.q3_script.specs.Words.{words_left, next_of, only_of}
+
+abbrev is_space : ℕ → Bool
+is_space byte = eqb byte 32
+
+abbrev pub some_next : List ℕ × List (List ℕ) → Option (List ℕ × List (List ℕ))
+some_next next = Some next
+
+abbrev none_place : Option ℕ
+none_place = None
+
+-- the first word ends at the first space, or at the end
+words_at_space : (text : List ℕ) → words_of text ≡ take (position_or_len is_space text) text ∷ words_left (drop (position_or_len is_space text) text)
+words_at_space [] = refl
+words_at_space (x ∷ text) =
+    elim (cases_Bool (eqb x 32)) [
+      | inl space ↦ rw space refl
+      | inr other ↦ rw (other, words_at_space text, one-add) refl
+    ]
+
+abbrev none_word : Option (List ℕ)
+none_word = None
+
+-- a word is not the only one if something is left behind it
+pub only_of_more : (word : List ℕ) (left : List ℕ) → 0 < length left → none_word ≡ only_of (word ∷ words_left left)
+only_of_more word [] some = absurd (omega arith)
+only_of_more word (x ∷ text) some = rw words_at_space refl
+
+some_parts : (x y : List ℕ × List (List ℕ)) → some_next x ≡ some_next y → x ≡ y
+some_parts x y e = cc
+
+-- what the next word was taken from
+pub next_of_some : (word : List ℕ) (words left : List (List ℕ)) → some_next (word, words) ≡ next_of left → left ≡ word ∷ words
+next_of_some word words [] e = absurd cc
+next_of_some word words (first ∷ others) e = ap (λ (x : List ℕ × List (List ℕ)). x.0 ∷ x.1) (some_parts (first, others) (word, words) (sym e))
+
+abbrev pub none_next : Option (List ℕ × List (List ℕ))
+none_next = None
+
+-- where there is no next word, none is left
+pub next_of_none : (left : List (List ℕ)) → none_next ≡ next_of left → left ≡ []
+next_of_none [] e = refl
+next_of_none (word ∷ words) e = absurd cc
+
+-- a place that passes is the first, and where none does the first is the end
+some_place : (text : List ℕ) (end : ℕ) → Some end ≡ position is_space text → end ≡ position_or_len is_space text
+some_place text end is =
+    elim (cases_Bool (ltb (position_or_len is_space text) (length text))) [
+      | inl below ↦ let e : Some end ≡ Some (position_or_len is_space text) = rw below at is in cc
+      | inr past ↦ let e : Some end ≡ None = rw past at is in absurd cc
+    ]
+
+no_place : (text : List ℕ) → none_place ≡ position is_space text → length text ≤ position_or_len is_space text
+no_place text is =
+    elim (cases_Bool (ltb (position_or_len is_space text) (length text))) [
+      | inl below ↦ let e : none_place ≡ Some (position_or_len is_space text) = rw below at is in absurd cc
+      | inr past ↦ ltb-false _ _ past
+    ]
+
+-- the first word, and what is left behind it, where there is a space
+pub words_at_place : (text front back : List ℕ) (end : ℕ) → Some end ≡ position is_space text → front ≡ take end text → back ≡ drop end text → words_of text ≡ front ∷ words_left back
+words_at_place text front back end is before behind = rw (before, behind, some_place text end is) (words_at_space text)
+
+-- the only word, where there is none
+pub words_at_none : (text : List ℕ) → none_place ≡ position is_space text → words_of text ≡ text ∷ []
+words_at_none text is =
+    let past = no_place text is in
+    let all : take (position_or_len is_space text) text ≡ text = take_all _ text past in
+    let nothing : drop (position_or_len is_space text) text ≡ [] = drop_all _ text past in
+    words_at_space text ∙ rw (all, nothing) refl

@@ -1,0 +1,141 @@
+-- Whole scripts against their grammar: what is read was spelled so, and what is spelled so is read.
+use Rattle.std.proofs.Common.{◌≡◌, ℕ, ◌+◌, ◌<◌, ◌≤◌, Bool, true, false, cond, ltb, leb, List, [], ◌∷◌, length, set, replicate, Result, Ok, Err, inl, inr, refl, sym, ap, subst, ◌∙◌, arith}
+use Rattle.std.specs.Prelude.{if◌then◌else◌, IfOk, All}
+use Rattle.std.specs.Global.{Vec}
+use Rattle.std.specs.List.{AllByRecursion}
+use Rattle.std.proofs.lemmas.Bool.{cases_Bool, ltb-false, leb-false, le-ltb, lt-leb}
+use Rattle.std.proofs.lemmas.List.{length-set}
+use Rattle.std.proofs.lemmas.List.Elements.{All-from_recursion}
+use Rattle.q3_player.specs.State.{zero_player, SameArrays}
+use Rattle.q3_player.specs.declared.state.PlayerState.{PlayerState}
+use Rattle.q3_script.specs.declared.event.Event.{Event}
+use Rattle.q3_script.specs.declared.event.Event.TheVariants.{Client, Time, Player, Serve, Deliver, Show}
+use Rattle.q3_script.specs.declared.cause.LineCause.{LineCause}
+use Rattle.q3_script.specs.declared.cause.LineCause.TheVariants.{Large, Many}
+use Rattle.q3_script.specs.declared.cause.ScriptKind.TheVariants.{Replay}
+use Rattle.q3_script.specs.declared.cause.ScriptError.{ScriptError}
+use Rattle.q3_script.specs.Lines.{◌>>=◌, words_of, line_at}
+use Rattle.q3_script.specs.Script.{longest_script, most_events, lines_of, is_passed_over, BadLine, bad_at, events_from, script_at, with_items, Reads}
+use Rattle.q3_script.specs.Grammar.{with_fields, SpellsPlayer, SpellsEvent, SpellLine, SpellEvents, SpellsScript, IsReplayEvent}
+use Rattle.q3_script.proofs.SpelledEvents.{bind_ok, guard_ok, line_at-spelled, line_at-again}
+
+abbrev events_are : List Event → Result (List Event) BadLine
+events_are events = Ok events
+
+same_events : (xs ys : List Event) → events_are xs ≡ events_are ys → xs ≡ ys
+same_events xs ys e = cc
+
+abbrev bad : BadLine → Result (List Event) BadLine
+bad line = Err line
+
+abbrev done : {A : Type 0} → A → Result A LineCause
+done x = Ok x
+
+-- a step that isn't refused, with or without its line
+bad_at-ok : {A : Type 0} (number : ℕ) (r : Result A LineCause) (x : A) → bad_at number r ≡ Ok x → r ≡ Ok x
+bad_at-ok number (Ok y) x e = let same : y ≡ x = cc in ap (λ z. Ok z) same
+bad_at-ok number (Err cause) x e = absurd cc
+
+-- ---- lines
+
+-- what lines spell, and that there are few enough
+record WereEvents (before : ℕ) (lines : List (List ℕ)) (events : List Event) : Type 0 where
+  spelled : SpellEvents lines events
+  few : before ≤ most_events → before + length events ≤ most_events
+
+events_from-spelled : (number before : ℕ) (lines : List (List ℕ)) (events : List Event) → events_from number before lines ≡ Ok events → WereEvents before lines events
+unfolding events_from
+events_from-spelled number before [] events e = record { spelled = sym (same_events [] events e); few = λ le. rw (← same_events [] events e) (omega arith) }
+events_from-spelled number before (line ∷ lines) events e =
+    elim (cases_Bool (is_passed_over line)) [
+      | inl over ↦
+          let rest = events_from-spelled (number + 1) before lines events (rw over at e) in
+          record { spelled = rw over rest.spelled; few = rest.few }
+      | inr read ↦
+          let event = bind_ok (bad_at number (if leb most_events before then Err Many else line_at (words_of line))) (λ event. events_from (number + 1) (before + 1) lines >>= λ events. Ok (event ∷ events)) events (rw read at e) in
+          let room = guard_ok (leb most_events before) Many (line_at (words_of line)) event.0 (bad_at-ok number (if leb most_events before then Err Many else line_at (words_of line)) event.0 event.1) in
+          let rest = bind_ok (events_from (number + 1) (before + 1) lines) (λ events. Ok (event.0 ∷ events)) events event.2 in
+          let others = events_from-spelled (number + 1) (before + 1) lines rest.0 rest.1 in
+          let below = leb-false most_events before room.0 in
+          let whole : WereEvents before (line ∷ lines) (event.0 ∷ rest.0) = record { spelled = rw read (line_at-spelled (words_of line) event.0 room.1, others.spelled); few = λ le. (let few = others.few (omega arith) in omega arith) } in
+          subst (λ (x : List Event). WereEvents before (line ∷ lines) x) (same_events (event.0 ∷ rest.0) events rest.2) whole
+    ]
+
+events_from-again : (number before : ℕ) (lines : List (List ℕ)) (events : List Event) → SpellEvents lines events → before + length events ≤ most_events → events_from number before lines ≡ Ok events
+unfolding events_from
+events_from-again number before [] events spelled few = ap events_are (sym spelled)
+events_from-again number before (line ∷ lines) [] spelled few =
+    elim (cases_Bool (is_passed_over line)) [
+      | inl over ↦ rw over (events_from-again (number + 1) before lines [] (rw over at spelled) few)
+      | inr read ↦ absurd (rw read at spelled)
+    ]
+events_from-again number before (line ∷ lines) (event ∷ events) spelled few =
+    elim (cases_Bool (is_passed_over line)) [
+      | inl over ↦ rw over (events_from-again (number + 1) before lines (event ∷ events) (rw over at spelled) few)
+      | inr read ↦
+          let parts = rw read at spelled in
+          let room : leb most_events before ≡ false = lt-leb _ _ (omega arith) in
+          rw (read, room, line_at-again (words_of line) event parts.0, events_from-again (number + 1) (before + 1) lines events parts.1 (omega arith)) refl
+    ]
+
+-- ---- scripts
+
+script_at-spelled : (bytes : List ℕ) (events : List Event) → script_at Replay bytes ≡ Ok events → SpellsScript bytes events
+unfolding script_at
+script_at-spelled bytes events e =
+    elim (cases_Bool (ltb longest_script (length bytes))) [
+      | inl large ↦ let refused : bad (record { line = 0; cause = Large }) ≡ events_are events = rw large at e in absurd cc
+      | inr small ↦
+          let were = events_from-spelled 1 0 (lines_of bytes) events (rw small at e) in
+          record { small = ltb-false longest_script (length bytes) small; few = (let few = were.few (omega arith) in omega arith); spelled = were.spelled }
+    ]
+
+script_at-again : (bytes : List ℕ) (events : List Event) → SpellsScript bytes events → script_at Replay bytes ≡ Ok events
+unfolding script_at
+script_at-again bytes events script =
+    let small : ltb longest_script (length bytes) ≡ false = le-ltb _ _ script.small in
+    rw small (events_from-again 1 0 (lines_of bytes) events script.spelled (let few = script.few in omega arith))
+
+-- ---- events of a replay
+
+length-with_fields : (values : List ℕ) (pairs : List (ℕ × ℕ)) → length (with_fields values pairs) ≡ length values
+length-with_fields values [] = refl
+length-with_fields values (pair ∷ pairs) = length-with_fields (set values pair.0 pair.1) pairs ∙ length-set values pair.0 pair.1
+
+player_is : (words : List (List ℕ)) (player : PlayerState) → SpellsPlayer words player → (length player.words ≡ 64) × SameArrays zero_player player
+player_is words player spelled =
+    let zero : (length (with_fields (replicate 64 0) spelled.pairs) ≡ 64) × SameArrays zero_player (record zero_player { words = with_fields (replicate 64 0) spelled.pairs }) = (length-with_fields (replicate 64 0) spelled.pairs, record { stats = refl; persistant = refl; ammo = refl; powerups = refl }) in
+    subst (λ (p : PlayerState). (length p.words ≡ 64) × SameArrays zero_player p) (sym spelled.state) zero
+
+is_replay : (words : List (List ℕ)) (event : Event) → SpellsEvent words event → IsReplayEvent event
+is_replay words (Client c challenge qport dup address) spelled = spelled.0
+is_replay words (Time time) spelled = spelled.0
+is_replay words (Player c player) spelled = let is = player_is spelled.1 player spelled.2 in (spelled.0, is.0, is.1)
+is_replay words (Serve c) spelled = spelled.0
+is_replay words (Deliver datagram) spelled = (spelled.0, spelled.1)
+is_replay words (Show c) spelled = spelled.0
+
+all_replay : (lines : List (List ℕ)) (events : List Event) → SpellEvents lines events → AllByRecursion IsReplayEvent events
+all_replay [] events spelled = subst (λ (x : List Event). AllByRecursion IsReplayEvent x) (sym spelled) tt
+all_replay (line ∷ lines) [] spelled = tt
+all_replay (line ∷ lines) (event ∷ events) spelled =
+    elim (cases_Bool (is_passed_over line)) [
+      | inl over ↦ all_replay lines (event ∷ events) (rw over at spelled)
+      | inr read ↦ let parts = rw read at spelled in (is_replay (words_of line) event parts.0, all_replay lines events parts.1)
+    ]
+
+-- ---- what a reader answered
+
+-- what is read is a script of these events
+pub is_found : (bytes : List ℕ) (r : Result (Vec Event) ScriptError) → Reads (with_items r) (script_at Replay bytes) → IfOk r (λ events. SpellsScript bytes events.items)
+is_found bytes (Ok events) exact = script_at-spelled bytes events.items exact
+is_found bytes (Err e) exact = tt
+
+-- a script of some events is read as them
+pub is_only : (bytes : List ℕ) (r : Result (Vec Event) ScriptError) → Reads (with_items r) (script_at Replay bytes) → (events : List Event) → SpellsScript bytes events → Reads (with_items r) (Ok events)
+is_only bytes r exact events script = subst (λ (x : Result (List Event) BadLine). Reads (with_items r) x) (script_at-again bytes events script) exact
+
+-- each of them is one that a replay may have
+pub is_each : (bytes : List ℕ) (r : Result (Vec Event) ScriptError) → Reads (with_items r) (script_at Replay bytes) → IfOk r (λ events. All IsReplayEvent events.items)
+is_each bytes (Ok events) exact = All-from_recursion IsReplayEvent events.items (all_replay (lines_of bytes) events.items (script_at-spelled bytes events.items exact).spelled)
+is_each bytes (Err e) exact = tt

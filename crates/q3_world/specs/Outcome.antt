@@ -1,0 +1,18 @@
+-- When a step of the world fails.
+use Rattle.std.specs.Prelude.{◌≡◌, ℕ, ◌≤◌, IsOk, IsErr, Result, Ok, Err}
+use Rattle.q3_script.specs.declared.event.Event.{Event}
+use Rattle.q3_script.specs.declared.event.Event.TheVariants.{Client, Time, Player, Serve, Deliver, Show}
+use Rattle.q3_world.specs.declared.world.StepError.{StepError}
+use Rattle.q3_world.specs.declared.world.StepError.TheVariants.{NoMemory, WriteFault}
+use Rattle.q3_world.specs.Faults.{Rose}
+
+-- an event that makes a datagram
+abbrev pub IsServe : Event → Type 0
+IsServe (Serve c) = Unit {0}
+IsServe other = ⊥
+
+-- a fault of writing comes only where the sink's count rose, and no fault is passed over
+abbrev pub HasStepCause : ℕ → ℕ → Result (Unit {0}) StepError → Type 0
+HasStepCause before now (Ok x) = now ≡ before
+HasStepCause before now (Err NoMemory) = now ≡ before
+HasStepCause before now (Err WriteFault) = (before ≤ now) × Rose before now

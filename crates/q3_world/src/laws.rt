@@ -1,0 +1,60 @@
+//! Laws of the messages and of every schedule, each the contract of a call that does nothing but cite the laws below it.
+
+ghost use Rattle.q3_world.specs.Schedules.{BuiltIsRead, ReadIsSpelled, SpelledIsRead, BytesFollowTags, AlwaysLegible, ShownWasBuilt, NewerIsAccepted};
+
+use q3_bits::laws as bits;
+use q3_player::laws as player;
+
+/// A message that was built is read back from its bytes.
+pub fn built_is_read()
+    ensures { BuiltIsRead }
+{
+    bits::put_is_read();
+    bits::message_holds_bits();
+    player::written_is_read();
+}
+
+/// What is read as a snapshot was spelled so.
+pub fn read_is_spelled()
+    ensures { ReadIsSpelled }
+{
+    bits::read_was_put();
+    player::read_is_spelled();
+}
+
+/// What is spelled as a snapshot is read, with whatever follows it:
+/// a message is illegible exactly where its bits don't begin so.
+pub fn spelled_is_read()
+    ensures { SpelledIsRead }
+{
+    bits::put_is_read();
+    player::spelled_is_read();
+}
+
+/// In a replay each event answers the same, whether its datagram is taken by its bytes or by its tag.
+pub fn bytes_follow_tags()
+    ensures { BytesFollowTags }
+{
+    built_is_read();
+    player::normal_is_normal();
+}
+
+/// In a replay no client ever gets what it can't read.
+pub fn always_legible()
+    ensures { AlwaysLegible }
+{
+    bytes_follow_tags();
+}
+
+/// Whatever came before, the snapshot that a client shows is the one that the server built for it under that number.
+pub fn shown_was_built()
+    ensures { ShownWasBuilt }
+{
+    built_is_read();
+    player::normal_is_normal();
+}
+
+/// Whatever came before, a message whose number is above every number taken is accepted when it arrives.
+pub fn newer_is_accepted()
+    ensures { NewerIsAccepted }
+{}

@@ -1,0 +1,92 @@
+//! The one message of this stage: a whole snapshot, written and read.
+
+ghost use Rattle.std.specs.Prelude.{◌≡◌, ◌+◌, ◌^◌, ◌<◌, ◌≤◌, ◌++◌, ◌↔◌, length, Ok, Err, IsErr, OnOk, IfOk, MatchResult};
+ghost use Rattle.q3_bits.specs.Bits.{bits_of, message_length};
+ghost use Rattle.q3_bits.specs.Words.{field_read};
+ghost use Rattle.q3_bits.specs.Streams.{with_rest};
+ghost use Rattle.q3_player.specs.State.{zero_player, SameArrays};
+ghost use Rattle.q3_world.specs.Message.{snapshot_bits, snapshot_at, form, fixed_at};
+
+use crate::answer::{Illegible, Snapshot};
+use q3_bits::{Code, Overflow, Reader, Writer};
+use q3_player::{PlayerState, read_player, write_player};
+
+/// The operations of a server's message that this stage has.
+const SNAPSHOT: u32 = 7;
+const END: u32 = 8;
+
+/// The end mark of an entity list.
+const END_OF_ENTITIES: u32 = 1_023;
+
+/// Writes a message with a snapshot whose player has empty arrays.
+/// `Overflow` comes exactly where the message doesn't fit the writer's room.
+#[tactic(auto, unfolding(crate::specs::Message::snapshot_bits))]
+pub(crate) fn write_snapshot(w: &mut Writer, snapshot: &Snapshot) -> Result<(), Overflow>
+    requires { SameArrays zero_player snapshot.now.player }
+    ensures overflow { IsErr result ↔
+        (w.old.room < message_length (length w.old.bits + length (snapshot_bits w.old.words snapshot.now))) }
+    ensures ok { OnOk result (w.new ≡ record w.old { bits = w.old.bits ++ snapshot_bits w.old.words snapshot.now }) }
+{
+    w.put(0, 32)?;
+    w.put(SNAPSHOT, 8)?;
+    w.put(snapshot.time, 32)?;
+    w.put(0, 8)?;
+    w.put(u32::from(snapshot.flags), 8)?;
+    w.put(0, 8)?;
+    write_player(w, &PlayerState::zero(), &snapshot.player)?;
+    w.put(END_OF_ENTITIES, 10)?;
+    w.put(END, 8)
+}
+
+/// Reads the message's bytes as a snapshot under its number.
+/// `Form` comes exactly where the bits don't begin as such a message; what follows its end isn't read.
+#[tactic(auto, unfolding(crate::specs::Message::snapshot_at))]
+pub(crate) fn read_snapshot(code: &Code, number: u32, message: &[u8]) -> Result<Snapshot, Illegible>
+    requires { length message.now < 2 ^ 60 }
+    ensures { result ≡ snapshot_at code.now number (bits_of message.now) }
+{
+    let mut r = Reader::new(code, message);
+    let mut player = PlayerState::zero();
+    read_bits(&mut r, 32)?;
+    read_fixed(&mut r, 8, SNAPSHOT)?;
+    let time = read_bits(&mut r, 32)?;
+    read_fixed(&mut r, 8, 0)?;
+    let flags = read_bits(&mut r, 8)? as u8;
+    read_fixed(&mut r, 8, 0)?;
+    if read_player(&mut r, &PlayerState::zero(), &mut player).is_err() {
+        return Err(Illegible::Form);
+    }
+    read_fixed(&mut r, 10, END_OF_ENTITIES)?;
+    read_fixed(&mut r, 8, END)?;
+    Ok(Snapshot {
+        number,
+        time,
+        flags,
+        player,
+    })
+}
+
+fn read_bits(r: &mut Reader, width: u32) -> Result<u32, Illegible>
+    requires some { 1 ≤ width }
+    requires most { width ≤ 32 }
+    ensures value { with_rest r.new.left result ≡ form (field_read r.old.words width r.old.left) }
+    ensures fits { IfOk result (λ value. value < 2 ^ width) }
+    ensures words { r.new.words ≡ r.old.words }
+{
+    r.get(width).map_err(|_| Illegible::Form)
+}
+
+/// Reads a field that has to have this value.
+#[tactic(auto, unfolding(crate::specs::Message::fixed_at))]
+fn read_fixed(r: &mut Reader, width: u32, value: u32) -> Result<(), Illegible>
+    requires some { 1 ≤ width }
+    requires most { width ≤ 32 }
+    ensures rest { MatchResult result (λ _. fixed_at r.old.words width value r.old.left ≡ Ok r.new.left)
+        (λ e. fixed_at r.old.words width value r.old.left ≡ Err e) }
+    ensures words { r.new.words ≡ r.old.words }
+{
+    if read_bits(r, width)? != value {
+        return Err(Illegible::Form);
+    }
+    Ok(())
+}

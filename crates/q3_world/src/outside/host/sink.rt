@@ -1,0 +1,37 @@
+//! Standard output.
+
+ghost use Rattle.std.specs.Prelude.{◌≡◌, ℕ, None};
+ghost use Rattle.q3_world.specs.Faults.{HasCause};
+ghost use Rattle.q3_world.specs.Written.{Adds};
+
+use crate::outside::sink::{Failed, Sink};
+
+/// Standard output. Each write goes to the system at once: after `Ok` the bytes are handed over.
+#[derive(Drop)]
+pub struct HostSink<R> {
+    rt: R,
+    faults: u64,
+}
+
+impl<R> HostSink<R> {
+    pub fn new(rt: R) -> HostSink<R>
+        ensures rt { result.rt ≡ rt }
+        ensures faults { result.faults ≡ 0 }
+    {
+        HostSink { rt, faults: 0 }
+    }
+}
+
+impl<R: Print> Sink for HostSink<R> {
+    ghost faults = { λ s. s.faults };
+
+    ghost written = { λ s. None };
+
+    fn write_all(&mut self, bytes: &[u8]) -> Result<(), Failed> {
+        if self.rt.write_all(bytes).is_err() {
+            self.faults = self.faults.saturating_add(1);
+            return Err(Failed);
+        }
+        Ok(())
+    }
+}

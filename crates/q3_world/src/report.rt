@@ -1,0 +1,182 @@
+//! Prints the lines of an answer, each in one write.
+
+ghost use Rattle.std.specs.Prelude.{◌≡◌, [], ◌∷◌, codes, decimal};
+ghost use Rattle.q3_world.specs.Print.{joined};
+ghost use Rattle.q3_world.specs.Faults.{HasCause};
+ghost use Rattle.q3_world.specs.Written.{Adds};
+ghost use Rattle.q3_world.specs.Report.{answer_text, handed_in_text, emitted_text, took_text, shown_text};
+
+use crate::answer::{Answer, ClientTook, Emitted, HandedIn, Illegible, Shown};
+use crate::outside::{Failed, Piece, Sink, print_all};
+
+/// Prints the lines of an answer, or a front of them and answers `Failed`.
+#[tactic(auto, unfolding(crate::specs::Report::answer_text))]
+pub(crate) fn print_answer<O: Sink>(answer: &Answer, out: &mut O) -> Result<(), Failed>
+    ensures adds { Adds (O.written out.old) (O.written out.new) (answer_text answer.now) result }
+    ensures cause { HasCause (O.faults out.old) (O.faults out.new) result }
+{
+    match answer {
+        Answer::Client { c, outcome } => print_all(
+            &[
+                Piece::Text(b"client "),
+                Piece::Number(u64::from(*c)),
+                Piece::Text(handed_in(*outcome)),
+            ],
+            out,
+        ),
+        Answer::Time => print_all(&[Piece::Text(b"time ok\n")], out),
+        Answer::Player { c, outcome } => print_all(
+            &[
+                Piece::Text(b"player "),
+                Piece::Number(u64::from(*c)),
+                Piece::Text(handed_in(*outcome)),
+            ],
+            out,
+        ),
+        Answer::Unknown { datagram } => print_all(
+            &[
+                Piece::Text(b"deliver "),
+                Piece::Number(u64::from(*datagram)),
+                Piece::Text(b" unknown\n"),
+            ],
+            out,
+        ),
+        Answer::Serve {
+            c,
+            emitted,
+            datagram,
+        } => print_emitted(*c, emitted, *datagram, out),
+        Answer::Deliver { datagram, c, took } => print_took(*datagram, *c, took, out),
+        Answer::Show { c, shown } => print_shown(*c, shown, out),
+    }
+}
+
+/// Prints the line of a `serve`.
+fn print_emitted<O: Sink>(c: u8, emitted: &Emitted, datagram: u32, out: &mut O) -> Result<(), Failed>
+    ensures adds { Adds (O.written out.old) (O.written out.new) (joined (codes "serve " ∷ decimal c ∷ emitted_text emitted.now datagram ∷ [])) result }
+    ensures cause { HasCause (O.faults out.old) (O.faults out.new) result }
+{
+    let word: &[u8] = match emitted {
+        Emitted::Snapshot {
+            number,
+            base,
+            bytes,
+        } => {
+            return print_all(
+                &[
+                    Piece::Text(b"serve "),
+                    Piece::Number(u64::from(c)),
+                    Piece::Text(b" snapshot "),
+                    Piece::Number(u64::from(*number)),
+                    Piece::Text(b" base "),
+                    Piece::Number(u64::from(*base)),
+                    Piece::Text(b" bytes "),
+                    Piece::Number(*bytes as u64),
+                    Piece::Text(b" datagram "),
+                    Piece::Number(u64::from(datagram)),
+                    Piece::Text(b"\n"),
+                ],
+                out,
+            );
+        }
+        Emitted::NoClient => b" noclient\n",
+        Emitted::SequenceEnd => b" sequenceend\n",
+        Emitted::Overlong => b" overlong\n",
+    };
+    print_all(
+        &[
+            Piece::Text(b"serve "),
+            Piece::Number(u64::from(c)),
+            Piece::Text(word),
+        ],
+        out,
+    )
+}
+
+/// Prints the lines of a delivery to a client.
+fn print_took<O: Sink>(datagram: u32, c: u8, took: &ClientTook, out: &mut O) -> Result<(), Failed>
+    ensures adds { Adds (O.written out.old) (O.written out.new)
+        (joined (codes "deliver " ∷ decimal datagram ∷ codes " client " ∷ decimal c ∷ took_text took.now ∷ [])) result }
+    ensures cause { HasCause (O.faults out.old) (O.faults out.new) result }
+{
+    let word: &[u8] = match took {
+        ClientTook::Applied { number, base } => {
+            return print_all(
+                &[
+                    Piece::Text(b"deliver "),
+                    Piece::Number(u64::from(datagram)),
+                    Piece::Text(b" client "),
+                    Piece::Number(u64::from(c)),
+                    Piece::Text(b" applied "),
+                    Piece::Number(u64::from(*number)),
+                    Piece::Text(b"\n+ accepted "),
+                    Piece::Number(u64::from(*number)),
+                    Piece::Text(b" base "),
+                    Piece::Number(u64::from(*base)),
+                    Piece::Text(b"\n"),
+                ],
+                out,
+            );
+        }
+        ClientTook::Runt => b" runt\n",
+        ClientTook::Old => b" old\n",
+        ClientTook::Illegible(Illegible::Form) => b" illegible form\n",
+    };
+    print_all(
+        &[
+            Piece::Text(b"deliver "),
+            Piece::Number(u64::from(datagram)),
+            Piece::Text(b" client "),
+            Piece::Number(u64::from(c)),
+            Piece::Text(word),
+        ],
+        out,
+    )
+}
+
+/// Prints the lines of a `show`.
+fn print_shown<O: Sink>(c: u8, shown: &Shown, out: &mut O) -> Result<(), Failed>
+    ensures adds { Adds (O.written out.old) (O.written out.new) (joined (codes "show " ∷ decimal c ∷ shown_text shown.now ∷ [])) result }
+    ensures cause { HasCause (O.faults out.old) (O.faults out.new) result }
+{
+    let word: &[u8] = match shown {
+        Shown::Newest(snapshot) => {
+            return print_all(
+                &[
+                    Piece::Text(b"show "),
+                    Piece::Number(u64::from(c)),
+                    Piece::Text(b" snapshot "),
+                    Piece::Number(u64::from(snapshot.number)),
+                    Piece::Text(b" time "),
+                    Piece::Number(u64::from(snapshot.time)),
+                    Piece::Text(b" flags "),
+                    Piece::Number(u64::from(snapshot.flags)),
+                    Piece::Text(b" area -\n+ player"),
+                    Piece::Words(&snapshot.player.words),
+                    Piece::Text(b"\n"),
+                ],
+                out,
+            );
+        }
+        Shown::NoClient => b" noclient\n",
+        Shown::Nothing => b" none\n",
+    };
+    print_all(
+        &[
+            Piece::Text(b"show "),
+            Piece::Number(u64::from(c)),
+            Piece::Text(word),
+        ],
+        out,
+    )
+}
+
+fn handed_in(outcome: HandedIn) -> &'static [u8]
+    ensures { result.now ≡ handed_in_text outcome }
+{
+    match outcome {
+        HandedIn::Ok => b" ok\n",
+        HandedIn::Taken => b" refused taken\n",
+        HandedIn::NoClient => b" refused noclient\n",
+    }
+}
