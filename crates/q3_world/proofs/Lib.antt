@@ -4,3 +4,4 @@ pub mod ToldHeld
 pub mod Buffered
 pub mod Invariants
 pub mod Agreement
+pub mod Stepped

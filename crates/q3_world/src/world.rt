@@ -15,6 +15,7 @@ ghost use Rattle.q3_world.specs.Outcome.{IsServe, HasStepCause};
 
 use crate::answer::{Answer, Emitted, HandedIn, NoClient, Shown};
 use crate::client::Client;
+use crate::laws;
 use crate::outside::{Files, Sink};
 use crate::report::print_answer;
 use crate::server::{Datagram, PLACES, Server, Slot};
@@ -136,6 +137,10 @@ impl World {
             → IsServe event.now × (self.new ≡ self.old) × (O.written out.new ≡ O.written out.old) }
         ensures few { length self.new.datagrams ≤ length self.old.datagrams + 1 }
     {
+        // What is cited here: by the plain code a message is read back, and the normal form is normal.
+        q3_bits::laws::plain_is_a_code();
+        q3_player::laws::normal_is_normal();
+        laws::built_is_read();
         let Ok(answer) = self.apply(event) else {
             return Err(StepError::NoMemory);
         };
