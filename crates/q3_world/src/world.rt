@@ -123,7 +123,7 @@ impl World {
     pub fn step<F: Files, O: Sink>(
         &mut self,
         event: &Event,
-        _files: &mut F,
+        files: &mut F,
         out: &mut O,
     ) -> Result<(), StepError>
         requires event { IsReplayEvent event.now }
@@ -136,7 +136,10 @@ impl World {
         ensures no_memory { IsErrOf result StepError.NoMemory
             → IsServe event.now × (self.new ≡ self.old) × (O.written out.new ≡ O.written out.old) }
         ensures few { length self.new.datagrams ≤ length self.old.datagrams + 1 }
+        ensures files { files.new ≡ files.old }
     {
+        // No event of this stage uses the files.
+        let _ = files;
         // What is cited here: by the plain code a message is read back, and the normal form is normal.
         q3_bits::laws::plain_is_a_code();
         q3_player::laws::normal_is_normal();

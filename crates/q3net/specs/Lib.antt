@@ -1,0 +1,4 @@
+pub mod Command
+pub mod Input
+pub mod Lines
+pub mod Run
