@@ -40,11 +40,6 @@ pub record HasWritten (start now : Writing) (left whole : List Bool) : Type 0 wh
   pub behind : now ≡ record { words = start.words; bits = start.bits ++ written; room = start.room }
   pub fits : message_length (length now.bits) ≤ start.room
 
--- at the start all is left
-pub HasWritten-none : (start : Writing) (whole : List Bool) → message_length (length start.bits) ≤ start.room → HasWritten start start whole whole
-HasWritten-none start whole fits =
-    record { written = []; parts = refl; behind = rw append-nil refl; fits = fits }
-
 -- the words stay
 pub HasWritten-words : (start now : Writing) (left whole : List Bool) → HasWritten start now left whole → now.words ≡ start.words
 HasWritten-words start now left whole h = ap (λ (w : Writing). w.words) h.behind
