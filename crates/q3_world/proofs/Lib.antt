@@ -4,3 +4,5 @@ pub mod ToldHeld
 pub mod Buffered
 pub mod Invariants
 pub mod Agreement
+pub mod MessageText
+pub mod EverySchedule
