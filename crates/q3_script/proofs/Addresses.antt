@@ -1,10 +1,9 @@
 -- Addresses and the words of fields against their grammar.
-use Rattle.std.proofs.Common.{◌≡◌, ℕ, ◌+◌, ◌*◌, ◌^◌, ◌<◌, ◌≤◌, Bool, true, false, eqb, List, [], ◌∷◌, ◌++◌, Option, Some, None, refl, sym, ap, subst, ◌∙◌, arith, append_assoc}
-use Rattle.std.specs.Prelude.{◌&&◌, not, codes}
+use Rattle.std.proofs.Common.{◌≡◌, ℕ, ◌^◌, ◌<◌, true, false, eqb, List, ◌∷◌, ◌++◌, Option, Some, None, refl, sym, ap, subst, ◌∙◌, arith, append_assoc}
+use Rattle.std.specs.Prelude.{not, codes}
 use Rattle.std.specs.Fmt.{decimal}
 use Rattle.std.specs.Option.{option_and_then}
-use Rattle.std.specs.List.{list_all}
-use Rattle.std.proofs.lemmas.Bool.{and_from}
+use Rattle.std.proofs.lemmas.Option.{same_Some}
 use Rattle.std.proofs.lemmas.List.Folds.{list_all-append}
 use Rattle.q3_script.specs.declared.address.Address.{Address}
 use Rattle.q3_script.specs.Numbers.{number_at, cut, host_of, address_at, pair_at}
@@ -20,11 +19,9 @@ bind_some : {A B : Type 0} (o : Option A) (f : A → Option B) (y : B) → (o >>
 bind_some (Some x) f y e = (x, refl, e)
 bind_some None f y e = absurd cc
 
+-- what was found, with its type
 abbrev some : {A : Type 0} → A → Option A
 some x = Some x
-
-some_is : {A : Type 0} (x y : A) → some x ≡ some y → x ≡ y
-some_is x y e = cc
 
 -- the steps of reading an address, from the last on
 abbrev address_of : ℕ → ℕ → ℕ → ℕ → ℕ → Address
@@ -93,6 +90,7 @@ record Parts (word : List ℕ) (address : Address) : Type 0 where
   port_read : number_at 1 65535 ends.1 ≡ Some port
   whole : some (address_of a b c d port) ≡ some address
 
+-- an address that is read has such parts
 parts_of : (word : List ℕ) (address : Address) → address_at word ≡ Some address → Parts word address
 unfolding address_at
 parts_of word address e =
@@ -127,6 +125,7 @@ parts_of word address e =
       whole = port.2;
     }
 
+-- and those parts spell it
 spelled_from : (word : List ℕ) (address : Address) (p : Parts word address) → SpellsAddress word (address_of p.a p.b p.c p.d p.port)
 spelled_from word address p =
     let a_is = number_at-spelled 0 255 p.first.0 p.a (omega arith) p.a_read in
@@ -151,7 +150,7 @@ spelled_from word address p =
 pub address_at-spelled : (word : List ℕ) (address : Address) → address_at word ≡ Some address → SpellsAddress word address
 address_at-spelled word address e =
     let p = parts_of word address e in
-    subst (λ (x : Address). SpellsAddress word x) (some_is (address_of p.a p.b p.c p.d p.port) address p.whole) (spelled_from word address p)
+    subst (λ (x : Address). SpellsAddress word x) (same_Some (address_of p.a p.b p.c p.d p.port) address p.whole) (spelled_from word address p)
 
 -- and what is spelled so is read
 pub address_at-again : (word : List ℕ) (address : Address) → SpellsAddress word address → address_at word ≡ Some address
@@ -190,7 +189,7 @@ pair_at-spelled word pair e =
     let value_is = number_at-spelled 0 4294967295 parts.0.1 value.0 (omega arith) value.1 in
     let whole = joined_pair word parts.0.0 parts.0.1 (decimal index.0) (decimal value.0) (cut-spelled 58 word parts.0 parts.1) index_is.2 value_is.2 in
     let fits : (index.0 < 64) × (value.0 < 2 ^ 32) × (word ≡ pair_text (index.0, value.0)) = (omega arith, omega arith, whole) in
-    subst (λ (p : ℕ × ℕ). (p.0 < 64) × (p.1 < 2 ^ 32) × (word ≡ pair_text p)) (some_is (index.0, value.0) pair value.2) fits
+    subst (λ (p : ℕ × ℕ). (p.0 < 64) × (p.1 < 2 ^ 32) × (word ≡ pair_text p)) (same_Some (index.0, value.0) pair value.2) fits
 
 -- and what is spelled so is read
 pub pair_at-again : (pair : ℕ × ℕ) → pair.0 < 64 → pair.1 < 2 ^ 32 → pair_at (pair_text pair) ≡ Some pair

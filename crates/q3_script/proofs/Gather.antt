@@ -1,12 +1,12 @@
 -- The events of lines, gathered one after the other.
-use Rattle.std.proofs.Common.{◌≡◌, ℕ, ◌+◌, ◌<◌, Bool, true, false, cond, leb, List, [], ◌∷◌, ◌++◌, length, get_or, drop, Result, Ok, Err, refl, sym, ap, ◌∙◌, append_assoc, arith}
+use Rattle.std.proofs.Common.{◌≡◌, ℕ, ◌+◌, ◌<◌, true, false, List, [], ◌∷◌, ◌++◌, length, get_or, drop, Result, Ok, Err, refl, sym, ap, ◌∙◌, append_assoc, arith}
 use Rattle.std.specs.Prelude.{if◌then◌else◌, nat_le}
 use Rattle.std.proofs.lemmas.List.{append-nil, drop_more, drop_all, length_push}
 use Rattle.q3_script.specs.declared.event.Event.{Event}
 use Rattle.q3_script.specs.declared.cause.LineCause.{LineCause}
 use Rattle.q3_script.specs.declared.cause.LineCause.TheVariants.{Many}
 use Rattle.q3_script.specs.Lines.{◌>>=◌, words_of, line_at}
-use Rattle.q3_script.specs.Script.{BadLine, bad_at, most_events, is_passed_over, events_from}
+use Rattle.q3_script.specs.Script.{BadLine, most_events, is_passed_over, events_from}
 
 -- the events before, and those of the lines that are left
 abbrev pub with_front : List Event → Result (List Event) BadLine → Result (List Event) BadLine
@@ -17,6 +17,7 @@ with_front front (Err bad) = Err bad
 abbrev pub event_of : ℕ → List ℕ → Result Event LineCause
 event_of before line = if nat_le most_events before then Err Many else line_at (words_of line)
 
+-- an event, and a cause, as the answer for a line
 abbrev done : Event → Result Event LineCause
 done event = Ok event
 
@@ -32,6 +33,7 @@ pub record Next (lines : List (List ℕ)) (n : ℕ) (line : List ℕ) : Type 0 w
   pub inside : n < length lines
   pub is : line ≡ get_or lines n line
 
+-- the lines that are left begin with the next
 rest_of : {lines : List (List ℕ)} {n : ℕ} {line : List ℕ} → Next lines n line → drop n lines ≡ line ∷ drop (n + 1) lines
 rest_of {lines} {n} {line} next = drop_more lines n line next.inside ∙ ap (λ (x : List ℕ). x ∷ drop (n + 1) lines) (sym next.is)
 
@@ -42,6 +44,7 @@ passes {lines} {n} {front} {total} {line} reached next over =
     let one : events_from (n + 1) (length front) (drop n lines) ≡ events_from (n + 1 + 1) (length front) (drop (n + 1) lines) = rw (rest_of next, over) refl in
     record { told = ap (with_front front) (sym one) ∙ reached.told }
 
+-- an event goes over from the lines that are left to those before
 regroup : (front : List Event) (event : Event) (rest : Result (List Event) BadLine) → with_front front (rest >>= λ events. Ok (event ∷ events)) ≡ with_front (front ++ event ∷ []) rest
 regroup front event (Ok events) = ap (λ (x : List Event). Ok x) (simp append_assoc)
 regroup front event (Err bad) = refl

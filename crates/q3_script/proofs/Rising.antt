@@ -1,5 +1,5 @@
 -- Fields by rising index, one after the other.
-use Rattle.std.proofs.Common.{◌≡◌, ℕ, ◌+◌, ◌<◌, ◌≤◌, Bool, true, false, cond, ltb, List, [], ◌∷◌, set, Option, Some, None, Result, Ok, Err, refl, sym, ◌∙◌, arith}
+use Rattle.std.proofs.Common.{◌≡◌, ℕ, ◌+◌, ◌<◌, ◌≤◌, true, false, ltb, List, [], ◌∷◌, set, Option, Some, None, Result, Ok, Err, refl, sym, ◌∙◌}
 use Rattle.std.proofs.lemmas.Bool.{lt-ltb, le-ltb}
 use Rattle.q3_script.specs.declared.cause.LineCause.{LineCause}
 use Rattle.q3_script.specs.declared.cause.LineCause.TheVariants.{Fields}
@@ -8,6 +8,7 @@ use Rattle.q3_script.specs.Lines.{fields_at}
 use Rattle.q3_script.specs.Words.{next_of}
 use Rattle.q3_script.proofs.Spaces.{some_next, none_next, next_of_some, next_of_none}
 
+-- no field, and a field, as the answer for a word
 abbrev no_pair : Option (ℕ × ℕ)
 no_pair = None
 

@@ -1,16 +1,17 @@
 -- The words of a text, the first at the first space.
-use Rattle.std.proofs.Common.{◌≡◌, ℕ, ◌+◌, ◌-◌, ◌<◌, ◌≤◌, Bool, true, false, cond, eqb, ltb, List, [], ◌∷◌, length, take, drop, Option, Some, None, Result, Ok, Err, refl, sym, ap, ◌∙◌, arith, one-add, inl, inr}
-use Rattle.std.specs.List.{slice_split, onto_first, position, position_or_len}
+use Rattle.std.proofs.Common.{◌≡◌, ℕ, ◌<◌, ◌≤◌, Bool, eqb, ltb, List, [], ◌∷◌, length, take, drop, Option, Some, None, refl, sym, ap, ◌∙◌, arith, one-add, inl, inr}
+use Rattle.std.specs.List.{position, position_or_len}
 use Rattle.std.proofs.lemmas.Bool.{cases_Bool, ltb-false}
+use Rattle.std.proofs.lemmas.Option.{same_Some}
 use Rattle.std.proofs.lemmas.List.{take_all, drop_all}
-use Rattle.q3_script.specs.declared.cause.LineCause.{LineCause}
-use Rattle.q3_script.specs.declared.cause.LineCause.TheVariants.{Count}
 use Rattle.q3_script.specs.Lines.{words_of}
 use Rattle.q3_script.specs.Words.{words_left, next_of, only_of}
 
+-- the byte between two words
 abbrev is_space : ℕ → Bool
 is_space byte = eqb byte 32
 
+-- a next word, and what may be missing
 abbrev pub some_next : List ℕ × List (List ℕ) → Option (List ℕ × List (List ℕ))
 some_next next = Some next
 
@@ -34,13 +35,10 @@ pub only_of_more : (word : List ℕ) (left : List ℕ) → 0 < length left → n
 only_of_more word [] some = absurd (omega arith)
 only_of_more word (x ∷ text) some = rw words_at_space refl
 
-some_parts : (x y : List ℕ × List (List ℕ)) → some_next x ≡ some_next y → x ≡ y
-some_parts x y e = cc
-
 -- what the next word was taken from
 pub next_of_some : (word : List ℕ) (words left : List (List ℕ)) → some_next (word, words) ≡ next_of left → left ≡ word ∷ words
 next_of_some word words [] e = absurd cc
-next_of_some word words (first ∷ others) e = ap (λ (x : List ℕ × List (List ℕ)). x.0 ∷ x.1) (some_parts (first, others) (word, words) (sym e))
+next_of_some word words (first ∷ others) e = ap (λ (x : List ℕ × List (List ℕ)). x.0 ∷ x.1) (same_Some (first, others) (word, words) (sym e))
 
 abbrev pub none_next : Option (List ℕ × List (List ℕ))
 none_next = None
@@ -58,6 +56,7 @@ some_place text end is =
       | inr past ↦ let e : Some end ≡ None = rw past at is in absurd cc
     ]
 
+-- where no place passes, the first is the end
 no_place : (text : List ℕ) → none_place ≡ position is_space text → length text ≤ position_or_len is_space text
 no_place text is =
     elim (cases_Bool (ltb (position_or_len is_space text) (length text))) [

@@ -14,17 +14,19 @@ use Rattle.q3_script.specs.declared.cause.LineCause.{LineCause}
 use Rattle.q3_script.specs.declared.cause.LineCause.TheVariants as causes
 use Rattle.q3_script.specs.Numbers.{number_at, address_at, pair_at}
 use Rattle.q3_script.specs.Lines.{◌>>=◌, or_cause, number_word, client_word, fields_at, client_line, time_line, player_line, serve_line, deliver_line, show_line, line_at}
-use Rattle.q3_script.specs.Grammar.{SpellsAddress, pair_text, AreFields, with_fields, SpellsPlayer, SpellsEvent}
+use Rattle.q3_script.specs.Grammar.{pair_text, AreFields, with_fields, SpellsPlayer, SpellsEvent}
 use Rattle.q3_script.proofs.Spelled.{number_at-spelled, number_at-again}
 use Rattle.q3_script.proofs.Addresses.{address_at-spelled, address_at-again, pair_at-spelled, pair_at-again}
 
-abbrev done : {A : Type 0} → A → Result A LineCause
+-- an answer, and a refusal
+abbrev pub done : {A E : Type 0} → A → Result A E
 done x = Ok x
 
 abbrev refuse : LineCause → Result Event LineCause
 refuse cause = Err cause
 
-ok_is : {A : Type 0} (x y : A) → done x ≡ done y → x ≡ y
+-- answers that are the same have the same value
+pub ok_is : {A E : Type 0} (x y : A) → done {E = E} x ≡ done y → x ≡ y
 ok_is x y e = cc
 
 -- the value of a step that wasn't refused
@@ -59,6 +61,7 @@ record WereFields (least : ℕ) (values : List ℕ) (words : List (List ℕ)) (r
   whole : words ≡ map pair_text pairs
   is : result ≡ with_fields values pairs
 
+-- fields that are read were spelled so
 fields_at-spelled : (least : ℕ) (values : List ℕ) (words : List (List ℕ)) (result : List ℕ) → fields_at least values words ≡ Ok result → WereFields least values words result
 unfolding fields_at
 fields_at-spelled least values [] result e = record { pairs = []; fields = tt; whole = refl; is = sym (ok_is values result e) }
@@ -76,6 +79,7 @@ fields_at-spelled least values (word ∷ others) result e =
       is = rest.is;
     }
 
+-- and what is spelled so is read
 fields_at-again : (least : ℕ) (values : List ℕ) (pairs : List (ℕ × ℕ)) → AreFields least pairs → fields_at least values (map pair_text pairs) ≡ Ok (with_fields values pairs)
 unfolding fields_at
 fields_at-again least values [] fields = refl
@@ -95,6 +99,7 @@ client_from c challenge qport dup last c' challenge' qport' dup' address c_read 
     let dup_is = number_word-spelled 0 5 dup dup' (omega arith) dup_read in
     (omega arith, omega arith, omega arith, omega arith, last, address_at-spelled last address address_read, rw (c_is.2, challenge_is.2, qport_is.2, dup_is.2) refl)
 
+-- what is read of each line was spelled so
 client_line-spelled : (words : List (List ℕ)) (event : Event) → client_line words ≡ Ok event → SpellsEvent (codes "client" ∷ words) event
 unfolding client_line
 client_line-spelled [] event e = absurd cc

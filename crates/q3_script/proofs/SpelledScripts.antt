@@ -1,5 +1,5 @@
 -- Whole scripts against their grammar: what is read was spelled so, and what is spelled so is read.
-use Rattle.std.proofs.Common.{◌≡◌, ℕ, ◌+◌, ◌<◌, ◌≤◌, Bool, true, false, cond, ltb, leb, List, [], ◌∷◌, length, set, replicate, Result, Ok, Err, inl, inr, refl, sym, ap, subst, ◌∙◌, arith}
+use Rattle.std.proofs.Common.{◌≡◌, ℕ, ◌+◌, ◌≤◌, false, ltb, leb, List, [], ◌∷◌, length, set, replicate, Result, Ok, Err, inl, inr, refl, sym, ap, subst, ◌∙◌, arith}
 use Rattle.std.specs.Prelude.{if◌then◌else◌, IfOk, All}
 use Rattle.std.specs.Global.{Vec}
 use Rattle.std.specs.List.{AllByRecursion}
@@ -16,24 +16,19 @@ use Rattle.q3_script.specs.declared.cause.ScriptKind.TheVariants.{Replay}
 use Rattle.q3_script.specs.declared.cause.ScriptError.{ScriptError}
 use Rattle.q3_script.specs.Lines.{◌>>=◌, words_of, line_at}
 use Rattle.q3_script.specs.Script.{longest_script, most_events, lines_of, is_passed_over, BadLine, bad_at, events_from, script_at, with_items, Reads}
-use Rattle.q3_script.specs.Grammar.{with_fields, SpellsPlayer, SpellsEvent, SpellLine, SpellEvents, SpellsScript, IsReplayEvent}
-use Rattle.q3_script.proofs.SpelledEvents.{bind_ok, guard_ok, line_at-spelled, line_at-again}
+use Rattle.q3_script.specs.Grammar.{with_fields, SpellsPlayer, SpellsEvent, SpellEvents, SpellsScript, IsReplayEvent}
+use Rattle.q3_script.proofs.SpelledEvents.{ok_is, bind_ok, guard_ok, line_at-spelled, line_at-again}
 
+-- events, and a bad line, as the answer for lines
 abbrev events_are : List Event → Result (List Event) BadLine
 events_are events = Ok events
-
-same_events : (xs ys : List Event) → events_are xs ≡ events_are ys → xs ≡ ys
-same_events xs ys e = cc
 
 abbrev bad : BadLine → Result (List Event) BadLine
 bad line = Err line
 
-abbrev done : {A : Type 0} → A → Result A LineCause
-done x = Ok x
-
 -- a step that isn't refused, with or without its line
 bad_at-ok : {A : Type 0} (number : ℕ) (r : Result A LineCause) (x : A) → bad_at number r ≡ Ok x → r ≡ Ok x
-bad_at-ok number (Ok y) x e = let same : y ≡ x = cc in ap (λ z. Ok z) same
+bad_at-ok number (Ok y) x e = ap (λ z. Ok z) (ok_is y x e)
 bad_at-ok number (Err cause) x e = absurd cc
 
 -- ---- lines
@@ -43,9 +38,10 @@ record WereEvents (before : ℕ) (lines : List (List ℕ)) (events : List Event)
   spelled : SpellEvents lines events
   few : before ≤ most_events → before + length events ≤ most_events
 
+-- events that are read were spelled so
 events_from-spelled : (number before : ℕ) (lines : List (List ℕ)) (events : List Event) → events_from number before lines ≡ Ok events → WereEvents before lines events
 unfolding events_from
-events_from-spelled number before [] events e = record { spelled = sym (same_events [] events e); few = λ le. rw (← same_events [] events e) (omega arith) }
+events_from-spelled number before [] events e = record { spelled = sym (ok_is [] events e); few = λ le. rw (← ok_is [] events e) (omega arith) }
 events_from-spelled number before (line ∷ lines) events e =
     elim (cases_Bool (is_passed_over line)) [
       | inl over ↦
@@ -58,9 +54,10 @@ events_from-spelled number before (line ∷ lines) events e =
           let others = events_from-spelled (number + 1) (before + 1) lines rest.0 rest.1 in
           let below = leb-false most_events before room.0 in
           let whole : WereEvents before (line ∷ lines) (event.0 ∷ rest.0) = record { spelled = rw read (line_at-spelled (words_of line) event.0 room.1, others.spelled); few = λ le. (let few = others.few (omega arith) in omega arith) } in
-          subst (λ (x : List Event). WereEvents before (line ∷ lines) x) (same_events (event.0 ∷ rest.0) events rest.2) whole
+          subst (λ (x : List Event). WereEvents before (line ∷ lines) x) (ok_is (event.0 ∷ rest.0) events rest.2) whole
     ]
 
+-- and what is spelled so is read
 events_from-again : (number before : ℕ) (lines : List (List ℕ)) (events : List Event) → SpellEvents lines events → before + length events ≤ most_events → events_from number before lines ≡ Ok events
 unfolding events_from
 events_from-again number before [] events spelled few = ap events_are (sym spelled)
@@ -80,6 +77,7 @@ events_from-again number before (line ∷ lines) (event ∷ events) spelled few 
 
 -- ---- scripts
 
+-- a script that is read was spelled so
 script_at-spelled : (bytes : List ℕ) (events : List Event) → script_at Replay bytes ≡ Ok events → SpellsScript bytes events
 unfolding script_at
 script_at-spelled bytes events e =
@@ -90,6 +88,7 @@ script_at-spelled bytes events e =
           record { small = ltb-false longest_script (length bytes) small; few = (let few = were.few (omega arith) in omega arith); spelled = were.spelled }
     ]
 
+-- and what is spelled so is read
 script_at-again : (bytes : List ℕ) (events : List Event) → SpellsScript bytes events → script_at Replay bytes ≡ Ok events
 unfolding script_at
 script_at-again bytes events script =
@@ -98,15 +97,18 @@ script_at-again bytes events script =
 
 -- ---- events of a replay
 
+-- fields put over words keep their number
 length-with_fields : (values : List ℕ) (pairs : List (ℕ × ℕ)) → length (with_fields values pairs) ≡ length values
 length-with_fields values [] = refl
 length-with_fields values (pair ∷ pairs) = length-with_fields (set values pair.0 pair.1) pairs ∙ length-set values pair.0 pair.1
 
+-- a player that is spelled has 64 words and four arrays of zeros
 player_is : (words : List (List ℕ)) (player : PlayerState) → SpellsPlayer words player → (length player.words ≡ 64) × SameArrays zero_player player
 player_is words player spelled =
     let zero : (length (with_fields (replicate 64 0) spelled.pairs) ≡ 64) × SameArrays zero_player (record zero_player { words = with_fields (replicate 64 0) spelled.pairs }) = (length-with_fields (replicate 64 0) spelled.pairs, record { stats = refl; persistant = refl; ammo = refl; powerups = refl }) in
     subst (λ (p : PlayerState). (length p.words ≡ 64) × SameArrays zero_player p) (sym spelled.state) zero
 
+-- an event that is spelled is one that a replay may have
 is_replay : (words : List (List ℕ)) (event : Event) → SpellsEvent words event → IsReplayEvent event
 is_replay words (Client c challenge qport dup address) spelled = spelled.0
 is_replay words (Time time) spelled = spelled.0
@@ -115,6 +117,7 @@ is_replay words (Serve c) spelled = spelled.0
 is_replay words (Deliver datagram) spelled = (spelled.0, spelled.1)
 is_replay words (Show c) spelled = spelled.0
 
+-- and so is each event of the lines
 all_replay : (lines : List (List ℕ)) (events : List Event) → SpellEvents lines events → AllByRecursion IsReplayEvent events
 all_replay [] events spelled = subst (λ (x : List Event). AllByRecursion IsReplayEvent x) (sym spelled) tt
 all_replay (line ∷ lines) [] spelled = tt

@@ -1,11 +1,9 @@
 -- Each line in the steps by which it is read.
-use Rattle.std.proofs.Common.{◌≡◌, ℕ, List, [], ◌∷◌, replicate, Result, Ok, Err, refl}
+use Rattle.std.proofs.Common.{◌≡◌, ℕ, List, [], ◌∷◌, replicate, Ok, Err, refl}
 use Rattle.std.specs.Prelude.{if◌then◌else◌, codes}
 use Rattle.std.specs.Str.{bytes_eq}
 use Rattle.q3_player.specs.State.{zero_player}
-use Rattle.q3_script.specs.declared.event.Event.{Event}
 use Rattle.q3_script.specs.declared.event.Event.TheVariants.{Client, Time, Player, Serve, Deliver, Show}
-use Rattle.q3_script.specs.declared.cause.LineCause.{LineCause}
 use Rattle.q3_script.specs.declared.cause.LineCause.TheVariants.{Address, Count, Word}
 use Rattle.q3_script.specs.Numbers.{address_at}
 use Rattle.q3_script.specs.Lines.{◌>>=◌, or_cause, number_word, client_word, fields_at, client_line, time_line, player_line, serve_line, deliver_line, show_line, line_at}

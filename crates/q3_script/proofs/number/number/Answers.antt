@@ -1,5 +1,5 @@
-use Rattle.std.proofs.Common.{◌+◌, arith, ◌∙◌}
-use Rattle.q3_script.proofs.Decimals.{none_at_empty, none_at_zero, none_at_byte, none_above, some_at_digits, value_of_more}
+use Rattle.std.proofs.Common.{◌+◌, arith}
+use Rattle.q3_script.proofs.Decimals.{none_at_byte, none_above, some_at_digits, value_of_more}
 use Rattle.q3_script.proofs.number.number.Goals as goal
 
 pub returns-then-not-is_ascii_digit-clause-value : goal.returns-then-not-is_ascii_digit-clause-value

@@ -1,9 +1,9 @@
-use Rattle.std.proofs.Common.{◌≡◌, false, eqb, refl, rules, tests, arith, length}
+use Rattle.std.proofs.Common.{◌≡◌, eqb, rules, tests, arith, length}
 use Rattle.std.proofs.lemmas.List.{length_push}
 use Rattle.std.proofs.lemmas.Iterator.Consumers.{YieldsList-turn, YieldsList-end}
 use Rattle.std.proofs.lemmas.Iterator.Splits.{YieldsList-from_slice_split}
-use Rattle.q3_script.specs.Script.{lines_of, events_from}
-use Rattle.q3_script.proofs.Gather.{Reached, Next, passes, adds, refuses, ends}
+use Rattle.q3_script.specs.Script.{lines_of}
+use Rattle.q3_script.proofs.Gather.{Next, passes, adds, refuses, ends}
 use Rattle.q3_script.proofs.script.events.Goals as goal
 
 pub loop-line-preserved-then-passed_over : goal.loop-line-preserved-then-passed_over
