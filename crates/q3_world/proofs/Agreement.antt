@@ -52,7 +52,7 @@ pub record Agree (words : List (List Bool)) (kept : KeptStep) (whole : Step) : T
 joined : (words : List (List Bool)) (whole : Whole) (c challenge qport dup : ℕ) (address : _) (found : Option SlotState) → c < places
     → slot_at whole.server c ≡ found → Invariant words whole
     → Agree words (kept_client (kept_of whole) c (new_slot challenge qport address) (new_client challenge qport dup) found)
-        (join whole c (new_slot challenge qport address) (new_client challenge qport dup) found)
+    (join whole c (new_slot challenge qport address) (new_client challenge qport dup) found)
 joined words whole c challenge qport dup address None lt is inv =
     record { same = refl; invariant = joined-invariant words whole c challenge qport dup address lt is inv }
 joined words whole c challenge qport dup address (Some slot) lt is inv = record { same = refl; invariant = inv }
@@ -72,10 +72,10 @@ emission_of whole c e = record { server = with_slot whole.server c e.slot; answe
 abbrev Served : List (List Bool) → Whole → ℕ → Option SlotState → Emission → Type 0
 Served words whole c found emission =
     Agree words (kept_serve (kept_of whole) c emission)
-      (record {
-        whole = record (with_sent whole c found emission.answer emission.datagram) { server = emission.server };
-        answer = Serve c emission.answer (length whole.sent + 1);
-      })
+    (record {
+      whole = record (with_sent whole c found emission.answer emission.datagram) { server = emission.server };
+      answer = Serve c emission.answer (length whole.sent + 1);
+    })
 
 -- nothing was sent, and the server is as it was
 quiet : (words : List (List Bool)) (whole : Whole) (c : ℕ) (found : Option SlotState) (server : ServerState) (answer : Emitted)
@@ -85,20 +85,20 @@ quiet : (words : List (List Bool)) (whole : Whole) (c : ℕ) (found : Option Slo
 quiet words whole c found server answer same_as none_sent none_built inv =
     let count = length-map whole.sent bytes_of in
     subst (λ (s : ServerState). Served words whole c found (record { server = s; answer = answer; datagram = [] })) (sym same_as)
-      (record {
-        same = rw (none_sent, none_built, count) refl;
-        invariant = rw none_built inv;
-      })
+    (record {
+      same = rw (none_sent, none_built, count) refl;
+      invariant = rw none_built inv;
+    })
 
 -- what an emit of a slot may be
 emit_cases : (words : List (List Bool)) (map_state : MapState) (slot : SlotState)
     → (emit_slot words map_state slot ≡ record { slot = slot; answer = emitted.SequenceEnd; datagram = [] })
     ⊎ ((emit_slot words map_state slot ≡ record { slot = slot; answer = emitted.Overlong; datagram = [] })
     ⊎ ((slot.begun + 1 < sequence_end) × (emit_slot words map_state slot ≡ record {
-        slot = record slot { begun = slot.begun + 1 };
-        answer = emitted.Snapshot (slot.begun + 1) 0 (message_length (length (snapshot_bits words (next_snapshot map_state slot))));
-        datagram = (next_tag words map_state 0 slot).bytes;
-      })))
+      slot = record slot { begun = slot.begun + 1 };
+      answer = emitted.Snapshot (slot.begun + 1) 0 (message_length (length (snapshot_bits words (next_snapshot map_state slot))));
+      datagram = (next_tag words map_state 0 slot).bytes;
+    })))
 emit_cases words map_state slot =
     let bits = snapshot_bits words (next_snapshot map_state slot) in
     let ended : SlotEmission = record { slot = slot; answer = emitted.SequenceEnd; datagram = [] } in
@@ -111,12 +111,14 @@ emit_cases words map_state slot =
     elim (cases_Bool (nat_le sequence_end (slot.begun + 1))) [
       | inl e ↦ inl (cond-true (nat_le sequence_end (slot.begun + 1)) ended (emit_bits slot bits) e)
       | inr e ↦ inr (elim (cases_Bool (nat_le fragment_size (message_length (length bits)))) [
-          | inl f ↦ inl (cond-false (nat_le sequence_end (slot.begun + 1)) ended (emit_bits slot bits) e
-              ∙ cond-true (nat_le fragment_size (message_length (length bits))) overlong sent f)
-          | inr f ↦ inr (leb-false sequence_end (slot.begun + 1) e,
-              cond-false (nat_le sequence_end (slot.begun + 1)) ended (emit_bits slot bits) e
-              ∙ cond-false (nat_le fragment_size (message_length (length bits))) overlong sent f)
-        ])
+        | inl f ↦ inl (cond-false (nat_le sequence_end (slot.begun + 1)) ended (emit_bits slot bits) e
+            ∙ cond-true (nat_le fragment_size (message_length (length bits))) overlong sent f)
+        | inr f ↦ inr (
+          leb-false sequence_end (slot.begun + 1) e,
+          cond-false (nat_le sequence_end (slot.begun + 1)) ended (emit_bits slot bits) e
+              ∙ cond-false (nat_le fragment_size (message_length (length bits))) overlong sent f,
+        )
+      ])
     ]
 
 served : (words : List (List Bool)) (whole : Whole) (c : ℕ) (found : Option SlotState) → c < places
@@ -128,16 +130,16 @@ served words whole c (Some slot) lt is inv =
       | inl e ↦ subst (λ (x : SlotEmission). Served words whole c (Some slot) (emission_of whole c x)) (sym e)
           (quiet words whole c (Some slot) (with_slot whole.server c slot) emitted.SequenceEnd (same_server whole.server c slot is) refl refl inv)
       | inr more ↦ elim more [
-          | inl e ↦ subst (λ (x : SlotEmission). Served words whole c (Some slot) (emission_of whole c x)) (sym e)
-              (quiet words whole c (Some slot) (with_slot whole.server c slot) emitted.Overlong (same_server whole.server c slot is) refl refl inv)
-          | inr e ↦ subst (λ (x : SlotEmission). Served words whole c (Some slot) (emission_of whole c x)) (sym e.1)
-              (let count = length-map whole.sent bytes_of in
-              let pushed = map_push bytes_of whole.sent (next_tag words whole.server.map c slot) in
-              record {
-                same = rw (count, pushed) refl;
-                invariant = served-invariant words whole c slot lt is e.0 inv;
-              })
-        ]
+        | inl e ↦ subst (λ (x : SlotEmission). Served words whole c (Some slot) (emission_of whole c x)) (sym e)
+            (quiet words whole c (Some slot) (with_slot whole.server c slot) emitted.Overlong (same_server whole.server c slot is) refl refl inv)
+        | inr e ↦ subst (λ (x : SlotEmission). Served words whole c (Some slot) (emission_of whole c x)) (sym e.1)
+            (let count = length-map whole.sent bytes_of in
+            let pushed = map_push bytes_of whole.sent (next_tag words whole.server.map c slot) in
+            record {
+              same = rw (count, pushed) refl;
+              invariant = served-invariant words whole c slot lt is e.0 inv;
+            })
+      ]
     ]
 
 -- ---- delivering
@@ -181,11 +183,11 @@ taken_same : (words : List (List Bool)) (whole : Whole) (number : ℕ) (tag : Ta
     → client_at whole.clients tag.client ≡ Some client → IsSent words whole.histories tag
     → (built_at whole.histories tag.client tag.number).number ≡ tag.number → Invariant words whole → (old : Bool)
     → Agree words (arrives_taken whole number tag (cond old (record { client = client; answer = Old }) (accept client (built_at whole.histories tag.client tag.number))))
-        (cond old (record { whole = whole; answer = Deliver number tag.client Old }) (arrive_new whole number tag client (built_at whole.histories tag.client tag.number)))
+    (cond old (record { whole = whole; answer = Deliver number tag.client Old }) (arrive_new whole number tag client (built_at whole.histories tag.client tag.number)))
 taken_same words whole number tag client found is same inv true =
     record {
       same = ap (λ (clients : List (Option ClientState)). record { kept = record (kept_of whole) { clients = clients }; answer = Deliver number tag.client Old })
-        (same_clients whole.clients tag.client client found);
+          (same_clients whole.clients tag.client client found);
       invariant = inv;
     }
 taken_same words whole number tag client found is same inv false =
@@ -206,9 +208,9 @@ delivered words whole number tag (Some client) reads is at inv =
     let snapshot = built_at whole.histories tag.client tag.number in
     let built = built_is words whole tag is inv (Some client) at client refl in
     let by_tag : take_at words client tag.bytes ≡ taken_by_tag client tag.number snapshot =
-      ap (take_at words client) is.bytes ∙ take_by_tag words client tag.number snapshot reads built in
+    ap (take_at words client) is.bytes ∙ take_by_tag words client tag.number snapshot reads built in
     subst (λ (t : Taken). Agree words (arrives_taken whole number tag t) (arrive whole number tag (Some client))) (sym by_tag)
-      (taken_same words whole number tag client at is built.number inv (nat_le tag.number client.taken))
+    (taken_same words whole number tag client at is built.number inv (nat_le tag.number client.taken))
 
 sent_at : (words : List (List Bool)) (whole : Whole) (number : ℕ) (found : Option Tag) → ReadsBack words
     → slice_get whole.sent (number - 1) ≡ found → Invariant words whole
@@ -217,7 +219,7 @@ sent_at words whole number None reads at inv = record { same = refl; invariant =
 sent_at words whole number (Some tag) reads at inv =
     let within = slice_get_within whole.sent (number - 1) tag at in
     let is : IsSent words whole.histories tag =
-      subst (λ (t : Tag). IsSent words whole.histories t) (get_or_from_slice_get whole.sent (number - 1) tag tag at) (inv.sent (number - 1) tag within) in
+    subst (λ (t : Tag). IsSent words whole.histories t) (get_or_from_slice_get whole.sent (number - 1) tag tag at) (inv.sent (number - 1) tag within) in
     delivered words whole number tag (client_at whole.clients tag.client) reads is refl inv
 
 -- ---- every event
@@ -264,6 +266,7 @@ pub stands_next : (words : List (List Bool)) (kept : Kept) (whole : Whole) (even
     → StandsFor words next.kept (step words whole event).whole × (next.answer ≡ (step words whole event).answer)
 stands_next words kept whole event next reads normal is stands steps =
     let agree = steps_agree words whole event reads normal is stands.invariant in
-    let e : next ≡ seen (step words whole event) = sym steps ∙ (ap (λ (k : Kept). kept_step words k event) (kept_is words kept whole stands) ∙ agree.same) in
-    (subst (λ (s : KeptStep). StandsFor words s.kept (step words whole event).whole) (sym e) (stands_for words (step words whole event).whole agree.invariant),
-      ap (λ (s : KeptStep). s.answer) e)
+    let e : next ≡ seen (step words whole event) = sym steps ∙ (ap (λ (k : Kept). kept_step words k event) (kept_is words kept whole stands) ∙ agree.same) in (
+      subst (λ (s : KeptStep). StandsFor words s.kept (step words whole event).whole) (sym e) (stands_for words (step words whole event).whole agree.invariant),
+      ap (λ (s : KeptStep). s.answer) e,
+    )

@@ -28,9 +28,11 @@ Buffers-then r None None c w0 w1 w2 xs ys p q = q
 Buffers-then r None (Some m) c w0 w1 w2 xs ys p q = absurd cc
 Buffers-then r (Some had) None c w0 w1 w2 xs ys p q = absurd (let e = p.2 in cc)
 Buffers-then r (Some had) (Some m) c w0 w1 w2 xs ys p q =
-    let m_is : m ≡ had ++ p.0 = some_is m (had ++ p.0) p.2 in
-    (p.0 ++ q.0, Passes-then r w0 w1 w2 xs ys p.0 q.0 p.1 q.1,
-      q.2 ∙ ap (λ (z : List ℕ). some z) (ap (λ (z : List ℕ). z ++ q.0) m_is ∙ append_assoc had p.0 q.0))
+    let m_is : m ≡ had ++ p.0 = some_is m (had ++ p.0) p.2 in (
+      p.0 ++ q.0,
+      Passes-then r w0 w1 w2 xs ys p.0 q.0 p.1 q.1,
+      q.2 ∙ ap (λ (z : List ℕ). some z) (ap (λ (z : List ℕ). z ++ q.0) m_is ∙ append_assoc had p.0 q.0),
+    )
 
 -- what ended early in a front of a text ended early in the text
 pub Buffers-early : (e : Failed) (a c : Option (List ℕ)) (w0 w1 w2 xs ys : List ℕ)
@@ -58,9 +60,11 @@ Adds-from_buffers r None None c w xs p q = q
 Adds-from_buffers r None (Some m) c w xs p q = absurd cc
 Adds-from_buffers r (Some had) None c w xs p q = absurd (let e = p.2 in cc)
 Adds-from_buffers r (Some had) (Some m) c w xs p q =
-    let m_is : m ≡ had ++ p.0 = some_is m (had ++ p.0) p.2 in
-    (p.0 ++ q.0, added r p.0 q.0 w xs p.1 q.1,
-      q.2 ∙ ap (λ (z : List ℕ). some z) (ap (λ (z : List ℕ). z ++ q.0) m_is ∙ append_assoc had p.0 q.0))
+    let m_is : m ≡ had ++ p.0 = some_is m (had ++ p.0) p.2 in (
+      p.0 ++ q.0,
+      added r p.0 q.0 w xs p.1 q.1,
+      q.2 ∙ ap (λ (z : List ℕ). some z) (ap (λ (z : List ℕ). z ++ q.0) m_is ∙ append_assoc had p.0 q.0),
+    )
 
 -- the text of a word that isn't 0
 pub word_text_some : (index word : ℕ) → (word ≡ 0 → ⊥) → word_text index word ≡ codes " " ++ decimal index ++ codes ":" ++ decimal word
@@ -99,9 +103,10 @@ words_text-append index (x ∷ xs) ys =
 pub words_text-split : (words : List ℕ) (index word : ℕ) → index < length words → word ≡ get_or words index 0
     → (others : List ℕ) × (words_text 0 words ≡ (words_text 0 (take index words) ++ word_text index word) ++ others)
 words_text-split words index word within is =
-    let parts = words_text-append 0 (take (index + 1) words) (drop (index + 1) words) in
-    (words_text (0 + length (take (index + 1) words)) (drop (index + 1) words),
-      ap (words_text 0) (sym (take-append-drop (index + 1) words)) ∙ (parts ∙ ap (λ t. t ++ words_text (0 + length (take (index + 1) words)) (drop (index + 1) words)) (words_text-more words index word within is)))
+    let parts = words_text-append 0 (take (index + 1) words) (drop (index + 1) words) in (
+      words_text (0 + length (take (index + 1) words)) (drop (index + 1) words),
+      ap (words_text 0) (sym (take-append-drop (index + 1) words)) ∙ (parts ∙ ap (λ t. t ++ words_text (0 + length (take (index + 1) words)) (drop (index + 1) words)) (words_text-more words index word within is)),
+    )
 
 -- nothing goes through
 pub Buffers-none : (a : Option (List ℕ)) (w : List ℕ) → Buffers a a w w [] (Ok tt)
@@ -118,8 +123,9 @@ Adds-early e (Some had) c w xs ys p =
 -- the texts before an index, the one there, and the others
 pub flat_map-split : {X : Type 0} (f : X → List ℕ) (xs : List X) (index : ℕ) (d : X) → index < length xs
     → (others : List ℕ) × (flat_map f xs ≡ (flat_map f (take index xs) ++ f (get_or xs index d)) ++ others)
-flat_map-split f xs index d within =
-    (flat_map f (drop (index + 1) xs),
-      ap (flat_map f) (sym (take-append-drop (index + 1) xs)) ∙ (flat_map-append f (take (index + 1) xs) (drop (index + 1) xs)
+flat_map-split f xs index d within = (
+  flat_map f (drop (index + 1) xs),
+  ap (flat_map f) (sym (take-append-drop (index + 1) xs)) ∙ (flat_map-append f (take (index + 1) xs) (drop (index + 1) xs)
       ∙ ap (λ t. t ++ flat_map f (drop (index + 1) xs)) (ap (flat_map f) (take_more xs index d within)
-      ∙ (flat_map-append f (take index xs) (get_or xs index d ∷ []) ∙ ap (λ t. flat_map f (take index xs) ++ t) (append-nil (f (get_or xs index d)))))))
+      ∙ (flat_map-append f (take index xs) (get_or xs index d ∷ []) ∙ ap (λ t. flat_map f (take index xs) ++ t) (append-nil (f (get_or xs index d)))))),
+)

@@ -119,7 +119,7 @@ newest_was_built history taken None snapshot shown few is = absurd cc
 newest_was_built history taken (Some other) snapshot shown few is =
     let same : other ≡ snapshot = cc in
     let under : WasBuilt history other =
-      subst (λ (n : ℕ). (1 ≤ n) × (n ≤ length history.built) × (other ≡ slice_index_or history.built (n - 1) no_snapshot)) (sym is.1) (is.0, few, is.2) in
+    subst (λ (n : ℕ). (1 ≤ n) × (n ≤ length history.built) × (other ≡ slice_index_or history.built (n - 1) no_snapshot)) (sym is.1) (is.0, few, is.2) in
     subst (λ (s : Snapshot). WasBuilt history s) same under
 
 -- what a client shows was

@@ -87,7 +87,7 @@ AreEnds-built map slot client history time fits ends =
       begun = omega (arith, length_push history.built next);
       player = ends.player;
       built = λ k d lt. built_more history.built next k d (omega (arith, length_push history.built next)) (ends.built k d)
-        (λ e. record { number = omega arith; fits = omega arith; time = time; flags = refl; player = ends.player });
+          (λ e. record { number = omega arith; fits = omega arith; time = time; flags = refl; player = ends.player });
       taken = omega (arith, length_push history.built next, ends.taken);
       newest = newest_stays history.built next client.taken client.accepted ends.taken ends.newest;
     }
@@ -139,9 +139,9 @@ some_slot slot = Some slot
 pub joined-invariant : (words : List (List Bool)) (whole : Whole) (c challenge qport dup : ℕ) (address : _) → c < places
     → slot_at whole.server c ≡ None → Invariant words whole
     → Invariant words (record whole {
-        server = with_slot whole.server c (new_slot challenge qport address);
-        clients = slice_set whole.clients c (Some (new_client challenge qport dup));
-      })
+      server = with_slot whole.server c (new_slot challenge qport address);
+      clients = slice_set whole.clients c (Some (new_client challenge qport dup));
+    })
 joined-invariant words whole c challenge qport dup address lt none inv =
     let slots = whole.server.slots in
     let clients = whole.clients in
@@ -149,7 +149,7 @@ joined-invariant words whole c challenge qport dup address lt none inv =
     let slot = new_slot challenge qport address in
     let client = new_client challenge qport dup in
     let history_is : history_at histories c ≡ no_history =
-      no_client (client_at clients c) (history_at histories c) (subst (λ (s : Option SlotState). IsClient s (client_at clients c) (history_at histories c)) none (inv.each c lt)) in
+    no_client (client_at clients c) (history_at histories c) (subst (λ (s : Option SlotState). IsClient s (client_at clients c) (history_at histories c)) none (inv.each c lt)) in
     let ends : AreEnds slot client (history_at histories c) = subst (λ (h : History). AreEnds slot client h) (sym history_is) (AreEnds-new challenge qport dup address) in
     record {
       slots = length_same slots c (Some slot) places inv.slots;
@@ -174,7 +174,7 @@ player-invariant words whole c player slot lt found plain inv =
     let histories = whole.histories in
     let next = with_player slot player in
     let had = a_client slot (client_at clients c) (history_at histories c)
-      (subst (λ (s : Option SlotState). IsClient s (client_at clients c) (history_at histories c)) found (inv.each c lt)) in
+    (subst (λ (s : Option SlotState). IsClient s (client_at clients c) (history_at histories c)) found (inv.each c lt)) in
     let ends : AreEnds next had.0 (history_at histories c) = AreEnds-player slot had.0 (history_at histories c) player plain had.2 in
     record {
       slots = length_same slots c (Some next) places inv.slots;
@@ -198,14 +198,14 @@ sent_stays words histories c next tag lt places_are is =
           let history = history_at histories c in
           let grown = record history { built = history.built ++ next ∷ [] } in
           let there : history_at (with_built histories c next) tag.client ≡ grown =
-            ap (λ (k : ℕ). history_at (with_built histories c next) k) e ∙ at_same histories c grown no_history places places_are lt in
+          ap (λ (k : ℕ). history_at (with_built histories c next) k) e ∙ at_same histories c grown no_history places places_are lt in
           let had : history_at histories tag.client ≡ history = ap (λ (k : ℕ). history_at histories k) e in
           let longer = length_push history.built next in
           let few : tag.number ≤ length history.built = subst (λ (h : History). tag.number ≤ length h.built) had is.number.1 in
           let first : built_at (with_built histories c next) tag.client tag.number ≡ built_at histories tag.client tag.number =
-            ap (λ (h : History). slice_index_or h.built (tag.number - 1) no_snapshot) there
-            ∙ (get_or_append_left history.built (next ∷ []) no_snapshot (tag.number - 1) (omega (arith, is.number.0))
-            ∙ ap (λ (h : History). slice_index_or h.built (tag.number - 1) no_snapshot) (sym had)) in
+          ap (λ (h : History). slice_index_or h.built (tag.number - 1) no_snapshot) there
+          ∙ (get_or_append_left history.built (next ∷ []) no_snapshot (tag.number - 1) (omega (arith, is.number.0))
+          ∙ ap (λ (h : History). slice_index_or h.built (tag.number - 1) no_snapshot) (sym had)) in
           record {
             client = is.client;
             number = (is.number.0, subst (λ (h : History). tag.number ≤ length h.built) (sym there) (omega (arith, longer)));
@@ -251,8 +251,8 @@ next_is_sent words map histories c slot lt places_are begun =
     let longer = length_push history.built next in
     let place : slot.begun + 1 - 1 ≡ slot.begun = omega arith in
     let is_next : built_at (with_built histories c next) c (slot.begun + 1) ≡ next =
-      ap (λ (h : History). slice_index_or h.built (slot.begun + 1 - 1) no_snapshot) there
-      ∙ (ap (λ (k : ℕ). slice_index_or grown.built k no_snapshot) place ∙ get_or_push history.built next no_snapshot slot.begun (sym begun)) in
+    ap (λ (h : History). slice_index_or h.built (slot.begun + 1 - 1) no_snapshot) there
+    ∙ (ap (λ (k : ℕ). slice_index_or grown.built k no_snapshot) place ∙ get_or_push history.built next no_snapshot slot.begun (sym begun)) in
     record {
       client = lt;
       number = (omega arith, subst (λ (h : History). slot.begun + 1 ≤ length h.built) (sym there) (omega (arith, longer)));
@@ -263,10 +263,10 @@ next_is_sent words map histories c slot lt places_are begun =
 pub served-invariant : (words : List (List Bool)) (whole : Whole) (c : ℕ) (slot : SlotState) → c < places
     → slot_at whole.server c ≡ Some slot → slot.begun + 1 < sequence_end → Invariant words whole
     → Invariant words (record whole {
-        server = with_slot whole.server c (record slot { begun = slot.begun + 1 });
-        histories = with_built whole.histories c (next_snapshot whole.server.map slot);
-        sent = whole.sent ++ next_tag words whole.server.map c slot ∷ [];
-      })
+      server = with_slot whole.server c (record slot { begun = slot.begun + 1 });
+      histories = with_built whole.histories c (next_snapshot whole.server.map slot);
+      sent = whole.sent ++ next_tag words whole.server.map c slot ∷ [];
+    })
 served-invariant words whole c slot lt found fits inv =
     let slots = whole.server.slots in
     let clients = whole.clients in
@@ -277,7 +277,7 @@ served-invariant words whole c slot lt found fits inv =
     let history = history_at histories c in
     let grown = record history { built = history.built ++ next ∷ [] } in
     let had = a_client slot (client_at clients c) history
-      (subst (λ (s : Option SlotState). IsClient s (client_at clients c) history) found (inv.each c lt)) in
+    (subst (λ (s : Option SlotState). IsClient s (client_at clients c) history) found (inv.each c lt)) in
     let ends : AreEnds begun had.0 grown = AreEnds-built map slot had.0 history inv.time fits had.2 in
     record {
       slots = length_same slots c (Some begun) places inv.slots;
@@ -290,8 +290,8 @@ served-invariant words whole c slot lt found fits inv =
         | inr ne ↦ rw (at_other slots c k (Some begun) None ne, at_other histories c k grown no_history ne) (inv.each k within)
       ];
       sent = sent_more words (with_built histories c next) whole.sent (next_tag words map c slot)
-        (λ k d within. sent_stays words histories c next (slice_index_or whole.sent k d) lt inv.histories (inv.sent k d within))
-        (next_is_sent words map histories c slot lt inv.histories had.2.begun);
+          (λ k d within. sent_stays words histories c next (slice_index_or whole.sent k d) lt inv.histories (inv.sent k d within))
+          (next_is_sent words map histories c slot lt inv.histories had.2.begun);
     }
 
 -- what was built stays when something is accepted
@@ -310,9 +310,9 @@ built_same histories c snapshot k lt places_are =
 pub accepted-invariant : (words : List (List Bool)) (whole : Whole) (tag : Tag) (client : ClientState)
     → IsSent words whole.histories tag → client_at whole.clients tag.client ≡ Some client → Invariant words whole
     → Invariant words (record whole {
-        clients = slice_set whole.clients tag.client (Some (accept client (built_at whole.histories tag.client tag.number)).client);
-        histories = with_accepted whole.histories tag.client (built_at whole.histories tag.client tag.number);
-      })
+      clients = slice_set whole.clients tag.client (Some (accept client (built_at whole.histories tag.client tag.number)).client);
+      histories = with_accepted whole.histories tag.client (built_at whole.histories tag.client tag.number);
+    })
 accepted-invariant words whole tag client is found inv =
     let slots = whole.server.slots in
     let clients = whole.clients in
@@ -323,7 +323,7 @@ accepted-invariant words whole tag client is found inv =
     let more = record history { accepted = history.accepted ++ snapshot ∷ [] } in
     let next = (accept client snapshot).client in
     let had = a_slot (slot_at whole.server c) client history
-      (subst (λ (s : Option ClientState). IsClient (slot_at whole.server c) s history) found (inv.each c is.client)) in
+    (subst (λ (s : Option ClientState). IsClient (slot_at whole.server c) s history) found (inv.each c is.client)) in
     let ends : AreEnds had.0 next more = AreEnds-accepted had.0 client history tag.number more.accepted is.number.0 is.number.1 had.2 in
     record {
       slots = inv.slots;
@@ -336,14 +336,14 @@ accepted-invariant words whole tag client is found inv =
         | inr ne ↦ rw (at_other clients c k (Some next) None ne, at_other histories c k more no_history ne) (inv.each k within)
       ];
       sent = λ k d within.
-        let one = slice_index_or whole.sent k d in
-        let was = inv.sent k d within in
-        let same = built_same histories c snapshot one.client is.client inv.histories in
-        record {
-          client = was.client;
-          number = (was.number.0, subst (λ (b : List Snapshot). one.number ≤ length b) (sym same) was.number.1);
-          bytes = was.bytes ∙ ap (λ (b : List Snapshot). datagram_bytes one.number (message_bytes (snapshot_bits words (slice_index_or b (one.number - 1) no_snapshot)))) (sym same);
-        };
+          let one = slice_index_or whole.sent k d in
+          let was = inv.sent k d within in
+          let same = built_same histories c snapshot one.client is.client inv.histories in
+          record {
+            client = was.client;
+            number = (was.number.0, subst (λ (b : List Snapshot). one.number ≤ length b) (sym same) was.number.1);
+            bytes = was.bytes ∙ ap (λ (b : List Snapshot). datagram_bytes one.number (message_bytes (snapshot_bits words (slice_index_or b (one.number - 1) no_snapshot)))) (sym same);
+          };
     }
 
 -- a slot put where it was
@@ -362,7 +362,7 @@ pub built_is : (words : List (List Bool)) (whole : Whole) (tag : Tag) → IsSent
     → IsBuilt tag.number (built_at whole.histories tag.client tag.number)
 built_is words whole tag is inv client at found some =
     let had = a_slot (slot_at whole.server tag.client) found (history_at whole.histories tag.client)
-      (subst (λ (s : Option ClientState). IsClient (slot_at whole.server tag.client) s (history_at whole.histories tag.client)) (at ∙ some) (inv.each tag.client is.client)) in
+    (subst (λ (s : Option ClientState). IsClient (slot_at whole.server tag.client) s (history_at whole.histories tag.client)) (at ∙ some) (inv.each tag.client is.client)) in
     let place : tag.number - 1 + 1 ≡ tag.number = omega (arith, is.number.0) in
     subst (λ (n : ℕ). IsBuilt n (built_at whole.histories tag.client tag.number)) place
-      (had.2.built (tag.number - 1) no_snapshot (omega (arith, is.number.0, is.number.1)))
+    (had.2.built (tag.number - 1) no_snapshot (omega (arith, is.number.0, is.number.1)))

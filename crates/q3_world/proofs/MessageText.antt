@@ -117,7 +117,7 @@ pub spelled_is_read : PutIsRead → player.SpelledIsRead → SpelledIsRead
 spelled_is_read law spelled words snapshot text rest code s =
     ap (λ (t : List Bool). snapshot_at words snapshot.number (t ++ rest)) s.whole
     ∙ message_is_read law words code snapshot.number s.executed snapshot s.player rest s.fits.0 s.fits.1 s.fits.2
-      (λ behind. spelled words zero_player snapshot.player s.player behind code s.spelled)
+    (λ behind. spelled words zero_player snapshot.player s.player behind code s.spelled)
 
 -- ---- what is read
 
@@ -147,7 +147,7 @@ bits_were_put : ReadWasPut → (words : List (List Bool)) → IsCode words → (
 unfolding field_read
 bits_were_put law words code width bits found e =
     law words width found.0 bits found.1 code
-      (or_cause_ok (field_at words width bits) (cause_of words width bits) found (form_ok (or_cause (field_at words width bits) (cause_of words width bits)) found e))
+    (or_cause_ok (field_at words width bits) (cause_of words width bits) found (form_ok (or_cause (field_at words width bits) (cause_of words width bits)) found e))
 
 -- and so was a field that has to have this value
 fixed_was_put : ReadWasPut → (words : List (List Bool)) → IsCode words → (width value : ℕ) (bits rest : List Bool)
@@ -238,4 +238,4 @@ read_is_spelled law spelled words number snapshot bits code e =
       whole = refl {a = t9};
     } in
     subst (λ (s : Snapshot). (text : List Bool) × (rest : List Bool) × (bits ≡ text ++ rest) × (s.number ≡ number) × SpellsSnapshot words s text) is
-      (t9, end.0, w9, refl, spells)
+    (t9, end.0, w9, refl, spells)

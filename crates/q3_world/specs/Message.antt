@@ -12,6 +12,7 @@ use Rattle.q3_world.specs.declared.answer.Illegible.TheVariants.{Form}
 -- the operations of a server's message
 abbrev pub snapshot_byte : ℕ
 snapshot_byte = 7
+
 abbrev pub end_byte : ℕ
 end_byte = 8
 
@@ -74,12 +75,12 @@ pub record SpellsSnapshot (words : List (List Bool)) (snapshot : Snapshot) (text
   pub fits : (executed < 2 ^ 32) × (snapshot.time < 2 ^ 32) × (snapshot.flags < 2 ^ 8)
   pub spelled : SpellsPlayer words zero_player snapshot.player player
   pub whole : text ≡
-    field_bits words 32 executed
-    ++ field_bits words 8 snapshot_byte
-    ++ field_bits words 32 snapshot.time
-    ++ field_bits words 8 0
-    ++ field_bits words 8 snapshot.flags
-    ++ field_bits words 8 0
-    ++ player
-    ++ field_bits words 10 end_of_entities
-    ++ field_bits words 8 end_byte
+      field_bits words 32 executed
+      ++ field_bits words 8 snapshot_byte
+      ++ field_bits words 32 snapshot.time
+      ++ field_bits words 8 0
+      ++ field_bits words 8 snapshot.flags
+      ++ field_bits words 8 0
+      ++ player
+      ++ field_bits words 10 end_of_entities
+      ++ field_bits words 8 end_byte

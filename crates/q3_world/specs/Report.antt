@@ -31,7 +31,7 @@ emitted_text emitted.SequenceEnd datagram = codes " sequenceend\n"
 emitted_text emitted.Overlong datagram = codes " overlong\n"
 emitted_text (emitted.Snapshot number base bytes) datagram =
     joined (codes " snapshot " ∷ decimal number ∷ codes " base " ∷ decimal base ∷ codes " bytes " ∷ decimal bytes
-      ∷ codes " datagram " ∷ decimal datagram ∷ codes "\n" ∷ [])
+    ∷ codes " datagram " ∷ decimal datagram ∷ codes "\n" ∷ [])
 
 abbrev pub cause_text : IllegibleCause → List ℕ
 cause_text Form = codes "form"
@@ -50,7 +50,7 @@ shown_text shown.NoClient = codes " noclient\n"
 shown_text shown.Nothing = codes " none\n"
 shown_text (shown.Newest snapshot) =
     joined (codes " snapshot " ∷ decimal snapshot.number ∷ codes " time " ∷ decimal snapshot.time ∷ codes " flags " ∷ decimal snapshot.flags
-      ∷ codes " area -\n+ player" ∷ words_text 0 snapshot.player.words ∷ codes "\n" ∷ [])
+    ∷ codes " area -\n+ player" ∷ words_text 0 snapshot.player.words ∷ codes "\n" ∷ [])
 
 -- the lines of an answer
 unfoldable pub answer_text : Answer → List ℕ

@@ -64,7 +64,7 @@ ShownWasBuilt = (words : List (List Bool)) (all : List Event) (c : ℕ) (snapsho
     → AllByRecursion IsReplayEvent all → c < places
     → (step words (after words opening all) (events.Show c)).answer ≡ Show c (Newest snapshot)
     → (1 ≤ snapshot.number) × (snapshot.number ≤ length (history_at (after words opening all).histories c).built)
-      × (snapshot ≡ built_at (after words opening all).histories c snapshot.number)
+    × (snapshot ≡ built_at (after words opening all).histories c snapshot.number)
 
 -- whatever came before, a message whose number is above every number taken is accepted when it arrives
 abbrev pub NewerIsAccepted : Type 0

@@ -66,11 +66,11 @@ with_accepted histories c snapshot =
 -- before the first event
 unfoldable pub opening : Whole
 opening = record {
-    server = record { map = record { time = 0 }; slots = replicate places None };
-    clients = replicate places None;
-    histories = replicate places no_history;
-    sent = [];
-  }
+  server = record { map = record { time = 0 }; slots = replicate places None };
+  clients = replicate places None;
+  histories = replicate places no_history;
+  sent = [];
+}
 
 abbrev pub join : Whole → ℕ → SlotState → ClientState → Option SlotState → Step
 join whole c slot client (Some old) = record { whole = whole; answer = Client c handed_in.Taken }

@@ -27,7 +27,11 @@ pub enum Emitted {
     /// The message has 1,300 bytes or more; its number is used again.
     Overlong,
     /// A datagram with a snapshot: its message's number, the number of the base, 0 for none, and the message's length.
-    Snapshot { number: u32, base: u32, bytes: usize },
+    Snapshot {
+        number: u32,
+        base: u32,
+        bytes: usize,
+    },
 }
 
 /// Why a message isn't legible.
@@ -72,9 +76,15 @@ pub enum Shown {
 /// What an event answered.
 #[derive(Clone, Copy, Debug, PartialEq, Eq)]
 pub enum Answer {
-    Client { c: u8, outcome: HandedIn },
+    Client {
+        c: u8,
+        outcome: HandedIn,
+    },
     Time,
-    Player { c: u8, outcome: HandedIn },
+    Player {
+        c: u8,
+        outcome: HandedIn,
+    },
     /// The datagram's number is used where one was handed out.
     Serve {
         c: u8,
@@ -82,7 +92,16 @@ pub enum Answer {
         datagram: u32,
     },
     /// No datagram of this number was made.
-    Unknown { datagram: u32 },
-    Deliver { datagram: u32, c: u8, took: ClientTook },
-    Show { c: u8, shown: Shown },
+    Unknown {
+        datagram: u32,
+    },
+    Deliver {
+        datagram: u32,
+        c: u8,
+        took: ClientTook,
+    },
+    Show {
+        c: u8,
+        shown: Shown,
+    },
 }

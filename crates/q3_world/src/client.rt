@@ -24,7 +24,11 @@ impl Model for Client {
     ghost Value = { ClientState };
 
     ghost view = { λ c. record {
-        challenge = c.challenge; qport = c.qport; dup = c.dup; taken = c.taken; accepted = c.accepted;
+      challenge = c.challenge;
+      qport = c.qport;
+      dup = c.dup;
+      taken = c.taken;
+      accepted = c.accepted;
     } };
 }
 

@@ -13,6 +13,7 @@ use q3_player::{PlayerState, read_player, write_player};
 
 /// The operations of a server's message that this stage has.
 const SNAPSHOT: u32 = 7;
+
 const END: u32 = 8;
 
 /// The end mark of an entity list.

@@ -52,7 +52,12 @@ pub(crate) fn print_answer<O: Sink>(answer: &Answer, out: &mut O) -> Result<(), 
 }
 
 /// Prints the line of a `serve`.
-fn print_emitted<O: Sink>(c: u8, emitted: &Emitted, datagram: u32, out: &mut O) -> Result<(), Failed>
+fn print_emitted<O: Sink>(
+    c: u8,
+    emitted: &Emitted,
+    datagram: u32,
+    out: &mut O,
+) -> Result<(), Failed>
     ensures adds { Adds (O.written out.old) (O.written out.new) (joined (codes "serve " ∷ decimal c ∷ emitted_text emitted.now datagram ∷ [])) result }
     ensures cause { HasCause (O.faults out.old) (O.faults out.new) result }
 {

@@ -46,7 +46,11 @@ impl Model for Slot {
     ghost Value = { SlotState };
 
     ghost view = { λ s. record {
-        challenge = s.challenge; address = s.address; qport = s.qport; begun = s.begun; player = s.player;
+      challenge = s.challenge;
+      address = s.address;
+      qport = s.qport;
+      begun = s.begun;
+      player = s.player;
     } };
 
     ghost invariant = { λ s. (s.begun < 2 ^ 30) × SameArrays zero_player s.player };

@@ -15,4 +15,4 @@ returns-in_err-add_piece-clause-adds g c =
     let none : Piece = Text (record { ref_ptr = (0, 0); now = [] }) in
     let parts = flat_map-split piece_text pieces index none (omega arith) in
     rw (p.1, parts.1) (Adds-early p.0 _ _ c.add_piece.new.self _ parts.0
-      (Buffers-then _ _ _ _ _ _ _ (flat_map piece_text (take index pieces)) (piece_text (get_or pieces index none)) c.loop-piece.invariant.0 c.in_err-add_piece.ensures.buffers))
+    (Buffers-then _ _ _ _ _ _ _ (flat_map piece_text (take index pieces)) (piece_text (get_or pieces index none)) c.loop-piece.invariant.0 c.in_err-add_piece.ensures.buffers))

@@ -11,15 +11,15 @@ use Rattle.q3_world.proofs.world.World.step.Goals as goal
 pub returns-clause-stands : goal.returns-clause-stands
 returns-clause-stands g c =
     on_ok_from c.map_err.result (λ whole stands.
-      (stands_next plain_words c.args.self.now whole c.args.event.now (record { kept = c.apply.new.self; answer = c.in-Ok.answer })
-        (c.built_is_read.ensures plain_words c.plain_is_a_code.ensures) c.normal_is_normal.ensures c.requires.event stands c.in-Ok.ensures.ok).0)
+    (stands_next plain_words c.args.self.now whole c.args.event.now (record { kept = c.apply.new.self; answer = c.in-Ok.answer })
+    (c.built_is_read.ensures plain_words c.plain_is_a_code.ensures) c.normal_is_normal.ensures c.requires.event stands c.in-Ok.ensures.ok).0)
 
 pub returns-clause-lines : goal.returns-clause-lines
 returns-clause-lines g c = λ whole stands.
     let same = (stands_next plain_words c.args.self.now whole c.args.event.now (record { kept = c.apply.new.self; answer = c.in-Ok.answer })
-      (c.built_is_read.ensures plain_words c.plain_is_a_code.ensures) c.normal_is_normal.ensures c.requires.event stands c.in-Ok.ensures.ok).1 in
+    (c.built_is_read.ensures plain_words c.plain_is_a_code.ensures) c.normal_is_normal.ensures c.requires.event stands c.in-Ok.ensures.ok).1 in
     subst (λ (a : Answer). Adds (g.O.Sink.written c.args.out.now) (g.O.Sink.written c.print_answer.new.out) (answer_text a) c.map_err.result) same
-      (Adds-error _ _ _ c.print_answer.result c.map_err.result c.map_err.ensures.variant c.print_answer.ensures.adds)
+    (Adds-error _ _ _ c.print_answer.result c.map_err.result c.map_err.ensures.variant c.print_answer.ensures.adds)
 
 pub returns-clause-few : goal.returns-clause-few
 returns-clause-few g c =

@@ -15,12 +15,14 @@ returns-in_err-add_word-clause-buffers g c =
     let word = get_or words index 0 in
     let parts = words_text-split words index word (omega arith) refl in
     rw (p.1, parts.1) (Buffers-early p.0 _ _ _ c.add_word.new.self _ (words_text 0 (take index words) ++ word_text index word) parts.0
-      (Buffers-then _ _ _ _ _ _ _ (words_text 0 (take index words)) (word_text index word) c.loop-index.invariant.0 c.in_err-add_word.ensures.buffers))
+    (Buffers-then _ _ _ _ _ _ _ (words_text 0 (take index words)) (word_text index word) c.loop-index.invariant.0 c.in_err-add_word.ensures.buffers))
 
 pub loop-index-preserved : goal.loop-index-preserved
 loop-index-preserved g c =
     let words = c.args.words.now in
     let index = c.loop-index.index in
-    let word = get_or words index 0 in
-    (rw (words_text-more words index word (omega arith) refl)
-      (Buffers-then _ _ _ _ _ _ _ (words_text 0 (take index words)) (word_text index word) c.loop-index.invariant.0 c.in_ok-add_word.ensures.buffers), search rules)
+    let word = get_or words index 0 in (
+      rw (words_text-more words index word (omega arith) refl)
+          (Buffers-then _ _ _ _ _ _ _ (words_text 0 (take index words)) (word_text index word) c.loop-index.invariant.0 c.in_ok-add_word.ensures.buffers),
+      search rules,
+    )
