@@ -1,21 +1,20 @@
 -- The text of a message: what is built is read back, what is read was spelled so, and what is spelled so is read.
-use Rattle.std.proofs.Common.{◌≡◌, ℕ, ◌-◌, ◌*◌, ◌^◌, ◌<◌, Bool, true, false, cond, eqb, List, [], ◌∷◌, ◌++◌, length, map, take, replicate, Option, Some, None, Result, Ok, Err, refl, sym, ap, subst, ◌∙◌, append_assoc, arith}
+use Rattle.std.proofs.Common.{◌≡◌, ℕ, ◌-◌, ◌*◌, ◌^◌, ◌<◌, Bool, true, false, cond, eqb, List, ◌++◌, length, map, take, replicate, Option, Some, None, Result, Ok, Err, refl, sym, ap, subst, ◌∙◌, append_assoc, arith}
 use Rattle.std.proofs.lemmas.Bool.{eqb-true, eq-eqb}
 use Rattle.std.proofs.lemmas.List.{length-append, length-map, length-take, length-replicate}
-use Rattle.q3_bits.specs.Bits.{bits_of, message_bytes, message_length}
+use Rattle.q3_bits.specs.Bits.{message_length}
 use Rattle.q3_bits.specs.Words.{IsCode, field_bits, field_at, field_read, or_cause, cause_of}
 use Rattle.q3_bits.specs.Laws.{ReadWasPut, PutIsRead, MessageHoldsBits}
 use Rattle.q3_bits.specs.declared.reader.ReadError.{ReadError}
 use Rattle.q3_player.specs.declared.state.PlayerState.{PlayerState}
-use Rattle.q3_player.specs.State.{field_count, norm, normal_words, zero_player, normal_player, IsNormal, SameArrays}
+use Rattle.q3_player.specs.State.{field_count, norm, normal_words, zero_player}
 use Rattle.q3_player.specs.Delta.{player_delta, player_at}
-use Rattle.q3_player.specs.Spelling.{SpellsPlayer}
 use Rattle.q3_player.specs.Laws as player
 use Rattle.q3_world.specs.declared.answer.Snapshot.{Snapshot}
 use Rattle.q3_world.specs.declared.answer.Illegible.{Illegible}
 use Rattle.q3_world.specs.declared.answer.Illegible.TheVariants.{Form}
 use Rattle.q3_world.specs.Message.{snapshot_byte, end_byte, end_of_entities, snapshot_bits, ◌>>=◌, form, fixed_at, snapshot_at, SpellsSnapshot}
-use Rattle.q3_world.specs.StandsFor.{IsPlain, IsBuilt}
+use Rattle.q3_world.specs.StandsFor.{IsPlain}
 use Rattle.q3_world.specs.Schedules.{BuiltIsRead, ReadIsSpelled, SpelledIsRead}
 use Rattle.q3_world.proofs.Invariants.{plain_zero}
 
@@ -117,7 +116,7 @@ pub spelled_is_read : PutIsRead → player.SpelledIsRead → SpelledIsRead
 spelled_is_read law spelled words snapshot text rest code s =
     ap (λ (t : List Bool). snapshot_at words snapshot.number (t ++ rest)) s.whole
     ∙ message_is_read law words code snapshot.number s.executed snapshot s.player rest s.fits.0 s.fits.1 s.fits.2
-      (λ behind. spelled words zero_player snapshot.player s.player behind code s.spelled)
+    (λ behind. spelled words zero_player snapshot.player s.player behind code s.spelled)
 
 -- ---- what is read
 
@@ -147,7 +146,7 @@ bits_were_put : ReadWasPut → (words : List (List Bool)) → IsCode words → (
 unfolding field_read
 bits_were_put law words code width bits found e =
     law words width found.0 bits found.1 code
-      (or_cause_ok (field_at words width bits) (cause_of words width bits) found (form_ok (or_cause (field_at words width bits) (cause_of words width bits)) found e))
+    (or_cause_ok (field_at words width bits) (cause_of words width bits) found (form_ok (or_cause (field_at words width bits) (cause_of words width bits)) found e))
 
 -- and so was a field that has to have this value
 fixed_was_put : ReadWasPut → (words : List (List Bool)) → IsCode words → (width value : ℕ) (bits rest : List Bool)
@@ -238,4 +237,4 @@ read_is_spelled law spelled words number snapshot bits code e =
       whole = refl {a = t9};
     } in
     subst (λ (s : Snapshot). (text : List Bool) × (rest : List Bool) × (bits ≡ text ++ rest) × (s.number ≡ number) × SpellsSnapshot words s text) is
-      (t9, end.0, w9, refl, spells)
+    (t9, end.0, w9, refl, spells)
