@@ -1,26 +1,24 @@
 -- Every list of events: what holds after it, and what it answers.
-use Rattle.std.proofs.Common.{◌≡◌, ℕ, ◌+◌, ◌-◌, ◌^◌, ◌<◌, ◌≤◌, Bool, true, false, cond, List, [], ◌∷◌, ◌++◌, length, map, Option, Some, None, Ok, refl, sym, ap, subst, ◌∙◌, arith}
+use Rattle.std.proofs.Common.{◌≡◌, ℕ, ◌-◌, ◌≤◌, Bool, true, false, cond, List, [], ◌∷◌, length, Option, Some, None, refl, sym, ap, subst, ◌∙◌}
 use Rattle.std.specs.Prelude.{nat_le, slice_get, slice_index_or}
 use Rattle.std.specs.List.{AllByRecursion}
 use Rattle.std.proofs.lemmas.Bool.{lt-leb}
-use Rattle.q3_bits.specs.Words.{IsCode}
 use Rattle.q3_script.specs.declared.event.Event.{Event}
 use Rattle.q3_script.specs.declared.event.Event.TheVariants as events
 use Rattle.q3_script.specs.Grammar.{IsReplayEvent}
 use Rattle.q3_world.specs.declared.answer.Snapshot.{Snapshot}
-use Rattle.q3_world.specs.declared.answer.ClientTook.TheVariants.{Old, Applied}
-use Rattle.q3_world.specs.declared.answer.Shown.{Shown}
+use Rattle.q3_world.specs.declared.answer.ClientTook.TheVariants.{Old}
 use Rattle.q3_world.specs.declared.answer.Shown.TheVariants.{Newest}
 use Rattle.q3_world.specs.declared.answer.Answer.{Answer}
-use Rattle.q3_world.specs.declared.answer.Answer.TheVariants.{Client, Time, Player, Serve, Unknown, Deliver, Show}
+use Rattle.q3_world.specs.declared.answer.Answer.TheVariants.{Client, Time, Player, Serve, Deliver, Show}
 use Rattle.q3_world.specs.State.{SlotState, ClientState, slot_at, client_at}
 use Rattle.q3_world.specs.Ends.{new_slot, new_client}
-use Rattle.q3_world.specs.Kept.{Kept, KeptStep, kept_step, newest, shown_of}
-use Rattle.q3_world.specs.World.{Tag, History, Step, Whole, places, no_snapshot, history_at, built_at, opening, join, set_player, deliver, arrive, arrive_new, step, after, answers}
-use Rattle.q3_world.specs.StandsFor.{IsNewest, AreEnds, IsClient, Invariant, bytes_of}
+use Rattle.q3_world.specs.Kept.{Kept, KeptStep, newest, shown_of}
+use Rattle.q3_world.specs.World.{Tag, History, Whole, no_snapshot, history_at, built_at, opening, join, set_player, deliver, arrive, arrive_new, step, after, answers}
+use Rattle.q3_world.specs.StandsFor.{IsNewest, IsClient, Invariant}
 use Rattle.q3_world.specs.Schedules.{BuiltIsRead, opening_kept, kept_answers, IsLegible, BytesFollowTags, AlwaysLegible, ShownWasBuilt, NewerIsAccepted}
 use Rattle.q3_world.proofs.Invariants.{opening-invariant}
-use Rattle.q3_world.proofs.Agreement.{ReadsBack, NormalIsNormal, kept_of, Agree, steps_agree}
+use Rattle.q3_world.proofs.Agreement.{ReadsBack, NormalIsNormal, kept_of, steps_agree}
 
 -- ---- bytes and tags
 

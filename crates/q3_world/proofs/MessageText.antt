@@ -1,21 +1,20 @@
 -- The text of a message: what is built is read back, what is read was spelled so, and what is spelled so is read.
-use Rattle.std.proofs.Common.{◌≡◌, ℕ, ◌-◌, ◌*◌, ◌^◌, ◌<◌, Bool, true, false, cond, eqb, List, [], ◌∷◌, ◌++◌, length, map, take, replicate, Option, Some, None, Result, Ok, Err, refl, sym, ap, subst, ◌∙◌, append_assoc, arith}
+use Rattle.std.proofs.Common.{◌≡◌, ℕ, ◌-◌, ◌*◌, ◌^◌, ◌<◌, Bool, true, false, cond, eqb, List, ◌++◌, length, map, take, replicate, Option, Some, None, Result, Ok, Err, refl, sym, ap, subst, ◌∙◌, append_assoc, arith}
 use Rattle.std.proofs.lemmas.Bool.{eqb-true, eq-eqb}
 use Rattle.std.proofs.lemmas.List.{length-append, length-map, length-take, length-replicate}
-use Rattle.q3_bits.specs.Bits.{bits_of, message_bytes, message_length}
+use Rattle.q3_bits.specs.Bits.{message_length}
 use Rattle.q3_bits.specs.Words.{IsCode, field_bits, field_at, field_read, or_cause, cause_of}
 use Rattle.q3_bits.specs.Laws.{ReadWasPut, PutIsRead, MessageHoldsBits}
 use Rattle.q3_bits.specs.declared.reader.ReadError.{ReadError}
 use Rattle.q3_player.specs.declared.state.PlayerState.{PlayerState}
-use Rattle.q3_player.specs.State.{field_count, norm, normal_words, zero_player, normal_player, IsNormal, SameArrays}
+use Rattle.q3_player.specs.State.{field_count, norm, normal_words, zero_player}
 use Rattle.q3_player.specs.Delta.{player_delta, player_at}
-use Rattle.q3_player.specs.Spelling.{SpellsPlayer}
 use Rattle.q3_player.specs.Laws as player
 use Rattle.q3_world.specs.declared.answer.Snapshot.{Snapshot}
 use Rattle.q3_world.specs.declared.answer.Illegible.{Illegible}
 use Rattle.q3_world.specs.declared.answer.Illegible.TheVariants.{Form}
 use Rattle.q3_world.specs.Message.{snapshot_byte, end_byte, end_of_entities, snapshot_bits, ◌>>=◌, form, fixed_at, snapshot_at, SpellsSnapshot}
-use Rattle.q3_world.specs.StandsFor.{IsPlain, IsBuilt}
+use Rattle.q3_world.specs.StandsFor.{IsPlain}
 use Rattle.q3_world.specs.Schedules.{BuiltIsRead, ReadIsSpelled, SpelledIsRead}
 use Rattle.q3_world.proofs.Invariants.{plain_zero}
 
