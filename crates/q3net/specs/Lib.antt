@@ -1,4 +1,5 @@
 pub mod Command
 pub mod Input
+pub mod Faults
 pub mod Lines
 pub mod Run

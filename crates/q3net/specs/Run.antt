@@ -1,11 +1,9 @@
 -- What a run prints and touches.
-use Rattle.std.specs.Prelude.{◌≡◌, ◌⊎◌, ℕ, ◌<◌, ◌≤◌, List, [], ◌∷◌, ◌++◌, Option, Some, None, Result, Ok, Err, IsSome, IsNone}
+use Rattle.std.specs.Prelude.{◌≡◌, ◌⊎◌, ℕ, List, [], ◌++◌, Option, Some, None, Result, Ok, Err}
 use Rattle.q3_bits.specs.Words.{plain_words}
 use Rattle.q3_script.specs.declared.event.Event.{Event}
-use Rattle.q3_script.specs.declared.cause.LineCause.{LineCause}
 use Rattle.q3_script.specs.declared.cause.ScriptKind.TheVariants as kinds
 use Rattle.q3_script.specs.Script.{BadLine, script_at}
-use Rattle.q3_world.specs.Faults.{Rose}
 use Rattle.q3_world.specs.Told.{Told, contents_of}
 use Rattle.q3_world.specs.Report.{report}
 use Rattle.q3net.specs.Command.{Command, Help, Version, Replay}
@@ -85,25 +83,73 @@ abbrev pub WroteAll : Option Command → Option Told → Option (List ℕ) → O
 WroteAll command told None now = now ≡ None
 WroteAll command told (Some had) now = (all : List ℕ) × Wrote command told all × (now ≡ Some (had ++ all))
 
--- the names that a run gives to the files: a replay's script, once; nothing is created, and every file stays
-abbrev pub Touches : Option Command → ℕ → Told → Told → Type 0
-Touches (Some (Replay name)) status told now = MayHaveLookedUp told now name
-Touches other status told now = now ≡ told
+-- the names that a run gives to the files: a replay's script, once, or where it ended early maybe not;
+-- nothing is created, and every file stays
+abbrev pub Touches : Option Command → Told → Told → Type 0
+Touches (Some (Replay name)) told now = MayHaveLookedUp told now name
+Touches other told now = now ≡ told
 
-abbrev pub TouchesTold : Option Command → ℕ → Option Told → Option Told → Type 0
-TouchesTold command status None now = now ≡ None
-TouchesTold command status (Some told) now = (after : Told) × (now ≡ Some after) × Touches command status told after
+abbrev pub TouchesTold : Option Command → Option Told → Option Told → Type 0
+TouchesTold command None now = now ≡ None
+TouchesTold command (Some told) now = (after : Told) × (now ≡ Some after) × Touches command told after
 
--- the script that the words name is told and is bad at this line
+abbrev pub LooksUp : Option Command → Told → Told → Type 0
+LooksUp (Some (Replay name)) told now = LookedUp told now name
+LooksUp other told now = now ≡ told
+
+abbrev pub LooksUpTold : Option Command → Option Told → Option Told → Type 0
+LooksUpTold command None now = now ≡ None
+LooksUpTold command (Some told) now = (after : Told) × (now ≡ Some after) × LooksUp command told after
+
+-- where it is told what the sink took: how a command ended, and what it added before any fault line
+abbrev pub EndsTold : Option Command → Option Told → Option (List ℕ) → Option (List ℕ) → Result (Unit {0}) Fault → Type 0
+EndsTold command told None now ended = now ≡ None
+EndsTold command told (Some had) now ended = (printed : List ℕ) × Ends command told ended printed × (now ≡ Some (had ++ printed))
+
+-- the script that the words name, where it is told, is bad
 abbrev pub IsBadScript : Option Command → Option Told → Type 0
 IsBadScript (Some (Replay name)) (Some told) =
     (bytes : List ℕ) × (bad : BadLine) × (contents_of told.files name ≡ Some bytes) × (read_replay bytes ≡ Err bad)
 IsBadScript command told = ⊥
 
--- the words are a command line, and the script that they name is told and spells events
+abbrev pub NamesBadScript : Option Command → Option Told → Type 0
+NamesBadScript (Some (Replay name)) None = Unit {0}
+NamesBadScript command told = IsBadScript command told
+
+-- the words are a command line, and the script that they name, if any, is told and spells events
 abbrev pub IsSound : Option Command → Option Told → Type 0
 IsSound (Some (Replay name)) (Some told) =
     (bytes : List ℕ) × (events : List Event) × (contents_of told.files name ≡ Some bytes) × (read_replay bytes ≡ Ok events)
 IsSound (Some (Replay name)) None = ⊥
-IsSound (Some other) told = Unit {0}
+IsSound (Some Help) told = Unit {0}
+IsSound (Some Version) told = Unit {0}
 IsSound None told = ⊥
+
+-- ---- of the parts of a run
+
+abbrev pub HasEndedTold : Result (Unit {0}) Fault → Option (List ℕ) → Option (List ℕ) → ℕ → Type 0
+HasEndedTold ended None now status = now ≡ None
+HasEndedTold ended (Some had) now status = (line : List ℕ) × HasEnded ended [] line status × (now ≡ Some (had ++ line))
+
+abbrev pub PrintsTold : List ℕ → Option (List ℕ) → Option (List ℕ) → Result (Unit {0}) Fault → Type 0
+PrintsTold text None now ended = now ≡ None
+PrintsTold text (Some had) now ended = (printed : List ℕ) × PrintsText text ended printed × (now ≡ Some (had ++ printed))
+
+abbrev pub ReplaysAdded : Option Told → List ℕ → Option (List ℕ) → Option (List ℕ) → Result (Unit {0}) Fault → Type 0
+ReplaysAdded told name None now ended = now ≡ None
+ReplaysAdded told name (Some had) now ended = (printed : List ℕ) × ReplaysTold told name ended printed × (now ≡ Some (had ++ printed))
+
+-- the name was looked up once; where no script was read, maybe not
+abbrev pub HasLookedUp : Result (Unit {0}) Fault → List ℕ → Told → Told → Type 0
+HasLookedUp (Ok x) name told now = LookedUp told now name
+HasLookedUp (Err (faults.Script line cause)) name told now = LookedUp told now name
+HasLookedUp (Err other) name told now = MayHaveLookedUp told now name
+
+abbrev pub LooksUpFile : Result (Unit {0}) Fault → List ℕ → Option Told → Option Told → Type 0
+LooksUpFile ended name None now = now ≡ None
+LooksUpFile ended name (Some told) now = (after : Told) × (now ≡ Some after) × HasLookedUp ended name told after
+
+abbrev pub LooksUpUnlessEarly : Result (Unit {0}) Fault → Option Command → Option Told → Option Told → Type 0
+LooksUpUnlessEarly (Ok x) command told now = LooksUpTold command told now
+LooksUpUnlessEarly (Err (faults.Script line cause)) command told now = LooksUpTold command told now
+LooksUpUnlessEarly (Err other) command told now = Unit {0}

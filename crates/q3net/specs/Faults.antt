@@ -1,0 +1,33 @@
+-- Which fault of a run an error of a part is, and when each comes.
+use Rattle.std.specs.Prelude.{◌≡◌, ℕ, ◌≤◌, Result, Ok, Err}
+use Rattle.q3_script.specs.declared.cause.ScriptError.{ScriptError}
+use Rattle.q3_script.specs.declared.cause.ScriptError.TheVariants as script
+use Rattle.q3_world.specs.declared.world.StepError.{StepError}
+use Rattle.q3_world.specs.declared.world.StepError.TheVariants as step
+use Rattle.q3_world.specs.Faults.{Rose}
+use Rattle.q3net.specs.declared.input.InputError.{InputError}
+use Rattle.q3net.specs.declared.input.InputError.TheVariants as input
+use Rattle.q3net.specs.declared.fault.Fault.{Fault}
+use Rattle.q3net.specs.declared.fault.Fault.TheVariants.{NoMemory, Usage, Read, Write, Script}
+
+abbrev pub input_fault : InputError → Fault
+input_fault input.NoMemory = NoMemory
+input_fault input.Fault = Read
+
+abbrev pub script_fault : ScriptError → Fault
+script_fault script.NoMemory = NoMemory
+script_fault (script.Line line cause) = Script line cause
+
+abbrev pub step_fault : StepError → Fault
+step_fault step.NoMemory = NoMemory
+step_fault step.WriteFault = Write
+
+-- a fault of reading comes only where the files' count rose, one of writing only where the sink's did,
+-- and no fault is passed over
+abbrev pub ReadCause : ℕ → ℕ → Result (Unit {0}) Fault → Type 0
+ReadCause before now (Err Read) = (before ≤ now) × Rose before now
+ReadCause before now other = now ≡ before
+
+abbrev pub WriteCause : ℕ → ℕ → Result (Unit {0}) Fault → Type 0
+WriteCause before now (Err Write) = (before ≤ now) × Rose before now
+WriteCause before now other = now ≡ before

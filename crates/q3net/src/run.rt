@@ -1,0 +1,158 @@
+//! The top call: does all that the program does.
+
+ghost use Rattle.std.specs.Prelude.{◌≡◌, ◌⊎◌, ◌+◌, ◌<◌, ◌≤◌, ◌++◌, ◌↔◌, All, length, map, Err, IsNone};
+ghost use Rattle.std.specs.List.{flat_map};
+ghost use Rattle.std.specs.String.{string_bytes};
+ghost use Rattle.q3_bits.specs.Words.{plain_words};
+ghost use Rattle.q3_script.specs.Grammar.{IsReplayEvent};
+ghost use Rattle.q3_world.specs.Faults.{Rose};
+ghost use Rattle.q3_world.specs.Written.{Adds};
+ghost use Rattle.q3_world.specs.Outcome.{HasStepCause};
+ghost use Rattle.q3_world.specs.World.{Whole, answers};
+ghost use Rattle.q3_world.specs.StandsFor.{StandsFor};
+ghost use Rattle.q3_world.specs.Report.{answer_text};
+ghost use Rattle.q3net.specs.Command.{command_of};
+ghost use Rattle.q3net.specs.Faults.{ReadCause, WriteCause};
+ghost use Rattle.q3net.specs.Lines.{ending_status};
+ghost use Rattle.q3net.specs.Run.{EndsTold, HasEndedTold, PrintsTold, ReplaysAdded, LooksUpFile, LooksUpUnlessEarly, Prints, WroteAll, TouchesTold, LooksUpTold, NamesBadScript, IsBadScript, IsSound};
+
+use crate::command::{Command, parse};
+use crate::fault::Fault;
+use crate::input::read_file;
+use q3_script::{Event, ScriptKind, read_script};
+use q3_world::outside::{Failed, Files, Sink};
+use q3_world::{StepError, World};
+use std::alloc::Global;
+
+/// A script's limit in bytes.
+const LONGEST_SCRIPT: usize = 67_108_864;
+
+const HELP: &[u8] = b"q3net replays schedules of Quake III's connected protocol 68\n\nq3net replay - SCRIPT    replays the schedule of the script, and prints its report\nq3net --help             prints this text\nq3net --version          prints the version\n";
+
+const VERSION: &[u8] = b"q3net 0.1.0\n";
+
+/// Runs the command that the words after the program's name are, and answers its status:
+/// 0 done, 1 no memory, 2 usage, 3 read fault, 4 write fault, 6 bad script.
+/// Want of memory may come at any point after usage, and no clause ties it to anything.
+pub fn run<F: Files, O: Sink>(
+    alloc: Global,
+    words: &[String],
+    files: &mut F,
+    out: &mut O,
+) -> u8
+    // Where 0 is answered, what was written is the report of the events that the script's bytes spell,
+    // or the text that was asked for.
+    ensures report { result ≡ 0 → WroteAll (command_of (map string_bytes words.now)) (F.told files.old) (O.written out.old) (O.written out.new) }
+    // Ended early, it is a front of that, and the fault line, if the sink still takes one.
+    ensures prints { Prints (command_of (map string_bytes words.now)) (F.told files.old) (O.written out.old) (O.written out.new) result }
+
+    // The words that name files are given to `lookup`, once; nothing is created or appended to, and every file stays.
+    ensures touches { TouchesTold (command_of (map string_bytes words.now)) (F.told files.old) (F.told files.new) }
+    ensures looks_up { (result ≡ 0) ⊎ (result ≡ 6) → LooksUpTold (command_of (map string_bytes words.now)) (F.told files.old) (F.told files.new) }
+    ensures writes { F.write_faults files.new ≡ F.write_faults files.old }
+
+    // When each status comes.
+    ensures statuses { (result ≡ 0) ⊎ ((result ≡ 1) ⊎ ((result ≡ 2) ⊎ ((result ≡ 3) ⊎ ((result ≡ 4) ⊎ (result ≡ 6))))) }
+    ensures usage { result ≡ 2 → IsNone (command_of (map string_bytes words.now)) }
+    ensures no_command { IsNone (command_of (map string_bytes words.now)) → (result ≡ 2) ⊎ (result ≡ 4) }
+    ensures read_fault { result ≡ 3 → Rose (F.faults files.old) (F.faults files.new) }
+    ensures write_fault { result ≡ 4 → Rose (O.faults out.old) (O.faults out.new) }
+    ensures bad_script { result ≡ 6 → NamesBadScript (command_of (map string_bytes words.now)) (F.told files.old) }
+    ensures is_bad { IsBadScript (command_of (map string_bytes words.now)) (F.told files.old)
+        → (result ≡ 6) ⊎ ((result ≡ 1) ⊎ ((result ≡ 3) ⊎ (result ≡ 4))) }
+    // No fault is passed over: where a count changed, the status is that of its fault, or of want of memory.
+    ensures no_read_fault_passed { (F.faults files.new ≡ F.faults files.old) ⊎ ((result ≡ 3) ⊎ (result ≡ 4)) }
+    ensures no_write_fault_passed { (O.faults out.new ≡ O.faults out.old) ⊎ (result ≡ 4) }
+    // A command line whose script spells events is done, unless a count rises or memory runs out.
+    ensures complete { IsSound (command_of (map string_bytes words.now)) (F.told files.old)
+        → F.faults files.new ≡ F.faults files.old → O.faults out.new ≡ O.faults out.old → (result ≡ 0) ⊎ (result ≡ 1) }
+{
+    let ended = execute(alloc, words, files, out);
+    end(ended, out)
+}
+
+/// Runs a command, without the fault line.
+fn execute<F: Files, O: Sink>(
+    alloc: Global,
+    words: &[String],
+    files: &mut F,
+    out: &mut O,
+) -> Result<(), Fault>
+    ensures ends { EndsTold (command_of (map string_bytes words.now)) (F.told files.old) (O.written out.old) (O.written out.new) result }
+    ensures usage { (result ≡ Err Fault.Usage) ↔ IsNone (command_of (map string_bytes words.now)) }
+    ensures touches { TouchesTold (command_of (map string_bytes words.now)) (F.told files.old) (F.told files.new) }
+    ensures looks_up { LooksUpUnlessEarly result (command_of (map string_bytes words.now)) (F.told files.old) (F.told files.new) }
+    ensures writes { F.write_faults files.new ≡ F.write_faults files.old }
+    ensures read_cause { ReadCause (F.faults files.old) (F.faults files.new) result }
+    ensures write_cause { WriteCause (O.faults out.old) (O.faults out.new) result }
+{
+    match parse(words) {
+        None => Err(Fault::Usage),
+        Some(Command::Help) => print(HELP, out),
+        Some(Command::Version) => print(VERSION, out),
+        Some(Command::Replay { script }) => replay(alloc, script, files, out),
+    }
+}
+
+/// Prints the fault line of a run that ended early, and answers the status.
+fn end<O: Sink>(ended: Result<(), Fault>, out: &mut O) -> u8
+    ensures told { HasEndedTold ended (O.written out.old) (O.written out.new) result }
+    ensures status { ((result ≡ ending_status ended) × (O.faults out.new ≡ O.faults out.old))
+        ⊎ ((result ≡ 4) × Rose (O.faults out.old) (O.faults out.new)) }
+{
+    let Err(fault) = ended else {
+        return 0;
+    };
+    match fault.print(out) {
+        Ok(()) => fault.status(),
+        Err(Failed) => 4,
+    }
+}
+
+/// Prints a text of the program's own.
+fn print<O: Sink>(text: &[u8], out: &mut O) -> Result<(), Fault>
+    ensures prints { PrintsTold text.now (O.written out.old) (O.written out.new) result }
+    ensures write_cause { WriteCause (O.faults out.old) (O.faults out.new) result }
+{
+    out.write_all(text).map_err(|_| Fault::Write)
+}
+
+/// Replays the script of this name, and prints its report.
+fn replay<F: Files, O: Sink>(
+    alloc: Global,
+    script: &str,
+    files: &mut F,
+    out: &mut O,
+) -> Result<(), Fault>
+    ensures replays { ReplaysAdded (F.told files.old) script.now (O.written out.old) (O.written out.new) result }
+    ensures touches { LooksUpFile result script.now (F.told files.old) (F.told files.new) }
+    ensures writes { F.write_faults files.new ≡ F.write_faults files.old }
+    ensures read_cause { ReadCause (F.faults files.old) (F.faults files.new) result }
+    ensures write_cause { WriteCause (O.faults out.old) (O.faults out.new) result }
+{
+    let bytes = read_file(alloc, script, LONGEST_SCRIPT, files)?;
+    let events = read_script(alloc, ScriptKind::Replay, &bytes)?;
+    let mut world = World::new(alloc)?;
+    step_all(&mut world, &events, files, out)?;
+    Ok(())
+}
+
+/// Steps over the events, and prints their lines.
+fn step_all<F: Files, O: Sink>(
+    world: &mut World,
+    events: &[Event],
+    files: &mut F,
+    out: &mut O,
+) -> Result<(), StepError>
+    requires events { All IsReplayEvent events.now }
+    requires few { length world.old.datagrams + length events.now < 4294967295 }
+    ensures adds { (whole : Whole) → StandsFor plain_words world.old whole
+        → Adds (O.written out.old) (O.written out.new) (flat_map answer_text (answers plain_words whole events.now)) result }
+    ensures cause { HasStepCause (O.faults out.old) (O.faults out.new) result }
+    ensures files { files.new ≡ files.old }
+{
+    for event in events {
+        world.step(event, files, out)?;
+    }
+    Ok(())
+}
