@@ -1,6 +1,6 @@
 -- Reading a file whole, up to a limit.
 use Rattle.std.specs.Prelude.{◌≡◌, ◌⊎◌, ℕ, ◌≤◌, List, ◌∷◌, [], ◌++◌, length, Option, Some, None, Result, Ok, Err}
-use Rattle.q3_world.specs.Told.{Told, Lookup, contents_of, after_named}
+use Rattle.q3_world.specs.Told.{Told, Lookup, contents_of, contents_at, after_named}
 use Rattle.std.specs.Global.{Vec}
 use Rattle.q3_world.specs.Faults.{Rose}
 use Rattle.q3net.specs.declared.input.InputError.{InputError}
@@ -39,3 +39,13 @@ abbrev pub HasInputCause : {T : Type 0} → ℕ → ℕ → Result T InputError 
 HasInputCause before now (Ok x) = now ≡ before
 HasInputCause before now (Err NoMemory) = now ≡ before
 HasInputCause before now (Err Fault) = (before ≤ now) × Rose before now
+
+-- of a file that was looked up: what is asked for grows, and nothing else changes
+abbrev pub ReadsWhole : ℕ → List ℕ → Result (List ℕ) InputError → Type 0
+ReadsWhole most contents (Ok bytes) = ReadsFront most contents bytes
+ReadsWhole most contents (Err e) = Unit {0}
+
+abbrev pub ReadsPieces : ℕ → ℕ → Option Told → Option Told → Result (List ℕ) InputError → Type 0
+ReadsPieces most file None now result = now ≡ None
+ReadsPieces most file (Some told) now result =
+    (asked : List ℕ) × (now ≡ Some (record told { asked = asked })) × ReadsWhole most (contents_at told file) result

@@ -2,7 +2,7 @@
 
 ghost use Rattle.std.specs.Prelude.{◌≡◌, map, option_map};
 ghost use Rattle.std.specs.String.{string_bytes};
-ghost use Rattle.q3net.specs.Command.{command_of};
+ghost use Rattle.q3net.specs.Command.{command_of, command_value};
 
 /// What the words ask for. PROFILE is `-` at this stage.
 #[derive(Clone, Copy)]

@@ -1,8 +1,7 @@
 //! Reads a file whole, up to a limit.
 
-ghost use Rattle.std.specs.Prelude.{◌≡◌, ◌<◌, ◌≤◌, ◌^◌, IsOk, OnErr};
-ghost use Rattle.q3_world.specs.Faults.{Rose};
-ghost use Rattle.q3net.specs.Input.{Reads, with_items, HasInputCause};
+ghost use Rattle.std.specs.Prelude.{◌≡◌, ◌+◌, ◌<◌, ◌^◌, length};
+ghost use Rattle.q3net.specs.Input.{Reads, ReadsPieces, with_items, HasInputCause};
 
 use q3_bits::NoMemory;
 use q3_world::outside::Files;
@@ -17,13 +16,17 @@ pub enum InputError {
 }
 
 impl From<NoMemory> for InputError {
-    ghost from_gives = { λ _ e. e ≡ InputError.NoMemory };
+    ghost use Rattle.std.specs.Prelude.{◌≡◌};
+    ghost use Rattle.q3net.specs.declared.input.InputError.TheVariants as errors;
+
+    ghost from_gives = { λ _ e. e ≡ errors.NoMemory };
 
     fn from(_: NoMemory) -> InputError {
         InputError::NoMemory
     }
 }
 
+/// How many bytes are asked for at a time.
 const PIECE: usize = 65_536;
 
 /// The bytes of the file of this name: all of them, or a front that is longer than the limit.
@@ -41,10 +44,34 @@ pub fn read_file<F: Files>(
     let Ok(file) = files.lookup(name) else {
         return Err(InputError::Fault);
     };
+    read_pieces(alloc, file, most, files, &mut zeros::<PIECE>())
+}
+
+/// So many zeros.
+fn zeros<const N: usize>() -> [u8; N]
+    ensures { length result ≡ N }
+{
+    [0; N]
+}
+
+/// Reads a file piece by piece, each into the same buffer, until it ends or more than the limit was read.
+fn read_pieces<F: Files>(
+    alloc: Global,
+    file: usize,
+    most: usize,
+    files: &mut F,
+    piece: &mut [u8],
+) -> Result<Vec<u8>, InputError>
+    requires given { file < F.given files.old }
+    requires some { 0 < length piece.old }
+    requires few { most + length piece.old < 2 ^ 33 }
+    ensures reads { ReadsPieces most file (F.told files.old) (F.told files.new) (with_items result) }
+    ensures cause { HasInputCause (F.faults files.old) (F.faults files.new) result }
+    ensures writes { F.write_faults files.new ≡ F.write_faults files.old }
+{
     let mut bytes = Vec::new(alloc);
-    let mut piece = [0; PIECE];
     while bytes.len() <= most {
-        let Ok(count) = files.read_at(file, bytes.len() as u64, &mut piece) else {
+        let Ok(count) = files.read_at(file, bytes.len() as u64, piece) else {
             return Err(InputError::Fault);
         };
         if count == 0 {
