@@ -4,8 +4,8 @@ use Rattle.q3_world.specs.Told.{Named}
 use Rattle.q3_world.specs.MemoryNumbers.{call_of}
 use Rattle.q3_world.specs.declared.outside.memory.numbers.Number.{Number}
 
-abbrev pub name_of : Number → List ℕ
-name_of number = number.name.bytes
+abbrev pub name_given : Number → List ℕ
+name_given number = number.name.bytes
 
 abbrev pub asked_of : Number → ℕ
 asked_of number = number.asked

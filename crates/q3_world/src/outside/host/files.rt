@@ -1,7 +1,6 @@
 //! Files of the system.
 
-ghost use Rattle.std.specs.Prelude.{◌≡◌, ◌<◌, ◌≤◌, ℕ, None, IfOk, IsErr, length, vec_len};
-ghost use Rattle.q3_world.specs.Faults.{HasCause};
+ghost use Rattle.std.specs.Prelude.{◌≡◌, ◌≤◌, None, IfOk, IsErr, length, vec_len};
 ghost use Rattle.q3_world.specs.Told.{IsGiven};
 
 use crate::outside::files::Files;
@@ -37,6 +36,7 @@ impl<R: std::rt::Files> HostFiles<R> {
     pub fn new(alloc: Global, rt: R) -> Result<HostFiles<R>, NoMemory>
     where
         R: Drop,
+        ensures rt { IfOk result (λ host. host.rt ≡ rt) }
         ensures files { IfOk result (λ host. vec_len host.files ≡ 0) }
         ensures faults { IfOk result (λ host. host.faults ≡ 0) }
         ensures write_faults { IfOk result (λ host. host.write_faults ≡ 0) }

@@ -1,8 +1,6 @@
 //! Standard output.
 
-ghost use Rattle.std.specs.Prelude.{◌≡◌, ℕ, None};
-ghost use Rattle.q3_world.specs.Faults.{HasCause};
-ghost use Rattle.q3_world.specs.Written.{Adds};
+ghost use Rattle.std.specs.Prelude.{◌≡◌, None};
 
 use crate::outside::sink::{Failed, Sink};
 

@@ -1,6 +1,6 @@
 //! Files in memory, written and read by their names.
 
-ghost use Rattle.std.specs.Prelude.{◌≡◌, ◌+◌, ◌≤◌, ◌++◌, length, min, take, drop, if◌then◌else◌, is_some};
+ghost use Rattle.std.specs.Prelude.{◌≡◌, ◌≤◌, ◌++◌, length, take, drop, if◌then◌else◌, is_some};
 ghost use Rattle.q3_world.specs.Told.{contents_of};
 ghost use Rattle.q3_world.specs.MemoryStore.{has_room, after_put, can_add, after_add, held, read_count};
 

@@ -11,7 +11,7 @@ use std::marker::Model;
 
 /// The name that was given, by which call, and how many bytes were asked for.
 #[derive(Drop)]
-pub struct Number {
+struct Number {
     name: Text,
     creates: bool,
     asked: u64,
@@ -32,9 +32,9 @@ impl Model for Numbers {
 
     ghost Value = { NumbersState };
 
-    ghost use Rattle.q3_world.specs.MemoryNumbered.{name_of, asked_of, named_of};
+    ghost use Rattle.q3_world.specs.MemoryNumbered.{name_given, asked_of, named_of};
 
-    ghost view = { λ n. record { numbers = map name_of (take n.used n.list.items); asked = map asked_of (take n.used n.list.items); named = map named_of (take n.used n.list.items); spare = length n.list.items - n.used; room = n.room } };
+    ghost view = { λ n. record { numbers = map name_given (take n.used n.list.items); asked = map asked_of (take n.used n.list.items); named = map named_of (take n.used n.list.items); spare = length n.list.items - n.used; room = n.room } };
 
     ghost invariant = { λ n. (n.used ≤ length n.list.items) × All (λ one. one.name.room ≡ n.room) n.list.items };
 }

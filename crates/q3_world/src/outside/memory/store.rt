@@ -1,10 +1,9 @@
 //! Files in memory, by their names.
 
-ghost use Rattle.std.specs.Prelude.{◌≡◌, ℕ, ◌+◌, ◌-◌, ◌≤◌, ◌<◌, [], ◌∷◌, ◌++◌, length, map, take, drop, slice_set, slice_index_or, if◌then◌else◌, IfOk, IfSome, SomeIff, MatchOption, None, position};
+ghost use Rattle.std.specs.Prelude.{◌≡◌, ◌+◌, ◌-◌, ◌≤◌, ◌<◌, [], ◌∷◌, ◌++◌, length, map, slice_set, slice_index_or, IfOk, MatchOption, None, position};
 ghost use Rattle.std.specs.Str.{bytes_eq};
-ghost use Rattle.std.specs.List.{All};
 ghost use Rattle.q3_world.specs.Told.{contents_of};
-ghost use Rattle.q3_world.specs.MemoryStore.{has_room, after_put, can_add, after_add, held, read_count, no_file};
+ghost use Rattle.q3_world.specs.MemoryStore.{no_file};
 ghost use Rattle.q3_world.specs.MemoryStored.{file_of, StandsAt};
 
 use crate::outside::memory::NoMemory;
@@ -14,7 +13,7 @@ use std::marker::Model;
 
 /// A file's name and contents.
 #[derive(Drop)]
-pub struct Stored {
+struct Stored {
     name: Text,
     contents: Text,
 }
