@@ -1,1 +1,4 @@
 pub mod Reading
+pub mod Stepping
+pub mod Replaying
+pub mod Ending

@@ -33,10 +33,16 @@ Replays bytes (Err (faults.Script line cause)) printed =
     (read_replay bytes ≡ Err (record { line = line; cause = cause })) × (printed ≡ [])
 Replays bytes (Err faults.Usage) printed = ⊥
 
--- the same of a name, where the files are told: a missing file doesn't read
+-- a missing file doesn't read; want of memory may come at any point
+abbrev pub DoesNotRead : Result (Unit {0}) Fault → Type 0
+DoesNotRead (Err faults.Read) = Unit {0}
+DoesNotRead (Err faults.NoMemory) = Unit {0}
+DoesNotRead other = ⊥
+
+-- the same of a name, where the files are told
 abbrev pub ReplaysFile : Option (List ℕ) → Result (Unit {0}) Fault → List ℕ → Type 0
 ReplaysFile (Some bytes) ended printed = Replays bytes ended printed
-ReplaysFile None ended printed = (ended ≡ Err faults.Read) × (printed ≡ [])
+ReplaysFile None ended printed = DoesNotRead ended × (printed ≡ [])
 
 abbrev pub ReplaysTold : Option Told → List ℕ → Result (Unit {0}) Fault → List ℕ → Type 0
 ReplaysTold (Some told) name ended printed = ReplaysFile (contents_of told.files name) ended printed

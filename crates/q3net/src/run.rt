@@ -1,6 +1,6 @@
 //! The top call: does all that the program does.
 
-ghost use Rattle.std.specs.Prelude.{◌≡◌, ◌⊎◌, ◌+◌, ◌<◌, ◌≤◌, ◌++◌, ◌↔◌, All, length, map, Err, IsNone};
+ghost use Rattle.std.specs.Prelude.{◌≡◌, ◌≢◌, ℕ, List, ◌⊎◌, ◌+◌, ◌<◌, ◌≤◌, ◌++◌, ◌↔◌, All, length, map, Err, IsNone, IsOkUnless};
 ghost use Rattle.std.specs.List.{flat_map};
 ghost use Rattle.std.specs.String.{string_bytes};
 ghost use Rattle.q3_bits.specs.Words.{plain_words};
@@ -14,7 +14,7 @@ ghost use Rattle.q3_world.specs.Report.{answer_text};
 ghost use Rattle.q3net.specs.Command.{command_of};
 ghost use Rattle.q3net.specs.Faults.{ReadCause, WriteCause};
 ghost use Rattle.q3net.specs.Lines.{ending_status};
-ghost use Rattle.q3net.specs.Run.{EndsTold, HasEndedTold, PrintsTold, ReplaysAdded, LooksUpFile, LooksUpUnlessEarly, Prints, WroteAll, TouchesTold, LooksUpTold, NamesBadScript, IsBadScript, IsSound};
+ghost use Rattle.q3net.specs.Run.{Ends, EndsTold, HasEndedTold, ReplaysTold, PrintsTold, ReplaysAdded, LooksUpFile, LooksUpUnlessEarly, Prints, WroteAll, TouchesTold, LooksUpTold, NamesBadScript, IsBadScript, IsSound};
 
 use crate::command::{Command, parse};
 use crate::fault::Fault;
@@ -65,13 +65,14 @@ pub fn run<F: Files, O: Sink>(
     ensures no_write_fault_passed { (O.faults out.new ≡ O.faults out.old) ⊎ (result ≡ 4) }
     // A command line whose script spells events is done, unless a count rises or memory runs out.
     ensures complete { IsSound (command_of (map string_bytes words.now)) (F.told files.old)
-        → F.faults files.new ≡ F.faults files.old → O.faults out.new ≡ O.faults out.old → (result ≡ 0) ⊎ (result ≡ 1) }
+        → ¬ Rose (F.faults files.old) (F.faults files.new) → ¬ Rose (O.faults out.old) (O.faults out.new) → (result ≡ 0) ⊎ (result ≡ 1) }
 {
     let ended = execute(alloc, words, files, out);
     end(ended, out)
 }
 
 /// Runs a command, without the fault line.
+#[tactic(auto, unfolding(crate::specs::Lines::help_text, crate::specs::Lines::version_text))]
 fn execute<F: Files, O: Sink>(
     alloc: Global,
     words: &[String],
@@ -79,6 +80,7 @@ fn execute<F: Files, O: Sink>(
     out: &mut O,
 ) -> Result<(), Fault>
     ensures ends { EndsTold (command_of (map string_bytes words.now)) (F.told files.old) (O.written out.old) (O.written out.new) result }
+    ensures so { (printed : List ℕ) × Ends (command_of (map string_bytes words.now)) (F.told files.old) result printed }
     ensures usage { (result ≡ Err Fault.Usage) ↔ IsNone (command_of (map string_bytes words.now)) }
     ensures touches { TouchesTold (command_of (map string_bytes words.now)) (F.told files.old) (F.told files.new) }
     ensures looks_up { LooksUpUnlessEarly result (command_of (map string_bytes words.now)) (F.told files.old) (F.told files.new) }
@@ -98,7 +100,7 @@ fn execute<F: Files, O: Sink>(
 fn end<O: Sink>(ended: Result<(), Fault>, out: &mut O) -> u8
     ensures told { HasEndedTold ended (O.written out.old) (O.written out.new) result }
     ensures status { ((result ≡ ending_status ended) × (O.faults out.new ≡ O.faults out.old))
-        ⊎ ((result ≡ 4) × Rose (O.faults out.old) (O.faults out.new)) }
+        ⊎ ((result ≡ 4) × (O.faults out.old ≤ O.faults out.new) × Rose (O.faults out.old) (O.faults out.new)) }
 {
     let Err(fault) = ended else {
         return 0;
@@ -112,6 +114,7 @@ fn end<O: Sink>(ended: Result<(), Fault>, out: &mut O) -> u8
 /// Prints a text of the program's own.
 fn print<O: Sink>(text: &[u8], out: &mut O) -> Result<(), Fault>
     ensures prints { PrintsTold text.now (O.written out.old) (O.written out.new) result }
+    ensures only { IsOkUnless result Fault.Write }
     ensures write_cause { WriteCause (O.faults out.old) (O.faults out.new) result }
 {
     out.write_all(text).map_err(|_| Fault::Write)
@@ -125,6 +128,8 @@ fn replay<F: Files, O: Sink>(
     out: &mut O,
 ) -> Result<(), Fault>
     ensures replays { ReplaysAdded (F.told files.old) script.now (O.written out.old) (O.written out.new) result }
+    ensures so { (printed : List ℕ) × ReplaysTold (F.told files.old) script.now result printed }
+    ensures not_usage { result ≢ Err Fault.Usage }
     ensures touches { LooksUpFile result script.now (F.told files.old) (F.told files.new) }
     ensures writes { F.write_faults files.new ≡ F.write_faults files.old }
     ensures read_cause { ReadCause (F.faults files.old) (F.faults files.new) result }

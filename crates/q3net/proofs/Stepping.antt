@@ -1,0 +1,106 @@
+-- Stepping over the events of a script.
+use Rattle.std.proofs.Common.{◌≡◌, ℕ, ◌+◌, ◌<◌, ◌≤◌, Bool, List, [], ◌∷◌, ◌++◌, length, get_or, drop, Option, Some, None, Result, Ok, Err, refl, sym, ap, subst, ◌∙◌, append_assoc, arith}
+use Rattle.std.specs.List.{flat_map}
+use Rattle.std.proofs.lemmas.List.{append-nil, drop_more, drop_all}
+use Rattle.q3_bits.specs.Words.{plain_words}
+use Rattle.q3_script.specs.declared.event.Event.{Event}
+use Rattle.q3_world.specs.declared.world.StepError.{StepError}
+use Rattle.q3_world.specs.Written.{Adds}
+use Rattle.q3_world.specs.Kept.{Kept}
+use Rattle.q3_world.specs.World.{Whole, step, answers}
+use Rattle.q3_world.specs.StandsFor.{StandsFor}
+use Rattle.q3_world.specs.Report.{answer_text}
+
+-- the lines of these events' answers
+abbrev pub lines_of : Whole → List Event → List ℕ
+lines_of whole events = flat_map answer_text (answers plain_words whole events)
+
+-- one event and the others
+lines_of-next : (whole : Whole) (event : Event) (events : List Event)
+    → lines_of whole (event ∷ events) ≡ answer_text (step plain_words whole event).answer ++ lines_of (step plain_words whole event).whole events
+unfolding answers
+lines_of-next whole event events = refl
+
+lines_of-none : (whole : Whole) → lines_of whole [] ≡ []
+unfolding answers
+lines_of-none whole = refl
+
+some_is : (xs ys : List ℕ) → Some xs ≡ Some ys → xs ≡ ys
+some_is xs ys e = cc
+
+-- one text behind another, or a front of it
+abbrev AddsAll : Option (List ℕ) → Option (List ℕ) → List ℕ → Type 0
+AddsAll old now text = Adds {T = Unit {0}} {E = StepError} old now text (Ok tt)
+
+Adds-then : (a b c : Option (List ℕ)) (xs ys : List ℕ) (r : Result (Unit {0}) StepError)
+    → AddsAll a b xs → Adds b c ys r → Adds a c (xs ++ ys) r
+Adds-then None None c xs ys r p q = q
+Adds-then None (Some m) c xs ys r p q = absurd cc
+Adds-then (Some had) None c xs ys r p q = absurd (let e = p.2 in cc)
+Adds-then (Some had) (Some m) c xs ys (Ok x) p q =
+    let m_is : m ≡ had ++ p.0 = some_is m (had ++ p.0) p.2 in
+    (p.0 ++ q.0, ap (λ (z : List ℕ). z ++ q.0) p.1 ∙ ap (λ (z : List ℕ). xs ++ z) q.1,
+      q.2 ∙ ap (λ (z : List ℕ). Some z) (ap (λ (z : List ℕ). z ++ q.0) m_is ∙ append_assoc had p.0 q.0))
+Adds-then (Some had) (Some m) c xs ys (Err e) p q =
+    let m_is : m ≡ had ++ p.0 = some_is m (had ++ p.0) p.2 in
+    (p.0 ++ q.0, (q.1.0, append_assoc p.0 q.0 q.1.0 ∙ (ap (λ (z : List ℕ). p.0 ++ z) q.1.1 ∙ ap (λ (z : List ℕ). z ++ ys) p.1)),
+      q.2 ∙ ap (λ (z : List ℕ). Some z) (ap (λ (z : List ℕ). z ++ q.0) m_is ∙ append_assoc had p.0 q.0))
+
+Adds-early : (a c : Option (List ℕ)) (xs ys : List ℕ) (e : StepError) → Adds {T = Unit {0}} a c xs (Err e) → Adds {T = Unit {0}} a c (xs ++ ys) (Err e)
+Adds-early None c xs ys e p = p
+Adds-early (Some had) c xs ys e p =
+    (p.0, (p.1.0 ++ ys, sym (append_assoc p.0 p.1.0 ys) ∙ ap (λ (z : List ℕ). z ++ ys) p.1.1), p.2)
+
+Adds-none : (a : Option (List ℕ)) → AddsAll a a []
+Adds-none None = refl
+Adds-none (Some had) = ([], refl, ap (λ (z : List ℕ). Some z) (sym (append-nil had)))
+
+-- the events before the k-th were done and their lines written; the lines of the others are still to come
+abbrev pub HasStepped : Kept → Kept → Option (List ℕ) → Option (List ℕ) → List Event → ℕ → Type 0
+HasStepped start now had written events k =
+    (whole : Whole) → StandsFor plain_words start whole
+    → (next : Whole) × StandsFor plain_words now next
+      × (done : List ℕ) × AddsAll had written done × (done ++ lines_of next (drop k events) ≡ lines_of whole events)
+
+pub HasStepped-none : (start : Kept) (had : Option (List ℕ)) (events : List Event) → HasStepped start start had had events 0
+HasStepped-none start had events = λ whole stands. (whole, stands, [], Adds-none had, refl)
+
+pub HasStepped-more : (start now after : Kept) (had written more : Option (List ℕ)) (events : List Event) (k : ℕ) (d : Event) → k < length events
+    → HasStepped start now had written events k
+    → ((whole : Whole) → StandsFor plain_words now whole → StandsFor plain_words after (step plain_words whole (get_or events k d)).whole)
+    → ((whole : Whole) → StandsFor plain_words now whole → AddsAll written more (answer_text (step plain_words whole (get_or events k d)).answer))
+    → HasStepped start after had more events (k + 1)
+HasStepped-more start now after had written more events k d lt stepped stands lines = λ whole begun.
+    let was = stepped whole begun in
+    let event = get_or events k d in
+    let text = answer_text (step plain_words was.0 event).answer in
+    let next = (step plain_words was.0 event).whole in
+    (next, stands was.0 was.1, was.2 ++ text, Adds-then had written more was.2 text (Ok tt) was.3 (lines was.0 was.1),
+      append_assoc was.2 text (lines_of next (drop (k + 1) events))
+      ∙ (ap (λ (z : List ℕ). was.2 ++ z) (sym (lines_of-next was.0 event (drop (k + 1) events)) ∙ ap (lines_of was.0) (sym (drop_more events k d lt))) ∙ was.4))
+
+-- the sink or memory failed at the k-th event
+pub HasStepped-early : (start now : Kept) (had written more : Option (List ℕ)) (events : List Event) (k : ℕ) (d : Event) (e : StepError) → k < length events
+    → HasStepped start now had written events k
+    → ((whole : Whole) → StandsFor plain_words now whole → Adds {T = Unit {0}} written more (answer_text (step plain_words whole (get_or events k d)).answer) (Err e))
+    → (whole : Whole) → StandsFor plain_words start whole → Adds {T = Unit {0}} had more (lines_of whole events) (Err e)
+HasStepped-early start now had written more events k d e lt stepped lines whole begun =
+    let was = stepped whole begun in
+    let event = get_or events k d in
+    let text = answer_text (step plain_words was.0 event).answer in
+    let others = lines_of (step plain_words was.0 event).whole (drop (k + 1) events) in
+    let total : (was.2 ++ text) ++ others ≡ lines_of whole events =
+      append_assoc was.2 text others
+      ∙ (ap (λ (z : List ℕ). was.2 ++ z) (sym (lines_of-next was.0 event (drop (k + 1) events)) ∙ ap (lines_of was.0) (sym (drop_more events k d lt))) ∙ was.4) in
+    subst (λ (z : List ℕ). Adds {T = Unit {0}} had more z (Err e)) total
+      (Adds-early had more (was.2 ++ text) others e (Adds-then had written more was.2 text (Err e) was.3 (lines was.0 was.1)))
+
+-- every event was done
+pub HasStepped-all : (start now : Kept) (had written : Option (List ℕ)) (events : List Event) (k : ℕ) → length events ≤ k
+    → HasStepped start now had written events k
+    → (whole : Whole) → StandsFor plain_words start whole → AddsAll had written (lines_of whole events)
+HasStepped-all start now had written events k le stepped whole begun =
+    let was = stepped whole begun in
+    let total : was.2 ≡ lines_of whole events =
+      sym (append-nil was.2) ∙ (ap (λ (z : List ℕ). was.2 ++ z) (sym (lines_of-none was.0) ∙ ap (lines_of was.0) (sym (drop_all k events le))) ∙ was.4) in
+    subst (λ (z : List ℕ). AddsAll had written z) total was.3
