@@ -40,9 +40,14 @@ prints_all command told None None c ended status ends has = has
 prints_all command told None (Some b) c ended status ends has = absurd cc
 prints_all command told (Some had) None c ended status ends has = absurd (let e = ends.2 in cc)
 prints_all command told (Some had) (Some b) c ended status ends has =
-    let b_is : b ≡ had ++ ends.0 = some_is b (had ++ ends.0) ends.2 in
-    (ended, ends.0, ends.0 ++ has.0, ends.1, ends_behind ended ends.0 has.0 status has.1,
-      has.2 ∙ ap (λ (z : List ℕ). some z) (ap (λ (z : List ℕ). z ++ has.0) b_is ∙ append_assoc had ends.0 has.0))
+    let b_is : b ≡ had ++ ends.0 = some_is b (had ++ ends.0) ends.2 in (
+      ended,
+      ends.0,
+      ends.0 ++ has.0,
+      ends.1,
+      ends_behind ended ends.0 has.0 status has.1,
+      has.2 ∙ ap (λ (z : List ℕ). some z) (ap (λ (z : List ℕ). z ++ has.0) b_is ∙ append_assoc had ends.0 has.0),
+    )
 
 -- a text of the program's own, where it isn't told what the sink took
 pub text_so : (text : List ℕ) (ended : Result (Unit {0}) Fault) → IsOkUnless ended faults.Write → (printed : List ℕ) × PrintsText text ended printed
@@ -59,7 +64,7 @@ rose_on : (a b c : ℕ) → a ≤ b → b ≤ c → Rose b c → Rose a c
 rose_on a b c le more rose =
     elim rose [
       | inl lt ↦ inl (omega arith)
-      | inr last ↦ elim (cases_lt a b) [ | inl lt ↦ inl (omega arith) | inr ge ↦ inr (omega arith) ]
+      | inr last ↦ elim (cases_lt a b) [ inl lt ↦ inl (omega arith) | inr ge ↦ inr (omega arith) ]
     ]
 
 write_later : (before now : ℕ) (ended : Result (Unit {0}) Fault) → WriteCause before now ended → before ≤ now
@@ -183,7 +188,7 @@ sound_ends bytes events printed (Err (faults.Script line cause)) is replays not_
 text_ends : (text printed : List ℕ) (ended : Result (Unit {0}) Fault) → PrintsText text ended printed → (ended ≡ Err faults.Write → ⊥)
     → (ending_status ended ≡ 0) ⊎ (ending_status ended ≡ 1)
 text_ends text printed ended prints not_write =
-    elim (text_status text printed ended prints) [ | inl zero_is ↦ inl zero_is | inr write_is ↦ absurd (not_write write_is) ]
+    elim (text_status text printed ended prints) [ inl zero_is ↦ inl zero_is | inr write_is ↦ absurd (not_write write_is) ]
 
 sound_status : (command : Option Command) (told : Option Told) (ended : Result (Unit {0}) Fault) → AnEnd command told ended → IsSound command told
     → (ended ≡ Err faults.Read → ⊥) → (ended ≡ Err faults.Write → ⊥) → (ending_status ended ≡ 0) ⊎ (ending_status ended ≡ 1)
@@ -204,6 +209,6 @@ complete command told ended read read_now a b c status ends read_cause write_cau
     elim closes [
       | inl same ↦ subst (λ (n : ℕ). (n ≡ 0) ⊎ (n ≡ 1)) (sym same.0)
           (sound_status command told ended ends sound (λ is. no_read (read_rose read read_now ended is read_cause))
-            (λ is. no_write (write_fault a b c ended status write_cause (inl same) (same.0 ∙ ap ending_status is))))
+          (λ is. no_write (write_fault a b c ended status write_cause (inl same) (same.0 ∙ ap ending_status is))))
       | inr rose ↦ absurd (no_write (rose_on a b c (write_later a b ended write_cause) rose.1 rose.2))
     ]

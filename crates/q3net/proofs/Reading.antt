@@ -29,16 +29,16 @@ grown contents bytes before after count front gives =
     elim there [
       | inl fits ↦
           let piece : take count after ≡ take count (drop (length bytes) contents) =
-            ap (take count) gives.bytes ∙ take_at (take count (drop (length bytes) contents)) (drop count before) count
-              (omega (arith, length-take count (drop (length bytes) contents), length-drop (length bytes) contents)) in
+          ap (take count) gives.bytes ∙ take_at (take count (drop (length bytes) contents)) (drop count before) count
+          (omega (arith, length-take count (drop (length bytes) contents), length-drop (length bytes) contents)) in
           let size : length (bytes ++ take count after) ≡ length bytes + count =
-            omega (arith, length-append bytes (take count after), ap length piece, length-take count (drop (length bytes) contents), length-drop (length bytes) contents) in
+          omega (arith, length-append bytes (take count after), ap length piece, length-take count (drop (length bytes) contents), length-drop (length bytes) contents) in
           ap (λ n. take n contents) size ∙ (take-add (length bytes) count contents
-            ∙ (ap (λ (xs : List ℕ). xs ++ take count (drop (length bytes) contents)) front ∙ ap (λ (xs : List ℕ). bytes ++ xs) (sym piece)))
+          ∙ (ap (λ (xs : List ℕ). xs ++ take count (drop (length bytes) contents)) front ∙ ap (λ (xs : List ℕ). bytes ++ xs) (sym piece)))
       | inr none ↦
           let nothing : take count after ≡ [] = ap (λ n. take n after) none in
           ap (λ (xs : List ℕ). take (length (bytes ++ xs)) contents) nothing
-            ∙ (ap (λ (xs : List ℕ). take (length xs) contents) (append-nil bytes) ∙ (front ∙ (sym (append-nil bytes) ∙ ap (λ (xs : List ℕ). bytes ++ xs) (sym nothing))))
+          ∙ (ap (λ (xs : List ℕ). take (length xs) contents) (append-nil bytes) ∙ (front ∙ (sym (append-nil bytes) ∙ ap (λ (xs : List ℕ). bytes ++ xs) (sym nothing))))
     ]
 
 pub HasRead-more : (start now next : Option Told) (file : ℕ) (bytes before after : List ℕ) (count : ℕ)
@@ -49,11 +49,12 @@ HasRead-more None (Some now) next file bytes before after count has reads = absu
 HasRead-more (Some told) None next file bytes before after count has reads = absurd (let e = has.1 in cc)
 HasRead-more (Some told) (Some now) next file bytes before after count has reads =
     let is : now ≡ record told { asked = has.0 } = same_told now (record told { asked = has.0 }) has.1 in
-    let contents : contents_at now file ≡ contents_at told file = ap (λ (t : Told). contents_at t file) is in
-    ((after_asked now file (length before)).asked,
+    let contents : contents_at now file ≡ contents_at told file = ap (λ (t : Told). contents_at t file) is in (
+      (after_asked now file (length before)).asked,
       reads.0 ∙ ap (λ (t : Told). Some (record t { asked = (after_asked now file (length before)).asked })) is,
       grown (contents_at told file) bytes before after count has.2
-        (subst (λ (xs : List ℕ). Gives xs (length bytes) count before after) contents reads.1))
+          (subst (λ (xs : List ℕ). Gives xs (length bytes) count before after) contents reads.1),
+    )
 
 -- at the file's end
 pub HasRead-end : (most : ℕ) (start now next : Option Told) (file : ℕ) (bytes before after : List ℕ) (count : ℕ) → 0 < length before → count ≡ 0
@@ -66,20 +67,26 @@ HasRead-end most (Some told) (Some now) next file bytes before after count some 
     let is : now ≡ record told { asked = has.0 } = same_told now (record told { asked = has.0 }) has.1 in
     let contents : contents_at now file ≡ contents_at told file = ap (λ (t : Told). contents_at t file) is in
     let ends : (length before ≡ 0) ⊎ (length (contents_at told file) ≤ length bytes) =
-      (subst (λ (xs : List ℕ). Gives xs (length bytes) count before after) contents reads.1).end none in
-    let past : length (contents_at told file) ≤ length bytes = elim ends [ | inl e ↦ absurd (omega arith) | inr le ↦ le ] in
-    ((after_asked now file (length before)).asked,
+    (subst (λ (xs : List ℕ). Gives xs (length bytes) count before after) contents reads.1).end none in
+    let past : length (contents_at told file) ≤ length bytes = elim ends [ inl e ↦ absurd (omega arith) | inr le ↦ le ] in (
+      (after_asked now file (length before)).asked,
       reads.0 ∙ ap (λ (t : Told). Some (record t { asked = (after_asked now file (length before)).asked })) is,
-      ([], append-nil bytes ∙ (sym has.2 ∙ take_all (length bytes) (contents_at told file) past), λ le. refl))
+      ([], append-nil bytes ∙ (sym has.2 ∙ take_all (length bytes) (contents_at told file) past), λ le. refl),
+    )
 
 -- more than the limit
 pub HasRead-long : (most : ℕ) (start now : Option Told) (file : ℕ) (bytes : List ℕ) → most < length bytes
     → HasRead start now file bytes → ReadsPieces most file start now (Ok bytes)
 HasRead-long most None now file bytes long has = has
-HasRead-long most (Some told) now file bytes long has =
-    (has.0, has.1, (drop (length bytes) (contents_at told file),
-      ap (λ (xs : List ℕ). xs ++ drop (length bytes) (contents_at told file)) (sym has.2) ∙ take-append-drop (length bytes) (contents_at told file),
-      λ le. absurd (omega arith)))
+HasRead-long most (Some told) now file bytes long has = (
+  has.0,
+  has.1,
+  (
+    drop (length bytes) (contents_at told file),
+    ap (λ (xs : List ℕ). xs ++ drop (length bytes) (contents_at told file)) (sym has.2) ∙ take-append-drop (length bytes) (contents_at told file),
+    λ le. absurd (omega arith),
+  ),
+)
 
 -- a fault
 pub HasRead-fault : (most : ℕ) (start now next : Option Told) (file : ℕ) (bytes before after : List ℕ) (d : Failed) (e : InputError)
@@ -92,8 +99,11 @@ HasRead-fault most (Some told) (Some now) next file bytes before after d e has r
     let is : now ≡ record told { asked = has.0 } = same_told now (record told { asked = has.0 }) has.1 in
     elim reads [
       | inl same ↦ (has.0, same ∙ ap (λ (t : Told). Some t) is, tt)
-      | inr more ↦ ((after_asked now file (length before)).asked,
-          more ∙ ap (λ (t : Told). Some (record t { asked = (after_asked now file (length before)).asked })) is, tt)
+      | inr more ↦ (
+        (after_asked now file (length before)).asked,
+        more ∙ ap (λ (t : Told). Some (record t { asked = (after_asked now file (length before)).asked })) is,
+        tt,
+      )
     ]
 
 -- only what was asked for has changed

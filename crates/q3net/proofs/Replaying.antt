@@ -64,7 +64,7 @@ of_contents : (told now : Option Told) (name bytes printed : List ℕ) (ended : 
 of_contents None now name bytes printed ended reads replays = tt
 of_contents (Some told) now name bytes printed ended reads replays =
     subst (λ (found : Option (List ℕ)). ReplaysFile found ended printed) (sym reads.2.2)
-      (replays reads.2.1 (front_reads reads.2.1 bytes reads.2.3))
+    (replays reads.2.1 (front_reads reads.2.1 bytes reads.2.3))
 
 -- a bad script
 script_replays : (bytes contents : List ℕ) (e : ScriptError) → ReadsScript (Err e) (read_replay bytes) → read_replay bytes ≡ read_replay contents
@@ -76,7 +76,7 @@ pub script_ended : (told now : Option Told) (name bytes : List ℕ) (a : Option 
     → ReadsScript (Err e) (read_replay bytes) → ReplaysAdded told name a a (Err (script_fault e))
 script_ended told now name bytes a e reads says =
     nothing_added told name a (Err (script_fault e))
-      (of_contents told now name bytes [] (Err (script_fault e)) reads (λ contents same. script_replays bytes contents e says same))
+    (of_contents told now name bytes [] (Err (script_fault e)) reads (λ contents same. script_replays bytes contents e says same))
 
 -- the report of a script that spells events
 report_is : (contents bytes : List ℕ) (events : List Event) → read_replay bytes ≡ Ok events → read_replay bytes ≡ read_replay contents
@@ -92,9 +92,12 @@ step_replays contents printed rest step.WriteFault front = (rest, front)
 pub steps_ended : (told now : Option Told) (name bytes : List ℕ) (events : List Event) (a c : Option (List ℕ)) (e : StepError) → Reads longest_script name told now (Ok bytes)
     → read_replay bytes ≡ Ok events → Adds {T = Unit {0}} a c (lines_of opening events) (Err e) → ReplaysAdded told name a c (Err (step_fault e))
 steps_ended told now name bytes events None c e reads spells adds = adds
-steps_ended told now name bytes events (Some had) c e reads spells adds =
-    (adds.0, of_contents told now name bytes adds.0 (Err (step_fault e)) reads
-      (λ contents same. step_replays contents adds.0 adds.1.0 e (adds.1.1 ∙ report_is contents bytes events spells same)), adds.2)
+steps_ended told now name bytes events (Some had) c e reads spells adds = (
+  adds.0,
+  of_contents told now name bytes adds.0 (Err (step_fault e)) reads
+      (λ contents same. step_replays contents adds.0 adds.1.0 e (adds.1.1 ∙ report_is contents bytes events spells same)),
+  adds.2,
+)
 
 -- every step was done
 pub steps_done : (told now : Option Told) (name bytes : List ℕ) (events : List Event) (a c : Option (List ℕ)) → Reads longest_script name told now (Ok bytes)

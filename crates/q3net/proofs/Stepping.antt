@@ -38,13 +38,17 @@ Adds-then None None c xs ys r p q = q
 Adds-then None (Some m) c xs ys r p q = absurd cc
 Adds-then (Some had) None c xs ys r p q = absurd (let e = p.2 in cc)
 Adds-then (Some had) (Some m) c xs ys (Ok x) p q =
-    let m_is : m ≡ had ++ p.0 = some_is m (had ++ p.0) p.2 in
-    (p.0 ++ q.0, ap (λ (z : List ℕ). z ++ q.0) p.1 ∙ ap (λ (z : List ℕ). xs ++ z) q.1,
-      q.2 ∙ ap (λ (z : List ℕ). Some z) (ap (λ (z : List ℕ). z ++ q.0) m_is ∙ append_assoc had p.0 q.0))
+    let m_is : m ≡ had ++ p.0 = some_is m (had ++ p.0) p.2 in (
+      p.0 ++ q.0,
+      ap (λ (z : List ℕ). z ++ q.0) p.1 ∙ ap (λ (z : List ℕ). xs ++ z) q.1,
+      q.2 ∙ ap (λ (z : List ℕ). Some z) (ap (λ (z : List ℕ). z ++ q.0) m_is ∙ append_assoc had p.0 q.0),
+    )
 Adds-then (Some had) (Some m) c xs ys (Err e) p q =
-    let m_is : m ≡ had ++ p.0 = some_is m (had ++ p.0) p.2 in
-    (p.0 ++ q.0, (q.1.0, append_assoc p.0 q.0 q.1.0 ∙ (ap (λ (z : List ℕ). p.0 ++ z) q.1.1 ∙ ap (λ (z : List ℕ). z ++ ys) p.1)),
-      q.2 ∙ ap (λ (z : List ℕ). Some z) (ap (λ (z : List ℕ). z ++ q.0) m_is ∙ append_assoc had p.0 q.0))
+    let m_is : m ≡ had ++ p.0 = some_is m (had ++ p.0) p.2 in (
+      p.0 ++ q.0,
+      (q.1.0, append_assoc p.0 q.0 q.1.0 ∙ (ap (λ (z : List ℕ). p.0 ++ z) q.1.1 ∙ ap (λ (z : List ℕ). z ++ ys) p.1)),
+      q.2 ∙ ap (λ (z : List ℕ). Some z) (ap (λ (z : List ℕ). z ++ q.0) m_is ∙ append_assoc had p.0 q.0),
+    )
 
 Adds-early : (a c : Option (List ℕ)) (xs ys : List ℕ) (e : StepError) → Adds {T = Unit {0}} a c xs (Err e) → Adds {T = Unit {0}} a c (xs ++ ys) (Err e)
 Adds-early None c xs ys e p = p
@@ -60,7 +64,7 @@ abbrev pub HasStepped : Kept → Kept → Option (List ℕ) → Option (List ℕ
 HasStepped start now had written events k =
     (whole : Whole) → StandsFor plain_words start whole
     → (next : Whole) × StandsFor plain_words now next
-      × (done : List ℕ) × AddsAll had written done × (done ++ lines_of next (drop k events) ≡ lines_of whole events)
+    × (done : List ℕ) × AddsAll had written done × (done ++ lines_of next (drop k events) ≡ lines_of whole events)
 
 pub HasStepped-none : (start : Kept) (had : Option (List ℕ)) (events : List Event) → HasStepped start start had had events 0
 HasStepped-none start had events = λ whole stands. (whole, stands, [], Adds-none had, refl)
@@ -74,10 +78,14 @@ HasStepped-more start now after had written more events k d lt stepped stands li
     let was = stepped whole begun in
     let event = get_or events k d in
     let text = answer_text (step plain_words was.0 event).answer in
-    let next = (step plain_words was.0 event).whole in
-    (next, stands was.0 was.1, was.2 ++ text, Adds-then had written more was.2 text (Ok tt) was.3 (lines was.0 was.1),
+    let next = (step plain_words was.0 event).whole in (
+      next,
+      stands was.0 was.1,
+      was.2 ++ text,
+      Adds-then had written more was.2 text (Ok tt) was.3 (lines was.0 was.1),
       append_assoc was.2 text (lines_of next (drop (k + 1) events))
-      ∙ (ap (λ (z : List ℕ). was.2 ++ z) (sym (lines_of-next was.0 event (drop (k + 1) events)) ∙ ap (lines_of was.0) (sym (drop_more events k d lt))) ∙ was.4))
+          ∙ (ap (λ (z : List ℕ). was.2 ++ z) (sym (lines_of-next was.0 event (drop (k + 1) events)) ∙ ap (lines_of was.0) (sym (drop_more events k d lt))) ∙ was.4),
+    )
 
 -- the sink or memory failed at the k-th event
 pub HasStepped-early : (start now : Kept) (had written more : Option (List ℕ)) (events : List Event) (k : ℕ) (d : Event) (e : StepError) → k < length events
@@ -90,10 +98,10 @@ HasStepped-early start now had written more events k d e lt stepped lines whole 
     let text = answer_text (step plain_words was.0 event).answer in
     let others = lines_of (step plain_words was.0 event).whole (drop (k + 1) events) in
     let total : (was.2 ++ text) ++ others ≡ lines_of whole events =
-      append_assoc was.2 text others
-      ∙ (ap (λ (z : List ℕ). was.2 ++ z) (sym (lines_of-next was.0 event (drop (k + 1) events)) ∙ ap (lines_of was.0) (sym (drop_more events k d lt))) ∙ was.4) in
+    append_assoc was.2 text others
+    ∙ (ap (λ (z : List ℕ). was.2 ++ z) (sym (lines_of-next was.0 event (drop (k + 1) events)) ∙ ap (lines_of was.0) (sym (drop_more events k d lt))) ∙ was.4) in
     subst (λ (z : List ℕ). Adds {T = Unit {0}} had more z (Err e)) total
-      (Adds-early had more (was.2 ++ text) others e (Adds-then had written more was.2 text (Err e) was.3 (lines was.0 was.1)))
+    (Adds-early had more (was.2 ++ text) others e (Adds-then had written more was.2 text (Err e) was.3 (lines was.0 was.1)))
 
 -- every event was done
 pub HasStepped-all : (start now : Kept) (had written : Option (List ℕ)) (events : List Event) (k : ℕ) → length events ≤ k
@@ -102,5 +110,5 @@ pub HasStepped-all : (start now : Kept) (had written : Option (List ℕ)) (event
 HasStepped-all start now had written events k le stepped whole begun =
     let was = stepped whole begun in
     let total : was.2 ≡ lines_of whole events =
-      sym (append-nil was.2) ∙ (ap (λ (z : List ℕ). was.2 ++ z) (sym (lines_of-none was.0) ∙ ap (lines_of was.0) (sym (drop_all k events le))) ∙ was.4) in
+    sym (append-nil was.2) ∙ (ap (λ (z : List ℕ). was.2 ++ z) (sym (lines_of-none was.0) ∙ ap (lines_of was.0) (sym (drop_all k events le))) ∙ was.4) in
     subst (λ (z : List ℕ). AddsAll had written z) total was.3

@@ -27,19 +27,15 @@ use std::alloc::Global;
 /// A script's limit in bytes.
 const LONGEST_SCRIPT: usize = 67_108_864;
 
-const HELP: &[u8] = b"q3net replays schedules of Quake III's connected protocol 68\n\nq3net replay - SCRIPT    replays the schedule of the script, and prints its report\nq3net --help             prints this text\nq3net --version          prints the version\n";
+const HELP: &[u8] =
+    b"q3net replays schedules of Quake III's connected protocol 68\n\nq3net replay - SCRIPT    replays the schedule of the script, and prints its report\nq3net --help             prints this text\nq3net --version          prints the version\n";
 
 const VERSION: &[u8] = b"q3net 0.1.0\n";
 
 /// Runs the command that the words after the program's name are, and answers its status:
 /// 0 done, 1 no memory, 2 usage, 3 read fault, 4 write fault, 6 bad script.
 /// Want of memory may come at any point after usage, and no clause ties it to anything.
-pub fn run<F: Files, O: Sink>(
-    alloc: Global,
-    words: &[String],
-    files: &mut F,
-    out: &mut O,
-) -> u8
+pub fn run<F: Files, O: Sink>(alloc: Global, words: &[String], files: &mut F, out: &mut O) -> u8
     // Where 0 is answered, what was written is the report of the events that the script's bytes spell,
     // or the text that was asked for.
     ensures report { result ≡ 0 → WroteAll (command_of (map string_bytes words.now)) (F.told files.old) (O.written out.old) (O.written out.new) }
@@ -97,7 +93,7 @@ fn execute<F: Files, O: Sink>(
 }
 
 /// Prints the fault line of a run that ended early, and answers the status.
-fn end<O: Sink>(ended: Result<(), Fault>, out: &mut O) -> u8
+pub(crate) fn end<O: Sink>(ended: Result<(), Fault>, out: &mut O) -> u8
     ensures told { HasEndedTold ended (O.written out.old) (O.written out.new) result }
     ensures status { ((result ≡ ending_status ended) × (O.faults out.new ≡ O.faults out.old))
         ⊎ ((result ≡ 4) × (O.faults out.old ≤ O.faults out.new) × Rose (O.faults out.old) (O.faults out.new)) }

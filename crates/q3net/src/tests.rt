@@ -5,9 +5,11 @@ use q3_world::outside::{MemFiles, MemSink};
 use std::alloc::{AllocError, Global};
 use std::test::Fail;
 
-const FIRST: &[u8] = b"client 0 17 5000 1 10.0.0.1:27960\ntime 1000\nplayer 0 1:7\nserve 0\ndeliver 1\ndeliver 1\nshow 0\n";
+const FIRST: &[u8] =
+    b"client 0 17 5000 1 10.0.0.1:27960\ntime 1000\nplayer 0 1:7\nserve 0\ndeliver 1\ndeliver 1\nshow 0\n";
 
-const FIRST_REPORT: &[u8] = b"client 0 ok\ntime ok\nplayer 0 ok\nserve 0 snapshot 1 base 0 bytes 18 datagram 1\ndeliver 1 client 0 applied 1\n+ accepted 1 base 0\ndeliver 1 client 0 old\nshow 0 snapshot 1 time 1000 flags 0 area -\n+ player 1:7\n";
+const FIRST_REPORT: &[u8] =
+    b"client 0 ok\ntime ok\nplayer 0 ok\nserve 0 snapshot 1 base 0 bytes 18 datagram 1\ndeliver 1 client 0 applied 1\n+ accepted 1 base 0\ndeliver 1 client 0 old\nshow 0 snapshot 1 time 1000 flags 0 area -\n+ player 1:7\n";
 
 /// The words of a command line.
 fn words(alloc: Global, line: &str) -> Result<Vec<String>, AllocError> {
@@ -51,7 +53,15 @@ fn empty_script_prints_nothing(rt: HostRuntime) -> Result<(), Fail> {
 
 #[test]
 fn faulty_command_lines(rt: HostRuntime) -> Result<(), Fail> {
-    for line in ["", "make 0 1", "replay a", "replay p s", "replay - s s", "serve - s 1.2.3.4:5", "--helps"] {
+    for line in [
+        "",
+        "make 0 1",
+        "replay a",
+        "replay p s",
+        "replay - s s",
+        "serve - s 1.2.3.4:5",
+        "--helps",
+    ] {
         let (status, printed) = ran(&rt, rt.alloc(), line, FIRST, (&[], &[]))?;
         assert_eq!(rt; status, 2, "{line}");
         assert_eq!(rt; printed.as_slice(), b"usage\n".as_slice());
