@@ -8,6 +8,8 @@ mod message;
 pub mod outside;
 mod report;
 mod server;
+#[cfg(test)]
+mod tests;
 pub mod world;
 
 pub use answer::{Answer, ClientTook, Emitted, HandedIn, Illegible, NoClient, Shown, Snapshot};

@@ -33,13 +33,13 @@ pub struct HostFiles<R: std::rt::Files> {
 }
 
 impl<R: std::rt::Files> HostFiles<R> {
+    /// No file is open yet, and nothing failed.
     pub fn new(alloc: Global, rt: R) -> Result<HostFiles<R>, NoMemory>
     where
         R: Drop,
-        ensures rt { IfOk result (λ host. host.rt ≡ rt) }
-        ensures files { IfOk result (λ host. vec_len host.files ≡ 0) }
-        ensures faults { IfOk result (λ host. host.faults ≡ 0) }
-        ensures write_faults { IfOk result (λ host. host.write_faults ≡ 0) }
+        ensures faults { IfOk result (λ host. ⟦<HostFiles<R> as Files>⟧.faults host ≡ 0) }
+        ensures write_faults { IfOk result (λ host. ⟦<HostFiles<R> as Files>⟧.write_faults host ≡ 0) }
+        ensures given { IfOk result (λ host. ⟦<HostFiles<R> as Files>⟧.given host ≡ 0) }
     {
         Ok(HostFiles {
             files: Vec::with_capacity(alloc, MOST_FILES)?,

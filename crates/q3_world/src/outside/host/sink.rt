@@ -11,10 +11,10 @@ pub struct HostSink<R> {
     faults: u64,
 }
 
-impl<R> HostSink<R> {
+impl<R: Print> HostSink<R> {
+    /// Nothing was written yet, and nothing failed.
     pub fn new(rt: R) -> HostSink<R>
-        ensures rt { result.rt ≡ rt }
-        ensures faults { result.faults ≡ 0 }
+        ensures faults { ⟦<HostSink<R> as Sink>⟧.faults result ≡ 0 }
     {
         HostSink { rt, faults: 0 }
     }
