@@ -8,13 +8,13 @@ use Rattle.std.proofs.lemmas.List.{length-append, length-take-le, length-map, ta
 use Rattle.std.proofs.lemmas.List.FromFn.{length-map-range_with_len, get_or-map-range_with_len}
 use Rattle.std.proofs.Math.Seq.{take-append-add}
 use Rattle.std.proofs.lemmas.Nat.{pow-add, shr_high, shr_below, shl_whole, mod_low, mul-add-lt}
-use Rattle.std.proofs.Math.Nat.{mod-add-div, mod-eq_of_lt, pow-le-pow_right}
+use Rattle.std.proofs.Math.Nat.{mod-add-div, mod-eq_of_lt, pow-le-pow_right, pow-succ'}
 use Rattle.q3_bits.specs.Bits.{low_bits, number_of}
 use Rattle.q3_bits.specs.Words.{word_of, IsCode, plain_words, bytes_bits, field_bits, raw_at, behind, or_else, byte_from, bytes_at, field_at, field_read, IsCutShort}
 use Rattle.q3_bits.specs.declared.reader.ReadError.TheVariants.{End}
 use Rattle.q3_bits.specs.declared.code.Word.{Word}
 use Rattle.q3_bits.specs.Table.{bits_of_word, words_of, IsWord}
-use Rattle.q3_bits.proofs.Numbers.{number_of-mod, length-low_bits, number_of-lt, number_of-low_bits, low_bits-number_of, low_bits-mod, low_bits-add, low_bits-zero, pow_suc}
+use Rattle.q3_bits.proofs.Numbers.{number_of-mod, length-low_bits, number_of-lt, number_of-low_bits, low_bits-number_of, low_bits-mod, low_bits-add, low_bits-zero, low_bits-low, low_bits-number_of_more}
 
 -- ---- how the definitions go on
 
@@ -229,7 +229,7 @@ bytes_at_some words code (suc count) bits found e =
     let small : word.0 < 256 = omega (arith, word.1, code.count) in
     let low : found.0 % 256 ≡ word.0 = omega (arith, parts.0) in
     let high : found.0 / 256 ≡ others.0 = omega (arith, parts.0) in (
-      subst (λ (n : ℕ). found.0 < n) (sym (pow_suc 256 count)) (omega (arith, later.0, parts.0)),
+      subst (λ (n : ℕ). found.0 < n) (sym (pow-succ' 256 count)) (omega (arith, later.0, parts.0)),
       word.3 ∙ rw (bytes_bits-suc, low, high, append_assoc, ← parts.1, ← later.1) refl,
     )))
 
@@ -238,7 +238,7 @@ pub bytes_again : (words : List (List Bool)) (code : IsCode words) (count value 
 unfolding bytes_at
 bytes_again words code zero value rest lt = let none : value ≡ 0 = omega arith in rw (bytes_bits-zero, none) refl
 bytes_again words code (suc count) value rest lt =
-    let high : value / 256 < 256 ^ count = omega (arith, pow_suc 256 count) in
+    let high : value / 256 < 256 ^ count = omega (arith, pow-succ' 256 count) in
     let whole : value % 256 + 256 * (value / 256) ≡ value = omega arith in
     rw (bytes_bits-suc, append_assoc, byte_again words code (value % 256) (bytes_bits words count (value / 256) ++ rest) (omega arith), bytes_again words code count (value / 256) rest high, whole) refl
 
@@ -284,7 +284,7 @@ raw_at_enough count bits enough = rw (le-ltb _ _ enough) refl
 -- a byte has eight bits
 pow_bytes : (count : ℕ) → 2 ^ (8 * count) ≡ 256 ^ count
 pow_bytes zero = refl
-pow_bytes (suc count) = ap (λ (n : ℕ). 2 ^ n) (omega arith) ∙ pow-add 2 8 (8 * count) ∙ rw (pow_bytes count, pow_suc 256 count) refl
+pow_bytes (suc count) = ap (λ (n : ℕ). 2 ^ n) (omega arith) ∙ pow-add 2 8 (8 * count) ∙ rw (pow_bytes count, pow-succ' 256 count) refl
 
 -- a byte shifted behind the bytes below it
 pub byte_shifted : (number byte k : ℕ) → k < 4 → number < 256 ^ k → byte < 256
@@ -315,7 +315,7 @@ field_at_some words code width bits found e =
     let first = raw_at_some (width % 8) bits raw is-raw in
     let later = bytes_at_some words code (width / 8) raw.1 bytes is-bytes in
     let sum : found.0 ≡ bytes.0 * part + raw.0 = sym parts.0 ∙ grind arith in
-    let low : low_bits (width % 8) found.0 ≡ low_bits (width % 8) raw.0 = sym (low_bits-mod (width % 8) found.0) ∙ ap (λ (n : ℕ). low_bits (width % 8) (n % part)) sum ∙ ap (low_bits (width % 8)) (mod_low bytes.0 (width % 8) raw.0 first.0) in
+    let low : low_bits (width % 8) found.0 ≡ low_bits (width % 8) raw.0 = ap (low_bits (width % 8)) sum ∙ low_bits-low bytes.0 (width % 8) raw.0 first.0 in
     let high : found.0 / part ≡ bytes.0 = ap (λ (n : ℕ). n / part) sum ∙ shr_high bytes.0 (width % 8) raw.0 first.0 in (
       omega (arith, sum, pow_width width, mul-add-lt bytes.0 part raw.0 (256 ^ (width / 8)) later.0 first.0),
       first.1 ∙ rw (field_bits-is, low, high, append_assoc, ← parts.1, ← later.1) refl,
@@ -395,9 +395,7 @@ plain_field width value =
 plain_front : (width : ℕ) (bits : List Bool) → length bits ≤ width → bits ++ low_bits (width - length bits) 0 ≡ field_bits plain_words width (number_of bits)
 plain_front width bits few =
     let long : width ≡ length bits + (width - length bits) = omega arith in
-    let none : number_of bits / 2 ^ length bits ≡ 0 = ap (λ (n : ℕ). n / 2 ^ length bits) (omega arith) ∙ shr_high 0 (length bits) (number_of bits) (number_of-lt bits) in
-    sym (plain_field width (number_of bits) ∙ ap (λ (n : ℕ). low_bits n (number_of bits)) long ∙ low_bits-add (length bits) (width - length bits) (number_of bits)
-    ∙ rw (low_bits-number_of, none) refl)
+    sym (plain_field width (number_of bits) ∙ ap (λ (n : ℕ). low_bits n (number_of bits)) long ∙ low_bits-number_of_more bits (width - length bits))
 
 -- by the plain code a field is read wherever its bits are there
 plain_reads : (width : ℕ) (bits : List Bool) → width ≤ length bits → field_at plain_words width bits ≡ Some (number_of (take width bits), drop width bits)

@@ -3,7 +3,7 @@ use Rattle.std.proofs.Common.{◌≡◌, ℕ, zero, suc, ◌+◌, ◌-◌, ◌*�
 use Rattle.std.proofs.lemmas.Grind.{common_steps}
 use Rattle.std.proofs.lemmas.Nat.{pow_pos, or_shifted, or_comm, shl_whole}
 use Rattle.std.proofs.lemmas.Bool.{cases_lt, cases_eq}
-use Rattle.std.proofs.Math.Nat.{pow-suc}
+use Rattle.std.proofs.Math.Nat.{mod-eq_of_lt, pow-suc}
 use Rattle.std.proofs.lemmas.List.{append-nil, append_assoc, length-append, length-take-le, take-set, take_more_set, take_more, get_or-set_same, get_or-set_other, set-get_or}
 use Rattle.std.proofs.lemmas.List.Concat.{flat_map-append}
 use Rattle.std.proofs.lemmas.List.Elements.{recursion_from_All, All-take}
@@ -17,19 +17,8 @@ use Rattle.q3_bits.specs.Words.{bytes_bits, field_bits, word_of}
 use Rattle.q3_bits.specs.declared.code.Word.{Word}
 use Rattle.q3_bits.specs.declared.writer.Writer.TheInside.{Inside}
 use mir.Val.{bool_byte}
-use Rattle.q3_bits.proofs.MessageBytes.{length-low_bits, half_below, number_of-low_bits, message_bytes-byte, message_bytes-short}
-
--- bytes have eight bits each
-pub length-bits_of : (bytes : List ℕ) → length (bits_of bytes) ≡ 8 * length bytes
-unfolding bits_of
-length-bits_of [] = refl
-length-bits_of (byte ∷ bytes) =
-    omega (arith, length-append (low_bits 8 byte) (bits_of bytes), length-low_bits 8 byte, length-bits_of bytes)
-
--- the bits of joined bytes
-pub bits_of-append : (xs ys : List ℕ) → bits_of (xs ++ ys) ≡ bits_of xs ++ bits_of ys
-unfolding bits_of
-bits_of-append xs ys = flat_map-append (low_bits 8) xs ys
+use Rattle.q3_bits.proofs.Numbers.{low_bits-zero, low_bits-push, bits_of-push, length-low_bits, length-bits_of, number_of-low_bits}
+use Rattle.q3_bits.proofs.MessageBytes.{message_bytes-byte, message_bytes-short}
 
 -- so many bits lie in the bytes
 pub length-bits_within : (bytes : List ℕ) (count : ℕ) → count / 8 ≤ length bytes → length (bits_within bytes count) ≡ count
@@ -38,35 +27,9 @@ length-bits_within bytes count within =
     let last = get_or bytes (count / 8) 0 in
     omega (arith, length-append (bits_of whole) (low_bits (count % 8) last), length-bits_of whole, length-take-le (count / 8) bytes within, length-low_bits (count % 8) last)
 
--- a bit above the low bits of a number is one bit more
-pub low_bits-push : (count value : ℕ) (b : Bool) → value < 2 ^ count → low_bits (count + 1) (value + 2 ^ count * bit b) ≡ low_bits count value ++ b ∷ []
-unfolding low_bits
-low_bits-push zero value true fits =
-    let none : 0 ≡ value = omega arith in
-    subst (λ (v : ℕ). low_bits 1 (v + 1) ≡ true ∷ []) none refl
-low_bits-push zero value false fits =
-    let none : 0 ≡ value = omega arith in
-    subst (λ (v : ℕ). low_bits 1 (v + 0) ≡ false ∷ []) none refl
-low_bits-push (suc count) value b fits =
-    let next : suc count + 1 ≡ suc (count + 1) = omega arith in
-    let twice : 2 ^ suc count * bit b ≡ 2 * (2 ^ count * bit b) = rw (pow-suc 2 count) (omega arith) in
-    let lowest : (value + 2 ^ suc count * bit b) % 2 ≡ value % 2 = omega (arith, twice) in
-    let half : (value + 2 ^ suc count * bit b) / 2 ≡ value / 2 + 2 ^ count * bit b = omega (arith, twice) in
-    rw (next, lowest, half, low_bits-push count (value / 2) b (half_below count value fits))
-
 -- the bytes with one bit more behind so many
 abbrev pub with_bit : List ℕ → ℕ → Bool → List ℕ
 with_bit bytes count b = set bytes (count / 8) (get_or bytes (count / 8) 0 + 2 ^ (count % 8) * bit b)
-
--- no bits of a number
-pub low_bits-none : (value : ℕ) → low_bits 0 value ≡ []
-unfolding low_bits
-low_bits-none value = refl
-
--- a byte more is eight bits more
-pub bits_of-push : (bytes : List ℕ) (byte : ℕ) → bits_of (bytes ++ byte ∷ []) ≡ bits_of bytes ++ low_bits 8 byte
-unfolding bits_of
-bits_of-push bytes byte = rw (flat_map-append, append-nil (low_bits 8 byte))
 
 -- one bit more lies behind the others
 pub bits_within-push : (bytes : List ℕ) (count : ℕ) (b : Bool) → count / 8 < length bytes → get_or bytes (count / 8) 0 < 2 ^ (count % 8)
@@ -84,7 +47,7 @@ bits_within-push bytes count b within part =
           let none : (count + 1) % 8 ≡ 0 = omega arith in
           let seven : count % 8 ≡ 7 = omega arith in
           let part7 : get_or bytes (count / 8) 0 < 2 ^ 7 = rw seven at part in
-          rw (next, none, seven, take_more_set, low_bits-none, append-nil, bits_of-push)
+          rw (next, none, seven, take_more_set, low_bits-zero, append-nil, bits_of-push)
           (ap (λ (others : List Bool). bits_of (take i bytes) ++ others) (low_bits-push 7 last b part7) ∙ sym (append_assoc (bits_of (take i bytes)) (low_bits 7 last) (b ∷ [])))
     ]
 
@@ -160,7 +123,7 @@ message_bytes-bits : (whole : List ℕ) (count last : ℕ) → ByRecursion (λ (
     → message_bytes (bits_of whole ++ low_bits count last) ≡ whole ++ last ∷ []
 unfolding bits_of
 message_bytes-bits [] count last fits few small =
-    message_bytes-short (low_bits count last) (omega (arith, length-low_bits count last)) ∙ ap (λ (byte : ℕ). byte ∷ []) (number_of-low_bits count last small)
+    message_bytes-short (low_bits count last) (omega (arith, length-low_bits count last)) ∙ ap (λ (byte : ℕ). byte ∷ []) (number_of-low_bits count last ∙ mod-eq_of_lt small)
 message_bytes-bits (byte ∷ whole) count last fits few small =
     ap message_bytes (append_assoc (low_bits 8 byte) (bits_of whole) (low_bits count last))
     ∙ message_bytes-byte byte (bits_of whole ++ low_bits count last) fits.0
@@ -173,20 +136,6 @@ message_bytes-within bytes count fits within part =
     message_bytes-bits (take (count / 8) bytes) (count % 8) (get_or bytes (count / 8) 0)
     (recursion_from_All (λ (byte : ℕ). byte < 256) (take (count / 8) bytes) (All-take (λ (byte : ℕ). byte < 256) (count / 8) bytes fits)) (omega arith) part
     ∙ sym (take_more bytes (count / 8) 0 within)
-
--- what is left of the low bits, one bit on
-pub low_bits-next : (count k value : ℕ) → k < count → low_bits (count - k) value ≡ eqb (value % 2) 1 ∷ low_bits (count - (k + 1)) (value / 2)
-unfolding low_bits
-low_bits-next count k value more =
-    let next : count - k ≡ suc (count - (k + 1)) = omega arith in
-    rw next
-
--- nothing is left of the low bits at the end
-pub low_bits-end : (count k value : ℕ) → count ≤ k → low_bits (count - k) value ≡ []
-unfolding low_bits
-low_bits-end count k value past =
-    let none : count - k ≡ 0 = omega arith in
-    rw none
 
 -- what is left of the words of a number's bytes, one byte on
 pub bytes_bits-next : (words : List (List Bool)) (count k value : ℕ) → k < count
