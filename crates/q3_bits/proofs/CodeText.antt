@@ -14,7 +14,7 @@ use Rattle.q3_bits.specs.Words.{word_of, IsCode, plain_words, bytes_bits, field_
 use Rattle.q3_bits.specs.declared.reader.ReadError.TheVariants.{End}
 use Rattle.q3_bits.specs.declared.code.Word.{Word}
 use Rattle.q3_bits.specs.Table.{bits_of_word, words_of, IsWord}
-use Rattle.q3_bits.proofs.Numbers.{number_of-mod, length-low_bits, number_of-lt, number_of-low_bits, low_bits-number_of, low_bits-mod, low_bits-add, low_bits-zero, low_bits-low, low_bits-number_of_more}
+use Rattle.q3_bits.proofs.Numbers.{number_of-mod, length-low_bits, number_of-take_lt, number_of-low_bits, low_bits-number_of_take, low_bits-mod, low_bits-add, low_bits-zero, low_bits-low, low_bits-number_of_more}
 
 -- ---- how the definitions go on
 
@@ -75,8 +75,7 @@ behind_none word bits never = none_from (behind word bits) (λ rest e. never res
 -- a word of the low bits of a number begins the bits that spell the number
 pub behind-low_bits : (count number : ℕ) (bits : List Bool) → count ≤ length bits → number_of (take count bits) ≡ number → behind (low_bits count number) bits ≡ Some (drop count bits)
 behind-low_bits count number bits enough e =
-    let long : length (take count bits) ≡ count = length-take-le count bits enough in
-    let spelt : low_bits count number ≡ take count bits = rw (← e) (subst (λ (n : ℕ). low_bits n (number_of (take count bits)) ≡ take count bits) long (low_bits-number_of (take count bits))) in
+    let spelt : low_bits count number ≡ take count bits = rw (← e) (low_bits-number_of_take count bits enough) in
     rw spelt (ap (behind (take count bits)) (sym (take-append-drop count bits)) ∙ behind-append (take count bits) (drop count bits))
 
 -- and no others
@@ -257,9 +256,8 @@ raw_at_some count bits found e =
     let enough : count ≤ length bits = ltb-false _ _ guarded.0 in
     let number : number_of (take count bits) ≡ found.0 = ap (λ (p : ℕ × List Bool). p.0) guarded.1 in
     let rest : drop count bits ≡ found.1 = ap (λ (p : ℕ × List Bool). p.1) guarded.1 in
-    let long : length (take count bits) ≡ count = length-take-le count bits enough in
-    let spelt : low_bits count found.0 ≡ take count bits = rw (← number) (subst (λ (n : ℕ). low_bits n (number_of (take count bits)) ≡ take count bits) long (low_bits-number_of (take count bits))) in
-    (rw (← number) (subst (λ (n : ℕ). number_of (take count bits) < 2 ^ n) long (number_of-lt (take count bits))), rw (spelt, ← rest) (sym (take-append-drop count bits)))
+    let spelt : low_bits count found.0 ≡ take count bits = rw (← number) (low_bits-number_of_take count bits enough) in
+    (rw (← number) (number_of-take_lt count bits enough), rw (spelt, ← rest) (sym (take-append-drop count bits)))
 
 -- the low bits of a number are read again as its remainder
 pub raw_again : (count value : ℕ) (rest : List Bool) → raw_at count (low_bits count value ++ rest) ≡ Some (value % 2 ^ count, rest)
@@ -401,10 +399,9 @@ plain_front width bits few =
 plain_reads : (width : ℕ) (bits : List Bool) → width ≤ length bits → field_at plain_words width bits ≡ Some (number_of (take width bits), drop width bits)
 plain_reads width bits enough =
     let front = take width bits in
-    let long : length front ≡ width = length-take-le width bits enough in
-    let text : field_bits plain_words width (number_of front) ≡ front = plain_field width (number_of front) ∙ subst (λ (n : ℕ). low_bits n (number_of front) ≡ front) long (low_bits-number_of front) in
+    let text : field_bits plain_words width (number_of front) ≡ front = plain_field width (number_of front) ∙ low_bits-number_of_take width bits enough in
     let whole : field_bits plain_words width (number_of front) ++ drop width bits ≡ bits = rw text (take-append-drop width bits) in
-    ap (field_at plain_words width) (sym whole) ∙ field_again plain_words plain_is_code width (number_of front) (drop width bits) (subst (λ (n : ℕ). number_of front < 2 ^ n) long (number_of-lt front))
+    ap (field_at plain_words width) (sym whole) ∙ field_again plain_words plain_is_code width (number_of front) (drop width bits) (number_of-take_lt width bits enough)
 
 -- and where nothing is read the bits have ended
 pub plain_ends : (width : ℕ) (bits : List Bool) → field_at plain_words width bits ≡ None → IsCutShort plain_words width bits

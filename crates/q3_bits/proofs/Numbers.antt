@@ -2,7 +2,7 @@
 use Rattle.std.proofs.Common.{◌≡◌, ℕ, zero, suc, ◌+◌, ◌-◌, ◌*◌, ◌/◌, ◌%◌, ◌^◌, ◌<◌, ◌≤◌, Bool, true, false, eqb, List, [], ◌∷◌, ◌++◌, length, replicate, get_or, take, drop, refl, sym, ap, subst, ◌∙◌, add-one, arith, inl, inr}
 use Rattle.std.proofs.lemmas.Bool.{cases_lt, eq-eqb, ne_eqb}
 use Rattle.std.proofs.lemmas.Bool.Decides.{nat_tests}
-use Rattle.std.proofs.lemmas.List.{append-nil, length-append, length-drop, get_or-drop, get_or_append_left, get_or-append_right}
+use Rattle.std.proofs.lemmas.List.{append-nil, length-append, length-take-le, length-drop, get_or-drop, get_or_append_left, get_or-append_right}
 use Rattle.std.proofs.lemmas.List.Concat.{flat_map-cons, flat_map-append}
 use Rattle.std.proofs.lemmas.Nat.{pow_pos, shr-shr, shr_high, mod_below, mod_low, mod-pow-add}
 use Rattle.std.proofs.Math.Nat.{div-eq_of_lt, pow-succ'}
@@ -104,6 +104,10 @@ number_of-lt [] = rw number_of-nil (omega arith)
 number_of-lt (true ∷ bits) = rw number_of-cons (grind (arith, pow_more, number_of-lt bits))
 number_of-lt (false ∷ bits) = rw number_of-cons (grind (arith, pow_more, number_of-lt bits))
 
+-- so does a front of so many
+pub number_of-take_lt : (count : ℕ) (bits : List Bool) → count ≤ length bits → number_of (take count bits) < 2 ^ count
+number_of-take_lt count bits enough = subst (λ (n : ℕ). number_of (take count bits) < 2 ^ n) (length-take-le count bits enough) (number_of-lt (take count bits))
+
 -- the test of the lowest bit, as a number
 bit_eqb : (value : ℕ) → bit (eqb (value % 2) 1) ≡ value % 2
 bit_eqb value = grind (arith, nat_tests)
@@ -136,6 +140,10 @@ number_of-low_bits (suc count) value = rw (low_bits-suc, number_of-cons, bit_eqb
 pub low_bits-number_of : (bits : List Bool) → low_bits (length bits) (number_of bits) ≡ bits
 low_bits-number_of [] = rw low_bits-zero refl
 low_bits-number_of (b ∷ bits) = rw (low_bits-suc, number_of-cons, eqb_bit, half_bit, low_bits-number_of bits) refl
+
+-- the same of a front of bits
+pub low_bits-number_of_take : (count : ℕ) (bits : List Bool) → count ≤ length bits → low_bits count (number_of (take count bits)) ≡ take count bits
+low_bits-number_of_take count bits enough = subst (λ (n : ℕ). low_bits n (number_of (take count bits)) ≡ take count bits) (length-take-le count bits enough) (low_bits-number_of (take count bits))
 
 -- bits above those that are taken don't matter
 pub low_bits-mod : (count value : ℕ) → low_bits count (value % 2 ^ count) ≡ low_bits count value

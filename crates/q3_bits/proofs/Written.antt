@@ -18,6 +18,7 @@ use Rattle.q3_bits.specs.declared.code.Word.{Word}
 use Rattle.q3_bits.specs.declared.writer.Writer.TheInside.{Inside}
 use mir.Val.{bool_byte}
 use Rattle.q3_bits.proofs.Numbers.{low_bits-zero, low_bits-push, bits_of-push, length-low_bits, length-bits_of, number_of-low_bits}
+use Rattle.q3_bits.proofs.CodeText.{bytes_bits-zero, bytes_bits-suc, field_bits-is}
 use Rattle.q3_bits.proofs.MessageBytes.{message_bytes-byte, message_bytes-short}
 
 -- so many bits lie in the bytes
@@ -140,17 +141,13 @@ message_bytes-within bytes count fits within part =
 -- what is left of the words of a number's bytes, one byte on
 pub bytes_bits-next : (words : List (List Bool)) (count k value : ℕ) → k < count
     → bytes_bits words (count - k) value ≡ word_of words (value % 256) ++ bytes_bits words (count - (k + 1)) (value / 256)
-unfolding bytes_bits
 bytes_bits-next words count k value more =
-    let next : count - k ≡ suc (count - (k + 1)) = omega arith in
-    rw next
+    let next : count - k ≡ suc (count - (k + 1)) = omega arith in rw (next, bytes_bits-suc) refl
 
 -- nothing is left of the words at the end
 pub bytes_bits-end : (words : List (List Bool)) (count k value : ℕ) → count ≤ k → bytes_bits words (count - k) value ≡ []
-unfolding bytes_bits
 bytes_bits-end words count k value past =
-    let none : count - k ≡ 0 = omega arith in
-    rw none
+    let none : count - k ≡ 0 = omega arith in rw (none, bytes_bits-zero) refl
 
 -- the next byte's word, as a table has it
 pub bytes_bits-word : (words table : List (List Bool)) (count k value size : ℕ) (word : Word) → k < count → table ≡ words
@@ -200,12 +197,10 @@ HasWritten-all start now left whole h none =
 -- a field is as long as its raw bits and its words
 pub length-field_bits : (words : List (List Bool)) (width value : ℕ)
     → length (field_bits words width value) ≡ width % 8 + length (bytes_bits words (width / 8) (value / 2 ^ (width % 8)))
-unfolding field_bits
 length-field_bits words width value =
-    omega (arith, length-append (low_bits (width % 8) value) (bytes_bits words (width / 8) (value / 2 ^ (width % 8))), length-low_bits (width % 8) value)
+    rw field_bits-is (omega (arith, length-append (low_bits (width % 8) value) (bytes_bits words (width / 8) (value / 2 ^ (width % 8))), length-low_bits (width % 8) value))
 
 -- a field is its raw bits and then its words
 pub field_bits-behind : (bits : List Bool) (words : List (List Bool)) (width value : ℕ)
     → bits ++ low_bits (width % 8) value ++ bytes_bits words (width / 8) (value / 2 ^ (width % 8)) ≡ bits ++ field_bits words width value
-unfolding field_bits
-field_bits-behind bits words width value = append_assoc bits (low_bits (width % 8) value) (bytes_bits words (width / 8) (value / 2 ^ (width % 8)))
+field_bits-behind bits words width value = rw field_bits-is (append_assoc bits (low_bits (width % 8) value) (bytes_bits words (width / 8) (value / 2 ^ (width % 8))))
