@@ -1,12 +1,10 @@
 -- Laws of a message's bytes.
-use Rattle.std.proofs.Common.{◌≡◌, ℕ, zero, suc, ◌+◌, ◌-◌, ◌*◌, ◌/◌, ◌%◌, ◌^◌, ◌<◌, ◌≤◌, Bool, true, false, eqb, List, [], ◌∷◌, ◌++◌, length, replicate, get_or, sym, refl, ap, subst, ◌∙◌, arith, rules}
-use Rattle.std.proofs.lemmas.Grind.{common_steps}
-use Rattle.std.proofs.lemmas.Nat.{pow_pos}
+use Rattle.std.proofs.Common.{◌≡◌, ℕ, ◌+◌, ◌-◌, ◌*◌, ◌<◌, Bool, false, List, [], ◌∷◌, ◌++◌, length, replicate, refl, ap, subst, ◌∙◌, arith}
 use Rattle.std.proofs.Math.Nat.{mod-eq_of_lt}
-use Rattle.std.proofs.lemmas.List.{append-nil, append_assoc, length-append}
+use Rattle.std.proofs.lemmas.List.{append-nil}
 use Rattle.std.proofs.lemmas.List.Elements.{All-nil, All-cons}
-use Rattle.std.specs.List.{flat_map, All}
-use Rattle.q3_bits.specs.Bits.{bit, low_bits, number_of, bits_of, message_bytes, message_length}
+use Rattle.std.specs.List.{All}
+use Rattle.q3_bits.specs.Bits.{low_bits, number_of, bits_of, message_bytes, message_length}
 use Rattle.q3_bits.proofs.Numbers.{number_of-lt, number_of-low_bits, low_bits-of_zero, low_bits-number_of_more}
 
 -- the bits of a first byte are that byte

@@ -10,7 +10,5 @@ mod store;
 mod text;
 
 pub use files::MemFiles;
-pub use sink::{MemSink, NullSink};
-
-
 pub use q3_bits::NoMemory;
+pub use sink::{MemSink, NullSink};
