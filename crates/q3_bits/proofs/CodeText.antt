@@ -4,17 +4,17 @@ use Rattle.std.specs.Prelude.{option_and_then}
 use Rattle.std.proofs.lemmas.Bool.{cases_lt, ltb-false, le-ltb, lt-ltb}
 use Rattle.std.proofs.lemmas.Option.{none-some, some_pair_parts, option_and_then_some}
 use Rattle.std.proofs.lemmas.Grind.{pow_more}
-use Rattle.std.proofs.lemmas.List.{length-append, length-take-le, length-map, take-append-drop, take_at, drop_at, drop_all, drop_more, take-take, append-nil, nil_from_length, get_or-map}
+use Rattle.std.proofs.lemmas.List.{length-append, length-map, take-append-drop, take_at, drop_at, drop_all, drop_more, take-take, append-nil, nil_from_length, get_or-map}
 use Rattle.std.proofs.lemmas.List.FromFn.{length-map-range_with_len, get_or-map-range_with_len}
 use Rattle.std.proofs.Math.Seq.{take-append-add}
-use Rattle.std.proofs.lemmas.Nat.{pow-add, shr_high, shr_below, shl_whole, mod_low, mul-add-lt}
-use Rattle.std.proofs.Math.Nat.{mod-add-div, mod-eq_of_lt, pow-le-pow_right}
+use Rattle.std.proofs.lemmas.Nat.{pow-add, shr_high, shr_below, shl_whole, mul-add-lt}
+use Rattle.std.proofs.Math.Nat.{mod-add-div, mod-eq_of_lt, pow-le-pow_right, pow-succ'}
 use Rattle.q3_bits.specs.Bits.{low_bits, number_of}
 use Rattle.q3_bits.specs.Words.{word_of, IsCode, plain_words, bytes_bits, field_bits, raw_at, behind, or_else, byte_from, bytes_at, field_at, field_read, IsCutShort}
 use Rattle.q3_bits.specs.declared.reader.ReadError.TheVariants.{End}
 use Rattle.q3_bits.specs.declared.code.Word.{Word}
 use Rattle.q3_bits.specs.Table.{bits_of_word, words_of, IsWord}
-use Rattle.q3_bits.proofs.Numbers.{number_of-mod, length-low_bits, number_of-lt, number_of-low_bits, low_bits-number_of, low_bits-mod, low_bits-add, low_bits-zero, pow_suc}
+use Rattle.q3_bits.proofs.Numbers.{number_of-mod, length-low_bits, number_of-take_lt, number_of-low_bits, low_bits-number_of_take, low_bits-mod, low_bits-add, low_bits-zero, low_bits-low, low_bits-number_of_more}
 
 -- ---- how the definitions go on
 
@@ -75,8 +75,7 @@ behind_none word bits never = none_from (behind word bits) (λ rest e. never res
 -- a word of the low bits of a number begins the bits that spell the number
 pub behind-low_bits : (count number : ℕ) (bits : List Bool) → count ≤ length bits → number_of (take count bits) ≡ number → behind (low_bits count number) bits ≡ Some (drop count bits)
 behind-low_bits count number bits enough e =
-    let long : length (take count bits) ≡ count = length-take-le count bits enough in
-    let spelt : low_bits count number ≡ take count bits = rw (← e) (subst (λ (n : ℕ). low_bits n (number_of (take count bits)) ≡ take count bits) long (low_bits-number_of (take count bits))) in
+    let spelt : low_bits count number ≡ take count bits = rw (← e) (low_bits-number_of_take count bits enough) in
     rw spelt (ap (behind (take count bits)) (sym (take-append-drop count bits)) ∙ behind-append (take count bits) (drop count bits))
 
 -- and no others
@@ -229,7 +228,7 @@ bytes_at_some words code (suc count) bits found e =
     let small : word.0 < 256 = omega (arith, word.1, code.count) in
     let low : found.0 % 256 ≡ word.0 = omega (arith, parts.0) in
     let high : found.0 / 256 ≡ others.0 = omega (arith, parts.0) in (
-      subst (λ (n : ℕ). found.0 < n) (sym (pow_suc 256 count)) (omega (arith, later.0, parts.0)),
+      subst (λ (n : ℕ). found.0 < n) (sym (pow-succ' 256 count)) (omega (arith, later.0, parts.0)),
       word.3 ∙ rw (bytes_bits-suc, low, high, append_assoc, ← parts.1, ← later.1) refl,
     )))
 
@@ -238,7 +237,7 @@ pub bytes_again : (words : List (List Bool)) (code : IsCode words) (count value 
 unfolding bytes_at
 bytes_again words code zero value rest lt = let none : value ≡ 0 = omega arith in rw (bytes_bits-zero, none) refl
 bytes_again words code (suc count) value rest lt =
-    let high : value / 256 < 256 ^ count = omega (arith, pow_suc 256 count) in
+    let high : value / 256 < 256 ^ count = omega (arith, pow-succ' 256 count) in
     let whole : value % 256 + 256 * (value / 256) ≡ value = omega arith in
     rw (bytes_bits-suc, append_assoc, byte_again words code (value % 256) (bytes_bits words count (value / 256) ++ rest) (omega arith), bytes_again words code count (value / 256) rest high, whole) refl
 
@@ -257,9 +256,8 @@ raw_at_some count bits found e =
     let enough : count ≤ length bits = ltb-false _ _ guarded.0 in
     let number : number_of (take count bits) ≡ found.0 = ap (λ (p : ℕ × List Bool). p.0) guarded.1 in
     let rest : drop count bits ≡ found.1 = ap (λ (p : ℕ × List Bool). p.1) guarded.1 in
-    let long : length (take count bits) ≡ count = length-take-le count bits enough in
-    let spelt : low_bits count found.0 ≡ take count bits = rw (← number) (subst (λ (n : ℕ). low_bits n (number_of (take count bits)) ≡ take count bits) long (low_bits-number_of (take count bits))) in
-    (rw (← number) (subst (λ (n : ℕ). number_of (take count bits) < 2 ^ n) long (number_of-lt (take count bits))), rw (spelt, ← rest) (sym (take-append-drop count bits)))
+    let spelt : low_bits count found.0 ≡ take count bits = rw (← number) (low_bits-number_of_take count bits enough) in
+    (rw (← number) (number_of-take_lt count bits enough), rw (spelt, ← rest) (sym (take-append-drop count bits)))
 
 -- the low bits of a number are read again as its remainder
 pub raw_again : (count value : ℕ) (rest : List Bool) → raw_at count (low_bits count value ++ rest) ≡ Some (value % 2 ^ count, rest)
@@ -284,7 +282,7 @@ raw_at_enough count bits enough = rw (le-ltb _ _ enough) refl
 -- a byte has eight bits
 pow_bytes : (count : ℕ) → 2 ^ (8 * count) ≡ 256 ^ count
 pow_bytes zero = refl
-pow_bytes (suc count) = ap (λ (n : ℕ). 2 ^ n) (omega arith) ∙ pow-add 2 8 (8 * count) ∙ rw (pow_bytes count, pow_suc 256 count) refl
+pow_bytes (suc count) = ap (λ (n : ℕ). 2 ^ n) (omega arith) ∙ pow-add 2 8 (8 * count) ∙ rw (pow_bytes count, pow-succ' 256 count) refl
 
 -- a byte shifted behind the bytes below it
 pub byte_shifted : (number byte k : ℕ) → k < 4 → number < 256 ^ k → byte < 256
@@ -315,7 +313,7 @@ field_at_some words code width bits found e =
     let first = raw_at_some (width % 8) bits raw is-raw in
     let later = bytes_at_some words code (width / 8) raw.1 bytes is-bytes in
     let sum : found.0 ≡ bytes.0 * part + raw.0 = sym parts.0 ∙ grind arith in
-    let low : low_bits (width % 8) found.0 ≡ low_bits (width % 8) raw.0 = sym (low_bits-mod (width % 8) found.0) ∙ ap (λ (n : ℕ). low_bits (width % 8) (n % part)) sum ∙ ap (low_bits (width % 8)) (mod_low bytes.0 (width % 8) raw.0 first.0) in
+    let low : low_bits (width % 8) found.0 ≡ low_bits (width % 8) raw.0 = ap (low_bits (width % 8)) sum ∙ low_bits-low bytes.0 (width % 8) raw.0 first.0 in
     let high : found.0 / part ≡ bytes.0 = ap (λ (n : ℕ). n / part) sum ∙ shr_high bytes.0 (width % 8) raw.0 first.0 in (
       omega (arith, sum, pow_width width, mul-add-lt bytes.0 part raw.0 (256 ^ (width / 8)) later.0 first.0),
       first.1 ∙ rw (field_bits-is, low, high, append_assoc, ← parts.1, ← later.1) refl,
@@ -395,18 +393,15 @@ plain_field width value =
 plain_front : (width : ℕ) (bits : List Bool) → length bits ≤ width → bits ++ low_bits (width - length bits) 0 ≡ field_bits plain_words width (number_of bits)
 plain_front width bits few =
     let long : width ≡ length bits + (width - length bits) = omega arith in
-    let none : number_of bits / 2 ^ length bits ≡ 0 = ap (λ (n : ℕ). n / 2 ^ length bits) (omega arith) ∙ shr_high 0 (length bits) (number_of bits) (number_of-lt bits) in
-    sym (plain_field width (number_of bits) ∙ ap (λ (n : ℕ). low_bits n (number_of bits)) long ∙ low_bits-add (length bits) (width - length bits) (number_of bits)
-    ∙ rw (low_bits-number_of, none) refl)
+    sym (plain_field width (number_of bits) ∙ ap (λ (n : ℕ). low_bits n (number_of bits)) long ∙ low_bits-number_of_more bits (width - length bits))
 
 -- by the plain code a field is read wherever its bits are there
 plain_reads : (width : ℕ) (bits : List Bool) → width ≤ length bits → field_at plain_words width bits ≡ Some (number_of (take width bits), drop width bits)
 plain_reads width bits enough =
     let front = take width bits in
-    let long : length front ≡ width = length-take-le width bits enough in
-    let text : field_bits plain_words width (number_of front) ≡ front = plain_field width (number_of front) ∙ subst (λ (n : ℕ). low_bits n (number_of front) ≡ front) long (low_bits-number_of front) in
+    let text : field_bits plain_words width (number_of front) ≡ front = plain_field width (number_of front) ∙ low_bits-number_of_take width bits enough in
     let whole : field_bits plain_words width (number_of front) ++ drop width bits ≡ bits = rw text (take-append-drop width bits) in
-    ap (field_at plain_words width) (sym whole) ∙ field_again plain_words plain_is_code width (number_of front) (drop width bits) (subst (λ (n : ℕ). number_of front < 2 ^ n) long (number_of-lt front))
+    ap (field_at plain_words width) (sym whole) ∙ field_again plain_words plain_is_code width (number_of front) (drop width bits) (number_of-take_lt width bits enough)
 
 -- and where nothing is read the bits have ended
 pub plain_ends : (width : ℕ) (bits : List Bool) → field_at plain_words width bits ≡ None → IsCutShort plain_words width bits

@@ -1,10 +1,11 @@
 -- Numbers and their bits are one another's inverses, and the bits of bytes stand each at its place.
-use Rattle.std.proofs.Common.{◌≡◌, ℕ, zero, suc, ◌+◌, ◌-◌, ◌*◌, ◌/◌, ◌%◌, ◌^◌, ◌<◌, Bool, true, false, eqb, List, [], ◌∷◌, ◌++◌, length, get_or, take, drop, refl, sym, ap, subst, ◌∙◌, add-one, arith, inl, inr}
+use Rattle.std.proofs.Common.{◌≡◌, ℕ, zero, suc, ◌+◌, ◌-◌, ◌*◌, ◌/◌, ◌%◌, ◌^◌, ◌<◌, ◌≤◌, Bool, true, false, eqb, List, [], ◌∷◌, ◌++◌, length, replicate, get_or, take, drop, refl, sym, ap, subst, ◌∙◌, add-one, arith, inl, inr}
 use Rattle.std.proofs.lemmas.Bool.{cases_lt, eq-eqb, ne_eqb}
 use Rattle.std.proofs.lemmas.Bool.Decides.{nat_tests}
-use Rattle.std.proofs.lemmas.List.{length-append, length-drop, get_or-drop, get_or_append_left, get_or-append_right}
-use Rattle.std.proofs.lemmas.List.Concat.{flat_map-cons}
-use Rattle.std.proofs.lemmas.Nat.{pow_pos, shr-shr, mod_below, mod-pow-add}
+use Rattle.std.proofs.lemmas.List.{append-nil, length-append, length-take-le, length-drop, get_or-drop, get_or_append_left, get_or-append_right}
+use Rattle.std.proofs.lemmas.List.Concat.{flat_map-cons, flat_map-append}
+use Rattle.std.proofs.lemmas.Nat.{pow_pos, shr-shr, shr_high, mod_below, mod_low, mod-pow-add}
+use Rattle.std.proofs.Math.Nat.{div-eq_of_lt, pow-succ'}
 use Rattle.std.proofs.lemmas.Grind.{pow_more}
 use Rattle.q3_bits.specs.Bits.{bit, low_bits, number_of, bits_of}
 use Rattle.q3_bits.specs.Place.{bits_from}
@@ -17,11 +18,6 @@ unfolding low_bits
 low_bits-zero value = refl
 
 -- the lowest bit, and the others of the half
-pub low_bits-more : (count value : ℕ) → low_bits (count + 1) value ≡ eqb (value % 2) 1 ∷ low_bits count (value / 2)
-unfolding low_bits
-low_bits-more count value = rw add-one refl
-
--- the same at `suc`
 pub low_bits-suc : (count value : ℕ) → low_bits (suc count) value ≡ eqb (value % 2) 1 ∷ low_bits count (value / 2)
 unfolding low_bits
 low_bits-suc count value = refl
@@ -45,6 +41,19 @@ bits_of-nil = refl
 pub bits_of-cons : (byte : ℕ) (bytes : List ℕ) → bits_of (byte ∷ bytes) ≡ low_bits 8 byte ++ bits_of bytes
 unfolding bits_of
 bits_of-cons byte bytes = flat_map-cons (low_bits 8) byte bytes
+
+-- a byte more is eight bits more
+pub bits_of-push : (bytes : List ℕ) (byte : ℕ) → bits_of (bytes ++ byte ∷ []) ≡ bits_of bytes ++ low_bits 8 byte
+unfolding bits_of
+bits_of-push bytes byte = rw (flat_map-append, append-nil (low_bits 8 byte))
+
+-- what is left of the low bits, one bit on
+pub low_bits-next : (count k value : ℕ) → k < count → low_bits (count - k) value ≡ eqb (value % 2) 1 ∷ low_bits (count - (k + 1)) (value / 2)
+low_bits-next count k value more = let next : count - k ≡ suc (count - (k + 1)) = omega arith in rw (next, low_bits-suc) refl
+
+-- nothing is left of the low bits at the end
+pub low_bits-end : (count k value : ℕ) → count ≤ k → low_bits (count - k) value ≡ []
+low_bits-end count k value past = let none : count - k ≡ 0 = omega arith in rw (none, low_bits-zero) refl
 
 -- ---- lengths
 
@@ -95,6 +104,10 @@ number_of-lt [] = rw number_of-nil (omega arith)
 number_of-lt (true ∷ bits) = rw number_of-cons (grind (arith, pow_more, number_of-lt bits))
 number_of-lt (false ∷ bits) = rw number_of-cons (grind (arith, pow_more, number_of-lt bits))
 
+-- so does a front of so many
+pub number_of-take_lt : (count : ℕ) (bits : List Bool) → count ≤ length bits → number_of (take count bits) < 2 ^ count
+number_of-take_lt count bits enough = subst (λ (n : ℕ). number_of (take count bits) < 2 ^ n) (length-take-le count bits enough) (number_of-lt (take count bits))
+
 -- the test of the lowest bit, as a number
 bit_eqb : (value : ℕ) → bit (eqb (value % 2) 1) ≡ value % 2
 bit_eqb value = grind (arith, nat_tests)
@@ -118,10 +131,6 @@ low_bit false n = omega arith
 mod_suc : (value n : ℕ) → value % 2 ^ suc n ≡ value % 2 + 2 * (value / 2 % 2 ^ n)
 mod_suc value n = ap (λ (j : ℕ). value % 2 ^ j) (sym (add-one n)) ∙ mod-pow-add value n 1 ∙ omega arith
 
--- a power's next step
-pub pow_suc : (base n : ℕ) → base ^ suc n ≡ base * base ^ n
-pow_suc base n = ap (λ (j : ℕ). base ^ j) (sym (add-one n)) ∙ pow_more base n ∙ omega arith
-
 -- the low bits of a number spell its remainder
 pub number_of-low_bits : (count value : ℕ) → number_of (low_bits count value) ≡ value % 2 ^ count
 number_of-low_bits zero value = rw (low_bits-zero, number_of-nil) (omega arith)
@@ -132,14 +141,46 @@ pub low_bits-number_of : (bits : List Bool) → low_bits (length bits) (number_o
 low_bits-number_of [] = rw low_bits-zero refl
 low_bits-number_of (b ∷ bits) = rw (low_bits-suc, number_of-cons, eqb_bit, half_bit, low_bits-number_of bits) refl
 
+-- the same of a front of bits
+pub low_bits-number_of_take : (count : ℕ) (bits : List Bool) → count ≤ length bits → low_bits count (number_of (take count bits)) ≡ take count bits
+low_bits-number_of_take count bits enough = subst (λ (n : ℕ). low_bits n (number_of (take count bits)) ≡ take count bits) (length-take-le count bits enough) (low_bits-number_of (take count bits))
+
 -- bits above those that are taken don't matter
 pub low_bits-mod : (count value : ℕ) → low_bits count (value % 2 ^ count) ≡ low_bits count value
 low_bits-mod count value = sym (ap (low_bits count) (number_of-low_bits count value)) ∙ subst (λ (n : ℕ). low_bits n (number_of (low_bits count value)) ≡ low_bits count value) (length-low_bits count value) (low_bits-number_of (low_bits count value))
+
+-- the bits below a higher part of a number are those of the lower
+pub low_bits-low : (high count low : ℕ) → low < 2 ^ count → low_bits count (high * 2 ^ count + low) ≡ low_bits count low
+low_bits-low high count low fits = sym (low_bits-mod count (high * 2 ^ count + low)) ∙ ap (low_bits count) (mod_low high count low fits)
 
 -- the low bits of a number are its lowest and those of the rest
 pub low_bits-add : (m n value : ℕ) → low_bits (m + n) value ≡ low_bits m value ++ low_bits n (value / 2 ^ m)
 low_bits-add zero n value = rw (low_bits-zero value) (let same : value / 2 ^ 0 ≡ value = omega arith in let none : zero + n ≡ n = omega arith in rw (same, none) refl)
 low_bits-add (suc m) n value = let more : suc m + n ≡ suc (m + n) = omega arith in rw (more, low_bits-suc (m + n) value, low_bits-suc m value, low_bits-add m n (value / 2), halved value m) refl
+
+-- the bits of 0 are zeros
+pub low_bits-of_zero : (count : ℕ) → low_bits count 0 ≡ replicate count false
+low_bits-of_zero zero = rw low_bits-zero refl
+low_bits-of_zero (suc count) = rw (low_bits-suc, low_bits-of_zero count) refl
+
+-- the low bits of the number that bits spell are the bits, and then those of 0
+pub low_bits-number_of_more : (bits : List Bool) (more : ℕ) → low_bits (length bits + more) (number_of bits) ≡ bits ++ low_bits more 0
+low_bits-number_of_more bits more =
+    let none : number_of bits / 2 ^ length bits ≡ 0 = div-eq_of_lt (number_of-lt bits) in
+    low_bits-add (length bits) more (number_of bits) ∙ rw (low_bits-number_of, none) refl
+
+-- a bit as a number is that bit
+low_bits-bit : (b : Bool) → low_bits 1 (bit b) ≡ b ∷ []
+unfolding low_bits
+low_bits-bit true = refl
+low_bits-bit false = refl
+
+-- a bit above the low bits of a number is one bit more
+pub low_bits-push : (count value : ℕ) (b : Bool) → value < 2 ^ count → low_bits (count + 1) (value + 2 ^ count * bit b) ≡ low_bits count value ++ b ∷ []
+low_bits-push count value b fits =
+    let sum : value + 2 ^ count * bit b ≡ bit b * 2 ^ count + value = grind arith in
+    ap (low_bits (count + 1)) sum ∙ low_bits-add count 1 (bit b * 2 ^ count + value)
+    ∙ rw (low_bits-low (bit b) count value fits, shr_high (bit b) count value fits, low_bits-bit) refl
 
 -- one more of the bits that a number spells
 pub number_of-take_more : (bits : List Bool) (k : ℕ) → k < length bits → number_of (take (k + 1) bits) ≡ number_of (take k bits) + bit (get_or bits k false) * 2 ^ k
@@ -147,7 +188,7 @@ number_of-take_more [] k lt = absurd (omega arith)
 number_of-take_more (b ∷ bits) zero lt = rw (number_of-cons, number_of-nil) (omega arith)
 number_of-take_more (b ∷ bits) (suc k) lt =
     let more : suc k + 1 ≡ suc (k + 1) = omega arith in
-    rw (more, number_of-cons b (take (k + 1) bits), number_of-cons b (take k bits), number_of-take_more bits k (omega arith), pow_suc 2 k) (grind arith)
+    rw (more, number_of-cons b (take (k + 1) bits), number_of-cons b (take k bits), number_of-take_more bits k (omega arith), pow-succ' 2 k) (grind arith)
 
 -- the same behind a place
 pub number_of-take_more_from : (bits : List Bool) (place k : ℕ) → place + k < length bits → number_of (take (k + 1) (drop place bits)) ≡ number_of (take k (drop place bits)) + bit (get_or bits (place + k) false) * 2 ^ k

@@ -1,13 +1,11 @@
 -- Bits as they lie in a writer's bytes.
-use Rattle.std.proofs.Common.{◌≡◌, ℕ, zero, suc, ◌+◌, ◌-◌, ◌*◌, ◌/◌, ◌%◌, ◌^◌, ◌<◌, ◌≤◌, ◌≢◌, Bool, true, false, eqb, List, [], ◌∷◌, ◌++◌, length, replicate, get_or, set, take, sym, refl, ap, subst, ◌∙◌, inl, inr, arith, rules, add-one}
-use Rattle.std.proofs.lemmas.Grind.{common_steps}
-use Rattle.std.proofs.lemmas.Nat.{pow_pos, or_shifted, or_comm, shl_whole}
-use Rattle.std.proofs.lemmas.Bool.{cases_lt, cases_eq}
-use Rattle.std.proofs.Math.Nat.{pow-suc}
-use Rattle.std.proofs.lemmas.List.{append-nil, append_assoc, length-append, length-take-le, take-set, take_more_set, take_more, get_or-set_same, get_or-set_other, set-get_or}
-use Rattle.std.proofs.lemmas.List.Concat.{flat_map-append}
+use Rattle.std.proofs.Common.{◌≡◌, ℕ, suc, ◌+◌, ◌-◌, ◌*◌, ◌/◌, ◌%◌, ◌^◌, ◌<◌, ◌≤◌, ◌≢◌, Bool, true, false, List, [], ◌∷◌, ◌++◌, length, get_or, set, take, sym, refl, ap, ◌∙◌, inl, inr, arith}
+use Rattle.std.proofs.lemmas.Nat.{or_shifted, or_comm, shl_whole}
+use Rattle.std.proofs.lemmas.Bool.{cases_lt}
+use Rattle.std.proofs.Math.Nat.{mod-eq_of_lt, pow-suc}
+use Rattle.std.proofs.lemmas.List.{append-nil, append_assoc, length-append, length-take-le, take-set, take_more_set, take_more, get_or-set_same, get_or-set_other}
 use Rattle.std.proofs.lemmas.List.Elements.{recursion_from_All, All-take}
-use Rattle.std.specs.List.{flat_map, All, AllByRecursion as ByRecursion}
+use Rattle.std.specs.List.{All, AllByRecursion as ByRecursion}
 use Rattle.std.specs.Int.RustNames.{bit_or}
 use Rattle.q3_bits.specs.Bits.{bit, low_bits, bits_of, message_bytes}
 use Rattle.q3_bits.specs.Buffer.{bits_within, writing_of, IsWritten}
@@ -17,19 +15,9 @@ use Rattle.q3_bits.specs.Words.{bytes_bits, field_bits, word_of}
 use Rattle.q3_bits.specs.declared.code.Word.{Word}
 use Rattle.q3_bits.specs.declared.writer.Writer.TheInside.{Inside}
 use mir.Val.{bool_byte}
-use Rattle.q3_bits.proofs.MessageBytes.{length-low_bits, half_below, number_of-low_bits, message_bytes-byte, message_bytes-short}
-
--- bytes have eight bits each
-pub length-bits_of : (bytes : List ℕ) → length (bits_of bytes) ≡ 8 * length bytes
-unfolding bits_of
-length-bits_of [] = refl
-length-bits_of (byte ∷ bytes) =
-    omega (arith, length-append (low_bits 8 byte) (bits_of bytes), length-low_bits 8 byte, length-bits_of bytes)
-
--- the bits of joined bytes
-pub bits_of-append : (xs ys : List ℕ) → bits_of (xs ++ ys) ≡ bits_of xs ++ bits_of ys
-unfolding bits_of
-bits_of-append xs ys = flat_map-append (low_bits 8) xs ys
+use Rattle.q3_bits.proofs.Numbers.{low_bits-zero, low_bits-push, bits_of-push, length-low_bits, length-bits_of, number_of-low_bits}
+use Rattle.q3_bits.proofs.CodeText.{bytes_bits-zero, bytes_bits-suc, field_bits-is}
+use Rattle.q3_bits.proofs.MessageBytes.{message_bytes-byte, message_bytes-short}
 
 -- so many bits lie in the bytes
 pub length-bits_within : (bytes : List ℕ) (count : ℕ) → count / 8 ≤ length bytes → length (bits_within bytes count) ≡ count
@@ -38,35 +26,9 @@ length-bits_within bytes count within =
     let last = get_or bytes (count / 8) 0 in
     omega (arith, length-append (bits_of whole) (low_bits (count % 8) last), length-bits_of whole, length-take-le (count / 8) bytes within, length-low_bits (count % 8) last)
 
--- a bit above the low bits of a number is one bit more
-pub low_bits-push : (count value : ℕ) (b : Bool) → value < 2 ^ count → low_bits (count + 1) (value + 2 ^ count * bit b) ≡ low_bits count value ++ b ∷ []
-unfolding low_bits
-low_bits-push zero value true fits =
-    let none : 0 ≡ value = omega arith in
-    subst (λ (v : ℕ). low_bits 1 (v + 1) ≡ true ∷ []) none refl
-low_bits-push zero value false fits =
-    let none : 0 ≡ value = omega arith in
-    subst (λ (v : ℕ). low_bits 1 (v + 0) ≡ false ∷ []) none refl
-low_bits-push (suc count) value b fits =
-    let next : suc count + 1 ≡ suc (count + 1) = omega arith in
-    let twice : 2 ^ suc count * bit b ≡ 2 * (2 ^ count * bit b) = rw (pow-suc 2 count) (omega arith) in
-    let lowest : (value + 2 ^ suc count * bit b) % 2 ≡ value % 2 = omega (arith, twice) in
-    let half : (value + 2 ^ suc count * bit b) / 2 ≡ value / 2 + 2 ^ count * bit b = omega (arith, twice) in
-    rw (next, lowest, half, low_bits-push count (value / 2) b (half_below count value fits))
-
 -- the bytes with one bit more behind so many
 abbrev pub with_bit : List ℕ → ℕ → Bool → List ℕ
 with_bit bytes count b = set bytes (count / 8) (get_or bytes (count / 8) 0 + 2 ^ (count % 8) * bit b)
-
--- no bits of a number
-pub low_bits-none : (value : ℕ) → low_bits 0 value ≡ []
-unfolding low_bits
-low_bits-none value = refl
-
--- a byte more is eight bits more
-pub bits_of-push : (bytes : List ℕ) (byte : ℕ) → bits_of (bytes ++ byte ∷ []) ≡ bits_of bytes ++ low_bits 8 byte
-unfolding bits_of
-bits_of-push bytes byte = rw (flat_map-append, append-nil (low_bits 8 byte))
 
 -- one bit more lies behind the others
 pub bits_within-push : (bytes : List ℕ) (count : ℕ) (b : Bool) → count / 8 < length bytes → get_or bytes (count / 8) 0 < 2 ^ (count % 8)
@@ -84,7 +46,7 @@ bits_within-push bytes count b within part =
           let none : (count + 1) % 8 ≡ 0 = omega arith in
           let seven : count % 8 ≡ 7 = omega arith in
           let part7 : get_or bytes (count / 8) 0 < 2 ^ 7 = rw seven at part in
-          rw (next, none, seven, take_more_set, low_bits-none, append-nil, bits_of-push)
+          rw (next, none, seven, take_more_set, low_bits-zero, append-nil, bits_of-push)
           (ap (λ (others : List Bool). bits_of (take i bytes) ++ others) (low_bits-push 7 last b part7) ∙ sym (append_assoc (bits_of (take i bytes)) (low_bits 7 last) (b ∷ [])))
     ]
 
@@ -160,7 +122,7 @@ message_bytes-bits : (whole : List ℕ) (count last : ℕ) → ByRecursion (λ (
     → message_bytes (bits_of whole ++ low_bits count last) ≡ whole ++ last ∷ []
 unfolding bits_of
 message_bytes-bits [] count last fits few small =
-    message_bytes-short (low_bits count last) (omega (arith, length-low_bits count last)) ∙ ap (λ (byte : ℕ). byte ∷ []) (number_of-low_bits count last small)
+    message_bytes-short (low_bits count last) (omega (arith, length-low_bits count last)) ∙ ap (λ (byte : ℕ). byte ∷ []) (number_of-low_bits count last ∙ mod-eq_of_lt small)
 message_bytes-bits (byte ∷ whole) count last fits few small =
     ap message_bytes (append_assoc (low_bits 8 byte) (bits_of whole) (low_bits count last))
     ∙ message_bytes-byte byte (bits_of whole ++ low_bits count last) fits.0
@@ -174,34 +136,16 @@ message_bytes-within bytes count fits within part =
     (recursion_from_All (λ (byte : ℕ). byte < 256) (take (count / 8) bytes) (All-take (λ (byte : ℕ). byte < 256) (count / 8) bytes fits)) (omega arith) part
     ∙ sym (take_more bytes (count / 8) 0 within)
 
--- what is left of the low bits, one bit on
-pub low_bits-next : (count k value : ℕ) → k < count → low_bits (count - k) value ≡ eqb (value % 2) 1 ∷ low_bits (count - (k + 1)) (value / 2)
-unfolding low_bits
-low_bits-next count k value more =
-    let next : count - k ≡ suc (count - (k + 1)) = omega arith in
-    rw next
-
--- nothing is left of the low bits at the end
-pub low_bits-end : (count k value : ℕ) → count ≤ k → low_bits (count - k) value ≡ []
-unfolding low_bits
-low_bits-end count k value past =
-    let none : count - k ≡ 0 = omega arith in
-    rw none
-
 -- what is left of the words of a number's bytes, one byte on
 pub bytes_bits-next : (words : List (List Bool)) (count k value : ℕ) → k < count
     → bytes_bits words (count - k) value ≡ word_of words (value % 256) ++ bytes_bits words (count - (k + 1)) (value / 256)
-unfolding bytes_bits
 bytes_bits-next words count k value more =
-    let next : count - k ≡ suc (count - (k + 1)) = omega arith in
-    rw next
+    let next : count - k ≡ suc (count - (k + 1)) = omega arith in rw (next, bytes_bits-suc) refl
 
 -- nothing is left of the words at the end
 pub bytes_bits-end : (words : List (List Bool)) (count k value : ℕ) → count ≤ k → bytes_bits words (count - k) value ≡ []
-unfolding bytes_bits
 bytes_bits-end words count k value past =
-    let none : count - k ≡ 0 = omega arith in
-    rw none
+    let none : count - k ≡ 0 = omega arith in rw (none, bytes_bits-zero) refl
 
 -- the next byte's word, as a table has it
 pub bytes_bits-word : (words table : List (List Bool)) (count k value size : ℕ) (word : Word) → k < count → table ≡ words
@@ -251,12 +195,10 @@ HasWritten-all start now left whole h none =
 -- a field is as long as its raw bits and its words
 pub length-field_bits : (words : List (List Bool)) (width value : ℕ)
     → length (field_bits words width value) ≡ width % 8 + length (bytes_bits words (width / 8) (value / 2 ^ (width % 8)))
-unfolding field_bits
 length-field_bits words width value =
-    omega (arith, length-append (low_bits (width % 8) value) (bytes_bits words (width / 8) (value / 2 ^ (width % 8))), length-low_bits (width % 8) value)
+    rw field_bits-is (omega (arith, length-append (low_bits (width % 8) value) (bytes_bits words (width / 8) (value / 2 ^ (width % 8))), length-low_bits (width % 8) value))
 
 -- a field is its raw bits and then its words
 pub field_bits-behind : (bits : List Bool) (words : List (List Bool)) (width value : ℕ)
     → bits ++ low_bits (width % 8) value ++ bytes_bits words (width / 8) (value / 2 ^ (width % 8)) ≡ bits ++ field_bits words width value
-unfolding field_bits
-field_bits-behind bits words width value = append_assoc bits (low_bits (width % 8) value) (bytes_bits words (width / 8) (value / 2 ^ (width % 8)))
+field_bits-behind bits words width value = rw field_bits-is (append_assoc bits (low_bits (width % 8) value) (bytes_bits words (width / 8) (value / 2 ^ (width % 8))))

@@ -1,5 +1,5 @@
 -- How the bits of a message lie in a writer's bytes.
-use Rattle.std.specs.Prelude.{◌≡◌, ℕ, ◌+◌, ◌/◌, ◌%◌, ◌^◌, ◌<◌, ◌≤◌, Bool, List, ◌++◌, length, take, slice_index}
+use Rattle.std.specs.Prelude.{◌≡◌, ℕ, ◌/◌, ◌%◌, ◌^◌, ◌<◌, ◌≤◌, Bool, List, ◌++◌, take, slice_index}
 use Rattle.q3_bits.specs.declared.writer.Writer.TheInside.{Inside}
 use Rattle.q3_bits.specs.Bits.{low_bits, bits_of}
 use Rattle.q3_bits.specs.Streams.{Writing}

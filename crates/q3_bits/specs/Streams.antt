@@ -1,6 +1,5 @@
 -- What a writer and a reader of bits are to their callers.
 use Rattle.std.specs.Prelude.{◌≡◌, ℕ, Bool, List, ◌++◌, Result, Ok, Err}
-use Rattle.q3_bits.specs.declared.reader.ReadError.{ReadError}
 
 -- what was written so far, by which words, and how many bytes the message may have
 pub record Writing : Type 0 where

@@ -1,5 +1,5 @@
 -- What a reader has left of its bytes.
-use Rattle.std.specs.Prelude.{ℕ, ◌*◌, ◌^◌, ◌<◌, ◌≤◌, Bool, List, length, drop}
+use Rattle.std.specs.Prelude.{◌*◌, ◌^◌, ◌<◌, ◌≤◌, length}
 use Rattle.q3_bits.specs.declared.reader.Reader.TheInside.{Inside}
 use Rattle.q3_bits.specs.Place.{bits_from}
 use Rattle.q3_bits.specs.Streams.{Reading}

@@ -70,14 +70,19 @@ Adds-from_buffers r (Some had) (Some m) c w xs p q =
 pub word_text_some : (index word : ℕ) → (word ≡ 0 → ⊥) → word_text index word ≡ codes " " ++ decimal index ++ codes ":" ++ decimal word
 word_text_some index word some = cond-false (eqb word 0) [] (codes " " ++ decimal index ++ codes ":" ++ decimal word) (ne_eqb word 0 some)
 
+-- the words of joined lists
+pub words_text-append : (index : ℕ) (xs ys : List ℕ) → words_text index (xs ++ ys) ≡ words_text index xs ++ words_text (index + length xs) ys
+unfolding words_text
+words_text-append index [] ys = ap (λ i. words_text i ys) (omega arith)
+words_text-append index (x ∷ xs) ys =
+    ap (λ t. word_text index x ++ t) (words_text-append (index + 1) xs ys)
+    ∙ (sym (append_assoc (word_text index x) (words_text (index + 1) xs) (words_text (index + 1 + length xs) ys))
+    ∙ ap (λ i. (word_text index x ++ words_text (index + 1) xs) ++ words_text i ys) (omega arith))
+
 -- the words of a list with one more at its end
 pub words_text-push : (index : ℕ) (words : List ℕ) (word : ℕ) → words_text index (words ++ word ∷ []) ≡ words_text index words ++ word_text (index + length words) word
 unfolding words_text
-words_text-push index [] word = append-nil (word_text index word) ∙ ap (λ i. word_text i word) (omega arith)
-words_text-push index (x ∷ words) word =
-    ap (λ t. word_text index x ++ t) (words_text-push (index + 1) words word)
-    ∙ (sym (append_assoc (word_text index x) (words_text (index + 1) words) (word_text (index + 1 + length words) word))
-    ∙ ap (λ i. (word_text index x ++ words_text (index + 1) words) ++ word_text i word) (omega arith))
+words_text-push index words word = words_text-append index words (word ∷ []) ∙ ap (λ t. words_text index words ++ t) (append-nil (word_text (index + length words) word))
 
 -- the words before an index and the word there
 pub words_text-more : (words : List ℕ) (index word : ℕ) → index < length words → word ≡ get_or words index 0
@@ -87,17 +92,10 @@ words_text-more words index word within is =
     ∙ (ap (λ i. words_text 0 (take index words) ++ word_text i (get_or words index 0)) (omega (arith, length-take-le index words (omega arith)))
     ∙ ap (λ w. words_text 0 (take index words) ++ word_text index w) (sym is)))
 
+-- no words have no text
 pub words_text-nil : words_text 0 [] ≡ []
 unfolding words_text
 words_text-nil = refl
-
-pub words_text-append : (index : ℕ) (xs ys : List ℕ) → words_text index (xs ++ ys) ≡ words_text index xs ++ words_text (index + length xs) ys
-unfolding words_text
-words_text-append index [] ys = ap (λ i. words_text i ys) (omega arith)
-words_text-append index (x ∷ xs) ys =
-    ap (λ t. word_text index x ++ t) (words_text-append (index + 1) xs ys)
-    ∙ (sym (append_assoc (word_text index x) (words_text (index + 1) xs) (words_text (index + 1 + length xs) ys))
-    ∙ ap (λ i. (word_text index x ++ words_text (index + 1) xs) ++ words_text i ys) (omega arith))
 
 -- the words before an index, one more, and the others
 pub words_text-split : (words : List ℕ) (index word : ℕ) → index < length words → word ≡ get_or words index 0

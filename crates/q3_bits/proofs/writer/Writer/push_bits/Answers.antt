@@ -1,7 +1,7 @@
 use Rattle.std.proofs.Common.{◌≡◌, ◌-◌, ap, arith}
 use Rattle.q3_bits.specs.Bits.{low_bits}
-use Rattle.q3_bits.proofs.MessageBytes.{length-low_bits}
-use Rattle.q3_bits.proofs.Written.{low_bits-next, low_bits-end, HasWritten-none, HasWritten-length, HasWritten-more, HasWritten-all}
+use Rattle.q3_bits.proofs.Numbers.{length-low_bits, low_bits-next, low_bits-end}
+use Rattle.q3_bits.proofs.Written.{HasWritten-none, HasWritten-length, HasWritten-more, HasWritten-all}
 use Rattle.q3_bits.proofs.writer.Writer.push_bits.Goals as goal
 
 pub loop-init : goal.loop-init

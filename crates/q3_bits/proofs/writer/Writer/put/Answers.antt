@@ -2,7 +2,7 @@ use Rattle.std.proofs.Common.{◌+◌, ◌%◌, Bool, List, length, ap, refl, in
 use Rattle.std.proofs.lemmas.Bool.{false≢true, cases_lt}
 use Rattle.std.proofs.lemmas.List.{length-append}
 use Rattle.q3_bits.specs.Bits.{low_bits, message_length}
-use Rattle.q3_bits.proofs.MessageBytes.{length-low_bits}
+use Rattle.q3_bits.proofs.Numbers.{length-low_bits}
 use Rattle.q3_bits.proofs.Written.{length-field_bits, field_bits-behind}
 use Rattle.q3_bits.proofs.writer.Writer.put.Goals as goal
 

@@ -3,7 +3,7 @@ use Rattle.std.proofs.lemmas.List.{length-append}
 use Rattle.q3_bits.specs.Bits.{low_bits}
 use Rattle.q3_bits.specs.Streams.{Writing}
 use Rattle.q3_bits.specs.Words.{bytes_bits}
-use Rattle.q3_bits.proofs.MessageBytes.{length-low_bits}
+use Rattle.q3_bits.proofs.Numbers.{length-low_bits}
 use Rattle.q3_bits.proofs.Written.{bytes_bits-word, bytes_bits-end}
 use Rattle.q3_bits.proofs.writer.Writer.words_length.Goals as goal
 
