@@ -7,9 +7,6 @@ ghost use Rattle.q3_bits.specs.Words.{field_bits, bytes_bits};
 use crate::code::Code;
 use std::marker::Model;
 
-/// The longest message in bytes.
-pub const LONGEST: usize = 16_384;
-
 /// The field doesn't fit the room of the message.
 #[derive(Clone, Copy, Debug, PartialEq, Eq)]
 pub struct Overflow;

@@ -13,23 +13,10 @@ use Rattle.q3_player.specs.Laws as player
 use Rattle.q3_world.specs.declared.answer.Snapshot.{Snapshot}
 use Rattle.q3_world.specs.declared.answer.Illegible.{Illegible}
 use Rattle.q3_world.specs.declared.answer.Illegible.TheVariants.{Form}
-use Rattle.q3_world.specs.Message.{snapshot_byte, end_byte, end_of_entities, snapshot_bits, ◌>>=◌, form, fixed_at, snapshot_at, SpellsSnapshot}
+use Rattle.q3_world.specs.Message.{snapshot_byte, end_byte, end_of_entities, message_text, snapshot_bits, ◌>>=◌, form, fixed_at, snapshot_at, SpellsSnapshot}
 use Rattle.q3_world.specs.StandsFor.{IsPlain}
 use Rattle.q3_world.specs.Schedules.{BuiltIsRead, ReadIsSpelled, SpelledIsRead}
 use Rattle.q3_world.proofs.Invariants.{plain_zero}
-
--- the text of a message, around that of its player
-abbrev message_text : List (List Bool) → ℕ → Snapshot → List Bool → List Bool
-message_text words executed snapshot player =
-    field_bits words 32 executed
-    ++ field_bits words 8 snapshot_byte
-    ++ field_bits words 32 snapshot.time
-    ++ field_bits words 8 0
-    ++ field_bits words 8 snapshot.flags
-    ++ field_bits words 8 0
-    ++ player
-    ++ field_bits words 10 end_of_entities
-    ++ field_bits words 8 end_byte
 
 -- ---- what is put is read
 
@@ -55,25 +42,25 @@ message_is_read : PutIsRead → (words : List (List Bool)) → IsCode words → 
     → snapshot_at words number (message_text words executed snapshot player ++ rest) ≡ Ok (record snapshot { number = number })
 unfolding snapshot_at
 message_is_read law words code number executed snapshot player rest few time flags reads =
-    let r8 : List Bool = field_bits words 8 end_byte ++ rest in
-    let r7 : List Bool = field_bits words 10 end_of_entities ++ r8 in
-    let r6 : List Bool = player ++ r7 in
-    let r5 : List Bool = field_bits words 8 0 ++ r6 in
-    let r4 : List Bool = field_bits words 8 snapshot.flags ++ r5 in
-    let r3 : List Bool = field_bits words 8 0 ++ r4 in
-    let r2 : List Bool = field_bits words 32 snapshot.time ++ r3 in
-    let r1 : List Bool = field_bits words 8 snapshot_byte ++ r2 in
-    let regrouped : message_text words executed snapshot player ++ rest ≡ field_bits words 32 executed ++ r1 = simp append_assoc in
+    let rest_8 : List Bool = field_bits words 8 end_byte ++ rest in
+    let rest_7 : List Bool = field_bits words 10 end_of_entities ++ rest_8 in
+    let rest_6 : List Bool = player ++ rest_7 in
+    let rest_5 : List Bool = field_bits words 8 0 ++ rest_6 in
+    let rest_4 : List Bool = field_bits words 8 snapshot.flags ++ rest_5 in
+    let rest_3 : List Bool = field_bits words 8 0 ++ rest_4 in
+    let rest_2 : List Bool = field_bits words 32 snapshot.time ++ rest_3 in
+    let rest_1 : List Bool = field_bits words 8 snapshot_byte ++ rest_2 in
+    let regrouped : message_text words executed snapshot player ++ rest ≡ field_bits words 32 executed ++ rest_1 = simp append_assoc in
     rw (
       regrouped,
-      bits_are_read law words code 32 executed r1 few,
-      fixed_is_read law words code 8 snapshot_byte r2 (omega arith),
-      bits_are_read law words code 32 snapshot.time r3 time,
-      fixed_is_read law words code 8 0 r4 (omega arith),
-      bits_are_read law words code 8 snapshot.flags r5 flags,
-      fixed_is_read law words code 8 0 r6 (omega arith),
-      reads r7,
-      fixed_is_read law words code 10 end_of_entities r8 (omega arith),
+      bits_are_read law words code 32 executed rest_1 few,
+      fixed_is_read law words code 8 snapshot_byte rest_2 (omega arith),
+      bits_are_read law words code 32 snapshot.time rest_3 time,
+      fixed_is_read law words code 8 0 rest_4 (omega arith),
+      bits_are_read law words code 8 snapshot.flags rest_5 flags,
+      fixed_is_read law words code 8 0 rest_6 (omega arith),
+      reads rest_7,
+      fixed_is_read law words code 10 end_of_entities rest_8 (omega arith),
       fixed_is_read law words code 8 end_byte rest (omega arith),
     ) refl
 
@@ -202,39 +189,39 @@ read_is_spelled law spelled words number snapshot bits code e =
     let entities = bind_ok (fixed_at words 10 end_of_entities player.0.1) (at_end words number time.0.0 flags.0.0 player.0.0) snapshot player.2 in
     let made : Snapshot = record { number = number; time = time.0.0; flags = flags.0.0; player = player.0.0 } in
     let end = bind_ok (fixed_at words 8 end_byte entities.0) (λ end. Ok made) snapshot entities.2 in
-    let p1 = bits_were_put law words code 32 bits executed.0 executed.1 in
-    let p2 = fixed_was_put law words code 8 snapshot_byte executed.0.1 operation.0 operation.1 in
-    let p3 = bits_were_put law words code 32 operation.0 time.0 time.1 in
-    let p4 = fixed_was_put law words code 8 0 time.0.1 base.0 base.1 in
-    let p5 = bits_were_put law words code 8 base.0 flags.0 flags.1 in
-    let p6 = fixed_was_put law words code 8 0 flags.0.1 area.0 area.1 in
-    let p7 = spelled words zero_player player.0.0 area.0 player.0.1 code (form_ok (player_at words zero_player area.0) player.0 player.1) in
-    let p8 = fixed_was_put law words code 10 end_of_entities player.0.1 entities.0 entities.1 in
-    let p9 = fixed_was_put law words code 8 end_byte entities.0 end.0 end.1 in
-    let t1 : List Bool = field_bits words 32 executed.0.0 in
-    let t2 : List Bool = t1 ++ field_bits words 8 snapshot_byte in
-    let t3 : List Bool = t2 ++ field_bits words 32 time.0.0 in
-    let t4 : List Bool = t3 ++ field_bits words 8 0 in
-    let t5 : List Bool = t4 ++ field_bits words 8 flags.0.0 in
-    let t6 : List Bool = t5 ++ field_bits words 8 0 in
-    let t7 : List Bool = t6 ++ p7.0 in
-    let t8 : List Bool = t7 ++ field_bits words 10 end_of_entities in
-    let t9 : List Bool = t8 ++ field_bits words 8 end_byte in
-    let w2 = follows bits t1 executed.0.1 (field_bits words 8 snapshot_byte) operation.0 p1.1 p2 in
-    let w3 = follows bits t2 operation.0 (field_bits words 32 time.0.0) time.0.1 w2 p3.1 in
-    let w4 = follows bits t3 time.0.1 (field_bits words 8 0) base.0 w3 p4 in
-    let w5 = follows bits t4 base.0 (field_bits words 8 flags.0.0) flags.0.1 w4 p5.1 in
-    let w6 = follows bits t5 flags.0.1 (field_bits words 8 0) area.0 w5 p6 in
-    let w7 = follows bits t6 area.0 p7.0 player.0.1 w6 p7.1 in
-    let w8 = follows bits t7 player.0.1 (field_bits words 10 end_of_entities) entities.0 w7 p8 in
-    let w9 = follows bits t8 entities.0 (field_bits words 8 end_byte) end.0 w8 p9 in
+    let put_1 = bits_were_put law words code 32 bits executed.0 executed.1 in
+    let put_2 = fixed_was_put law words code 8 snapshot_byte executed.0.1 operation.0 operation.1 in
+    let put_3 = bits_were_put law words code 32 operation.0 time.0 time.1 in
+    let put_4 = fixed_was_put law words code 8 0 time.0.1 base.0 base.1 in
+    let put_5 = bits_were_put law words code 8 base.0 flags.0 flags.1 in
+    let put_6 = fixed_was_put law words code 8 0 flags.0.1 area.0 area.1 in
+    let put_7 = spelled words zero_player player.0.0 area.0 player.0.1 code (form_ok (player_at words zero_player area.0) player.0 player.1) in
+    let put_8 = fixed_was_put law words code 10 end_of_entities player.0.1 entities.0 entities.1 in
+    let put_9 = fixed_was_put law words code 8 end_byte entities.0 end.0 end.1 in
+    let text_1 : List Bool = field_bits words 32 executed.0.0 in
+    let text_2 : List Bool = text_1 ++ field_bits words 8 snapshot_byte in
+    let text_3 : List Bool = text_2 ++ field_bits words 32 time.0.0 in
+    let text_4 : List Bool = text_3 ++ field_bits words 8 0 in
+    let text_5 : List Bool = text_4 ++ field_bits words 8 flags.0.0 in
+    let text_6 : List Bool = text_5 ++ field_bits words 8 0 in
+    let text_7 : List Bool = text_6 ++ put_7.0 in
+    let text_8 : List Bool = text_7 ++ field_bits words 10 end_of_entities in
+    let text_9 : List Bool = text_8 ++ field_bits words 8 end_byte in
+    let whole_2 = follows bits text_1 executed.0.1 (field_bits words 8 snapshot_byte) operation.0 put_1.1 put_2 in
+    let whole_3 = follows bits text_2 operation.0 (field_bits words 32 time.0.0) time.0.1 whole_2 put_3.1 in
+    let whole_4 = follows bits text_3 time.0.1 (field_bits words 8 0) base.0 whole_3 put_4 in
+    let whole_5 = follows bits text_4 base.0 (field_bits words 8 flags.0.0) flags.0.1 whole_4 put_5.1 in
+    let whole_6 = follows bits text_5 flags.0.1 (field_bits words 8 0) area.0 whole_5 put_6 in
+    let whole_7 = follows bits text_6 area.0 put_7.0 player.0.1 whole_6 put_7.1 in
+    let whole_8 = follows bits text_7 player.0.1 (field_bits words 10 end_of_entities) entities.0 whole_7 put_8 in
+    let whole_9 = follows bits text_8 entities.0 (field_bits words 8 end_byte) end.0 whole_8 put_9 in
     let is : made ≡ snapshot = cc (end.2) in
-    let spells : SpellsSnapshot words made t9 = record {
+    let spells : SpellsSnapshot words made text_9 = record {
       executed = executed.0.0;
-      player = p7.0;
-      fits = (p1.0, p3.0, p5.0);
-      spelled = p7.2;
-      whole = refl {a = t9};
+      player = put_7.0;
+      fits = (put_1.0, put_3.0, put_5.0);
+      spelled = put_7.2;
+      whole = refl {a = text_9};
     } in
     subst (λ (s : Snapshot). (text : List Bool) × (rest : List Bool) × (bits ≡ text ++ rest) × (s.number ≡ number) × SpellsSnapshot words s text) is
-    (t9, end.0, w9, refl, spells)
+    (text_9, end.0, whole_9, refl, spells)

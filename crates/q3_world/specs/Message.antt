@@ -20,19 +20,23 @@ end_byte = 8
 abbrev pub end_of_entities : ℕ
 end_of_entities = 1023
 
--- the number of the last client command executed, of which there is none; the snapshot: time, base distance, flags,
--- length of the area, the player from zero, and no entities; and the end
-unfoldable pub snapshot_bits : List (List Bool) → Snapshot → List Bool
-snapshot_bits words snapshot =
-    field_bits words 32 0
+-- a message, around the text of its player: the number of the last client command executed; the snapshot's time,
+-- base distance, flags, length of the area, player, and no entities; and the end
+abbrev pub message_text : List (List Bool) → ℕ → Snapshot → List Bool → List Bool
+message_text words executed snapshot player =
+    field_bits words 32 executed
     ++ field_bits words 8 snapshot_byte
     ++ field_bits words 32 snapshot.time
     ++ field_bits words 8 0
     ++ field_bits words 8 snapshot.flags
     ++ field_bits words 8 0
-    ++ player_delta words zero_player snapshot.player
+    ++ player
     ++ field_bits words 10 end_of_entities
     ++ field_bits words 8 end_byte
+
+-- the message that is built: no client command was executed, and the player goes from zero
+unfoldable pub snapshot_bits : List (List Bool) → Snapshot → List Bool
+snapshot_bits words snapshot = message_text words 0 snapshot (player_delta words zero_player snapshot.player)
 
 -- a datagram: the message's number in four bytes, least first, and the message
 abbrev pub datagram_bytes : ℕ → List ℕ → List ℕ
@@ -74,13 +78,4 @@ pub record SpellsSnapshot (words : List (List Bool)) (snapshot : Snapshot) (text
   pub player : List Bool
   pub fits : (executed < 2 ^ 32) × (snapshot.time < 2 ^ 32) × (snapshot.flags < 2 ^ 8)
   pub spelled : SpellsPlayer words zero_player snapshot.player player
-  pub whole : text ≡
-      field_bits words 32 executed
-      ++ field_bits words 8 snapshot_byte
-      ++ field_bits words 32 snapshot.time
-      ++ field_bits words 8 0
-      ++ field_bits words 8 snapshot.flags
-      ++ field_bits words 8 0
-      ++ player
-      ++ field_bits words 10 end_of_entities
-      ++ field_bits words 8 end_byte
+  pub whole : text ≡ message_text words executed snapshot player

@@ -1,4 +1,5 @@
 //! A client's end: pure state, one call an event.
+//! Keeps the rule "when a message is old", with this project's own: an illegible message leaves its number untaken.
 
 ghost use Rattle.std.specs.Prelude.{◌≡◌, ◌<◌, ◌^◌, length};
 ghost use Rattle.q3_world.specs.Ends.{new_client, take_at};

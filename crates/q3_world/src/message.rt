@@ -1,4 +1,6 @@
 //! The one message of this stage: a whole snapshot, written and read.
+//! Keeps the rules "layout of a server message" and "snapshot section", which are the engine's `SV_SendClientSnapshot`
+//! and `CL_ParseServerMessage`.
 
 ghost use Rattle.std.specs.Prelude.{◌≡◌, ◌+◌, ◌^◌, ◌<◌, ◌≤◌, ◌++◌, ◌↔◌, length, Ok, Err, IsErr, OnOk, IfOk, MatchResult};
 ghost use Rattle.q3_bits.specs.Bits.{bits_of, message_length};

@@ -1,4 +1,4 @@
-//! Prints the lines of an answer, each in one write.
+//! Prints the lines of an answer, all in one write where they fit the line buffer.
 
 ghost use Rattle.std.specs.Prelude.{◌≡◌, [], ◌∷◌, codes, decimal};
 ghost use Rattle.q3_world.specs.Print.{joined};

@@ -1,4 +1,5 @@
 //! The server's end: pure state, one call an event.
+//! Keeps the rules "datagram" and "end of message numbers", the second of which is this project's own.
 
 ghost use Rattle.std.specs.Prelude.{◌≡◌, ◌<◌, ◌↔◌, ◌≤◌, [], Some, None, IsTrue, IsSome, IsOk, IsErr, IfOk, MatchOption, length, replicate};
 ghost use Rattle.q3_player.specs.State.{zero_player, SameArrays};

@@ -117,7 +117,7 @@ impl World {
         })
     }
 
-    /// Does one event, and prints its lines, each in one write.
+    /// Does one event, and prints its lines.
     /// `NoMemory` comes at `serve` alone, and the world is then as it was; nothing is printed.
     /// `WriteFault` comes where the sink failed; the world then has no promised state.
     pub fn step<F: Files, O: Sink>(
