@@ -1,8 +1,9 @@
 //! Code words: the bits that stand for each byte of a message. Keeps the rule "code words".
 
 ghost use Rattle.std.specs.Prelude.{◌≡◌, ◌≤◌, Bool, List, IfOk, IfSome, length, min, take};
+ghost use Rattle.std.specs.Option.{is_some};
 ghost use Rattle.q3_bits.specs.Bits.{number_of};
-ghost use Rattle.q3_bits.specs.Words.{plain_words, word_of, byte_from};
+ghost use Rattle.q3_bits.specs.Words.{plain_words, word_of, behind, byte_from, begins_word};
 
 use std::alloc::{AllocError, Global};
 use std::marker::Model;
@@ -15,6 +16,19 @@ pub type NoMemory = AllocError;
 pub struct Word {
     pub bits: u32,
     pub length: u8,
+}
+
+impl Word {
+    ghost use Rattle.q3_bits.specs.Table.{bits_of_word};
+
+    /// Whether these bits begin the word: `count` of them, of which `front` is the number that the first 24 spell.
+    fn starts_with(self, front: u32, count: usize) -> bool
+        requires { self.length ≤ 24 }
+        ensures { (bits : List Bool) → count ≡ length bits → front ≡ number_of (take 24 bits)
+            → result ≡ is_some (behind bits (bits_of_word self)) }
+    {
+        count <= usize::from(self.length) && self.bits % (1 << count) == front
+    }
 }
 
 /// A table of 256 code words, one for each byte. To a caller it is the list of the words.
@@ -56,6 +70,19 @@ impl Code {
         ensures word { IsWord result }
     {
         self.words[byte as usize]
+    }
+
+    /// Whether these bits begin a word: `count` of them, of which `front` is the number that the first 24 spell.
+    pub(crate) fn begins_with(&self, front: u32, count: usize) -> bool
+        ensures { (bits : List Bool) → count ≡ length bits → front ≡ number_of (take 24 bits)
+            → result ≡ begins_word self.now bits }
+    {
+        for word in self.words.iter() {
+            if word.starts_with(front, count) {
+                return true;
+            }
+        }
+        false
     }
 
     /// The first byte whose word begins the bits to be read, and the word's length.
