@@ -1,5 +1,5 @@
 -- Why no word and no field is read.
-use Rattle.std.proofs.Common.{◌≡◌, ◌↔◌, ℕ, zero, suc, ◌+◌, ◌-◌, ◌*◌, ◌/◌, ◌%◌, ◌^◌, ◌<◌, ◌≤◌, Bool, true, false, cond, eqb, List, [], ◌∷◌, ◌++◌, length, get_or, take, drop, Option, Some, None, refl, sym, ap, subst, ◌∙◌, append_assoc, arith, inl, inr}
+use Rattle.std.proofs.Common.{◌≡◌, ◌↔◌, ℕ, zero, suc, ◌+◌, ◌-◌, ◌*◌, ◌/◌, ◌%◌, ◌^◌, ◌<◌, ◌≤◌, Bool, true, false, cond, eqb, List, [], ◌∷◌, ◌++◌, length, get_or, take, drop, min, Option, Some, None, refl, sym, ap, subst, ◌∙◌, append_assoc, add-one, arith, inl, inr}
 use Rattle.std.specs.List.{list_any, All}
 use Rattle.std.specs.Option.{is_some}
 use Rattle.std.specs.Prelude.{option_and_then}
@@ -240,3 +240,41 @@ starts_with-test word count front bits short within is spells =
 -- and is no longer than the bits
 pub starts_with-long : (word : Word) (bits : List Bool) → word.length < length bits → is_some (behind bits (bits_of_word word)) ≡ false
 starts_with-long word bits few = ap is_some (behind-short bits (bits_of_word word) (omega (arith, length-low_bits word.length word.bits)))
+
+-- the words from a place on
+words_from : (words : List Word) (i : ℕ) (d : Word) → i < length words → drop i (words_of words) ≡ bits_of_word (get_or words i d) ∷ drop (i + 1) (words_of words)
+words_from words i d lt = drop_more (words_of words) i [] (omega (arith, length-map words bits_of_word)) ∙ rw (get_or-map bits_of_word words i d [] lt) refl
+
+-- the word at a place goes on from the bits
+pub begins_hit : (words : List Word) (i : ℕ) (bits : List Bool) (d : Word) → i < length words → true ≡ is_some (behind bits (bits_of_word (get_or words i d))) → begins_word (drop i (words_of words)) bits ≡ true
+unfolding begins_word
+begins_hit words i bits d lt hit = rw (words_from words i d lt, ← hit) refl
+
+-- or a later one
+pub begins_miss : (words : List Word) (i : ℕ) (bits : List Bool) (d : Word) → i < length words → false ≡ is_some (behind bits (bits_of_word (get_or words i d))) → begins_word (drop i (words_of words)) bits ≡ begins_word (drop (i + 1) (words_of words)) bits
+unfolding begins_word
+begins_miss words i bits d lt miss = rw (words_from words i d lt, ← miss) refl
+
+-- or none
+pub begins_none : (words : List Word) (i : ℕ) (bits : List Bool) → length words ≤ i → begins_word (drop i (words_of words)) bits ≡ false
+unfolding begins_word
+begins_none words i bits past = rw (drop_all i (words_of words) (omega (arith, length-map words bits_of_word))) refl
+
+-- ---- the loop over the bytes of a field
+
+-- one byte more was read
+pub bytes_cause-more : (words : List (List Bool)) (count left : ℕ) (bits : List Bool) (found : ℕ × List Bool) → count ≡ left + 1 → byte_from 0 words bits ≡ Some found → bytes_cause words count bits ≡ bytes_cause words left found.1
+bytes_cause-more words count left bits found e first = rw (e, add-one, bytes_cause-suc, first) refl
+
+-- no byte is there
+pub bytes_cause-stop : (words : List (List Bool)) (count : ℕ) (bits : List Bool) → 0 < count → byte_from 0 words bits ≡ None → bytes_cause words count bits ≡ word_cause words bits
+bytes_cause-stop words zero bits some e = absurd (omega arith)
+bytes_cause-stop words (suc count) bits some e = rw (bytes_cause-suc, e) refl
+
+-- the first bits, 24 or all where fewer are left, are the first 24
+pub front_of_window : (count : ℕ) (bits : List Bool) → count ≡ min (length bits) 24 → number_of (take count bits) ≡ number_of (take 24 bits)
+front_of_window count bits e =
+    elim (cases_lt (length bits) 24) [
+      | inl few ↦ ap number_of (take_all count bits (omega arith) ∙ sym (take_all 24 bits (omega arith)))
+      | inr many ↦ let all : count ≡ 24 = omega arith in rw all refl
+    ]

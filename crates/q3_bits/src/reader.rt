@@ -126,6 +126,7 @@ fn byte_at(code: &Code, bytes: &[u8], place: usize) -> Option<(u8, usize)>
     requires small { length bytes.now < 2 ^ 60 }
     ensures byte { placed bytes.now result ≡ byte_from 0 code.now (bits_from bytes.now place) }
     ensures within { IfSome result (λ found. found.1 ≤ 8 * length bytes.now) }
+    ensures small { IfSome result (λ found. found.0 < 256) }
 {
     let count = (8 * bytes.len() - place).min(24) as u32;
     let (byte, length) = code.find(window(bytes, place, count), count)?;
