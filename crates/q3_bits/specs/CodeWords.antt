@@ -1,10 +1,14 @@
 -- A code whose words are given as text: a letter for each bit, first bit first.
-use Rattle.std.specs.Prelude.{ℕ, ◌+◌, ◌==◌, ◌<◌, nat_lt, ◌||◌, ◌&&◌, not, if◌then◌else◌, Bool, List, [], ◌∷◌, length, map, Option, Some, None}
+use Rattle.std.specs.Prelude.{ℕ, ◌+◌, ◌==◌, ◌<◌, nat_lt, ◌||◌, ◌&&◌, not, if◌then◌else◌, Bool, Bor, List, [], ◌∷◌, length, map, Option, Some, None}
 use Rattle.std.specs.List.{range_with_len, flat_map, list_all, find}
 use Rattle.std.specs.Option.{is_some, option_or, option_map}
-use Rattle.q3_bits.specs.declared.code.CodeError.{CodeError}
-use Rattle.q3_bits.specs.declared.code.CodeError.TheVariants.{Count, Empty, Long, NotBits, Clash}
+use Rattle.q3_bits.specs.declared.words.CodeError.{CodeError}
+use Rattle.q3_bits.specs.declared.words.CodeError.TheVariants.{Count, Empty, Long, NotBits, Clash}
 use Rattle.q3_bits.specs.Words.{word_of, behind}
+
+-- the texts that are lent
+abbrev pub texts_of : List (Bor (List ℕ)) → List (List ℕ)
+texts_of texts = map (λ text. text.now) texts
 
 -- a letter that is a bit: `0` or `1`
 abbrev pub is_bit : ℕ → Bool

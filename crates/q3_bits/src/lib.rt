@@ -4,10 +4,12 @@
 pub mod code;
 pub mod laws;
 pub mod reader;
+pub mod words;
 pub mod writer;
 
 pub use code::{Code, NoMemory};
 pub use reader::{ReadError, Reader};
+pub use words::CodeError;
 pub use writer::{Overflow, Writer};
 
 #[cfg(test)]
