@@ -2,8 +2,10 @@
 use Rattle.std.proofs.Common.{◌≡◌, ℕ, zero, suc, ◌+◌, ◌-◌, ◌*◌, ◌^◌, ◌<◌, ◌≤◌, Bool, true, false, cond, eqb, List, [], ◌∷◌, ◌++◌, length, map, get_or, take, drop, Option, Some, None, refl, sym, ap, subst, ◌∙◌, add-one, arith, inl, inr}
 use Rattle.std.specs.List.{range_with_len, flat_map, find}
 use Rattle.std.specs.Option.{is_some, option_or, option_map}
-use Rattle.std.proofs.lemmas.Bool.{cases_Bool, eq-eqb, ne_eqb}
-use Rattle.std.proofs.lemmas.List.{length-map, get_or-map, take_all}
+use Rattle.std.specs.Borrow.{Bor}
+use Rattle.std.proofs.lemmas.Bool.{cases_Bool, cases_eq, false≢true, eq-eqb, ne_eqb}
+use Rattle.std.proofs.lemmas.Option.{none-some}
+use Rattle.std.proofs.lemmas.List.{length-map, get_or-map, take_all, drop_more, drop_all, take_more, map_push}
 use Rattle.std.proofs.lemmas.List.Concat.{flat_map-cons}
 use Rattle.std.proofs.lemmas.List.Folds.{find-append}
 use Rattle.std.proofs.Math.Nat.{mod-eq_of_lt}
@@ -11,7 +13,9 @@ use Rattle.q3_bits.specs.Bits.{bit, low_bits, number_of}
 use Rattle.q3_bits.specs.declared.code.Word.{Word}
 use Rattle.q3_bits.specs.Words.{word_of, behind, IsCode}
 use Rattle.q3_bits.specs.Table.{bits_of_word, words_of, IsWord}
-use Rattle.q3_bits.specs.CodeWords.{bits_of_text, pairs, clashes, first_clash}
+use Rattle.q3_bits.specs.CodeWords.{texts_of, bits_of_text, word_fault, words_fault, pairs, clashes, first_clash}
+use Rattle.q3_bits.specs.declared.words.CodeError.{CodeError}
+use Rattle.q3_bits.proofs.CodeText.{behind-append}
 use Rattle.q3_bits.proofs.Numbers.{number_of-take_more, low_bits-number_of, length-low_bits, number_of-low_bits}
 
 -- ---- the bits of a text
@@ -127,3 +131,76 @@ clashes-test words i j d b lt lt' other e =
 pub clashes-self : (words : List (List Bool)) (i j : ℕ) → i ≡ j → clashes words (i, j) ≡ false
 unfolding clashes
 clashes-self words i j e = rw (eq-eqb i j e) refl
+
+-- ---- the texts of all words
+
+-- the first of the texts left, and the others
+pub texts_more : (texts : List (Bor (List ℕ))) (i : ℕ) (d : Bor (List ℕ)) → i < length texts → drop i (texts_of texts) ≡ (get_or texts i d).now ∷ drop (i + 1) (texts_of texts)
+texts_more texts i d lt =
+    drop_more (texts_of texts) i [] (omega (arith, length-map texts (λ (text : Bor (List ℕ)). text.now))) ∙ rw (get_or-map (λ (text : Bor (List ℕ)). text.now) texts i d [] lt) refl
+
+-- that text is not at fault
+pub words_fault-more : (texts : List (Bor (List ℕ))) (i : ℕ) (d : Bor (List ℕ)) → i < length texts → word_fault i (get_or texts i d).now ≡ None → words_fault i (drop i (texts_of texts)) ≡ words_fault (i + 1) (drop (i + 1) (texts_of texts))
+unfolding words_fault
+words_fault-more texts i d lt none = rw (texts_more texts i d lt, none) refl
+
+-- or it is
+pub words_fault-stop : (texts : List (Bor (List ℕ))) (i : ℕ) (d : Bor (List ℕ)) (e : CodeError) → i < length texts → word_fault i (get_or texts i d).now ≡ Some e → words_fault i (drop i (texts_of texts)) ≡ Some e
+unfolding words_fault
+words_fault-stop texts i d e lt is = rw (texts_more texts i d lt, is) refl
+
+-- or no text is left
+pub words_fault-end : (texts : List (Bor (List ℕ))) (i : ℕ) → length texts ≤ i → words_fault i (drop i (texts_of texts)) ≡ None
+unfolding words_fault
+words_fault-end texts i past = rw (drop_all i (texts_of texts) (omega (arith, length-map texts (λ (text : Bor (List ℕ)). text.now)))) refl
+
+-- the word of one text more
+pub words-push : (words : List Word) (word : Word) (texts : List (Bor (List ℕ))) (i : ℕ) (d : Bor (List ℕ)) → i < length texts → words_of words ≡ map bits_of_text (take i (texts_of texts)) → bits_of_word word ≡ bits_of_text (get_or texts i d).now
+    → words_of (words ++ word ∷ []) ≡ map bits_of_text (take (i + 1) (texts_of texts))
+words-push words word texts i d lt e is =
+    let more : take (i + 1) (texts_of texts) ≡ take i (texts_of texts) ++ (get_or texts i d).now ∷ [] = take_more (texts_of texts) i [] (omega (arith, length-map texts (λ (text : Bor (List ℕ)). text.now))) ∙ rw (get_or-map (λ (text : Bor (List ℕ)). text.now) texts i d [] lt) refl in
+    map_push bits_of_word words word ∙ rw (e, is, more, map_push) refl
+
+-- ---- a code
+
+-- where a search finds nothing, no place passes
+find_none : (p : ℕ → Bool) (a count j : ℕ) → find p (range_with_len a count) ≡ None → a ≤ j → j < a + count → p j ≡ false
+find_none p a zero j none low high = absurd (omega arith)
+find_none p a (suc count) j none low high =
+    elim (cases_Bool (p a)) [
+      | inl passes ↦ absurd (none-some a (sym none ∙ rw passes refl))
+      | inr fails ↦ elim (cases_eq j a) [
+        | inl here ↦ ap p here ∙ fails
+        | inr later ↦ find_none p (a + 1) count j (sym (rw fails refl) ∙ none) (omega arith) (omega arith)
+      ]
+    ]
+
+-- nor any row
+row_none : (p : ℕ × ℕ → Bool) (count i k : ℕ) (o : Option ℕ) → find (λ j. p (i, j)) (range_with_len 0 count) ≡ o → rows_from p i count ≡ None → i ≤ k → k < count
+    → (rows_from p (i + 1) count ≡ None → i + 1 ≤ k → find (λ j. p (k, j)) (range_with_len 0 count) ≡ None) → find (λ j. p (k, j)) (range_with_len 0 count) ≡ None
+row_none p count i k (Some j) is none low high later = absurd (none-some (i, j) (sym none ∙ rows_hit p i j count (omega arith) is))
+row_none p count i k None is none low high later =
+    elim (cases_eq k i) [
+      | inl here ↦ ap (λ (row : ℕ). find (λ j. p (row, j)) (range_with_len 0 count)) here ∙ is
+      | inr other ↦ later (sym (rows_miss p i count (omega arith) is) ∙ none) (omega arith)
+    ]
+
+rows_none : (p : ℕ × ℕ → Bool) (count i left : ℕ) → rows_from p i count ≡ None → count ≡ i + left → (k : ℕ) → i ≤ k → k < count → find (λ j. p (k, j)) (range_with_len 0 count) ≡ None
+rows_none p count i zero none e k low high = absurd (omega arith)
+rows_none p count i (suc left) none e k low high =
+    row_none p count i k (find (λ j. p (i, j)) (range_with_len 0 count)) refl none low high (λ none' low'. rows_none p count (i + 1) left none' (omega arith) k low' high)
+
+-- 256 words without a clash are a code
+pub code_from_no_clash : (words : List (List Bool)) → length words ≡ 256 → first_clash words ≡ None → IsCode words
+unfolding clashes
+code_from_no_clash words count none = record {
+  count = count;
+  prefix_free = λ i j rest lt lt' e. elim (cases_eq i j) [
+    | inl same ↦ same
+    | inr other ↦
+        let row = rows_none (clashes words) 256 0 256 (first_clash-is words 256 (sym count) ∙ none) refl i (omega arith) lt in
+        let fails = find_none (λ j. clashes words (i, j)) 0 256 j row (omega arith) (omega arith) in
+        let begins : is_some (behind (word_of words i) (word_of words j)) ≡ true = ap is_some (ap (behind (word_of words i)) (sym e) ∙ behind-append (word_of words i) rest) in
+        absurd (false≢true (sym fails ∙ rw (ne_eqb i j other, begins) refl))
+  ];
+}
