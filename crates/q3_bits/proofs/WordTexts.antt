@@ -1,5 +1,5 @@
 -- Words of a code given as text, and where they clash.
-use Rattle.std.proofs.Common.{◌≡◌, ℕ, zero, suc, ◌+◌, ◌-◌, ◌*◌, ◌^◌, ◌<◌, ◌≤◌, Bool, true, false, cond, eqb, List, [], ◌∷◌, ◌++◌, length, map, get_or, take, drop, Option, Some, None, refl, sym, ap, subst, ◌∙◌, add-one, arith, inl, inr}
+use Rattle.std.proofs.Common.{◌≡◌, ◌⊎◌, ℕ, zero, suc, ◌+◌, ◌-◌, ◌*◌, ◌^◌, ◌<◌, ◌≤◌, Bool, true, false, cond, eqb, List, [], ◌∷◌, ◌++◌, length, map, get_or, take, drop, Option, Some, None, refl, sym, ap, subst, ◌∙◌, add-one, arith, inl, inr}
 use Rattle.std.specs.List.{range_with_len, flat_map, find}
 use Rattle.std.specs.Option.{is_some, option_or, option_map}
 use Rattle.std.specs.Borrow.{Bor}
@@ -13,7 +13,8 @@ use Rattle.q3_bits.specs.Bits.{bit, low_bits, number_of}
 use Rattle.q3_bits.specs.declared.code.Word.{Word}
 use Rattle.q3_bits.specs.Words.{word_of, behind, IsCode}
 use Rattle.q3_bits.specs.Table.{bits_of_word, words_of, IsWord}
-use Rattle.q3_bits.specs.CodeWords.{texts_of, bits_of_text, word_fault, words_fault, pairs, clashes, first_clash}
+use Rattle.q3_bits.specs.CodeWords.{texts_of, bits_of_text, word_fault, words_fault, pairs, clashes, first_clash, code_fault}
+use Rattle.q3_bits.specs.declared.words.CodeError.TheVariants.{NoMemory, Count, Clash}
 use Rattle.q3_bits.specs.declared.words.CodeError.{CodeError}
 use Rattle.q3_bits.proofs.CodeText.{behind-append}
 use Rattle.q3_bits.proofs.Numbers.{number_of-take_more, low_bits-number_of, length-low_bits, number_of-low_bits}
@@ -204,3 +205,34 @@ code_from_no_clash words count none = record {
         absurd (false≢true (sym fails ∙ rw (ne_eqb i j other, begins) refl))
   ];
 }
+
+-- ---- the first rule that texts break
+
+-- their count
+pub code_fault-count : (texts : List (List ℕ)) → (length texts ≡ 256 → ⊥) → code_fault texts ≡ Some Count
+unfolding code_fault
+code_fault-count texts other = rw (ne_eqb _ _ other) refl
+
+-- a text by itself
+pub code_fault-word : (texts : List (List ℕ)) (e : CodeError) → length texts ≡ 256 → words_fault 0 texts ≡ Some e → code_fault texts ≡ Some e
+unfolding code_fault
+code_fault-word texts e count is = rw (eq-eqb _ _ count, is) refl
+
+-- a clash
+pub code_fault-clash : (texts : List (List ℕ)) (i j : ℕ) → length texts ≡ 256 → words_fault 0 texts ≡ None → first_clash (map bits_of_text texts) ≡ Some (i, j) → code_fault texts ≡ Some (Clash i j)
+unfolding code_fault
+code_fault-clash texts i j count none is = rw (eq-eqb _ _ count, none, is) refl
+
+-- or none
+pub code_fault-none : (texts : List (List ℕ)) → length texts ≡ 256 → words_fault 0 texts ≡ None → first_clash (map bits_of_text texts) ≡ None → code_fault texts ≡ None
+unfolding code_fault
+code_fault-none texts count none is = rw (eq-eqb _ _ count, none, is) refl
+
+-- where no rule is broken, an error is want of memory
+pub only_memory : (fault : Option CodeError) (e : CodeError) → (e ≡ NoMemory) ⊎ (fault ≡ Some e) → fault ≡ None → e ≡ NoMemory
+only_memory fault e (inl is) none = is
+only_memory fault e (inr is) none = absurd (none-some e (sym none ∙ is))
+
+-- as many as are lent
+pub length-texts_of : (texts : List (Bor (List ℕ))) → length (texts_of texts) ≡ length texts
+length-texts_of texts = length-map texts (λ (text : Bor (List ℕ)). text.now)

@@ -56,7 +56,8 @@ impl Code {
     /// The plain code: the word of a byte is its eight bits, least first.
     /// `Err` is want of memory.
     pub fn plain(alloc: Global) -> Result<Code, NoMemory>
-        ensures { IfOk result (λ code. code ≡ plain_words) }
+        ensures words { IfOk result (λ code. code ≡ plain_words) }
+        ensures is_code { IfOk result IsCode }
     {
         let mut words = Vec::with_capacity(alloc, 256)?;
         for bits in 0..256 {
@@ -82,6 +83,15 @@ impl Code {
         if let Some((i, j)) = first_clash(&words) {
             return Err(CodeError::Clash(i, j));
         }
+        Ok(Code { words })
+    }
+
+    /// The same code once more. `Err` is want of memory.
+    pub fn copy(&self, alloc: Global) -> Result<Code, NoMemory>
+        ensures { IfOk result (λ copy. copy ≡ self.now) }
+    {
+        let mut words = Vec::with_capacity(alloc, 256)?;
+        words.extend_from_slice(&self.words)?;
         Ok(Code { words })
     }
 
