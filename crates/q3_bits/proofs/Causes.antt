@@ -1,19 +1,17 @@
 -- Why no word and no field is read.
-use Rattle.std.proofs.Common.{◌≡◌, ◌↔◌, ℕ, zero, suc, ◌+◌, ◌-◌, ◌*◌, ◌/◌, ◌%◌, ◌^◌, ◌<◌, ◌≤◌, Bool, true, false, cond, eqb, List, [], ◌∷◌, ◌++◌, length, get_or, take, drop, min, Option, Some, None, refl, sym, ap, subst, ◌∙◌, append_assoc, add-one, arith, inl, inr}
-use Rattle.std.specs.List.{list_any, All}
+use Rattle.std.proofs.Common.{◌≡◌, ◌↔◌, ℕ, zero, suc, ◌+◌, ◌-◌, ◌*◌, ◌/◌, ◌%◌, ◌^◌, ◌<◌, ◌≤◌, Bool, true, false, cond, eqb, List, [], ◌∷◌, ◌++◌, length, get_or, take, drop, min, Option, Some, None, refl, sym, ap, ◌∙◌, append_assoc, add-one, arith, inl, inr}
 use Rattle.std.specs.Option.{is_some}
 use Rattle.std.specs.Prelude.{option_and_then}
-use Rattle.std.proofs.lemmas.Bool.{cases_Bool, cases_lt, false≢true, eqb-true, eqb-false, ltb-false}
+use Rattle.std.proofs.lemmas.Bool.{cases_Bool, cases_lt, false≢true, eqb-true, eqb-false}
 use Rattle.std.proofs.lemmas.Option.{none-some, option_and_then_some}
 use Rattle.std.proofs.lemmas.List.{append_cancel_left, length-append, length-map, take_at, get_or-map, get_or_default, drop_at, drop_more, drop_all, take_all}
 use Rattle.std.proofs.lemmas.List.Folds.{list_any_at, Any-from_list_any}
 use Rattle.std.proofs.lemmas.Nat.{shr_high, one_shl}
 use Rattle.q3_bits.specs.Bits.{low_bits, number_of}
-use Rattle.q3_bits.specs.declared.reader.ReadError.{ReadError}
 use Rattle.q3_bits.specs.declared.reader.ReadError.TheVariants.{End, NoWord}
 use Rattle.q3_bits.specs.declared.code.Word.{Word}
 use Rattle.q3_bits.specs.Words.{word_of, IsCode, plain_words, bytes_bits, field_bits, raw_at, behind, byte_from, bytes_at, field_at, begins_word, word_cause, cause_behind, bytes_cause, cause_of, IsCutShort}
-use Rattle.q3_bits.specs.Table.{bits_of_word, words_of, IsWord}
+use Rattle.q3_bits.specs.Table.{bits_of_word, words_of}
 use Rattle.q3_bits.proofs.Numbers.{length-low_bits, number_of-low_bits, low_bits-number_of, low_bits-mod, low_bits-add, low_bits-low, low_bits-number_of_more}
 use Rattle.q3_bits.proofs.CodeText.{bytes_at-zero, bytes_bits-suc, none_from, behind_some, behind-append, behind_none, byte_from_some, byte_again, same_word, begins_longer, raw_at_some, raw_at_enough, field_bits-is, plain_is_code, plain_ends}
 

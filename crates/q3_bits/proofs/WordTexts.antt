@@ -1,5 +1,5 @@
 -- Words of a code given as text, and where they clash.
-use Rattle.std.proofs.Common.{◌≡◌, ◌⊎◌, ℕ, zero, suc, ◌+◌, ◌-◌, ◌*◌, ◌^◌, ◌<◌, ◌≤◌, Bool, true, false, cond, eqb, List, [], ◌∷◌, ◌++◌, length, map, get_or, take, drop, Option, Some, None, refl, sym, ap, subst, ◌∙◌, add-one, arith, inl, inr}
+use Rattle.std.proofs.Common.{◌≡◌, ◌⊎◌, ℕ, zero, suc, ◌+◌, ◌-◌, ◌^◌, ◌<◌, ◌≤◌, Bool, true, false, cond, eqb, List, [], ◌∷◌, ◌++◌, length, map, get_or, take, drop, Option, Some, None, refl, sym, ap, subst, ◌∙◌, arith, inl, inr}
 use Rattle.std.specs.List.{range_with_len, flat_map, find}
 use Rattle.std.specs.Option.{is_some, option_or, option_map}
 use Rattle.std.specs.Borrow.{Bor}
@@ -9,7 +9,7 @@ use Rattle.std.proofs.lemmas.List.{length-map, get_or-map, take_all, drop_more, 
 use Rattle.std.proofs.lemmas.List.Concat.{flat_map-cons}
 use Rattle.std.proofs.lemmas.List.Folds.{find-append}
 use Rattle.std.proofs.Math.Nat.{mod-eq_of_lt}
-use Rattle.q3_bits.specs.Bits.{bit, low_bits, number_of}
+use Rattle.q3_bits.specs.Bits.{low_bits, number_of}
 use Rattle.q3_bits.specs.declared.code.Word.{Word}
 use Rattle.q3_bits.specs.Words.{word_of, behind, IsCode}
 use Rattle.q3_bits.specs.Table.{bits_of_word, words_of, IsWord}

@@ -1,5 +1,5 @@
 -- A code whose words are given as text: a letter for each bit, first bit first.
-use Rattle.std.specs.Prelude.{ℕ, ◌+◌, ◌==◌, ◌<◌, nat_lt, ◌||◌, ◌&&◌, not, if◌then◌else◌, Bool, List, [], ◌∷◌, length, map, Option, Some, None}
+use Rattle.std.specs.Prelude.{ℕ, ◌+◌, ◌==◌, nat_lt, ◌||◌, ◌&&◌, not, if◌then◌else◌, Bool, List, [], ◌∷◌, length, map, Option, Some, None}
 use Rattle.std.specs.Borrow.{Bor}
 use Rattle.std.specs.List.{range_with_len, flat_map, list_all, find}
 use Rattle.std.specs.Option.{is_some, option_or, option_map}

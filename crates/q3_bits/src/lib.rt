@@ -79,7 +79,7 @@ mod tests {
 
     /// Puts the bits of a byte behind a text, least first.
     fn push_bits(text: &mut String, byte: u8) -> Result<(), AllocError> {
-        for k in 0..8 {
+        for k in 0..8u32 {
             text.push(if (byte >> k) % 2 == 1 { '1' } else { '0' })?;
         }
         Ok(())

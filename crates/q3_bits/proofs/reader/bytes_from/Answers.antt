@@ -1,5 +1,5 @@
-use Rattle.std.proofs.Common.{◌≡◌, ◌∙◌, ◌+◌, ◌^◌, ◌<◌, ◌-◌, None, refl, sym, ap, arith}
-use Rattle.q3_bits.specs.Words.{bytes_at, bytes_cause}
+use Rattle.std.proofs.Common.{◌≡◌, ◌∙◌, ◌+◌, ◌^◌, ◌<◌, ◌-◌, None, refl, sym, arith}
+use Rattle.q3_bits.specs.Words.{bytes_at}
 use Rattle.q3_bits.specs.Place.{bits_from}
 use Rattle.q3_bits.proofs.CodeText.{bytes_more, bytes_stop, bytes_end, byte_shifted}
 use Rattle.q3_bits.proofs.Causes.{bytes_cause-more, bytes_cause-stop}

@@ -1,6 +1,4 @@
-use Rattle.std.proofs.Common.{◌≡◌, ◌∙◌, ◌+◌, refl, sym, ap, arith}
-use Rattle.q3_bits.specs.Bits.{number_of}
-use Rattle.q3_bits.specs.Words.{begins_word}
+use Rattle.std.proofs.Common.{◌∙◌, refl, arith}
 use Rattle.q3_bits.specs.Place.{bits_from}
 use Rattle.q3_bits.proofs.Numbers.{length-bits_from}
 use Rattle.q3_bits.proofs.Causes.{front_of_window}

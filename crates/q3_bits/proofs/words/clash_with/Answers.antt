@@ -1,7 +1,6 @@
-use Rattle.std.proofs.Common.{◌≡◌, ◌∙◌, ◌<◌, ℕ, Bool, true, false, get_or, length, sym, arith}
-use Rattle.std.specs.List.{All}
+use Rattle.std.proofs.Common.{◌≡◌, ◌∙◌, true, false, get_or, length, sym}
 use Rattle.q3_bits.specs.declared.code.Word.{Word}
-use Rattle.q3_bits.specs.Table.{bits_of_word, words_of, IsWord}
+use Rattle.q3_bits.specs.Table.{bits_of_word, words_of}
 use Rattle.q3_bits.specs.CodeWords.{clashes}
 use Rattle.q3_bits.proofs.WordTexts.{find_hit, find_miss, word_length, word_number, clashes-test, clashes-self}
 use Rattle.q3_bits.proofs.words.clash_with.Goals as goal

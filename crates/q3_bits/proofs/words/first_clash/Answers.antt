@@ -1,4 +1,4 @@
-use Rattle.std.proofs.Common.{◌≡◌, ◌∙◌, ℕ, length, sym}
+use Rattle.std.proofs.Common.{◌∙◌, length, sym}
 use Rattle.std.proofs.lemmas.List.{length-map}
 use Rattle.q3_bits.specs.Table.{bits_of_word, words_of}
 use Rattle.q3_bits.specs.CodeWords.{clashes}

@@ -1,5 +1,5 @@
-use Rattle.std.proofs.Common.{◌≡◌, ◌∙◌, List, Bool, ℕ, length, ap}
-use Rattle.q3_bits.specs.Bits.{low_bits, number_of}
+use Rattle.std.proofs.Common.{◌∙◌, length, ap}
+use Rattle.q3_bits.specs.Bits.{low_bits}
 use Rattle.q3_bits.specs.CodeWords.{bits_of_text}
 use Rattle.q3_bits.proofs.WordTexts.{low_bits-text}
 use Rattle.q3_bits.proofs.words.read_word.Goals as goal

@@ -1,7 +1,7 @@
-use Rattle.std.proofs.Common.{◌≡◌, ◌∙◌, [], ℕ, Bor, List, inr, sym, arith}
+use Rattle.std.proofs.Common.{◌∙◌, [], ℕ, Bor, List, inr, sym}
 use Rattle.std.proofs.lemmas.Result.{err_from_is_err_and}
 use Rattle.std.proofs.lemmas.List.Elements.{All-push}
-use Rattle.q3_bits.specs.Table.{words_of, IsWord}
+use Rattle.q3_bits.specs.Table.{IsWord}
 use Rattle.q3_bits.proofs.WordTexts.{words_fault-more, words_fault-stop, words_fault-end, words-push}
 use Rattle.q3_bits.proofs.words.read_words.Goals as goal
 

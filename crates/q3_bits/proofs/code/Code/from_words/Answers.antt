@@ -1,7 +1,6 @@
-use Rattle.std.proofs.Common.{◌≡◌, ◌∙◌, ◌⊎◌, List, Bool, Option, Some, None, ℕ, length, map, inl, inr, sym, ap, arith}
+use Rattle.std.proofs.Common.{◌≡◌, ◌∙◌, ◌⊎◌, List, Some, None, ℕ, length, map, inl, inr, sym, ap}
 use Rattle.std.proofs.lemmas.List.{length-map}
 use Rattle.std.proofs.lemmas.Result.{err_from_is_err_and}
-use Rattle.q3_bits.specs.declared.code.Word.{Word}
 use Rattle.q3_bits.specs.declared.words.CodeError.{CodeError}
 use Rattle.q3_bits.specs.declared.words.CodeError.TheVariants as errors
 use Rattle.q3_bits.specs.CodeWords.{texts_of, bits_of_text, code_fault, words_fault, first_clash}

@@ -1,4 +1,4 @@
-use Rattle.std.proofs.Common.{◌≡◌, ◌∙◌, ◌<◌, length, sym, arith}
+use Rattle.std.proofs.Common.{◌∙◌, sym, arith}
 use Rattle.std.proofs.lemmas.Bool.{lt-leb}
 use Rattle.q3_bits.proofs.Causes.{starts_with-test, starts_with-long}
 use Rattle.q3_bits.proofs.code.Word.starts_with.Goals as goal
