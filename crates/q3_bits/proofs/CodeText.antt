@@ -10,7 +10,8 @@ use Rattle.std.proofs.Math.Seq.{take-append-add}
 use Rattle.std.proofs.lemmas.Nat.{pow-add, shr_high, shr_below, shl_whole, mul-add-lt}
 use Rattle.std.proofs.Math.Nat.{mod-add-div, mod-eq_of_lt, pow-le-pow_right, pow-succ'}
 use Rattle.q3_bits.specs.Bits.{low_bits, number_of}
-use Rattle.q3_bits.specs.Words.{word_of, IsCode, plain_words, bytes_bits, field_bits, raw_at, behind, or_else, byte_from, bytes_at, field_at, field_read, IsCutShort}
+use Rattle.q3_bits.specs.Words.{word_of, IsCode, plain_words, bytes_bits, field_bits, raw_at, behind, or_else, byte_from, bytes_at, field_at, or_cause, bytes_cause, cause_of, field_read, IsCutShort}
+use Rattle.q3_bits.specs.declared.reader.ReadError.{ReadError}
 use Rattle.q3_bits.specs.declared.reader.ReadError.TheVariants.{End}
 use Rattle.q3_bits.specs.declared.code.Word.{Word}
 use Rattle.q3_bits.specs.Table.{bits_of_word, words_of, IsWord}
@@ -64,7 +65,7 @@ behind-append (true ∷ word) rest = behind-append word rest
 behind-append (false ∷ word) rest = behind-append word rest
 
 -- what is never there is none
-none_from : {A : Type 0} (o : Option A) → ((x : A) → o ≡ Some x → ⊥) → o ≡ None
+pub none_from : {A : Type 0} (o : Option A) → ((x : A) → o ≡ Some x → ⊥) → o ≡ None
 none_from None never = refl
 none_from (Some x) never = absurd (never x refl)
 
@@ -122,11 +123,11 @@ byte_from_some (word ∷ words) byte bits found e =
     HasWord-cons word words byte bits found (behind word bits) refl (rw byte_from-cons at e) (λ later. byte_from_some words (byte + 1) bits found later)
 
 -- of two fronts of the same bits the shorter begins the longer
-begins_longer : (a b rest bits : List Bool) (n : ℕ) → a ++ rest ≡ b ++ bits → length a + n ≡ length b → a ++ take n rest ≡ b
+pub begins_longer : (a b rest bits : List Bool) (n : ℕ) → a ++ rest ≡ b ++ bits → length a + n ≡ length b → a ++ take n rest ≡ b
 begins_longer a b rest bits n e longer = sym (take-append-add a rest n) ∙ rw (e, longer) (take_at b bits (length b) refl)
 
 -- two words that both begin the same bits are one
-same_word : (words : List (List Bool)) (code : IsCode words) (i j : ℕ) (a b : List Bool) → i < 256 → j < 256 → word_of words i ++ a ≡ word_of words j ++ b → i ≡ j
+pub same_word : (words : List (List Bool)) (code : IsCode words) (i j : ℕ) (a b : List Bool) → i < 256 → j < 256 → word_of words i ++ a ≡ word_of words j ++ b → i ≡ j
 same_word words code i j a b lt lt' e =
     let word = word_of words i in
     let other = word_of words j in
@@ -327,21 +328,35 @@ field_again words code width value rest lt =
     let whole : value % 2 ^ (width % 8) + 2 ^ (width % 8) * (value / 2 ^ (width % 8)) ≡ value = mod-add-div value (2 ^ (width % 8)) in
     rw (field_bits-is, append_assoc, raw_again, bytes_again words code (width / 8) (value / 2 ^ (width % 8)) rest high, whole) refl
 
+-- an answer that is a value or a cause
+or_cause_ok : (o : Option (ℕ × List Bool)) (cause : ReadError) (found : ℕ × List Bool) → or_cause o cause ≡ Ok found → o ≡ Some found
+or_cause_ok (Some other) cause found e = cc
+or_cause_ok None cause found e = absurd cc
+
+or_cause_err : (o : Option (ℕ × List Bool)) (cause e : ReadError) → or_cause o cause ≡ Err e → (o ≡ None) × (cause ≡ e)
+or_cause_err (Some other) cause e is = absurd cc
+or_cause_err None cause e is = (refl, cc)
+
 -- no value is read where the raw bits are not there
 pub field_no_raw : (words : List (List Bool)) (width : ℕ) (bits : List Bool) → raw_at (width % 8) bits ≡ None → field_read words width bits ≡ Err End
-unfolding field_read field_at
+unfolding field_read field_at cause_of
 field_no_raw words width bits e = rw e refl
 
 -- nor where one of the bytes is not
-pub field_no_bytes : (words : List (List Bool)) (width : ℕ) (bits : List Bool) (raw : ℕ × List Bool) → raw_at (width % 8) bits ≡ Some raw → bytes_at words (width / 8) raw.1 ≡ None → field_read words width bits ≡ Err End
-unfolding field_read field_at
-field_no_bytes words width bits raw e none = rw (e, none) refl
+pub field_no_bytes : (words : List (List Bool)) (width : ℕ) (bits : List Bool) (raw : ℕ × List Bool) (cause : ReadError) → raw_at (width % 8) bits ≡ Some raw
+    → or_cause (bytes_at words (width / 8) raw.1) (bytes_cause words (width / 8) raw.1) ≡ Err cause → field_read words width bits ≡ Err cause
+unfolding field_read field_at cause_of
+field_no_bytes words width bits raw cause e none =
+    let parts = or_cause_err (bytes_at words (width / 8) raw.1) (bytes_cause words (width / 8) raw.1) cause none in
+    rw (e, parts.0, parts.1) refl
 
 -- elsewhere the value is their sum
-pub field_found : (words : List (List Bool)) (width : ℕ) (bits : List Bool) (raw bytes : ℕ × List Bool) → raw_at (width % 8) bits ≡ Some raw → bytes_at words (width / 8) raw.1 ≡ Some bytes
-    → field_read words width bits ≡ Ok (raw.0 + 2 ^ (width % 8) * bytes.0, bytes.1)
+pub field_found : (words : List (List Bool)) (width : ℕ) (bits : List Bool) (raw bytes : ℕ × List Bool) → raw_at (width % 8) bits ≡ Some raw
+    → or_cause (bytes_at words (width / 8) raw.1) (bytes_cause words (width / 8) raw.1) ≡ Ok bytes → field_read words width bits ≡ Ok (raw.0 + 2 ^ (width % 8) * bytes.0, bytes.1)
 unfolding field_read field_at
-field_found words width bits raw bytes e found = rw (e, found) refl
+field_found words width bits raw bytes e found =
+    let is = or_cause_ok (bytes_at words (width / 8) raw.1) (bytes_cause words (width / 8) raw.1) bytes found in
+    rw (e, is) refl
 
 -- the bytes of a field shifted behind its raw bits
 pub field_shifted : (low high width : ℕ) → width ≤ 32 → low < 2 ^ (width % 8) → high < 256 ^ (width / 8)

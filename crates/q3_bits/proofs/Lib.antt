@@ -1,4 +1,6 @@
 pub mod Numbers
 pub mod CodeText
+pub mod Causes
+pub mod WordTexts
 pub mod MessageBytes
 pub mod Written

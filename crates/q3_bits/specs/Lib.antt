@@ -1,5 +1,6 @@
 pub mod Bits
 pub mod Words
+pub mod CodeWords
 pub mod Table
 pub mod Streams
 pub mod Buffer

@@ -1,8 +1,9 @@
 -- Code words: each byte has a word of bits, and a field is written as raw bits and words.
 use Rattle.std.specs.Prelude.{◌≡◌, ℕ, zero, suc, ◌+◌, ◌*◌, ◌/◌, ◌%◌, ◌^◌, ◌<◌, if◌then◌else◌, Bool, true, false, List, [], ◌∷◌, ◌++◌, length, map, take, drop, slice_index_or, Option, Some, None, option_and_then, nat_lt, Result, Ok, Err}
-use Rattle.std.specs.List.{range_with_len}
+use Rattle.std.specs.List.{range_with_len, list_any}
+use Rattle.std.specs.Option.{is_some}
 use Rattle.q3_bits.specs.declared.reader.ReadError.{ReadError}
-use Rattle.q3_bits.specs.declared.reader.ReadError.TheVariants.{End}
+use Rattle.q3_bits.specs.declared.reader.ReadError.TheVariants.{End, NoWord}
 use Rattle.q3_bits.specs.Bits.{low_bits, number_of}
 
 -- the word of a byte
@@ -71,9 +72,27 @@ field_at words width bits = do
 abbrev pub IsCutShort : List (List Bool) → ℕ → List Bool → Type 0
 IsCutShort words width bits = (value : ℕ) × (more : List Bool) × (bits ++ more ≡ field_bits words width value)
 
--- why there is no value at the front: with words that leave no bits over, the bits have ended
-abbrev pub cause_of : List (List Bool) → ℕ → List Bool → ReadError
-cause_of words width bits = End
+-- whether the bits are a front of one of the words
+unfoldable pub begins_word : List (List Bool) → List Bool → Bool
+begins_word words bits = list_any (λ word. is_some (behind bits word)) words
+
+-- why no word begins the bits: they end in a word, or they begin none
+abbrev pub word_cause : List (List Bool) → List Bool → ReadError
+word_cause words bits = if begins_word words bits then End else NoWord
+
+-- the cause here where nothing was read, and else the cause behind what was
+abbrev pub cause_behind : Option (ℕ × List Bool) → ReadError → (List Bool → ReadError) → ReadError
+cause_behind None here later = here
+cause_behind (Some found) here later = later found.1
+
+-- why so many bytes can't be read: the cause at the first that can't
+unfoldable pub bytes_cause : List (List Bool) → ℕ → List Bool → ReadError
+bytes_cause words zero bits = End
+bytes_cause words (suc count) bits = cause_behind (byte_from 0 words bits) (word_cause words bits) (λ rest. bytes_cause words count rest)
+
+-- why there is no value at the front: the raw bits have ended, or the first byte that can't be read says it
+unfoldable pub cause_of : List (List Bool) → ℕ → List Bool → ReadError
+cause_of words width bits = cause_behind (raw_at (width % 8) bits) End (bytes_cause words (width / 8))
 
 abbrev pub or_cause : Option (ℕ × List Bool) → ReadError → Result (ℕ × List Bool) ReadError
 or_cause (Some found) cause = Ok found

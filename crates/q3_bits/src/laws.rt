@@ -2,7 +2,7 @@
 //! A proof above cites a law by calling it.
 
 ghost use Rattle.q3_bits.specs.Words.{IsCode, plain_words};
-ghost use Rattle.q3_bits.specs.Laws.{ReadWasPut, PutIsRead, PlainBitsEnd, MessageHoldsBits, MessageIsBytes};
+ghost use Rattle.q3_bits.specs.Laws.{ReadWasPut, PutIsRead, EndsCutShort, PlainBitsEnd, PlainCauseIsEnd, MessageHoldsBits, MessageIsBytes};
 
 /// The plain code has a word for each byte, and none begins another.
 pub fn plain_is_a_code()
@@ -19,9 +19,20 @@ pub fn put_is_read()
     ensures { PutIsRead }
 {}
 
+/// Where nothing is read, the bits have ended exactly where they are the front of a field's text;
+/// elsewhere they begin no word.
+pub fn ends_cut_short()
+    ensures { EndsCutShort }
+{}
+
 /// By the plain code nothing is read only where the bits end.
 pub fn plain_bits_end()
     ensures { PlainBitsEnd }
+{}
+
+/// By the plain code no cause is another.
+pub fn plain_cause_is_end()
+    ensures { PlainCauseIsEnd }
 {}
 
 /// The bytes of a message hold its bits, and then zeros.

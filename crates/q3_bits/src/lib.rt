@@ -4,15 +4,18 @@
 pub mod code;
 pub mod laws;
 pub mod reader;
+pub mod words;
 pub mod writer;
 
 pub use code::{Code, NoMemory};
 pub use reader::{ReadError, Reader};
+pub use words::CodeError;
 pub use writer::{Overflow, Writer};
 
 #[cfg(test)]
 mod tests {
     use super::*;
+    use std::alloc::{AllocError, Global};
     use std::test::*;
 
     const MESSAGE: [u8; 18] = [
@@ -71,6 +74,107 @@ mod tests {
         assert_eq!(rt; writer.put(1, 1), Err(Overflow));
         assert_eq!(rt; writer.length(), 1);
         assert_eq!(rt; writer.bytes(), [0x5a].as_slice());
+        Ok(())
+    }
+
+    /// Puts the bits of a byte behind a text, least first.
+    fn push_bits(text: &mut String, byte: u8) -> Result<(), AllocError> {
+        for k in 0..8u32 {
+            text.push(if (byte >> k) % 2 == 1 { '1' } else { '0' })?;
+        }
+        Ok(())
+    }
+
+    /// These texts, and behind them plain ones up to 256.
+    fn plain_behind(alloc: Global, first: &[&str]) -> Result<Vec<String>, AllocError> {
+        let mut texts = Vec::new(alloc);
+        for text in first {
+            texts.push(String::from_str(alloc, text)?)?;
+        }
+        for byte in first.len()..256 {
+            let mut text = String::new(alloc);
+            push_bits(&mut text, byte as u8)?;
+            texts.push(text)?;
+        }
+        Ok(texts)
+    }
+
+    /// Texts of 1 to 24 bits: a 1 for each number up to 16 or the byte, and then a 0, or its own bits from 16 on.
+    fn long_texts(alloc: Global) -> Result<Vec<String>, AllocError> {
+        let mut texts = Vec::new(alloc);
+        for byte in 0..256u32 {
+            let mut text = String::new(alloc);
+            for _ in 0..byte.min(16) {
+                text.push('1')?;
+            }
+            if byte < 16 {
+                text.push('0')?;
+            } else {
+                push_bits(&mut text, byte as u8)?;
+            }
+            texts.push(text)?;
+        }
+        Ok(texts)
+    }
+
+    fn code_of(alloc: Global, texts: &[String]) -> Result<Code, CodeError> {
+        let mut words = Vec::new(alloc);
+        for text in texts {
+            words.push(text.as_str())?;
+        }
+        Code::from_words(alloc, &words)
+    }
+
+    #[test]
+    fn first_rule_that_texts_break(rt: HostRuntime) -> Result<(), Fail> {
+        let alloc = rt.alloc();
+        let table: [(&[&str], Option<CodeError>); 6] = [
+            (&[], None),
+            (&["0", "0"], Some(CodeError::Clash(0, 1))),
+            (&["", "2"], Some(CodeError::Empty(0))),
+            (&["0", "2", ""], Some(CodeError::NotBits(1))),
+            (&["0000000000000000000000002"], Some(CodeError::Long(0))),
+            (
+                &["0", "0", "0", "0", "0", "0", "0", ""],
+                Some(CodeError::Empty(7)),
+            ),
+        ];
+        for (first, fault) in table {
+            assert_eq!(rt; code_of(alloc, &plain_behind(alloc, first)?).err(), fault);
+        }
+        assert_eq!(rt;
+            Code::from_words(alloc, &["0", "1"]).err(),
+            Some(CodeError::Count)
+        );
+        Ok(())
+    }
+
+    #[test]
+    fn words_of_1_to_24_bits(rt: HostRuntime) -> Result<(), Fail> {
+        let code = code_of(rt.alloc(), &long_texts(rt.alloc())?).expect(&rt, "a code");
+        let mut writer = Writer::new(&code, 64);
+        assert_eq!(rt; writer.put(0x1fe03, 17), Ok(()));
+        assert_eq!(rt; writer.put(0xff0f_1000, 32), Ok(()));
+        let copy = code.copy(rt.alloc())?;
+        let mut reader = Reader::new(&copy, writer.bytes());
+        assert_eq!(rt; reader.get(17), Ok(0x1fe03));
+        assert_eq!(rt; reader.get(32), Ok(0xff0f_1000));
+        assert_eq!(rt; reader.place(), 92);
+        Ok(())
+    }
+
+    #[test]
+    fn bits_that_begin_no_word(rt: HostRuntime) -> Result<(), Fail> {
+        let code = code_of(rt.alloc(), &long_texts(rt.alloc())?).expect(&rt, "a code");
+        assert_eq!(rt;
+            Reader::new(&code, &[0xff, 0xff, 0x00]).get(8),
+            Err(ReadError::NoWord)
+        );
+        assert_eq!(rt;
+            Reader::new(&code, &[0xff, 0xff]).get(8),
+            Err(ReadError::End)
+        );
+        assert_eq!(rt; Reader::new(&code, &[]).get(1), Err(ReadError::End));
         Ok(())
     }
 }

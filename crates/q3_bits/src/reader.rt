@@ -2,9 +2,9 @@
 
 ghost use Rattle.std.specs.Prelude.{◌≡◌, ◌+◌, ◌-◌, ◌*◌, ◌/◌, ◌%◌, ◌^◌, ◌<◌, ◌≤◌, ℕ, true, false, length, take, drop, min, slice_index, slice_index_or, OnErr, Some, None, IfSome, IfOk};
 ghost use Rattle.q3_bits.specs.Bits.{bits_of, number_of};
-ghost use Rattle.q3_bits.specs.Words.{field_read, raw_at, bytes_at, byte_from};
+ghost use Rattle.q3_bits.specs.Words.{field_read, raw_at, bytes_at, byte_from, or_cause, word_cause, bytes_cause};
 ghost use Rattle.q3_bits.specs.Streams.{with_rest};
-ghost use Rattle.q3_bits.specs.Place.{bits_from, placed};
+ghost use Rattle.q3_bits.specs.Place.{bits_from, placed, placed_read};
 
 use crate::code::Code;
 use std::marker::Model;
@@ -14,6 +14,8 @@ use std::marker::Model;
 pub enum ReadError {
     /// The bits end in the field or in one of its words.
     End,
+    /// The bits of a word begin no word.
+    NoWord,
 }
 
 /// Reads fields of bits, one behind the other, from the bytes of a message.
@@ -50,7 +52,8 @@ impl<'a> Reader<'a> {
     }
 
     /// Reads a field of `width` bits, 1 to 32.
-    /// `End` comes exactly where the bits end in the field or in one of its words; the reader then stays as it was.
+    /// `End` comes exactly where the bits end in the field or in one of its words, `NoWord` exactly where
+    /// those of a word begin no word, the first in reading order; the reader then stays as it was.
     pub fn get(&mut self, width: u32) -> Result<u32, ReadError>
         requires some { 1 ≤ width }
         requires most { width ≤ 32 }
@@ -64,9 +67,7 @@ impl<'a> Reader<'a> {
         let Some((low, place)) = raw_from(self.bytes, self.place, raw) else {
             return Err(ReadError::End);
         };
-        let Some((high, place)) = bytes_from(self.code, self.bytes, place, width / 8) else {
-            return Err(ReadError::End);
-        };
+        let (high, place) = bytes_from(self.code, self.bytes, place, width / 8)?;
         self.place = place;
         Ok(low + (high << raw))
     }
@@ -125,27 +126,50 @@ fn byte_at(code: &Code, bytes: &[u8], place: usize) -> Option<(u8, usize)>
     requires small { length bytes.now < 2 ^ 60 }
     ensures byte { placed bytes.now result ≡ byte_from 0 code.now (bits_from bytes.now place) }
     ensures within { IfSome result (λ found. found.1 ≤ 8 * length bytes.now) }
+    ensures small { IfSome result (λ found. found.0 < 256) }
 {
     let count = (8 * bytes.len() - place).min(24) as u32;
     let (byte, length) = code.find(window(bytes, place, count), count)?;
     Some((byte, place + usize::from(length)))
 }
 
+/// Why no word begins at a place: the bits end in a word, or they begin none.
+fn cause_at(code: &Code, bytes: &[u8], place: usize) -> ReadError
+    requires within { place ≤ 8 * length bytes.now }
+    requires small { length bytes.now < 2 ^ 60 }
+    ensures { result ≡ word_cause code.now (bits_from bytes.now place) }
+{
+    let left = 8 * bytes.len() - place;
+    let front = window(bytes, place, left.min(24) as u32);
+    if code.begins_with(front, left) {
+        return ReadError::End;
+    }
+    ReadError::NoWord
+}
+
 /// So many bytes by their words, least byte first, and the place behind them.
-fn bytes_from(code: &Code, bytes: &[u8], place: usize, count: u32) -> Option<(u32, usize)>
+fn bytes_from(
+    code: &Code,
+    bytes: &[u8],
+    place: usize,
+    count: u32,
+) -> Result<(u32, usize), ReadError>
     requires few { count ≤ 4 }
     requires within { place ≤ 8 * length bytes.now }
     requires small { length bytes.now < 2 ^ 60 }
-    ensures bytes { placed bytes.now result ≡ bytes_at code.now count (bits_from bytes.now place) }
-    ensures within { IfSome result (λ found. found.1 ≤ 8 * length bytes.now) }
-    ensures fits { IfSome result (λ found. found.0 < 256 ^ count) }
+    ensures bytes { placed_read bytes.now result
+        ≡ or_cause (bytes_at code.now count (bits_from bytes.now place)) (bytes_cause code.now count (bits_from bytes.now place)) }
+    ensures within { IfOk result (λ found. found.1 ≤ 8 * length bytes.now) }
+    ensures fits { IfOk result (λ found. found.0 < 256 ^ count) }
 {
     let mut number = 0;
     let mut end = place;
     for k in 0..count {
-        let (byte, behind) = byte_at(code, bytes, end)?;
+        let Some((byte, behind)) = byte_at(code, bytes, end) else {
+            return Err(cause_at(code, bytes, end));
+        };
         number += u32::from(byte) << (8 * k);
         end = behind;
     }
-    Some((number, end))
+    Ok((number, end))
 }

@@ -1,12 +1,13 @@
-use Rattle.std.proofs.Common.{◌≡◌, ◌∙◌, ◌+◌, ◌++◌, [], ◌∷◌, List, Bool, map, ap, refl, sym, arith}
+use Rattle.std.proofs.Common.{◌≡◌, ◌∙◌, ◌+◌, ◌++◌, [], ◌∷◌, List, Bool, map, ℕ, ap, refl, sym, subst, arith}
 use Rattle.std.proofs.lemmas.List.{map_push, length_push}
 use Rattle.std.proofs.lemmas.List.Elements.{All-nil, All-push}
 use Rattle.std.proofs.lemmas.List.FromFn.{map-range_with_len_more}
 use Rattle.std.specs.List.{range_with_len}
 use Rattle.q3_bits.specs.Bits.{low_bits}
-use Rattle.q3_bits.specs.Table.{IsWord, bits_of_word}
-use Rattle.q3_bits.specs.Words.{plain_words}
+use Rattle.q3_bits.specs.Table.{IsWord, bits_of_word, words_of}
+use Rattle.q3_bits.specs.Words.{IsCode, plain_words}
 use Rattle.q3_bits.specs.declared.code.Word.{Word}
+use Rattle.q3_bits.proofs.CodeText.{plain_is_code}
 use Rattle.q3_bits.proofs.code.Code.plain.Goals as goal
 
 pub loop-bits-init : goal.loop-bits-init
@@ -30,8 +31,14 @@ invariant_of-result c =
     let h = c.loop-bits.invariant in
     record { count = omega (arith, h.count); each = h.each }
 
-pub returns : goal.returns
+-- the words are the plain ones
+is_plain : (words : List Word) (count : ℕ) → words_of words ≡ map (low_bits 8) (range_with_len 0 count) → count ≡ 256 → words_of words ≡ plain_words
 unfolding plain_words
-returns c =
-    let all : c.loop-bits.bits ≡ 256 = omega arith in
-    c.loop-bits.invariant.words ∙ ap (λ n. map (low_bits 8) (range_with_len 0 n)) all
+is_plain words count e all = e ∙ ap (λ n. map (low_bits 8) (range_with_len 0 n)) all
+
+pub returns-clause-words : goal.returns-clause-words
+returns-clause-words c = is_plain c.loop-bits.words.items c.loop-bits.bits c.loop-bits.invariant.words (omega arith)
+
+pub returns-clause-is_code : goal.returns-clause-is_code
+returns-clause-is_code c =
+    subst IsCode (sym (is_plain c.loop-bits.words.items c.loop-bits.bits c.loop-bits.invariant.words (omega arith))) plain_is_code
