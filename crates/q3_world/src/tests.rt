@@ -4,7 +4,7 @@ ghost use Rattle.std.specs.Prelude.{◌≤◌, All, length};
 ghost use Rattle.q3_script.specs.Grammar.{IsReplayEvent};
 
 use super::*;
-use crate::outside::{MemFiles, MemSink};
+use q3_io::{MemFiles, MemSink};
 use q3_player::PlayerState;
 use q3_script::{Address, Event};
 use std::alloc::Global;

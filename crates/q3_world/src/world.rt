@@ -4,7 +4,7 @@ ghost use Rattle.std.specs.Prelude.{◌≡◌, ◌+◌, ◌-◌, ◌<◌, ◌≤
 ghost use Rattle.q3_player.specs.State.{zero_player, SameArrays};
 ghost use Rattle.q3_bits.specs.Words.{plain_words};
 ghost use Rattle.q3_script.specs.Grammar.{IsReplayEvent};
-ghost use Rattle.q3_world.specs.Written.{Adds};
+ghost use Rattle.q3_io.specs.Written.{Adds};
 ghost use Rattle.q3_world.specs.State.{slot_at, client_at};
 ghost use Rattle.q3_world.specs.Ends.{emit_at};
 ghost use Rattle.q3_world.specs.Kept.{arrived, kept_step, kept_client, kept_player, kept_serve, kept_deliver, shown_of};
@@ -16,7 +16,7 @@ ghost use Rattle.q3_world.specs.Outcome.{IsServe, HasStepCause};
 use crate::answer::{Answer, Emitted, HandedIn, NoClient, Shown};
 use crate::client::Client;
 use crate::laws;
-use crate::outside::{Files, Sink};
+use q3_io::{Files, Sink};
 use crate::report::print_answer;
 use crate::server::{Datagram, PLACES, Server, Slot};
 use q3_bits::{Code, NoMemory};

@@ -4,8 +4,8 @@ use Rattle.std.specs.Prelude.{◌⊎◌, IsOkUnless}
 use Rattle.std.proofs.lemmas.Bool.{cases_lt}
 use Rattle.q3_script.specs.declared.event.Event.{Event}
 use Rattle.q3_script.specs.Script.{BadLine}
-use Rattle.q3_world.specs.Faults.{Rose}
-use Rattle.q3_world.specs.Told.{Told, contents_of}
+use Rattle.q3_io.specs.Faults.{Rose}
+use Rattle.q3_io.specs.Told.{Told, contents_of}
 use Rattle.q3net.specs.declared.fault.Fault.{Fault}
 use Rattle.q3net.specs.declared.fault.Fault.TheVariants as faults
 use Rattle.q3net.specs.Command.{Command, Help, Version, Replay}

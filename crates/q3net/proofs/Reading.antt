@@ -3,8 +3,8 @@ use Rattle.std.proofs.Common.{◌≡◌, ℕ, ◌+◌, ◌<◌, ◌≤◌, List,
 use Rattle.std.specs.Prelude.{◌⊎◌}
 use Rattle.std.proofs.lemmas.List.{take_all, take-append-drop, length-take, length-drop, length-append, take_at, append-nil, nil_from_length}
 use Rattle.std.proofs.Math.Seq.{take-add}
-use Rattle.q3_world.specs.Told.{Told, Gives, ReadsAt, contents_at, after_asked}
-use Rattle.q3_world.specs.declared.outside.sink.Failed.{Failed}
+use Rattle.q3_io.specs.Told.{Told, Gives, ReadsAt, contents_at, after_asked}
+use Rattle.q3_io.specs.declared.sink.Failed.{Failed}
 use Rattle.q3net.specs.Input.{ReadsFront, ReadsWhole, ReadsPieces}
 use Rattle.q3net.specs.declared.input.InputError.{InputError}
 

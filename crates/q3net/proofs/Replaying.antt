@@ -11,8 +11,8 @@ use Rattle.q3_script.specs.declared.cause.ScriptError.TheVariants as script
 use Rattle.q3_script.specs.Script.{BadLine, Reads as ReadsScript, script_at, longest_script, events_from, lines_of as script_lines}
 use Rattle.q3_world.specs.declared.world.StepError.{StepError}
 use Rattle.q3_world.specs.declared.world.StepError.TheVariants as step
-use Rattle.q3_world.specs.Written.{Adds}
-use Rattle.q3_world.specs.Told.{Told, contents_of}
+use Rattle.q3_io.specs.Written.{Adds}
+use Rattle.q3_io.specs.Told.{Told, contents_of}
 use Rattle.q3_world.specs.Kept.{Kept}
 use Rattle.q3_world.specs.World.{opening}
 use Rattle.q3_world.specs.StandsFor.{StandsFor}

@@ -4,7 +4,7 @@ use Rattle.q3_script.specs.declared.cause.ScriptError.{ScriptError}
 use Rattle.q3_script.specs.declared.cause.ScriptError.TheVariants as script
 use Rattle.q3_world.specs.declared.world.StepError.{StepError}
 use Rattle.q3_world.specs.declared.world.StepError.TheVariants as step
-use Rattle.q3_world.specs.Faults.{Rose}
+use Rattle.q3_io.specs.Faults.{Rose}
 use Rattle.q3net.specs.declared.input.InputError.{InputError}
 use Rattle.q3net.specs.declared.input.InputError.TheVariants as input
 use Rattle.q3net.specs.declared.fault.Fault.{Fault}
