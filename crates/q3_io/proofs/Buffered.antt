@@ -118,12 +118,18 @@ Adds-early e None c w xs ys p = p
 Adds-early e (Some had) c w xs ys p =
     (p.0, (p.1.0 ++ ys, sym (append_assoc p.0 p.1.0 ys) ∙ ap (λ (z : List ℕ). z ++ ys) p.1.1), p.2)
 
+-- the texts before an index and the one there
+pub flat_map-more : {X : Type 0} (f : X → List ℕ) (xs : List X) (index : ℕ) (d : X) → index < length xs
+    → flat_map f (take (index + 1) xs) ≡ flat_map f (take index xs) ++ f (get_or xs index d)
+flat_map-more f xs index d within =
+    ap (flat_map f) (take_more xs index d within)
+    ∙ (flat_map-append f (take index xs) (get_or xs index d ∷ []) ∙ ap (λ t. flat_map f (take index xs) ++ t) (append-nil (f (get_or xs index d))))
+
 -- the texts before an index, the one there, and the others
 pub flat_map-split : {X : Type 0} (f : X → List ℕ) (xs : List X) (index : ℕ) (d : X) → index < length xs
     → (others : List ℕ) × (flat_map f xs ≡ (flat_map f (take index xs) ++ f (get_or xs index d)) ++ others)
 flat_map-split f xs index d within = (
   flat_map f (drop (index + 1) xs),
   ap (flat_map f) (sym (take-append-drop (index + 1) xs)) ∙ (flat_map-append f (take (index + 1) xs) (drop (index + 1) xs)
-      ∙ ap (λ t. t ++ flat_map f (drop (index + 1) xs)) (ap (flat_map f) (take_more xs index d within)
-      ∙ (flat_map-append f (take index xs) (get_or xs index d ∷ []) ∙ ap (λ t. flat_map f (take index xs) ++ t) (append-nil (f (get_or xs index d)))))),
+      ∙ ap (λ t. t ++ flat_map f (drop (index + 1) xs)) (flat_map-more f xs index d within)),
 )

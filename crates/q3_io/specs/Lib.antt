@@ -8,4 +8,5 @@ pub mod MemoryStored
 pub mod MemoryNumbers
 pub mod MemoryNumbered
 pub mod MemoryFiles
+pub mod Quoted
 pub mod Print

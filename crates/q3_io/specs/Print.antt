@@ -1,9 +1,10 @@
 -- Lines of text, put together from pieces.
 use Rattle.std.specs.Prelude.{◌≡◌, ℕ, ◌+◌, ◌==◌, if◌then◌else◌, List, [], ◌∷◌, ◌++◌, codes, decimal, Option, Some, None, Result, Ok, Err}
 use Rattle.std.specs.List.{flat_map}
+use Rattle.q3_io.specs.Quoted.{quoted}
 use Rattle.q3_io.specs.declared.sink.Failed.{Failed}
 use Rattle.q3_io.specs.declared.print.Piece.{Piece}
-use Rattle.q3_io.specs.declared.print.Piece.TheVariants.{Text, Number, Words}
+use Rattle.q3_io.specs.declared.print.Piece.TheVariants.{Text, Number, Words, Quoted}
 
 -- a word by its index, with a space before it, if it isn't 0
 abbrev pub word_text : ℕ → ℕ → List ℕ
@@ -18,6 +19,7 @@ abbrev pub piece_text : Piece → List ℕ
 piece_text (Text text) = text.now
 piece_text (Number number) = decimal number
 piece_text (Words words) = words_text 0 words.now
+piece_text (Quoted text) = quoted text.now
 
 -- pieces, one behind the other
 abbrev pub joined : List (List ℕ) → List ℕ

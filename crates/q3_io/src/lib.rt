@@ -15,5 +15,5 @@ pub use address::Address;
 pub use files::Files;
 pub use host::{HostFiles, HostSink};
 pub use memory::{MemFiles, MemSink, NoMemory, NullSink};
-pub use print::{Piece, print_all};
+pub use print::{Piece, print_all, print_number, print_text};
 pub use sink::{Failed, Sink};

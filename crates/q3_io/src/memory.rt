@@ -11,7 +11,6 @@ mod text;
 
 pub use files::MemFiles;
 pub use sink::{MemSink, NullSink};
-
 use std::alloc::AllocError;
 
 /// Want of memory, and nothing else.

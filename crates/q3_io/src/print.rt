@@ -1,9 +1,12 @@
-//! Prints lines that are put together from pieces.
+//! Prints numbers, texts, and lines that are put together from pieces.
 
-ghost use Rattle.std.specs.Prelude.{◌≡◌, ◌≤◌, ◌++◌, ◌-◌, [], ℕ, List, length, take, drop, codes, decimal};
+ghost use Rattle.std.specs.Prelude.{◌≡◌, ◌≤◌, ◌++◌, ◌-◌, [], ◌∷◌, ℕ, List, length, take, drop, codes, decimal};
+ghost use Rattle.std.specs.Fmt.{signed_decimal};
 ghost use Rattle.std.specs.List.{flat_map};
 ghost use Rattle.q3_io.specs.Faults.{HasCause};
 ghost use Rattle.q3_io.specs.Written.{Adds};
+ghost use Rattle.q3_io.specs.Quoted.{byte_spelling, quoted};
+ghost use Rattle.hex.specs.Hex.{encode_lower};
 ghost use Rattle.q3_io.specs.Print.{piece_text, words_text, word_text, Buffers};
 
 use crate::sink::{Failed, Sink};
@@ -17,6 +20,27 @@ pub enum Piece<'a> {
     Number(u64),
     /// The words that aren't 0, each as its index and its value.
     Words(&'a [u32; 64]),
+    /// A text in quotes, spelled as in a script.
+    Quoted(&'a [u8]),
+}
+
+/// Writes a number in decimal, with `-` before a negative one.
+pub fn print_number<O: Sink>(value: i128, out: &mut O) -> Result<(), Failed>
+    ensures adds { Adds (O.written out.old) (O.written out.new) (signed_decimal value) result }
+    ensures cause { HasCause (O.faults out.old) (O.faults out.new) result }
+{
+    let mut digits = itoa::Buffer::new();
+    out.write_all(digits.format(value).as_bytes())
+}
+
+/// Writes a text as scripts and reports spell it, quotes included. A byte 0, which no text of a script has, is `\x00`.
+pub fn print_text<O: Sink>(text: &[u8], out: &mut O) -> Result<(), Failed>
+    ensures adds { Adds (O.written out.old) (O.written out.new) (quoted text.now) result }
+    ensures cause { HasCause (O.faults out.old) (O.faults out.new) result }
+{
+    let mut line = Line::new();
+    line.add_quoted(text, out)?;
+    line.write(out)
 }
 
 /// Writes the pieces, one behind the other: in one write, as long as they fit 1,024 bytes.
@@ -67,6 +91,7 @@ impl Line {
             Piece::Text(text) => self.add(text, out),
             Piece::Number(number) => self.add_number(*number, out),
             Piece::Words(words) => self.add_words(words, out),
+            Piece::Quoted(text) => self.add_quoted(text, out),
         }
     }
 
@@ -99,6 +124,38 @@ impl Line {
     {
         let mut digits = itoa::Buffer::new();
         self.add(digits.format(number).as_bytes(), out)
+    }
+
+    fn add_quoted<O: Sink>(&mut self, text: &[u8], out: &mut O) -> Result<(), Failed>
+        ensures buffers { Buffers (O.written out.old) (O.written out.new) self.old self.new (quoted text.now) result }
+        ensures cause { HasCause (O.faults out.old) (O.faults out.new) result }
+    {
+        self.add(b"\"", out)?;
+        self.add_spelled(text, out)?;
+        self.add(b"\"", out)
+    }
+
+    fn add_spelled<O: Sink>(&mut self, text: &[u8], out: &mut O) -> Result<(), Failed>
+        ensures buffers { Buffers (O.written out.old) (O.written out.new) self.old self.new (flat_map byte_spelling text.now) result }
+        ensures cause { HasCause (O.faults out.old) (O.faults out.new) result }
+    {
+        for byte in text {
+            self.add_byte(*byte, out)?;
+        }
+        Ok(())
+    }
+
+    fn add_byte<O: Sink>(&mut self, byte: u8, out: &mut O) -> Result<(), Failed>
+        ensures buffers { Buffers (O.written out.old) (O.written out.new) self.old self.new (byte_spelling byte) result }
+        ensures cause { HasCause (O.faults out.old) (O.faults out.new) result }
+    {
+        match byte {
+            b'"' => self.add(b"\\\"", out),
+            b'\\' => self.add(b"\\\\", out),
+            b'\n' => self.add(b"\\n", out),
+            32..=126 => self.add(&[byte], out),
+            _ => self.add(&hex_spelling(byte), out),
+        }
     }
 
     /// Adds bytes behind those that wait, which are written first where both don't fit.
@@ -144,4 +201,13 @@ impl Line {
     {
         out.write_all(&self.bytes[..self.length])
     }
+}
+
+/// `\x` and two digits.
+fn hex_spelling(byte: u8) -> [u8; 4]
+    ensures { result ≡ codes "\\x" ++ encode_lower (byte ∷ []) }
+{
+    let mut spelling = *b"\\x00";
+    let _ = hex::encode_to_slice([byte], &mut spelling[2..]);
+    spelling
 }

@@ -12,7 +12,7 @@ use crate::message::write_snapshot;
 use arrayvec::ArrayVec;
 use q3_bits::{Code, NoMemory, Writer};
 use q3_player::PlayerState;
-use q3_script::Address;
+use q3_io::Address;
 use std::alloc::Global;
 use std::marker::Model;
 
