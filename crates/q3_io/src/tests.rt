@@ -90,3 +90,57 @@ fn files_of_the_system_are_written_and_read(rt: HostRuntime) -> Result<(), Fail>
     assert_eq!(rt; into, *b"one ");
     Ok(())
 }
+
+#[test]
+fn numbers_are_printed(rt: HostRuntime) -> Result<(), Fail> {
+    let mut sink = MemSink::new(rt.alloc(), 96, &[])
+        .ok()
+        .ok_or("there is memory")?;
+    assert_eq!(rt; print_number(0, &mut sink), Ok(()));
+    assert_eq!(rt; print_number(-27_960, &mut sink), Ok(()));
+    assert_eq!(rt; print_number(i128::MIN, &mut sink), Ok(()));
+    assert_eq!(rt; sink.write_all(b" "), Ok(()));
+    assert_eq!(rt; print_number(i128::MAX, &mut sink), Ok(()));
+    assert_eq!(rt;
+        sink.bytes(),
+        b"0-27960-170141183460469231731687303715884105728 170141183460469231731687303715884105727".as_slice()
+    );
+    assert_eq!(rt; print_number(-10, &mut sink), Ok(()));
+    assert_eq!(rt; print_number(1_000_000, &mut sink), Err(Failed));
+    Ok(())
+}
+
+#[test]
+fn texts_are_printed_in_quotes(rt: HostRuntime) -> Result<(), Fail> {
+    let mut sink = MemSink::new(rt.alloc(), 64, &[3])
+        .ok()
+        .ok_or("there is memory")?;
+    assert_eq!(rt; print_text(b"", &mut sink), Ok(()));
+    assert_eq!(rt;
+        print_text(b"a \"~\\\n\t\x00\x1f\x7f\xe4\xff", &mut sink),
+        Ok(())
+    );
+    let spelled = b"\"\"\"a \\\"~\\\\\\n\\x09\\x00\\x1f\\x7f\\xe4\\xff\"";
+    assert_eq!(rt; sink.bytes(), spelled.as_slice());
+    assert_eq!(rt; print_text(b"lost", &mut sink), Err(Failed));
+    assert_eq!(rt; sink.bytes(), spelled.as_slice());
+    Ok(())
+}
+
+#[test]
+fn a_line_is_one_write(rt: HostRuntime) -> Result<(), Fail> {
+    let mut sink = MemSink::new(rt.alloc(), 64, &[2])
+        .ok()
+        .ok_or("there is memory")?;
+    let line = [
+        Piece::Text(b"say "),
+        Piece::Number(15),
+        Piece::Text(b" "),
+        Piece::Quoted(b"a\n"),
+        Piece::Text(b"\n"),
+    ];
+    assert_eq!(rt; print_all(&line, &mut sink), Ok(()));
+    assert_eq!(rt; sink.bytes(), b"say 15 \"a\\n\"\n".as_slice());
+    assert_eq!(rt; print_all(&line, &mut sink), Err(Failed));
+    Ok(())
+}

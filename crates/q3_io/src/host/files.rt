@@ -1,7 +1,8 @@
 //! Files of the system.
 
 ghost use Rattle.std.specs.Prelude.{◌≡◌, ◌≤◌, None, IfOk, IsErr, length, vec_len};
-ghost use Rattle.q3_io.specs.Told.{IsGiven};
+ghost use Rattle.q3_io.specs.Faults.{HasCause};
+ghost use Rattle.q3_io.specs.Told.{IsGiven, LooksUp, Creates};
 
 use crate::files::Files;
 use crate::memory::NoMemory;
@@ -181,7 +182,13 @@ impl<R: std::rt::Files> Files for HostFiles<R> {
 
     ghost told = { λ s. None };
 
-    fn lookup(&mut self, name: &str) -> Result<usize, Failed> {
+    fn lookup(&mut self, name: &str) -> Result<usize, Failed>
+        ensures given { IsGiven (vec_len self.old.files) (vec_len self.new.files) result }
+        ensures told { LooksUp None None name.now result }
+        ensures cause { HasCause self.old.faults self.new.faults result }
+        ensures others { self.new.write_faults ≡ self.old.write_faults }
+        ensures most { MOST_FILES ≤ vec_len self.old.files → IsErr result }
+    {
         let kept = keep_opened(&self.rt, &mut self.files, name);
         if kept.is_err() {
             self.faults = self.faults.saturating_add(1);
@@ -207,7 +214,13 @@ impl<R: std::rt::Files> Files for HostFiles<R> {
         read
     }
 
-    fn create(&mut self, name: &str) -> Result<usize, Failed> {
+    fn create(&mut self, name: &str) -> Result<usize, Failed>
+        ensures given { IsGiven (vec_len self.old.files) (vec_len self.new.files) result }
+        ensures told { Creates None None name.now result }
+        ensures cause { HasCause self.old.write_faults self.new.write_faults result }
+        ensures others { self.new.faults ≡ self.old.faults }
+        ensures most { MOST_FILES ≤ vec_len self.old.files → IsErr result }
+    {
         let kept = keep_created(&self.rt, &mut self.files, name);
         if kept.is_err() {
             self.write_faults = self.write_faults.saturating_add(1);
