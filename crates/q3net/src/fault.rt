@@ -7,9 +7,9 @@ ghost use Rattle.q3net.specs.Lines.{fault_line, fault_status, cause_word};
 
 use crate::input::InputError;
 use q3_bits::NoMemory;
+use q3_io::{Failed, Piece, Sink, print_all};
 use q3_script::{LineCause, ScriptError};
 use q3_world::StepError;
-use q3_io::{Failed, Piece, Sink, print_all};
 
 /// Why a run ended early.
 #[derive(Clone, Copy, Debug, PartialEq, Eq)]

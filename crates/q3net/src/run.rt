@@ -19,8 +19,8 @@ ghost use Rattle.q3net.specs.Run.{Ends, EndsTold, HasEndedTold, ReplaysTold, Pri
 use crate::command::{Command, parse};
 use crate::fault::Fault;
 use crate::input::read_file;
-use q3_script::{Event, ScriptKind, read_script};
 use q3_io::{Failed, Files, Sink};
+use q3_script::{Event, ScriptKind, read_script};
 use q3_world::{StepError, World};
 use std::alloc::Global;
 
