@@ -1,6 +1,6 @@
 -- What is kept follows the whole world: each event answers the same by bytes and by tags.
-use Rattle.std.proofs.Common.{◌≡◌, ℕ, ◌+◌, ◌-◌, ◌^◌, ◌<◌, ◌≤◌, Bool, true, false, cond, List, [], ◌∷◌, ◌++◌, length, map, take, drop, Option, Some, None, Result, Ok, Err, refl, sym, ap, subst, ◌∙◌, inl, inr, arith}
-use Rattle.std.specs.Prelude.{◌⊎◌, nat_le, nat_lt, slice_get, slice_set, slice_index_or}
+use Rattle.std.proofs.Common.{◌≡◌, ℕ, ◌+◌, ◌-◌, ◌^◌, ◌<◌, Bool, true, false, cond, List, [], length, map, take, Option, Some, None, Ok, refl, sym, ap, subst, ◌∙◌, inl, inr, arith}
+use Rattle.std.specs.Prelude.{◌⊎◌, nat_le, nat_lt, slice_get, slice_set}
 use Rattle.std.specs.Int.{w32, to_le_bytes, from_le_bytes}
 use Rattle.std.specs.Option.{option_map}
 use Rattle.std.proofs.lemmas.List.{length-map, map_push, length-append}
@@ -14,19 +14,16 @@ use Rattle.q3_script.specs.declared.event.Event.{Event}
 use Rattle.q3_script.specs.declared.event.Event.TheVariants as events
 use Rattle.q3_script.specs.Grammar.{IsReplayEvent}
 use Rattle.q3_world.specs.declared.answer.Snapshot.{Snapshot}
-use Rattle.q3_world.specs.declared.answer.Illegible.{Illegible}
 use Rattle.q3_world.specs.declared.answer.Emitted.{Emitted}
 use Rattle.q3_world.specs.declared.answer.Emitted.TheVariants as emitted
 use Rattle.q3_world.specs.declared.answer.ClientTook.TheVariants.{Old, Applied}
-use Rattle.q3_world.specs.declared.answer.Answer.{Answer}
-use Rattle.q3_world.specs.declared.answer.Answer.TheVariants.{Client, Time, Player, Serve, Unknown, Deliver, Show}
-use Rattle.q3_world.specs.declared.answer.HandedIn.TheVariants as handed_in
+use Rattle.q3_world.specs.declared.answer.Answer.TheVariants.{Serve, Deliver}
 use Rattle.q3_world.specs.Message.{snapshot_bits, datagram_bytes, snapshot_at}
 use Rattle.q3_world.specs.State.{MapState, SlotState, ServerState, ClientState, slot_at, client_at}
-use Rattle.q3_world.specs.Ends.{Emission, SlotEmission, Taken, new_slot, new_client, next_snapshot, sequence_end, fragment_size, accept, accept_read, emit_bits, emit_slot, emit_from, emit_at, take_message, take_at}
-use Rattle.q3_world.specs.Kept.{SentBytes, Kept, KeptStep, kept_client, kept_player, kept_serve, kept_deliver, kept_step, with_slot, with_player, datagrams_after, arrive_at, arrived}
-use Rattle.q3_world.specs.World.{Tag, Step, Whole, places, no_snapshot, built_at, history_at, join, set_player, serve, deliver, arrive, arrive_new, with_sent, step}
-use Rattle.q3_world.specs.StandsFor.{IsPlain, IsBuilt, IsSent, Invariant, StandsFor, bytes_of, IsClient, AreEnds}
+use Rattle.q3_world.specs.Ends.{Emission, SlotEmission, Taken, new_slot, new_client, next_snapshot, sequence_end, fragment_size, accept, emit_bits, emit_slot, emit_from, emit_at, take_at}
+use Rattle.q3_world.specs.Kept.{SentBytes, Kept, KeptStep, kept_client, kept_player, kept_serve, kept_deliver, kept_step, with_slot, datagrams_after, arrive_at}
+use Rattle.q3_world.specs.World.{Tag, Step, Whole, places, built_at, join, set_player, deliver, arrive, arrive_new, with_sent, step}
+use Rattle.q3_world.specs.StandsFor.{IsPlain, IsBuilt, IsSent, Invariant, StandsFor, bytes_of}
 use Rattle.q3_world.proofs.Invariants.{joined-invariant, player-invariant, served-invariant, accepted-invariant, same_server, same_clients, next_tag, built_is}
 
 -- a message that was built is read back

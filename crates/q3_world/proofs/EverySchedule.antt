@@ -10,7 +10,7 @@ use Rattle.q3_world.specs.declared.answer.Snapshot.{Snapshot}
 use Rattle.q3_world.specs.declared.answer.ClientTook.TheVariants.{Old}
 use Rattle.q3_world.specs.declared.answer.Shown.TheVariants.{Newest}
 use Rattle.q3_world.specs.declared.answer.Answer.{Answer}
-use Rattle.q3_world.specs.declared.answer.Answer.TheVariants.{Client, Time, Player, Serve, Deliver, Show}
+use Rattle.q3_world.specs.declared.answer.Answer.TheVariants.{Deliver, Show}
 use Rattle.q3_world.specs.State.{SlotState, ClientState, slot_at, client_at}
 use Rattle.q3_world.specs.Ends.{new_slot, new_client}
 use Rattle.q3_world.specs.Kept.{Kept, KeptStep, newest, shown_of}

@@ -1,20 +1,17 @@
 -- What holds between any two events holds after each event.
-use Rattle.std.proofs.Common.{◌≡◌, ℕ, zero, suc, ◌+◌, ◌-◌, ◌^◌, ◌<◌, ◌≤◌, Bool, true, false, cond, List, [], ◌∷◌, ◌++◌, length, get_or, set, replicate, Option, Some, None, Result, Ok, Err, refl, sym, ap, subst, ◌∙◌, inl, inr, arith, lit<}
-use Rattle.std.specs.Prelude.{nat_le, slice_get, slice_set, slice_index_or}
-use Rattle.std.proofs.lemmas.List.{get_or-replicate, get_or-set_same, get_or-set_other, length-set, length-append, get_or_append_left, get_or_push, length_push, set-get_or}
-use Rattle.std.proofs.lemmas.Bool.{cases_eq, cases_lt, cases_Bool, leb-true, leb-false, cond-true, cond-false}
-use Rattle.q3_player.specs.State.{zero_player, normal_player, IsNormal, SameArrays}
+use Rattle.std.proofs.Common.{◌≡◌, ℕ, ◌+◌, ◌-◌, ◌^◌, ◌<◌, ◌≤◌, Bool, List, [], ◌∷◌, ◌++◌, length, get_or, set, Option, Some, None, refl, sym, ap, subst, ◌∙◌, inl, inr, arith, lit<}
+use Rattle.std.specs.Prelude.{slice_set, slice_index_or}
+use Rattle.std.proofs.lemmas.List.{get_or-replicate, get_or-set_same, get_or-set_other, length-set, get_or_append_left, get_or_push, length_push, set-get_or}
+use Rattle.std.proofs.lemmas.Bool.{cases_eq, cases_lt}
+use Rattle.q3_player.specs.State.{zero_player, normal_player}
 use Rattle.q3_player.specs.declared.state.PlayerState.{PlayerState}
-use Rattle.q3_script.specs.declared.event.Event.{Event}
-use Rattle.q3_script.specs.declared.event.Event.TheVariants as events
-use Rattle.q3_script.specs.Grammar.{IsReplayEvent}
 use Rattle.q3_bits.specs.Bits.{message_bytes}
 use Rattle.q3_world.specs.declared.answer.Snapshot.{Snapshot}
 use Rattle.q3_world.specs.Message.{snapshot_bits, datagram_bytes}
 use Rattle.q3_world.specs.State.{MapState, SlotState, ServerState, ClientState, slot_at, client_at}
 use Rattle.q3_world.specs.Ends.{new_slot, new_client, next_snapshot, sequence_end, accept}
 use Rattle.q3_world.specs.Kept.{with_slot, with_player}
-use Rattle.q3_world.specs.World.{Tag, History, Whole, places, no_history, history_at, built_at, no_snapshot, with_built, with_accepted, opening, join, set_player, arrive_new, step}
+use Rattle.q3_world.specs.World.{Tag, History, Whole, places, no_history, history_at, built_at, no_snapshot, with_built, with_accepted, opening}
 use Rattle.q3_world.specs.StandsFor.{IsPlain, IsBuilt, IsNewest, AreEnds, IsClient, IsSent, Invariant}
 
 -- ---- lists with one place changed

@@ -1,5 +1,5 @@
 -- What a step of the program's world answers.
-use Rattle.std.proofs.Common.{◌≡◌, ℕ, ◌+◌, ◌-◌, ◌≤◌, Bool, List, [], ◌∷◌, ◌++◌, length, Option, Some, None, Result, Ok, Err, refl, sym, ap, subst, ◌∙◌, arith}
+use Rattle.std.proofs.Common.{◌≡◌, ℕ, ◌+◌, ◌-◌, ◌≤◌, Bool, List, [], length, Option, Some, None, Result, Ok, Err, arith}
 use Rattle.std.specs.Prelude.{OnOk, is_ok, slice_get}
 use Rattle.std.proofs.lemmas.List.{length_push}
 use Rattle.q3_script.specs.declared.event.Event.{Event}
@@ -9,11 +9,11 @@ use Rattle.q3_world.specs.declared.answer.Emitted.TheVariants as emitted
 use Rattle.q3_io.specs.declared.sink.Failed.{Failed}
 use Rattle.q3_world.specs.declared.world.StepError.{StepError}
 use Rattle.q3_io.specs.Written.{Adds}
-use Rattle.q3_world.specs.State.{SlotState, ServerState, ClientState, slot_at}
-use Rattle.q3_world.specs.Ends.{Emission, new_slot, new_client, emit_at}
-use Rattle.q3_world.specs.Kept.{SentBytes, Kept, kept_client, kept_player, kept_serve, kept_deliver, kept_step, datagrams_after}
+use Rattle.q3_world.specs.State.{SlotState, ClientState, slot_at}
+use Rattle.q3_world.specs.Ends.{new_slot, new_client, emit_at}
+use Rattle.q3_world.specs.Kept.{SentBytes, Kept, kept_client, kept_player, kept_deliver, kept_step, datagrams_after}
 use Rattle.q3_world.specs.World.{opening}
-use Rattle.q3_world.specs.StandsFor.{StandsFor, Invariant}
+use Rattle.q3_world.specs.StandsFor.{StandsFor}
 use Rattle.q3_world.proofs.Invariants.{opening-invariant}
 use Rattle.q3_player.specs.declared.state.PlayerState.{PlayerState}
 

@@ -1,5 +1,5 @@
 -- The one form of message of this stage: a whole snapshot, with no base, no area and no entities.
-use Rattle.std.specs.Prelude.{◌≡◌, ℕ, ◌+◌, ◌^◌, ◌<◌, ◌==◌, if◌then◌else◌, Bool, List, ◌++◌, Result, Ok, Err}
+use Rattle.std.specs.Prelude.{◌≡◌, ℕ, ◌^◌, ◌<◌, ◌==◌, if◌then◌else◌, Bool, List, ◌++◌, Result, Ok, Err}
 use Rattle.std.specs.Int.{w32, to_le_bytes}
 use Rattle.q3_bits.specs.Words.{field_bits, field_read}
 use Rattle.q3_player.specs.State.{zero_player}

@@ -1,7 +1,7 @@
 -- When a step of the world fails.
-use Rattle.std.specs.Prelude.{◌≡◌, ℕ, ◌≤◌, IsOk, IsErr, Result, Ok, Err}
+use Rattle.std.specs.Prelude.{◌≡◌, ℕ, ◌≤◌, Result, Ok, Err}
 use Rattle.q3_script.specs.declared.event.Event.{Event}
-use Rattle.q3_script.specs.declared.event.Event.TheVariants.{Client, Time, Player, Serve, Deliver, Show}
+use Rattle.q3_script.specs.declared.event.Event.TheVariants.{Serve}
 use Rattle.q3_world.specs.declared.world.StepError.{StepError}
 use Rattle.q3_world.specs.declared.world.StepError.TheVariants.{NoMemory, WriteFault}
 use Rattle.q3_io.specs.Faults.{Rose}

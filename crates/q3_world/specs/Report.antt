@@ -1,8 +1,7 @@
 -- The report of a replay: the lines of each event's answer.
-use Rattle.std.specs.Prelude.{ℕ, Bool, List, [], ◌∷◌, ◌++◌, codes, decimal}
+use Rattle.std.specs.Prelude.{ℕ, Bool, List, [], ◌∷◌, codes, decimal}
 use Rattle.std.specs.List.{flat_map}
 use Rattle.q3_script.specs.declared.event.Event.{Event}
-use Rattle.q3_world.specs.declared.answer.Snapshot.{Snapshot as SnapshotValue}
 use Rattle.q3_world.specs.declared.answer.Emitted.{Emitted}
 use Rattle.q3_world.specs.declared.answer.Emitted.TheVariants as emitted
 use Rattle.q3_world.specs.declared.answer.Illegible.{Illegible as IllegibleCause}

@@ -2,19 +2,19 @@
 use Rattle.std.specs.Prelude.{◌≡◌, ℕ, ◌-◌, ◌<◌, ◌≤◌, Bool, List, [], ◌∷◌, ◌++◌, length, Some, Ok, slice_get}
 use Rattle.std.specs.List.{AllByRecursion}
 use Rattle.q3_bits.specs.Bits.{bits_of, message_bytes}
-use Rattle.q3_bits.specs.Words.{IsCode, plain_words}
+use Rattle.q3_bits.specs.Words.{IsCode}
 use Rattle.q3_script.specs.declared.event.Event.{Event}
 use Rattle.q3_script.specs.declared.event.Event.TheVariants as events
 use Rattle.q3_script.specs.Grammar.{IsReplayEvent}
 use Rattle.q3_world.specs.declared.answer.Snapshot.{Snapshot}
-use Rattle.q3_world.specs.declared.answer.ClientTook.TheVariants.{Runt, Old, Illegible, Applied}
+use Rattle.q3_world.specs.declared.answer.ClientTook.TheVariants.{Runt, Illegible, Applied}
 use Rattle.q3_world.specs.declared.answer.Shown.TheVariants.{Newest}
 use Rattle.q3_world.specs.declared.answer.Answer.{Answer}
-use Rattle.q3_world.specs.declared.answer.Answer.TheVariants.{Client, Time, Player, Serve, Unknown, Deliver, Show}
+use Rattle.q3_world.specs.declared.answer.Answer.TheVariants.{Deliver, Show}
 use Rattle.q3_world.specs.Message.{snapshot_bits, snapshot_at, SpellsSnapshot}
 use Rattle.q3_world.specs.State.{ClientState, client_at}
 use Rattle.q3_world.specs.Kept.{Kept, kept_step}
-use Rattle.q3_world.specs.World.{Tag, Whole, places, history_at, built_at, opening, step, after, answers}
+use Rattle.q3_world.specs.World.{Tag, places, history_at, built_at, opening, step, after, answers}
 use Rattle.q3_world.specs.StandsFor.{IsBuilt}
 
 -- a message that was built is read back from its bytes

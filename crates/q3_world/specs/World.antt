@@ -12,7 +12,7 @@ use Rattle.q3_world.specs.declared.answer.ClientTook.TheVariants.{Old, Applied}
 use Rattle.q3_world.specs.declared.answer.Answer.{Answer}
 use Rattle.q3_world.specs.declared.answer.Answer.TheVariants.{Client, Time, Player, Serve, Unknown, Deliver, Show}
 use Rattle.q3_world.specs.declared.answer.HandedIn.TheVariants as handed_in
-use Rattle.q3_world.specs.State.{MapState, SlotState, ServerState, ClientState, slot_at, client_at}
+use Rattle.q3_world.specs.State.{SlotState, ServerState, ClientState, slot_at, client_at}
 use Rattle.q3_world.specs.Ends.{Emission, new_slot, new_client, next_snapshot, accept, emit_at}
 use Rattle.q3_world.specs.Kept.{with_slot, with_player, shown_of}
 
