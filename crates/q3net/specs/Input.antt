@@ -1,5 +1,5 @@
 -- Reading a file whole, up to a limit.
-use Rattle.std.specs.Prelude.{◌≡◌, ◌⊎◌, ℕ, ◌≤◌, List, ◌∷◌, [], ◌++◌, length, Option, Some, None, Result, Ok, Err}
+use Rattle.std.specs.Prelude.{◌≡◌, ◌⊎◌, ℕ, ◌≤◌, List, [], ◌++◌, length, Option, Some, None, Result, Ok, Err}
 use Rattle.q3_io.specs.Told.{Told, Lookup, contents_of, contents_at, after_named}
 use Rattle.std.specs.Global.{Vec}
 use Rattle.q3_io.specs.Faults.{Rose}
