@@ -8,5 +8,6 @@ pub mod MemoryStored
 pub mod MemoryNumbers
 pub mod MemoryNumbered
 pub mod MemoryFiles
+pub mod HostCounts
 pub mod Quoted
 pub mod Print

@@ -33,7 +33,8 @@ pub fn print_number<O: Sink>(value: i128, out: &mut O) -> Result<(), Failed>
     out.write_all(digits.format(value).as_bytes())
 }
 
-/// Writes a text as scripts and reports spell it, quotes included. A byte 0, which no text of a script has, is `\x00`.
+/// Writes a text as scripts and reports spell it, quotes included. The spelling is this project's own.
+/// A byte 0, which no text of a script has, is `\x00`.
 pub fn print_text<O: Sink>(text: &[u8], out: &mut O) -> Result<(), Failed>
     ensures adds { Adds (O.written out.old) (O.written out.new) (quoted text.now) result }
     ensures cause { HasCause (O.faults out.old) (O.faults out.new) result }

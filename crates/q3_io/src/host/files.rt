@@ -2,6 +2,7 @@
 
 ghost use Rattle.std.specs.Prelude.{◌≡◌, ◌≤◌, None, IfOk, IsErr, length, vec_len};
 ghost use Rattle.q3_io.specs.Faults.{HasCause};
+ghost use Rattle.q3_io.specs.HostCounts.{most_files};
 ghost use Rattle.q3_io.specs.Told.{IsGiven, LooksUp, Creates};
 
 use crate::files::Files;
@@ -11,6 +12,7 @@ use std::alloc::Global;
 use std::fs;
 use std::fs::OpenFile;
 use std::io::{Read, Seek, SeekFrom, Write};
+use std::marker::Model;
 
 /// How many files there may be at most: a lookup or a create beyond is a fault.
 const MOST_FILES: usize = 32;
@@ -33,14 +35,21 @@ pub struct HostFiles<R: std::rt::Files> {
     write_faults: u64,
 }
 
+impl<R: std::rt::Files> Model for HostFiles<R> {
+    ghost use Rattle.std.specs.Prelude.{vec_len};
+    ghost use Rattle.q3_io.specs.HostCounts.{HostCounts};
+
+    ghost Value = { HostCounts };
+
+    ghost view = { λ h. record { given = vec_len h.files; faults = h.faults; write_faults = h.write_faults } };
+}
+
 impl<R: std::rt::Files> HostFiles<R> {
     /// No file is open yet, and nothing failed.
     pub fn new(alloc: Global, rt: R) -> Result<HostFiles<R>, NoMemory>
     where
         R: Drop,
-        ensures faults { IfOk result (λ host. ⟦<HostFiles<R> as Files>⟧.faults host ≡ 0) }
-        ensures write_faults { IfOk result (λ host. ⟦<HostFiles<R> as Files>⟧.write_faults host ≡ 0) }
-        ensures given { IfOk result (λ host. ⟦<HostFiles<R> as Files>⟧.given host ≡ 0) }
+        ensures { IfOk result (λ host. host ≡ record { given = 0; faults = 0; write_faults = 0 }) }
     {
         Ok(HostFiles {
             files: Vec::with_capacity(alloc, MOST_FILES)?,
@@ -99,7 +108,7 @@ fn keep_opened<R: std::rt::Files>(
     name: &str,
 ) -> Result<usize, Failed>
     ensures given { IsGiven (vec_len files.old) (vec_len files.new) result }
-    ensures most { MOST_FILES ≤ vec_len files.old → IsErr result }
+    ensures most { most_files ≤ vec_len files.old → IsErr result }
 {
     if files.len() >= MOST_FILES {
         return Err(Failed);
@@ -114,7 +123,7 @@ fn keep_created<R: std::rt::Files>(
     name: &str,
 ) -> Result<usize, Failed>
     ensures given { IsGiven (vec_len files.old) (vec_len files.new) result }
-    ensures most { MOST_FILES ≤ vec_len files.old → IsErr result }
+    ensures most { most_files ≤ vec_len files.old → IsErr result }
 {
     if files.len() >= MOST_FILES {
         return Err(Failed);
@@ -178,16 +187,16 @@ impl<R: std::rt::Files> Files for HostFiles<R> {
 
     ghost write_faults = { λ s. s.write_faults };
 
-    ghost given = { λ s. vec_len s.files };
+    ghost given = { λ s. s.given };
 
     ghost told = { λ s. None };
 
     fn lookup(&mut self, name: &str) -> Result<usize, Failed>
-        ensures given { IsGiven (vec_len self.old.files) (vec_len self.new.files) result }
+        ensures given { IsGiven self.old.given self.new.given result }
         ensures told { LooksUp None None name.now result }
         ensures cause { HasCause self.old.faults self.new.faults result }
         ensures others { self.new.write_faults ≡ self.old.write_faults }
-        ensures most { MOST_FILES ≤ vec_len self.old.files → IsErr result }
+        ensures most { most_files ≤ self.old.given → IsErr result }
     {
         let kept = keep_opened(&self.rt, &mut self.files, name);
         if kept.is_err() {
@@ -215,11 +224,11 @@ impl<R: std::rt::Files> Files for HostFiles<R> {
     }
 
     fn create(&mut self, name: &str) -> Result<usize, Failed>
-        ensures given { IsGiven (vec_len self.old.files) (vec_len self.new.files) result }
+        ensures given { IsGiven self.old.given self.new.given result }
         ensures told { Creates None None name.now result }
         ensures cause { HasCause self.old.write_faults self.new.write_faults result }
         ensures others { self.new.faults ≡ self.old.faults }
-        ensures most { MOST_FILES ≤ vec_len self.old.files → IsErr result }
+        ensures most { most_files ≤ self.old.given → IsErr result }
     {
         let kept = keep_created(&self.rt, &mut self.files, name);
         if kept.is_err() {
