@@ -5,7 +5,7 @@ use Rattle.std.specs.Fmt.{decimal}
 use Rattle.std.specs.Option.{option_and_then}
 use Rattle.std.proofs.lemmas.Option.{same_Some}
 use Rattle.std.proofs.lemmas.List.Folds.{list_all-append}
-use Rattle.q3_script.specs.declared.address.Address.{Address}
+use Rattle.q3_io.specs.declared.address.Address.{Address}
 use Rattle.q3_script.specs.Numbers.{number_at, cut, host_of, address_at, pair_at}
 use Rattle.q3_script.specs.Grammar.{SpellsAddress, pair_text}
 use Rattle.q3_script.proofs.Spelled.{number_at-spelled, number_at-again, lacks, lacks-decimal, cut-spelled, cut-again}

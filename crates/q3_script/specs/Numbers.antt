@@ -1,7 +1,7 @@
 -- Numbers in decimal, and the words that are made of several.
 use Rattle.std.specs.Prelude.{ℕ, ◌+◌, ◌-◌, ◌*◌, ◌==◌, ◌&&◌, ◌||◌, Bool, if◌then◌else◌, List, [], ◌∷◌, length, fold, nat_lt, nat_le, slice_index, Option, Some, None, option_and_then}
 use Rattle.std.specs.List.{list_all}
-use Rattle.q3_script.specs.declared.address.Address.{Address}
+use Rattle.q3_io.specs.declared.address.Address.{Address}
 
 abbrev pub is_digit : ℕ → Bool
 is_digit byte = nat_le 48 byte && nat_le byte 57

@@ -1,6 +1,6 @@
 //! The events of a replay.
 
-use crate::address::Address;
+use q3_io::Address;
 use q3_player::PlayerState;
 
 /// What one line of a script says: one call of one end, or something that the game hands in.

@@ -1,7 +1,6 @@
 //! The script language: each line of a script is an event of a replay.
 #![tactic(auto)]
 
-pub mod address;
 pub mod cause;
 pub mod event;
 mod line;
@@ -9,7 +8,6 @@ mod number;
 mod script;
 mod words;
 
-pub use address::Address;
 pub use cause::{LineCause, ScriptError, ScriptKind};
 pub use event::Event;
 pub use script::read_script;

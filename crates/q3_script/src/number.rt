@@ -3,7 +3,7 @@
 ghost use Rattle.std.specs.Prelude.{◌≡◌, ◌<◌, ◌≤◌, IfSome, option_map};
 ghost use Rattle.q3_script.specs.Numbers.{number_at, cut, address_at, pair_at};
 
-use crate::address::Address;
+use q3_io::Address;
 
 /// The number that a word spells, if it is one from `low` to `high`: digits alone, with no 0 before others.
 #[tactic(auto, using(crate::proofs::Decimals::none_at_empty, crate::proofs::Decimals::none_at_zero))]

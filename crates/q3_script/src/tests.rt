@@ -1,4 +1,5 @@
 use super::*;
+use q3_io::Address;
 use q3_player::PlayerState;
 use std::test::*;
 

@@ -1,7 +1,3 @@
-pub mod ToldPlaces
-pub mod ToldStored
-pub mod ToldHeld
-pub mod Buffered
 pub mod Invariants
 pub mod Agreement
 pub mod Stepped

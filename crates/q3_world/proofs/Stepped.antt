@@ -6,9 +6,9 @@ use Rattle.q3_script.specs.declared.event.Event.{Event}
 use Rattle.q3_script.specs.declared.event.Event.TheVariants as events
 use Rattle.q3_world.specs.declared.answer.Emitted.{Emitted}
 use Rattle.q3_world.specs.declared.answer.Emitted.TheVariants as emitted
-use Rattle.q3_world.specs.declared.outside.sink.Failed.{Failed}
+use Rattle.q3_io.specs.declared.sink.Failed.{Failed}
 use Rattle.q3_world.specs.declared.world.StepError.{StepError}
-use Rattle.q3_world.specs.Written.{Adds}
+use Rattle.q3_io.specs.Written.{Adds}
 use Rattle.q3_world.specs.State.{SlotState, ClientState, slot_at}
 use Rattle.q3_world.specs.Ends.{new_slot, new_client, emit_at}
 use Rattle.q3_world.specs.Kept.{SentBytes, Kept, kept_client, kept_player, kept_deliver, kept_step, datagrams_after}

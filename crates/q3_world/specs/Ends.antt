@@ -3,7 +3,7 @@ use Rattle.std.specs.Prelude.{ℕ, ◌+◌, ◌^◌, if◌then◌else◌, Bool, 
 use Rattle.std.specs.Int.{w32, from_le_bytes}
 use Rattle.q3_bits.specs.Bits.{bits_of, message_bytes, message_length}
 use Rattle.q3_player.specs.State.{zero_player}
-use Rattle.q3_script.specs.declared.address.Address.{Address}
+use Rattle.q3_io.specs.declared.address.Address.{Address}
 use Rattle.q3_world.specs.declared.answer.Snapshot.{Snapshot}
 use Rattle.q3_world.specs.declared.answer.Emitted.{Emitted}
 use Rattle.q3_world.specs.declared.answer.Emitted.TheVariants as emitted

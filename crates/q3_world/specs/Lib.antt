@@ -1,14 +1,3 @@
-pub mod Faults
-pub mod Written
-pub mod Told
-pub mod MemoryCalls
-pub mod MemorySink
-pub mod MemoryStore
-pub mod MemoryStored
-pub mod MemoryNumbers
-pub mod MemoryNumbered
-pub mod MemoryFiles
-pub mod Print
 pub mod Message
 pub mod State
 pub mod Ends

@@ -4,7 +4,7 @@ use Rattle.q3_script.specs.declared.event.Event.{Event}
 use Rattle.q3_script.specs.declared.event.Event.TheVariants.{Serve}
 use Rattle.q3_world.specs.declared.world.StepError.{StepError}
 use Rattle.q3_world.specs.declared.world.StepError.TheVariants.{NoMemory, WriteFault}
-use Rattle.q3_world.specs.Faults.{Rose}
+use Rattle.q3_io.specs.Faults.{Rose}
 
 -- an event that makes a datagram
 abbrev pub IsServe : Event → Type 0

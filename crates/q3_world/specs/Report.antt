@@ -14,7 +14,7 @@ use Rattle.q3_world.specs.declared.answer.Shown.{Shown}
 use Rattle.q3_world.specs.declared.answer.Shown.TheVariants as shown
 use Rattle.q3_world.specs.declared.answer.Answer.{Answer}
 use Rattle.q3_world.specs.declared.answer.Answer.TheVariants.{Client, Time, Player, Serve, Unknown, Deliver, Show}
-use Rattle.q3_world.specs.Print.{joined, words_text}
+use Rattle.q3_io.specs.Print.{joined, words_text}
 use Rattle.q3_world.specs.World.{opening, answers}
 
 -- what stands behind `client C` and `player C`

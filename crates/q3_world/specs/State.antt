@@ -1,7 +1,7 @@
 -- The state of the two ends.
 use Rattle.std.specs.Prelude.{ℕ, List, Option, None, slice_index_or}
 use Rattle.q3_player.specs.declared.state.PlayerState.{PlayerState}
-use Rattle.q3_script.specs.declared.address.Address.{Address}
+use Rattle.q3_io.specs.declared.address.Address.{Address}
 use Rattle.q3_world.specs.declared.answer.Snapshot.{Snapshot}
 
 -- what the game handed in for all clients

@@ -1,11 +1,10 @@
-//! Both ends over a schedule, and the outside that they print to.
+//! Both ends over a schedule, and what they print.
 #![tactic(auto)]
 
 pub mod answer;
 mod client;
 pub mod laws;
 mod message;
-pub mod outside;
 mod report;
 mod server;
 #[cfg(test)]

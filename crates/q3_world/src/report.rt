@@ -1,13 +1,13 @@
 //! Prints the lines of an answer, all in one write where they fit the line buffer.
 
 ghost use Rattle.std.specs.Prelude.{◌≡◌, [], ◌∷◌, codes, decimal};
-ghost use Rattle.q3_world.specs.Print.{joined};
-ghost use Rattle.q3_world.specs.Faults.{HasCause};
-ghost use Rattle.q3_world.specs.Written.{Adds};
+ghost use Rattle.q3_io.specs.Print.{joined};
+ghost use Rattle.q3_io.specs.Faults.{HasCause};
+ghost use Rattle.q3_io.specs.Written.{Adds};
 ghost use Rattle.q3_world.specs.Report.{answer_text, handed_in_text, emitted_text, took_text, shown_text};
 
 use crate::answer::{Answer, ClientTook, Emitted, HandedIn, Illegible, Shown};
-use crate::outside::{Failed, Piece, Sink, print_all};
+use q3_io::{Failed, Piece, Sink, print_all};
 
 /// Prints the lines of an answer, or a front of them and answers `Failed`.
 #[tactic(auto, unfolding(crate::specs::Report::answer_text))]

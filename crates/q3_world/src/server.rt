@@ -12,8 +12,8 @@ use crate::answer::{Emitted, NoClient, Snapshot};
 use crate::message::write_snapshot;
 use arrayvec::ArrayVec;
 use q3_bits::{Code, NoMemory, Writer};
+use q3_io::Address;
 use q3_player::PlayerState;
-use q3_script::Address;
 use std::alloc::Global;
 use std::marker::Model;
 

@@ -4,9 +4,9 @@ ghost use Rattle.std.specs.Prelude.{◌≤◌, All, length};
 ghost use Rattle.q3_script.specs.Grammar.{IsReplayEvent};
 
 use super::*;
-use crate::outside::{MemFiles, MemSink};
+use q3_io::{Address, MemFiles, MemSink};
 use q3_player::PlayerState;
-use q3_script::{Address, Event};
+use q3_script::Event;
 use std::alloc::Global;
 use std::test::*;
 

@@ -1,16 +1,16 @@
 -- What a run's status says.
-use Rattle.std.proofs.Common.{◌≡◌, ℕ, ◌<◌, ◌≤◌, List, [], ◌∷◌, ◌++◌, Option, Some, None, Result, Ok, Err, refl, sym, ap, subst, ◌∙◌, inl, inr, arith, append_assoc}
+use Rattle.std.proofs.Common.{◌≡◌, ℕ, ◌≤◌, List, [], ◌++◌, Option, Some, None, Result, Ok, Err, refl, sym, ap, subst, ◌∙◌, inl, inr, arith, append_assoc}
 use Rattle.std.specs.Prelude.{◌⊎◌, IsOkUnless}
 use Rattle.std.proofs.lemmas.Bool.{cases_lt}
 use Rattle.q3_script.specs.declared.event.Event.{Event}
 use Rattle.q3_script.specs.Script.{BadLine}
-use Rattle.q3_world.specs.Faults.{Rose}
-use Rattle.q3_world.specs.Told.{Told, contents_of}
+use Rattle.q3_io.specs.Faults.{Rose}
+use Rattle.q3_io.specs.Told.{Told, contents_of}
 use Rattle.q3net.specs.declared.fault.Fault.{Fault}
 use Rattle.q3net.specs.declared.fault.Fault.TheVariants as faults
 use Rattle.q3net.specs.Command.{Command, Help, Version, Replay}
 use Rattle.q3net.specs.Faults.{ReadCause, WriteCause}
-use Rattle.q3net.specs.Lines.{help_text, version_text, ending_line, ending_status}
+use Rattle.q3net.specs.Lines.{help_text, version_text, ending_status}
 use Rattle.q3net.specs.Run.{read_replay, Replays, ReplaysFile, Ends, EndsTold, HasEnded, HasEndedTold, Prints, PrintsText, IsBadScript, NamesBadScript, IsSound}
 
 -- how the fault line and the status stand to how the command ended

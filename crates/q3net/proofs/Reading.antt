@@ -1,11 +1,11 @@
 -- Reading a file piece by piece.
-use Rattle.std.proofs.Common.{◌≡◌, ℕ, ◌+◌, ◌<◌, ◌≤◌, List, [], ◌∷◌, ◌++◌, length, take, drop, Option, Some, None, Result, Ok, Err, refl, sym, ap, subst, ◌∙◌, inl, inr, arith}
+use Rattle.std.proofs.Common.{◌≡◌, ℕ, ◌+◌, ◌<◌, ◌≤◌, List, [], ◌++◌, length, take, drop, Option, Some, None, Ok, Err, refl, sym, ap, subst, ◌∙◌, inl, inr, arith}
 use Rattle.std.specs.Prelude.{◌⊎◌}
-use Rattle.std.proofs.lemmas.List.{take_all, take-append-drop, length-take, length-drop, length-append, take_at, append-nil, nil_from_length}
+use Rattle.std.proofs.lemmas.List.{take_all, take-append-drop, length-take, length-drop, length-append, take_at, append-nil}
 use Rattle.std.proofs.Math.Seq.{take-add}
-use Rattle.q3_world.specs.Told.{Told, Gives, ReadsAt, contents_at, after_asked}
-use Rattle.q3_world.specs.declared.outside.sink.Failed.{Failed}
-use Rattle.q3net.specs.Input.{ReadsFront, ReadsWhole, ReadsPieces}
+use Rattle.q3_io.specs.Told.{Told, Gives, ReadsAt, contents_at, after_asked}
+use Rattle.q3_io.specs.declared.sink.Failed.{Failed}
+use Rattle.q3net.specs.Input.{ReadsPieces}
 use Rattle.q3net.specs.declared.input.InputError.{InputError}
 
 -- what was read is the front of the file, and only what was asked for has changed

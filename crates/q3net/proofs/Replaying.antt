@@ -1,6 +1,5 @@
 -- How a replay ends.
-use Rattle.std.proofs.Common.{◌≡◌, ℕ, ◌<◌, ◌≤◌, Bool, true, false, List, [], ◌∷◌, ◌++◌, length, Option, Some, None, Result, Ok, Err, refl, sym, ap, subst, ◌∙◌, inl, inr, arith}
-use Rattle.std.specs.Prelude.{nat_lt}
+use Rattle.std.proofs.Common.{◌≡◌, ℕ, ◌<◌, List, [], ◌++◌, length, Option, Some, None, Result, Ok, Err, refl, sym, ap, subst, ◌∙◌, inl, inr, arith}
 use Rattle.std.proofs.lemmas.List.{append-nil, length-append}
 use Rattle.std.proofs.lemmas.Bool.{cases_lt, lt-ltb}
 use Rattle.q3_bits.specs.Words.{plain_words}
@@ -8,11 +7,11 @@ use Rattle.q3_script.specs.declared.event.Event.{Event}
 use Rattle.q3_script.specs.declared.cause.ScriptKind.TheVariants as kinds
 use Rattle.q3_script.specs.declared.cause.ScriptError.{ScriptError}
 use Rattle.q3_script.specs.declared.cause.ScriptError.TheVariants as script
-use Rattle.q3_script.specs.Script.{BadLine, Reads as ReadsScript, script_at, longest_script, events_from, lines_of as script_lines}
+use Rattle.q3_script.specs.Script.{Reads as ReadsScript, script_at, longest_script}
 use Rattle.q3_world.specs.declared.world.StepError.{StepError}
 use Rattle.q3_world.specs.declared.world.StepError.TheVariants as step
-use Rattle.q3_world.specs.Written.{Adds}
-use Rattle.q3_world.specs.Told.{Told, contents_of}
+use Rattle.q3_io.specs.Written.{Adds}
+use Rattle.q3_io.specs.Told.{Told, contents_of}
 use Rattle.q3_world.specs.Kept.{Kept}
 use Rattle.q3_world.specs.World.{opening}
 use Rattle.q3_world.specs.StandsFor.{StandsFor}

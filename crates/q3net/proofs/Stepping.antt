@@ -1,11 +1,11 @@
 -- Stepping over the events of a script.
-use Rattle.std.proofs.Common.{◌≡◌, ℕ, ◌+◌, ◌<◌, ◌≤◌, Bool, List, [], ◌∷◌, ◌++◌, length, get_or, drop, Option, Some, None, Result, Ok, Err, refl, sym, ap, subst, ◌∙◌, append_assoc, arith}
+use Rattle.std.proofs.Common.{◌≡◌, ℕ, ◌+◌, ◌<◌, ◌≤◌, List, [], ◌∷◌, ◌++◌, length, get_or, drop, Option, Some, None, Result, Ok, Err, refl, sym, ap, subst, ◌∙◌, append_assoc}
 use Rattle.std.specs.List.{flat_map}
 use Rattle.std.proofs.lemmas.List.{append-nil, drop_more, drop_all}
 use Rattle.q3_bits.specs.Words.{plain_words}
 use Rattle.q3_script.specs.declared.event.Event.{Event}
 use Rattle.q3_world.specs.declared.world.StepError.{StepError}
-use Rattle.q3_world.specs.Written.{Adds}
+use Rattle.q3_io.specs.Written.{Adds}
 use Rattle.q3_world.specs.Kept.{Kept}
 use Rattle.q3_world.specs.World.{Whole, step, answers}
 use Rattle.q3_world.specs.StandsFor.{StandsFor}

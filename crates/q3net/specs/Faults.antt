@@ -1,14 +1,14 @@
 -- Which fault of a run an error of a part is, and when each comes.
-use Rattle.std.specs.Prelude.{◌≡◌, ℕ, ◌≤◌, Result, Ok, Err}
+use Rattle.std.specs.Prelude.{◌≡◌, ℕ, ◌≤◌, Result, Err}
 use Rattle.q3_script.specs.declared.cause.ScriptError.{ScriptError}
 use Rattle.q3_script.specs.declared.cause.ScriptError.TheVariants as script
 use Rattle.q3_world.specs.declared.world.StepError.{StepError}
 use Rattle.q3_world.specs.declared.world.StepError.TheVariants as step
-use Rattle.q3_world.specs.Faults.{Rose}
+use Rattle.q3_io.specs.Faults.{Rose}
 use Rattle.q3net.specs.declared.input.InputError.{InputError}
 use Rattle.q3net.specs.declared.input.InputError.TheVariants as input
 use Rattle.q3net.specs.declared.fault.Fault.{Fault}
-use Rattle.q3net.specs.declared.fault.Fault.TheVariants.{NoMemory, Usage, Read, Write, Script}
+use Rattle.q3net.specs.declared.fault.Fault.TheVariants.{NoMemory, Read, Write, Script}
 
 abbrev pub input_fault : InputError → Fault
 input_fault input.NoMemory = NoMemory

@@ -1,8 +1,8 @@
 -- Reading a file whole, up to a limit.
-use Rattle.std.specs.Prelude.{◌≡◌, ◌⊎◌, ℕ, ◌≤◌, List, ◌∷◌, [], ◌++◌, length, Option, Some, None, Result, Ok, Err}
-use Rattle.q3_world.specs.Told.{Told, Lookup, contents_of, contents_at, after_named}
+use Rattle.std.specs.Prelude.{◌≡◌, ◌⊎◌, ℕ, ◌≤◌, List, [], ◌++◌, length, Option, Some, None, Result, Ok, Err}
+use Rattle.q3_io.specs.Told.{Told, Lookup, contents_of, contents_at, after_named}
 use Rattle.std.specs.Global.{Vec}
-use Rattle.q3_world.specs.Faults.{Rose}
+use Rattle.q3_io.specs.Faults.{Rose}
 use Rattle.q3net.specs.declared.input.InputError.{InputError}
 use Rattle.q3net.specs.declared.input.InputError.TheVariants.{NoMemory, Fault}
 

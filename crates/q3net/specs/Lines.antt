@@ -2,7 +2,7 @@
 use Rattle.std.specs.Prelude.{ℕ, List, [], ◌∷◌, codes, decimal, Result, Ok, Err}
 use Rattle.q3_script.specs.declared.cause.LineCause.{LineCause}
 use Rattle.q3_script.specs.declared.cause.LineCause.TheVariants.{Large, Many, Word, Count, Number, Fields, Address}
-use Rattle.q3_world.specs.Print.{joined}
+use Rattle.q3_io.specs.Print.{joined}
 use Rattle.q3net.specs.declared.fault.Fault.{Fault}
 use Rattle.q3net.specs.declared.fault.Fault.TheVariants.{NoMemory, Usage, Read, Write, Script}
 

@@ -4,7 +4,7 @@ use Rattle.q3_bits.specs.Words.{plain_words}
 use Rattle.q3_script.specs.declared.event.Event.{Event}
 use Rattle.q3_script.specs.declared.cause.ScriptKind.TheVariants as kinds
 use Rattle.q3_script.specs.Script.{BadLine, script_at}
-use Rattle.q3_world.specs.Told.{Told, contents_of}
+use Rattle.q3_io.specs.Told.{Told, contents_of}
 use Rattle.q3_world.specs.Report.{report}
 use Rattle.q3net.specs.Command.{Command, Help, Version, Replay}
 use Rattle.q3net.specs.Input.{LookedUp, MayHaveLookedUp}

@@ -1,15 +1,15 @@
 //! Why a run ended early: its fault line and its status.
 
 ghost use Rattle.std.specs.Prelude.{◌≡◌, ◌⊎◌, ◌≤◌, codes};
-ghost use Rattle.q3_world.specs.Faults.{HasCause, Rose};
-ghost use Rattle.q3_world.specs.Written.{Adds};
+ghost use Rattle.q3_io.specs.Faults.{HasCause, Rose};
+ghost use Rattle.q3_io.specs.Written.{Adds};
 ghost use Rattle.q3net.specs.Lines.{fault_line, fault_status, cause_word};
 
 use crate::input::InputError;
 use q3_bits::NoMemory;
+use q3_io::{Failed, Piece, Sink, print_all};
 use q3_script::{LineCause, ScriptError};
 use q3_world::StepError;
-use q3_world::outside::{Failed, Piece, Sink, print_all};
 
 /// Why a run ended early.
 #[derive(Clone, Copy, Debug, PartialEq, Eq)]

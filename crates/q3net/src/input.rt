@@ -4,7 +4,7 @@ ghost use Rattle.std.specs.Prelude.{◌≡◌, ◌+◌, ◌<◌, ◌^◌, length
 ghost use Rattle.q3net.specs.Input.{Reads, ReadsPieces, with_items, HasInputCause};
 
 use q3_bits::NoMemory;
-use q3_world::outside::Files;
+use q3_io::Files;
 use std::alloc::Global;
 
 /// Why a file wasn't read.

@@ -5,8 +5,8 @@ ghost use Rattle.std.specs.List.{flat_map};
 ghost use Rattle.std.specs.String.{string_bytes};
 ghost use Rattle.q3_bits.specs.Words.{plain_words};
 ghost use Rattle.q3_script.specs.Grammar.{IsReplayEvent};
-ghost use Rattle.q3_world.specs.Faults.{Rose};
-ghost use Rattle.q3_world.specs.Written.{Adds};
+ghost use Rattle.q3_io.specs.Faults.{Rose};
+ghost use Rattle.q3_io.specs.Written.{Adds};
 ghost use Rattle.q3_world.specs.Outcome.{HasStepCause};
 ghost use Rattle.q3_world.specs.World.{Whole, answers};
 ghost use Rattle.q3_world.specs.StandsFor.{StandsFor};
@@ -19,8 +19,8 @@ ghost use Rattle.q3net.specs.Run.{Ends, EndsTold, HasEndedTold, ReplaysTold, Pri
 use crate::command::{Command, parse};
 use crate::fault::Fault;
 use crate::input::read_file;
+use q3_io::{Failed, Files, Sink};
 use q3_script::{Event, ScriptKind, read_script};
-use q3_world::outside::{Failed, Files, Sink};
 use q3_world::{StepError, World};
 use std::alloc::Global;
 

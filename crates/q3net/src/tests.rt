@@ -1,7 +1,7 @@
 //! The top call over files and a sink in memory, with ample memory.
 
 use crate::run::run;
-use q3_world::outside::{MemFiles, MemSink};
+use q3_io::{MemFiles, MemSink};
 use std::alloc::{AllocError, Global};
 use std::test::Fail;
 

@@ -1,7 +1,7 @@
-use Rattle.std.proofs.Common.{◌≡◌, ℕ, ◌<◌, ◌++◌, length, take, Ok, rules, arith, subst, sym}
+use Rattle.std.proofs.Common.{◌≡◌, ℕ, ◌<◌, ◌++◌, length, take, Ok, rules, arith, subst}
 use Rattle.std.proofs.lemmas.Grind.{common_steps}
-use Rattle.q3_world.specs.Told.{ReadsAt}
-use Rattle.q3net.proofs.Reading.{HasRead, HasRead-none, HasRead-more, HasRead-end, HasRead-long}
+use Rattle.q3_io.specs.Told.{ReadsAt}
+use Rattle.q3net.proofs.Reading.{HasRead-none, HasRead-more, HasRead-end, HasRead-long}
 use Rattle.q3net.proofs.input.read_pieces.Goals as goal
 
 pub loop-files-init : goal.loop-files-init

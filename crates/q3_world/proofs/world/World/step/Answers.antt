@@ -1,6 +1,6 @@
 use Rattle.std.proofs.Common.{◌+◌, ◌≤◌, length, subst}
 use Rattle.q3_bits.specs.Words.{plain_words}
-use Rattle.q3_world.specs.Written.{Adds}
+use Rattle.q3_io.specs.Written.{Adds}
 use Rattle.q3_world.specs.Report.{answer_text}
 use Rattle.q3_world.specs.Kept.{KeptStep}
 use Rattle.q3_world.specs.declared.answer.Answer.{Answer}

@@ -1,0 +1,4 @@
+pub mod ToldPlaces
+pub mod ToldStored
+pub mod ToldHeld
+pub mod Buffered

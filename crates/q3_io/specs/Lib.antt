@@ -1,0 +1,13 @@
+pub mod Faults
+pub mod Written
+pub mod Told
+pub mod MemoryCalls
+pub mod MemorySink
+pub mod MemoryStore
+pub mod MemoryStored
+pub mod MemoryNumbers
+pub mod MemoryNumbered
+pub mod MemoryFiles
+pub mod HostCounts
+pub mod Quoted
+pub mod Print

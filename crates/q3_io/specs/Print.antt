@@ -1,0 +1,35 @@
+-- Lines of text, put together from pieces.
+use Rattle.std.specs.Prelude.{◌≡◌, ℕ, ◌+◌, ◌==◌, if◌then◌else◌, List, [], ◌∷◌, ◌++◌, codes, decimal, Option, Some, None, Result, Ok, Err}
+use Rattle.std.specs.List.{flat_map}
+use Rattle.q3_io.specs.Quoted.{quoted}
+use Rattle.q3_io.specs.declared.sink.Failed.{Failed}
+use Rattle.q3_io.specs.declared.print.Piece.{Piece}
+use Rattle.q3_io.specs.declared.print.Piece.TheVariants.{Text, Number, Words, Quoted}
+
+-- a word by its index, with a space before it, if it isn't 0
+abbrev pub word_text : ℕ → ℕ → List ℕ
+word_text index word = if word == 0 then [] else codes " " ++ decimal index ++ codes ":" ++ decimal word
+
+-- the words that aren't 0, by index from this one on
+unfoldable pub words_text : ℕ → List ℕ → List ℕ
+words_text index [] = []
+words_text index (word ∷ words) = word_text index word ++ words_text (index + 1) words
+
+abbrev pub piece_text : Piece → List ℕ
+piece_text (Text text) = text.now
+piece_text (Number number) = decimal number
+piece_text (Words words) = words_text 0 words.now
+piece_text (Quoted text) = quoted text.now
+
+-- pieces, one behind the other
+abbrev pub joined : List (List ℕ) → List ℕ
+joined texts = flat_map (λ text. text) texts
+
+-- bytes go behind those that wait, and some from the front of both are written; at an error no more than these
+abbrev pub Passes : List ℕ → List ℕ → List ℕ → Result (Unit {0}) Failed → List ℕ → Type 0
+Passes waiting bytes left (Ok x) added = added ++ left ≡ waiting ++ bytes
+Passes waiting bytes left (Err e) added = (rest : List ℕ) × (added ++ rest ≡ waiting ++ bytes)
+
+abbrev pub Buffers : Option (List ℕ) → Option (List ℕ) → List ℕ → List ℕ → List ℕ → Result (Unit {0}) Failed → Type 0
+Buffers None now waiting left bytes result = now ≡ None
+Buffers (Some had) now waiting left bytes result = (added : List ℕ) × Passes waiting bytes left result added × (now ≡ Some (had ++ added))

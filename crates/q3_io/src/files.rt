@@ -1,0 +1,62 @@
+//! Files by name.
+
+ghost use Rattle.std.specs.Prelude.{◌≡◌, ◌<◌, ◌≤◌, ℕ, Option, length, IfOk};
+ghost use Rattle.q3_io.specs.Faults.{HasCause};
+ghost use Rattle.q3_io.specs.Told.{Told, IsGiven, LooksUp, Measures, ReadsAt, Creates, Appends};
+
+use crate::sink::Failed;
+
+/// Files that are looked up or created by name, and then known by a number.
+/// A number is one of those given so far; each call that takes a number has that as its condition.
+pub trait Files {
+    /// How often `lookup`, `size` or `read_at` has failed. It never falls.
+    ghost faults: { Self → ℕ };
+
+    /// How often `create` or `append` has failed. It never falls.
+    ghost write_faults: { Self → ℕ };
+
+    /// How many numbers were given: file numbers are those below it. It never falls.
+    ghost given: { Self → ℕ };
+
+    /// The files, what each number stands for, and what was asked, where it is told.
+    ghost told: { Self → Option Told };
+
+    /// The number of the file of this name. A missing file is a fault.
+    fn lookup(&mut self, name: &str) -> Result<usize, Failed>
+        ensures given { IsGiven (given self.old) (given self.new) result }
+        ensures told { LooksUp (told self.old) (told self.new) name.now result }
+        ensures cause { HasCause (faults self.old) (faults self.new) result }
+        ensures others { write_faults self.new ≡ write_faults self.old };
+
+    /// How many bytes the file has.
+    fn size(&mut self, file: usize) -> Result<u64, Failed>
+        requires { file < given self.old }
+        ensures given { given self.new ≡ given self.old }
+        ensures told { Measures (told self.old) (told self.new) file result }
+        ensures cause { HasCause (faults self.old) (faults self.new) result }
+        ensures others { write_faults self.new ≡ write_faults self.old };
+
+    /// Reads bytes of the file from a place on, and answers how many; 0 for a buffer that isn't empty is the file's end.
+    fn read_at(&mut self, file: usize, at: u64, into: &mut [u8]) -> Result<usize, Failed>
+        requires { file < given self.old }
+        ensures given { given self.new ≡ given self.old }
+        ensures count { IfOk result (λ count. count ≤ length into.old) }
+        ensures told { ReadsAt (told self.old) (told self.new) file at into.old into.new result }
+        ensures cause { HasCause (faults self.old) (faults self.new) result }
+        ensures others { write_faults self.new ≡ write_faults self.old };
+
+    /// The number of an empty file of this name, also where there was one.
+    fn create(&mut self, name: &str) -> Result<usize, Failed>
+        ensures given { IsGiven (given self.old) (given self.new) result }
+        ensures told { Creates (told self.old) (told self.new) name.now result }
+        ensures cause { HasCause (write_faults self.old) (write_faults self.new) result }
+        ensures others { faults self.new ≡ faults self.old };
+
+    /// Writes bytes behind those of the file, or a front of them and answers `Failed`.
+    fn append(&mut self, file: usize, bytes: &[u8]) -> Result<(), Failed>
+        requires { file < given self.old }
+        ensures given { given self.new ≡ given self.old }
+        ensures told { Appends (told self.old) (told self.new) file bytes.now result }
+        ensures cause { HasCause (write_faults self.old) (write_faults self.new) result }
+        ensures others { faults self.new ≡ faults self.old };
+}

@@ -1,0 +1,35 @@
+//! Standard output.
+
+ghost use Rattle.std.specs.Prelude.{◌≡◌, None};
+
+use crate::sink::{Failed, Sink};
+
+/// Standard output. Each write goes to the system at once: after `Ok` the bytes are handed over.
+#[derive(Drop)]
+pub struct HostSink<R> {
+    rt: R,
+    faults: u64,
+}
+
+impl<R: Print> HostSink<R> {
+    /// Nothing was written yet, and nothing failed.
+    pub fn new(rt: R) -> HostSink<R>
+        ensures faults { ⟦<HostSink<R> as Sink>⟧.faults result ≡ 0 }
+    {
+        HostSink { rt, faults: 0 }
+    }
+}
+
+impl<R: Print> Sink for HostSink<R> {
+    ghost faults = { λ s. s.faults };
+
+    ghost written = { λ s. None };
+
+    fn write_all(&mut self, bytes: &[u8]) -> Result<(), Failed> {
+        if self.rt.write_all(bytes).is_err() {
+            self.faults = self.faults.saturating_add(1);
+            return Err(Failed);
+        }
+        Ok(())
+    }
+}

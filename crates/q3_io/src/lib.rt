@@ -1,0 +1,19 @@
+//! The outside: files and a sink for bytes, as traits whose contracts say what each call changes, their memory
+//! and host implementations, addresses, and texts that are put together from pieces.
+#![tactic(auto)]
+
+pub mod address;
+pub mod files;
+pub mod host;
+pub mod memory;
+pub mod print;
+pub mod sink;
+#[cfg(test)]
+mod tests;
+
+pub use address::Address;
+pub use files::Files;
+pub use host::{HostFiles, HostSink};
+pub use memory::{MemFiles, MemSink, NoMemory, NullSink};
+pub use print::{Piece, print_all, print_number, print_text};
+pub use sink::{Failed, Sink};

@@ -1,0 +1,95 @@
+//! A sink in memory, and one that keeps nothing.
+
+ghost use Rattle.std.specs.Prelude.{◌≡◌, [], Some, None, IfOk, is_ok, true};
+ghost use Rattle.q3_io.specs.Faults.{HasCause};
+ghost use Rattle.q3_io.specs.Written.{Adds};
+ghost use Rattle.q3_io.specs.MemorySink.{takes, after_write};
+
+use crate::memory::NoMemory;
+use crate::memory::calls::Calls;
+use crate::sink::{Failed, Sink};
+use std::alloc::Global;
+use std::marker::Model;
+
+/// Keeps what is written to it, as far as its room goes.
+#[derive(Drop)]
+pub struct MemSink {
+    written: Vec<u8>,
+    room: usize,
+    calls: Calls,
+    faults: u64,
+}
+
+impl Model for MemSink {
+    ghost use Rattle.std.specs.Prelude.{◌≤◌, length, vec_capacity};
+    ghost use Rattle.q3_io.specs.MemorySink.{SinkState};
+
+    ghost Value = { SinkState };
+
+    ghost view = { λ s. record { written = s.written.items; room = s.room; calls = s.calls; faults = s.faults } };
+
+    ghost invariant = { λ s. (length s.written.items ≤ s.room) × (s.room ≤ vec_capacity s.written) };
+}
+
+impl MemSink {
+    /// A sink with room for so many bytes, whose calls with these numbers fail, counted from 1.
+    pub fn new(alloc: Global, room: usize, fails: &[u64]) -> Result<MemSink, NoMemory>
+        ensures { IfOk result (λ sink. sink ≡ record { written = []; room = room; calls = record { made = 0; fails = fails.now }; faults = 0 }) }
+    {
+        Ok(MemSink {
+            written: Vec::with_capacity(alloc, room)?,
+            room,
+            calls: Calls::new(alloc, fails)?,
+            faults: 0,
+        })
+    }
+
+    /// What was written.
+    pub fn bytes(&self) -> &[u8]
+        ensures { result.now ≡ self.now.written }
+    {
+        &self.written
+    }
+}
+
+impl Sink for MemSink {
+    ghost faults = { λ s. s.faults };
+
+    ghost written = { λ s. Some s.written };
+
+    /// Nothing is written by a call that fails, or whose bytes are more than the room that is left.
+    fn write_all(&mut self, bytes: &[u8]) -> Result<(), Failed>
+        ensures adds { Adds (Some self.old.written) (Some self.new.written) bytes.now result }
+        ensures cause { HasCause self.old.faults self.new.faults result }
+        ensures whole { self.new ≡ after_write self.old bytes.now }
+        ensures takes { is_ok result ≡ takes self.old bytes.now }
+    {
+        let fails = self.calls.next_fails();
+        if fails || bytes.len() > self.room - self.written.len() {
+            self.faults = self.faults.saturating_add(1);
+            return Err(Failed);
+        }
+        if self.written.extend_from_slice(bytes).is_err() {
+            return Err(Failed);
+        }
+        Ok(())
+    }
+}
+
+/// Takes every write and keeps nothing.
+#[derive(Clone, Copy, Debug, PartialEq, Eq)]
+pub struct NullSink;
+
+impl Sink for NullSink {
+    ghost faults = { λ s. 0 };
+
+    ghost written = { λ s. None };
+
+    fn write_all(&mut self, bytes: &[u8]) -> Result<(), Failed>
+        ensures adds { Adds None None bytes.now result }
+        ensures cause { HasCause 0 0 result }
+        ensures ok { is_ok result ≡ true }
+    {
+        Ok(())
+    }
+}

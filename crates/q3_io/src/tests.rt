@@ -1,0 +1,146 @@
+use super::*;
+use crate::host::{HostFiles, HostSink};
+use crate::memory::{MemFiles, MemSink, NullSink};
+use std::test::*;
+
+#[test]
+fn a_failing_write_keeps_the_first(rt: HostRuntime) -> Result<(), Fail> {
+    let mut sink = MemSink::new(rt.alloc(), 8, &[2])
+        .ok()
+        .ok_or("there is memory")?;
+    assert_eq!(rt; sink.write_all(b"first"), Ok(()));
+    assert_eq!(rt; sink.write_all(b"two"), Err(Failed));
+    assert_eq!(rt; sink.bytes(), b"first".as_slice());
+    assert_eq!(rt; sink.write_all(b"more"), Err(Failed));
+    assert_eq!(rt; sink.write_all(b"end"), Ok(()));
+    assert_eq!(rt; sink.bytes(), b"firstend".as_slice());
+    Ok(())
+}
+
+#[test]
+fn a_null_sink_takes_all(rt: HostRuntime) {
+    let mut sink = NullSink;
+    assert_eq!(rt; sink.write_all(b"any bytes"), Ok(()));
+    assert_eq!(rt; sink.write_all(b""), Ok(()));
+}
+
+#[test]
+fn standard_output_takes_bytes(rt: HostRuntime) {
+    let mut sink = HostSink::new(&rt);
+    assert_eq!(rt; sink.write_all(b""), Ok(()));
+}
+
+#[test]
+fn files_in_memory_are_read(rt: HostRuntime) -> Result<(), Fail> {
+    let mut files = MemFiles::new(rt.alloc(), 2, 64, 2, &[4])
+        .ok()
+        .ok_or("there is memory")?;
+    assert!(rt; files.store("map", b"01234"));
+    assert_eq!(rt; files.contents("map"), Some(b"01234".as_slice()));
+    assert_eq!(rt; files.contents("none"), None);
+    assert_eq!(rt; files.lookup("none"), Err(Failed));
+    let map = files.lookup("map").ok().ok_or("the file is there")?;
+    assert_eq!(rt; map, 0);
+    let mut into = [0u8; 4];
+    assert_eq!(rt; files.read_at(map, 0, &mut into), Ok(4));
+    assert_eq!(rt; into, *b"0123");
+    assert_eq!(rt; files.read_at(map, 4, &mut into), Err(Failed));
+    assert_eq!(rt; files.read_at(map, 4, &mut into), Ok(1));
+    assert_eq!(rt; into, *b"4123");
+    assert_eq!(rt; files.read_at(map, 5, &mut into), Ok(0));
+    assert_eq!(rt; files.size(map), Ok(5));
+    Ok(())
+}
+
+#[test]
+fn files_in_memory_are_written(rt: HostRuntime) -> Result<(), Fail> {
+    let mut files = MemFiles::new(rt.alloc(), 1, 16, 2, &[])
+        .ok()
+        .ok_or("there is memory")?;
+    assert_eq!(rt; files.create("log"), Ok(0));
+    assert_eq!(rt; files.append(0, b"one "), Ok(()));
+    assert_eq!(rt; files.append(0, b"two"), Ok(()));
+    let two = files.contents("log").ok_or("the file is there")?;
+    assert_eq!(rt; two, b"one two".as_slice());
+    assert_eq!(rt; files.append(0, b"four"), Err(Failed));
+    assert_eq!(rt; files.create("log"), Ok(1));
+    let none = files.contents("log").ok_or("the file is there")?;
+    assert_eq!(rt; none.len(), 0);
+    assert_eq!(rt; files.create("log"), Err(Failed));
+    Ok(())
+}
+
+#[test]
+fn files_of_the_system_are_written_and_read(rt: HostRuntime) -> Result<(), Fail> {
+    let mut files = HostFiles::new(rt.alloc(), &rt)
+        .ok()
+        .ok_or("there is memory")?;
+    assert_eq!(rt; files.create("written"), Ok(0));
+    assert_eq!(rt; files.append(0, b"one "), Ok(()));
+    assert_eq!(rt; files.append(0, b"two"), Ok(()));
+    assert_eq!(rt; files.lookup("none"), Err(Failed));
+    assert_eq!(rt; files.lookup("."), Err(Failed));
+    assert_eq!(rt; files.lookup("written"), Ok(1));
+    assert_eq!(rt; files.size(1), Ok(7));
+    let mut into = [0u8; 4];
+    assert_eq!(rt; files.read_at(1, 4, &mut into), Ok(3));
+    assert_eq!(rt; into, *b"two\0");
+    assert_eq!(rt; files.read_at(1, 7, &mut into), Ok(0));
+    assert_eq!(rt; files.read_at(1, 0, &mut into), Ok(4));
+    assert_eq!(rt; into, *b"one ");
+    Ok(())
+}
+
+#[test]
+fn numbers_are_printed(rt: HostRuntime) -> Result<(), Fail> {
+    let mut sink = MemSink::new(rt.alloc(), 96, &[])
+        .ok()
+        .ok_or("there is memory")?;
+    assert_eq!(rt; print_number(0, &mut sink), Ok(()));
+    assert_eq!(rt; print_number(-27_960, &mut sink), Ok(()));
+    assert_eq!(rt; print_number(i128::MIN, &mut sink), Ok(()));
+    assert_eq!(rt; sink.write_all(b" "), Ok(()));
+    assert_eq!(rt; print_number(i128::MAX, &mut sink), Ok(()));
+    assert_eq!(rt;
+        sink.bytes(),
+        b"0-27960-170141183460469231731687303715884105728 170141183460469231731687303715884105727".as_slice()
+    );
+    assert_eq!(rt; print_number(-10, &mut sink), Ok(()));
+    assert_eq!(rt; print_number(1_000_000, &mut sink), Err(Failed));
+    Ok(())
+}
+
+#[test]
+fn texts_are_printed_in_quotes(rt: HostRuntime) -> Result<(), Fail> {
+    let mut sink = MemSink::new(rt.alloc(), 64, &[3])
+        .ok()
+        .ok_or("there is memory")?;
+    assert_eq!(rt; print_text(b"", &mut sink), Ok(()));
+    assert_eq!(rt;
+        print_text(b"a \"~\\\n\t\x00\x1f\x7f\xe4\xff", &mut sink),
+        Ok(())
+    );
+    let spelled = b"\"\"\"a \\\"~\\\\\\n\\x09\\x00\\x1f\\x7f\\xe4\\xff\"";
+    assert_eq!(rt; sink.bytes(), spelled.as_slice());
+    assert_eq!(rt; print_text(b"lost", &mut sink), Err(Failed));
+    assert_eq!(rt; sink.bytes(), spelled.as_slice());
+    Ok(())
+}
+
+#[test]
+fn a_line_is_one_write(rt: HostRuntime) -> Result<(), Fail> {
+    let mut sink = MemSink::new(rt.alloc(), 64, &[2])
+        .ok()
+        .ok_or("there is memory")?;
+    let line = [
+        Piece::Text(b"say "),
+        Piece::Number(15),
+        Piece::Text(b" "),
+        Piece::Quoted(b"a\n"),
+        Piece::Text(b"\n"),
+    ];
+    assert_eq!(rt; print_all(&line, &mut sink), Ok(()));
+    assert_eq!(rt; sink.bytes(), b"say 15 \"a\\n\"\n".as_slice());
+    assert_eq!(rt; print_all(&line, &mut sink), Err(Failed));
+    Ok(())
+}
