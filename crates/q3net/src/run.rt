@@ -56,7 +56,7 @@ pub fn run<F: Files, O: Sink>(alloc: Global, words: &[String], files: &mut F, ou
     ensures bad_script { result ≡ 6 → NamesBadScript (command_of (map string_bytes words.now)) (F.told files.old) }
     ensures is_bad { IsBadScript (command_of (map string_bytes words.now)) (F.told files.old)
         → (result ≡ 6) ⊎ ((result ≡ 1) ⊎ ((result ≡ 3) ⊎ (result ≡ 4))) }
-    // No fault is passed over: where a count changed, the status is that of its fault, or of want of memory.
+    // No fault is passed over: where the sink's count changed, the status is 4, and where the files' did, 3 or 4.
     ensures no_read_fault_passed { (F.faults files.new ≡ F.faults files.old) ⊎ ((result ≡ 3) ⊎ (result ≡ 4)) }
     ensures no_write_fault_passed { (O.faults out.new ≡ O.faults out.old) ⊎ (result ≡ 4) }
     // A command line whose script spells events is done, unless a count rises or memory runs out.
