@@ -1,0 +1,5 @@
+pub mod Kinds
+pub mod Floats
+pub mod Texts
+pub mod Spelling
+pub mod Laws
