@@ -1,1 +1,3 @@
 pub mod KindsRead
+pub mod Magnitudes
+pub mod SmallFloats
