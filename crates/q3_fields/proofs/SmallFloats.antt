@@ -153,6 +153,11 @@ pub small_float-negative_zero : small_float 2147483648 ≡ Some (pos 0)
 unfolding small_float
 small_float-negative_zero = refl
 
+-- so is the pattern without bits
+pub small_float-zero : small_float 0 ≡ Some (pos 0)
+unfolding pattern
+small_float-zero = small_float-pattern (pos 0) (record { least = omega (arith, ints); most = omega (arith, ints) })
+
 -- the number that is found is small, whatever the word
 pub small_float-within : (word : ℕ) (k : ℤ) → small_float word ≡ Some k → IsSmall k
 small_float-within word k e =

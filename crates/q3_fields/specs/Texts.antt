@@ -31,7 +31,7 @@ entity_field words kind word =
     if norm kind word == 0 then field_bits words 1 0 else field_bits words 1 1 ++ player_field words kind word
 
 infixl 10 ◌>>=◌
-abbrev ◌>>=◌ : {A B : Type 0} → Result A ReadError → (A → Result B ReadError) → Result B ReadError
+abbrev pub ◌>>=◌ : {A B : Type 0} → Result A ReadError → (A → Result B ReadError) → Result B ReadError
 (Ok x) >>= f = f x
 (Err e) >>= f = Err e
 

@@ -3,6 +3,7 @@
 
 pub mod float;
 pub mod kind;
+pub mod laws;
 pub mod reading;
 pub mod table;
 pub mod writing;
