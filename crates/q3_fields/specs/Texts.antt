@@ -1,5 +1,5 @@
 -- The text of a changed field, and what a reader answers.
-use Rattle.std.specs.Prelude.{ℕ, ◌+◌, ◌^◌, ◌==◌, if◌then◌else◌, Bool, List, ◌++◌, ℤ, pos, negsuc, ◌-ℤ◌, ◌+ℤ◌, nat_abs, Option, Some, None, Result, Ok, Err}
+use Rattle.std.specs.Prelude.{ℕ, ◌==◌, if◌then◌else◌, Bool, List, ◌++◌, ℤ, pos, ◌-ℤ◌, ◌+ℤ◌, nat_abs, Option, Some, None, Result, Ok, Err}
 use Rattle.q3_bits.specs.Words.{field_bits, field_read}
 use Rattle.q3_bits.specs.declared.reader.ReadError.{ReadError}
 use Rattle.q3_fields.specs.declared.kind.Kind.{Kind}
@@ -31,7 +31,7 @@ entity_field words kind word =
     if norm kind word == 0 then field_bits words 1 0 else field_bits words 1 1 ++ player_field words kind word
 
 infixl 10 ◌>>=◌
-abbrev ◌>>=◌ : {A B : Type 0} → Result A ReadError → (A → Result B ReadError) → Result B ReadError
+abbrev pub ◌>>=◌ : {A B : Type 0} → Result A ReadError → (A → Result B ReadError) → Result B ReadError
 (Ok x) >>= f = f x
 (Err e) >>= f = Err e
 
