@@ -2,9 +2,7 @@
 #![tactic(auto)]
 
 pub mod error;
-pub mod profile;
-mod read;
+mod mark;
+mod document;
 
 pub use error::{Key, ProfileError};
-pub use profile::Profile;
-pub use read::read_profile;
