@@ -1,5 +1,5 @@
 -- Small floats: the patterns of the whole numbers from -4096 to 4095.
-use Rattle.std.specs.Prelude.{◌≡◌, ℕ, zero, suc, ◌+◌, ◌-◌, ◌*◌, ◌^◌, ◌==◌, nat_le, if◌then◌else◌, List, map, find, ℤ, pos, negsuc, ◌-ℤ◌, Option, Some, None}
+use Rattle.std.specs.Prelude.{ℕ, zero, suc, ◌+◌, ◌-◌, ◌*◌, ◌^◌, ◌==◌, nat_le, if◌then◌else◌, List, map, find, ℤ, pos, negsuc, ◌-ℤ◌, Option, Some}
 use Rattle.std.specs.List.{range_with_len}
 
 -- the greatest exponent up to this one whose power of two is at most m

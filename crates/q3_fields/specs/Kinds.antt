@@ -21,7 +21,7 @@ IsKind (Unsigned width) = (1 ≤ width) × (width ≤ 32)
 IsKind (Signed width) = (width ≡ 8) ⊎ ((width ≡ 16) ⊎ (width ≡ 24))
 
 infixl 10 ◌>>=◌
-abbrev ◌>>=◌ : {A B : Type 0} → Result A TableError → (A → Result B TableError) → Result B TableError
+abbrev pub ◌>>=◌ : {A B : Type 0} → Result A TableError → (A → Result B TableError) → Result B TableError
 (Ok x) >>= f = f x
 (Err e) >>= f = Err e
 

@@ -1,5 +1,5 @@
 -- The text of a changed field, and what a reader answers.
-use Rattle.std.specs.Prelude.{ℕ, ◌+◌, ◌^◌, ◌==◌, if◌then◌else◌, Bool, List, ◌++◌, ℤ, pos, negsuc, ◌-ℤ◌, ◌+ℤ◌, nat_abs, Option, Some, None, Result, Ok, Err}
+use Rattle.std.specs.Prelude.{ℕ, ◌==◌, if◌then◌else◌, Bool, List, ◌++◌, ℤ, pos, ◌-ℤ◌, ◌+ℤ◌, nat_abs, Option, Some, None, Result, Ok, Err}
 use Rattle.q3_bits.specs.Words.{field_bits, field_read}
 use Rattle.q3_bits.specs.declared.reader.ReadError.{ReadError}
 use Rattle.q3_fields.specs.declared.kind.Kind.{Kind}
