@@ -42,7 +42,7 @@ pub HasItems-more : {A : Type 0} (type : Data → Option A) (values : List Value
 HasItems-more type values i front v x inside before there is =
     let rest = items_as type (items_view (drop (i + 1) values)) in
     let here : items_as type (items_view (drop i values)) ≡ option_map (λ xs. x ∷ xs) rest =
-      ap (λ vs. items_as type (items_view vs)) (drop_more values i v inside) ∙ items_as-item type (view (get_or values i v)) (items_view (drop (i + 1) values)) x rest (ap (λ w. type (view w)) (sym there) ∙ sym is) refl in
+    ap (λ vs. items_as type (items_view vs)) (drop_more values i v inside) ∙ items_as-item type (view (get_or values i v)) (items_view (drop (i + 1) values)) x rest (ap (λ w. type (view w)) (sym there) ∙ sym is) refl in
     record { whole = fronts front x rest ∙ ap (option_map (λ xs. front ++ xs)) (sym here) ∙ before.whole }
 
 -- an item of another type: there are no such items
@@ -50,7 +50,7 @@ pub HasItems-other : {A : Type 0} (type : Data → Option A) (values : List Valu
     → HasItems type values i front → v ≡ get_or values i v → None ≡ type (view v) → items_as type (items_view values) ≡ None
 HasItems-other type values i front v inside before there is =
     let here : items_as type (items_view (drop i values)) ≡ None =
-      ap (λ vs. items_as type (items_view vs)) (drop_more values i v inside) ∙ items_as-other type (view (get_or values i v)) (items_view (drop (i + 1) values)) (ap (λ w. type (view w)) (sym there) ∙ sym is) in
+    ap (λ vs. items_as type (items_view vs)) (drop_more values i v inside) ∙ items_as-other type (view (get_or values i v)) (items_view (drop (i + 1) values)) (ap (λ w. type (view w)) (sym there) ∙ sym is) in
     sym before.whole ∙ ap (option_map (λ xs. front ++ xs)) here
 
 -- all of them

@@ -21,7 +21,6 @@ use Rattle.q3_profile.specs.Mark.{mark_of}
 abbrev pub longest_profile : ℕ
 longest_profile = 1048576
 
-
 abbrev pub is_protocol : ℕ → Bool
 is_protocol n = n == 68
 

@@ -78,7 +78,11 @@ fn items_at<'a>(document: &'a Table, key: Key) -> Result<&'a [Value], ProfileErr
 
 /// The integers of an array under a key.
 #[tactic(auto, unfolding(crate::specs::Document::array_at))]
-pub(crate) fn integers_at(alloc: Global, document: &Table, key: Key) -> Result<Vec<i64>, ProfileError>
+pub(crate) fn integers_at(
+    alloc: Global,
+    document: &Table,
+    key: Key,
+) -> Result<Vec<i64>, ProfileError>
     ensures { Gives (λ numbers. numbers.items) result (array_at as_integer key (table_view document.now)) }
 {
     let items = items_at(document, key)?;
@@ -94,7 +98,11 @@ pub(crate) fn integers_at(alloc: Global, document: &Table, key: Key) -> Result<V
 
 /// The texts of an array under a key.
 #[tactic(auto, unfolding(crate::specs::Document::array_at))]
-pub(crate) fn texts_at<'a>(alloc: Global, document: &'a Table, key: Key) -> Result<Vec<&'a str>, ProfileError>
+pub(crate) fn texts_at<'a>(
+    alloc: Global,
+    document: &'a Table,
+    key: Key,
+) -> Result<Vec<&'a str>, ProfileError>
     ensures { Gives (λ texts. texts_of texts.items) result (array_at as_str key (table_view document.now)) }
 {
     let items = items_at(document, key)?;

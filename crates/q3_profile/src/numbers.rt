@@ -1,10 +1,10 @@
-//! The numbers of a profile, each with its rule. This project's own; the sizes are those of the engine's
-//! `MAX_PARSE_ENTITIES` and of its rings, which are powers of two.
+//! The numbers of a profile, each with its rule: what the engine fixes as `PROTOCOL_VERSION`, `numSnapshotEntities`
+//! and `MAX_PARSE_ENTITIES`. The bounds are this project's own.
 
 ghost use Rattle.std.specs.Prelude.{◌≡◌, ◌&&◌, nat_le};
 ghost use Rattle.toml.specs.View.{table_view};
 ghost use Rattle.q3_profile.specs.declared.error.Key.TheVariants as keys;
-ghost use Rattle.q3_profile.specs.Numbers.{number_at, is_protocol, is_server_ring, is_parse_ring};
+ghost use Rattle.q3_profile.specs.Profile.{number_at, is_protocol, is_server_ring, is_parse_ring};
 
 use crate::document::integer_at;
 use crate::error::{Key, ProfileError};
@@ -39,10 +39,9 @@ pub(crate) fn server_ring_at(document: &Table) -> Result<u32, ProfileError>
 pub(crate) fn parse_ring_at(document: &Table) -> Result<u32, ProfileError>
     ensures { result ≡ number_at keys.ParseRing is_parse_ring (table_view document.now) }
 {
-    let number = number_at(document, Key::ParseRing, 512, 65_536)?;
-    if number.is_power_of_two() {
-        Ok(number)
-    } else {
-        Err(ProfileError::Limit(Key::ParseRing))
+    let number = integer_at(document, Key::ParseRing)?;
+    match number {
+        512 | 1024 | 2048 | 4096 | 8192 | 16_384 | 32_768 | 65_536 => Ok(number as u32),
+        _ => Err(ProfileError::Limit(Key::ParseRing)),
     }
 }

@@ -15,7 +15,7 @@ pub loop-item-preserved : goal.loop-item-preserved
 loop-item-preserved c =
     let items = c.in_ok-items.items.now in
     let more : HasItems as_integer items (c.loop-item.item-index + 1) (c.loop-item.numbers.items ++ c.in-Some.number ∷ []) =
-      HasItems-more as_integer items c.loop-item.item-index c.loop-item.numbers.items c.item-item.result c.in-Some.number c.loop-item-test.true c.loop-item.invariant c.item-item.is c.in-Some.ensures in
+    HasItems-more as_integer items c.loop-item.item-index c.loop-item.numbers.items c.item-item.result c.in-Some.number c.loop-item-test.true c.loop-item.invariant c.item-item.is c.in-Some.ensures in
     let fits : SFits w64 c.in-Some.number = search rules in
     rw (c.in_ok-push.ensures.items, to_z-of_z w64 c.in-Some.number fits) more
 

@@ -16,7 +16,7 @@ pub loop-item-preserved : goal.loop-item-preserved
 loop-item-preserved c =
     let items = c.in_ok-items.items.now in
     let more : HasItems as_str items (c.loop-item.item-index + 1) (texts_of c.loop-item.texts.items ++ c.in-Some.text.now ∷ []) =
-      HasItems-more as_str items c.loop-item.item-index (texts_of c.loop-item.texts.items) c.item-item.result c.in-Some.text.now c.loop-item-test.true c.loop-item.invariant c.item-item.is c.in-Some.ensures in
+    HasItems-more as_str items c.loop-item.item-index (texts_of c.loop-item.texts.items) c.item-item.result c.in-Some.text.now c.loop-item-test.true c.loop-item.invariant c.item-item.is c.in-Some.ensures in
     rw c.in_ok-push.ensures.items (rw map-append more)
 
 pub returns : goal.returns
