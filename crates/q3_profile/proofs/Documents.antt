@@ -1,8 +1,7 @@
 -- Documents: UTF-8, and what stands under a key.
-use Rattle.std.proofs.Common.{◌≡◌, ℕ, true, false, Bool, cond, List, Option, Some, None, refl, ◌∙◌}
+use Rattle.std.proofs.Common.{◌≡◌, ℕ, true, false, Bool, cond, List, None, refl, ◌∙◌}
 use Rattle.std.specs.Str.{IsUtf8, is_utf8}
 use Rattle.std.proofs.lemmas.Str.{IsUtf8-from_is_utf8, is_utf8-from_IsUtf8}
-use Rattle.toml.specs.Data.{Members}
 use Rattle.toml.specs.Parse.{parse_document}
 use Rattle.q3_profile.specs.Document.{document_of, is_utf8 as utf8}
 

@@ -1,4 +1,4 @@
-use Rattle.std.proofs.Common.{◌≡◌, ◌∙◌, inl, inr, refl}
+use Rattle.std.proofs.Common.{◌∙◌, inr, refl}
 use Rattle.std.proofs.lemmas.Bool.{false≢true}
 use Rattle.q3_profile.proofs.Documents.{document_of-utf8, document_of-none}
 use Rattle.q3_profile.proofs.document.document.Goals as goal

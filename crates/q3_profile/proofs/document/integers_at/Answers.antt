@@ -1,4 +1,4 @@
-use Rattle.std.proofs.Common.{◌≡◌, ◌∙◌, ◌+◌, None, inr, rules, SFits, w64, ◌++◌, ◌∷◌, []}
+use Rattle.std.proofs.Common.{◌+◌, None, inr, rules, SFits, w64, ◌++◌, ◌∷◌, []}
 use Rattle.std.proofs.lemmas.Int.{to_z-of_z}
 use Rattle.toml.specs.Data.{as_integer}
 use Rattle.toml.specs.View.{items_view}

@@ -1,4 +1,4 @@
-use Rattle.std.proofs.Common.{◌≡◌, ◌∙◌, ◌+◌, None, inr, ◌++◌, ◌∷◌, []}
+use Rattle.std.proofs.Common.{◌+◌, None, inr, ◌++◌, ◌∷◌, []}
 use Rattle.std.proofs.lemmas.List.{map-append}
 use Rattle.toml.specs.Data.{as_str}
 use Rattle.q3_bits.specs.CodeWords.{texts_of}

@@ -1,4 +1,3 @@
-use Rattle.std.proofs.Common.{◌≡◌, ◌∙◌, rules}
 use Rattle.toml.proofs.Views.{table_get}
 use Rattle.q3_profile.proofs.document.value_at.Goals as goal
 
