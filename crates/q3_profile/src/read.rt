@@ -21,9 +21,13 @@ use q3_bits::{Code, CodeError};
 use q3_fields::{Table, TableError};
 use std::alloc::Global;
 
+/// The longest file, in bytes.
 const LONGEST: usize = 1_048_576;
 
-/// The profile of a file's bytes. `Err` is the first rule that fails, or want of memory.
+/// The profile of a file's bytes, a TOML document in UTF-8 of at most 1,048,576 bytes. Unknown keys are passed over.
+/// `Err` is the first rule that fails, or want of memory: the length, the document, and then the keys in the order
+/// `protocol`, `server_ring`, `parse_ring`, `entity`, `player`, `code`, each with `Missing`, `Kind` and its own rule.
+/// The rules of `entity` and `player` are those of `Table::of`, and that of `code` is `Code::from_words`'s.
 #[tactic(auto, unfolding(crate::specs::Profile::checked))]
 pub fn read_profile(alloc: Global, bytes: &[u8]) -> Result<Profile, ProfileError>
     ensures exact { MatchResult result (λ profile. checked bytes.now ≡ Ok profile)
