@@ -1,7 +1,7 @@
 -- The profile's file as a document: what stands under a key.
-use Rattle.std.specs.Prelude.{◌≡◌, ℕ, ◌&&◌, if◌then◌else◌, Bool, List, [], ◌∷◌, codes, chars, bytes_eq, encode_utf8_all, ℤ, Option, Some, None, Result, Ok, Err}
+use Rattle.std.specs.Prelude.{ℕ, ◌&&◌, if◌then◌else◌, Bool, List, [], ◌∷◌, codes, chars, bytes_eq, encode_utf8_all, ℤ, Option, Some, None, Result, Ok, Err}
 use Rattle.std.specs.Str.{all_scalars}
-use Rattle.toml.specs.Data.{Data, Items, no_items, item, Members, get_member, as_integer, as_str, as_array}
+use Rattle.toml.specs.Data.{Data, Items, no_items, item, Members, get_member, as_integer, as_array}
 use Rattle.toml.specs.Parse.{parse_document}
 use Rattle.q3_profile.specs.declared.error.Key.{Key}
 use Rattle.q3_profile.specs.declared.error.Key.TheVariants as keys

@@ -1,3 +1,4 @@
 pub mod Document
 pub mod Mark
 pub mod Profile
+pub mod Seen

@@ -1,5 +1,5 @@
 -- The profile that a file's bytes spell, or the first rule that they break.
-use Rattle.std.specs.Prelude.{◌≡◌, ℕ, ◌^◌, ◌≤◌, ◌==◌, ◌&&◌, if◌then◌else◌, Bool, true, false, List, length, map, nat_lt, nat_le, ℤ, pos, negsuc, Option, Some, None, Result, Ok, Err}
+use Rattle.std.specs.Prelude.{◌≡◌, ℕ, ◌^◌, ◌≤◌, ◌==◌, ◌&&◌, if◌then◌else◌, Bool, true, List, length, map, nat_lt, nat_le, ℤ, pos, negsuc, Option, Some, None, Result, Ok, Err}
 use Rattle.std.specs.List.{range_with_len, list_any}
 use Rattle.toml.specs.Data.{Members, as_integer, as_str}
 use Rattle.q3_bits.specs.Words.{IsCode}
@@ -20,7 +20,6 @@ use Rattle.q3_profile.specs.Mark.{mark_of}
 -- the longest file
 abbrev pub longest_profile : ℕ
 longest_profile = 1048576
-
 
 abbrev pub is_protocol : ℕ → Bool
 is_protocol n = n == 68

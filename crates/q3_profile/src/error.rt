@@ -1,6 +1,10 @@
 //! Why a file is no profile.
 
+ghost use Rattle.std.specs.Prelude.{◌≡◌};
+ghost use Rattle.q3_profile.specs.declared.error.ProfileError.TheVariants as errors;
+
 use q3_bits::CodeError;
+use std::alloc::{AllocError, AllocFailed};
 
 /// A key of the file, or the whole file.
 #[derive(Clone, Copy, Debug, PartialEq, Eq)]
@@ -34,4 +38,20 @@ pub enum ProfileError {
     Fields(Key),
     /// The file is longer than 1,048,576 bytes, or the number is out of its range.
     Limit(Key),
+}
+
+impl From<AllocError> for ProfileError {
+    ghost from_gives = { λ _ e. e ≡ errors.NoMemory };
+
+    fn from(_: AllocError) -> ProfileError {
+        ProfileError::NoMemory
+    }
+}
+
+impl<T: Drop> From<AllocFailed<T>> for ProfileError {
+    ghost from_gives = { λ _ e. e ≡ errors.NoMemory };
+
+    fn from(_: AllocFailed<T>) -> ProfileError {
+        ProfileError::NoMemory
+    }
 }

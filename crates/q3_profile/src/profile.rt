@@ -1,10 +1,13 @@
 //! The profile.
 
+ghost use Rattle.std.specs.Prelude.{◌≡◌, IfOk};
+
 use q3_bits::{Code, NoMemory};
 use q3_fields::Table;
 use std::alloc::Global;
 
 /// Code words, field tables and sizes that both ends share.
+#[derive(Drop)]
 pub struct Profile {
     pub code: Code,
     /// The fields of entities.
@@ -25,4 +28,15 @@ impl Profile {
     /// The same profile once more. `Err` is want of memory.
     pub fn copy(&self, alloc: Global) -> Result<Profile, NoMemory>
         ensures { IfOk result (λ copy. copy ≡ self.now) }
+    {
+        Ok(Profile {
+            code: self.code.copy(alloc)?,
+            entity: self.entity.copy(),
+            player: self.player.copy(),
+            server_ring: self.server_ring,
+            parse_ring: self.parse_ring,
+            protocol: self.protocol,
+            mark: self.mark,
+        })
+    }
 }

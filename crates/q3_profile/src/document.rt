@@ -1,0 +1,117 @@
+//! The profile's file as a document: what stands under a key.
+
+ghost use Rattle.std.specs.Prelude.{◌≡◌, ◌⊎◌, Some, None, Ok, Err, MatchResult};
+ghost use Rattle.toml.specs.Data.{as_integer, as_str};
+ghost use Rattle.toml.specs.View.{table_view};
+ghost use Rattle.q3_profile.specs.declared.error.ProfileError.TheVariants as errors;
+ghost use Rattle.q3_profile.specs.Document.{document_of, key_name, value_at, integer_at, items_as, array_at};
+ghost use Rattle.q3_profile.specs.Seen.{seen, seen_items, items_at, Gives};
+ghost use Rattle.q3_bits.specs.CodeWords.{texts_of};
+ghost use Rattle.toml.specs.View.{items_view, array_view};
+
+use crate::error::{Key, ProfileError};
+use std::alloc::Global;
+use toml::{Table, Value};
+
+/// The document that the bytes are.
+pub(crate) fn document(alloc: Global, bytes: &[u8]) -> Result<Table, ProfileError>
+    ensures { MatchResult result (λ table. document_of bytes.now ≡ Some (table_view table))
+        (λ e. (e ≡ errors.NoMemory) ⊎ ((e ≡ errors.NotToml) × (document_of bytes.now ≡ None))) }
+{
+    match toml::table_from_slice(alloc, bytes) {
+        Ok(table) => Ok(table),
+        Err(e) => {
+            if e.is_memory() {
+                Err(ProfileError::NoMemory)
+            } else {
+                Err(ProfileError::NotToml)
+            }
+        }
+    }
+}
+
+/// A key as the file spells it.
+fn key_name(key: Key) -> &'static str
+    ensures { result.now ≡ key_name key }
+{
+    match key {
+        Key::File => "",
+        Key::Protocol => "protocol",
+        Key::ServerRing => "server_ring",
+        Key::ParseRing => "parse_ring",
+        Key::Entity => "entity",
+        Key::Player => "player",
+        Key::Code => "code",
+    }
+}
+
+/// What stands under a key.
+fn value_at<'a>(document: &'a Table, key: Key) -> Result<&'a Value, ProfileError>
+    ensures { seen result ≡ value_at key (table_view document.now) }
+{
+    match document.get(key_name(key)) {
+        Some(value) => Ok(value),
+        None => Err(ProfileError::Missing(key)),
+    }
+}
+
+/// The integer under a key.
+#[tactic(auto, unfolding(crate::specs::Document::integer_at))]
+pub(crate) fn integer_at(document: &Table, key: Key) -> Result<i64, ProfileError>
+    ensures { result ≡ integer_at key (table_view document.now) }
+{
+    match value_at(document, key)?.as_integer() {
+        Some(number) => Ok(number),
+        None => Err(ProfileError::Kind(key)),
+    }
+}
+
+/// The items of an array under a key.
+fn items_at<'a>(document: &'a Table, key: Key) -> Result<&'a [Value], ProfileError>
+    ensures { seen_items result ≡ items_at key (table_view document.now) }
+{
+    match value_at(document, key)?.as_array() {
+        Some(items) => Ok(items.as_slice()),
+        None => Err(ProfileError::Kind(key)),
+    }
+}
+
+/// The integers of an array under a key.
+#[tactic(auto, unfolding(crate::specs::Document::array_at))]
+pub(crate) fn integers_at(
+    alloc: Global,
+    document: &Table,
+    key: Key,
+) -> Result<Vec<i64>, ProfileError>
+    ensures { Gives (λ numbers. numbers.items) result (array_at as_integer key (table_view document.now)) }
+{
+    let items = items_at(document, key)?;
+    let mut numbers = Vec::with_capacity(alloc, items.len())?;
+    for item in items {
+        let Some(number) = item.as_integer() else {
+            return Err(ProfileError::Kind(key));
+        };
+        numbers.push(number)?;
+    }
+    Ok(numbers)
+}
+
+/// The texts of an array under a key.
+#[tactic(auto, unfolding(crate::specs::Document::array_at))]
+pub(crate) fn texts_at<'a>(
+    alloc: Global,
+    document: &'a Table,
+    key: Key,
+) -> Result<Vec<&'a str>, ProfileError>
+    ensures { Gives (λ texts. texts_of texts.items) result (array_at as_str key (table_view document.now)) }
+{
+    let items = items_at(document, key)?;
+    let mut texts = Vec::with_capacity(alloc, items.len())?;
+    for item in items {
+        let Some(text) = item.as_str() else {
+            return Err(ProfileError::Kind(key));
+        };
+        texts.push(text)?;
+    }
+    Ok(texts)
+}

@@ -1,0 +1,47 @@
+//! The numbers of a profile, each with its rule: what the engine fixes as `PROTOCOL_VERSION`, `numSnapshotEntities`
+//! and `MAX_PARSE_ENTITIES`. The bounds are this project's own.
+
+ghost use Rattle.std.specs.Prelude.{◌≡◌, ◌&&◌, nat_le};
+ghost use Rattle.toml.specs.View.{table_view};
+ghost use Rattle.q3_profile.specs.declared.error.Key.TheVariants as keys;
+ghost use Rattle.q3_profile.specs.Profile.{number_at, is_protocol, is_server_ring, is_parse_ring};
+
+use crate::document::integer_at;
+use crate::error::{Key, ProfileError};
+use toml::Table;
+
+/// The number under a key, which is `least` to `most`.
+fn number_at(document: &Table, key: Key, least: u32, most: u32) -> Result<u32, ProfileError>
+    ensures { result ≡ number_at key (λ n. nat_le least n && nat_le n most) (table_view document.now) }
+{
+    let number = integer_at(document, key)?;
+    match u32::try_from(number) {
+        Ok(number) if number >= least && number <= most => Ok(number),
+        _ => Err(ProfileError::Limit(key)),
+    }
+}
+
+/// The protocol: 68.
+pub(crate) fn protocol_at(document: &Table) -> Result<u32, ProfileError>
+    ensures { result ≡ number_at keys.Protocol is_protocol (table_view document.now) }
+{
+    number_at(document, Key::Protocol, 68, 68)
+}
+
+/// How many entities the server's ring has room for.
+pub(crate) fn server_ring_at(document: &Table) -> Result<u32, ProfileError>
+    ensures { result ≡ number_at keys.ServerRing is_server_ring (table_view document.now) }
+{
+    number_at(document, Key::ServerRing, 256, 262_144)
+}
+
+/// How many entities a client's ring has room for: a power of two.
+pub(crate) fn parse_ring_at(document: &Table) -> Result<u32, ProfileError>
+    ensures { result ≡ number_at keys.ParseRing is_parse_ring (table_view document.now) }
+{
+    let number = integer_at(document, Key::ParseRing)?;
+    match number {
+        512 | 1024 | 2048 | 4096 | 8192 | 16_384 | 32_768 | 65_536 => Ok(number as u32),
+        _ => Err(ProfileError::Limit(Key::ParseRing)),
+    }
+}
