@@ -125,8 +125,7 @@ impl Line {
         ensures cause { HasCause (O.faults out.old) (O.faults out.new) result }
     {
         for (index, value) in values.iter().enumerate() {
-            let word = i32::from(*value).cast_unsigned();
-            self.add_word(letter, index, word, out)?;
+            self.add_word(letter, index, pattern(*value), out)?;
         }
         Ok(())
     }
@@ -243,6 +242,13 @@ impl Line {
     {
         out.write_all(&self.bytes[..self.length])
     }
+}
+
+/// A signed value as a word of 32 bits.
+fn pattern(value: i16) -> u32
+    ensures { result ≡ cast_unsigned w32 value }
+{
+    i32::from(value).cast_unsigned()
 }
 
 /// `\x` and two digits.

@@ -23,11 +23,10 @@ returns-in_err-add_word-clause-buffers g c =
     let values = c.args.values.now in
     let words = map (cast_unsigned w32) values in
     let index = c.loop-index.index in
-    let word = c.cast_unsigned-word.result in
+    let word = c.pattern.result in
     let fits : SFits w16 (get_or values index (pos 0)) = search rules in
-    let value = c.from.ensures ∙ to_z-of_z w16 (get_or values index (pos 0)) fits in
-    let wide : SFits w32 c.from.result = search rules in
-    let is = word_is values index word c.from.result (omega arith) value (c.cast_unsigned-word.ensures ∙ ap (cast_unsigned w32) (to_z-of_z w32 c.from.result wide)) in
+    let value = to_z-of_z w16 (get_or values index (pos 0)) fits in
+    let is = word_is values index word _ (omega arith) value c.pattern.ensures in
     let within : index < length words = omega (arith, length-map values (cast_unsigned w32)) in
     let parts = words_text-split letter words index word within is in
     rw (p.1, parts.1) (Buffers-early p.0 _ _ _ c.add_word.new.self _ (words_text letter 0 (take index words) ++ word_text letter index word) parts.0
@@ -39,11 +38,10 @@ loop-index-preserved g c =
     let values = c.args.values.now in
     let words = map (cast_unsigned w32) values in
     let index = c.loop-index.index in
-    let word = c.cast_unsigned-word.result in
+    let word = c.pattern.result in
     let fits : SFits w16 (get_or values index (pos 0)) = search rules in
-    let value = c.from.ensures ∙ to_z-of_z w16 (get_or values index (pos 0)) fits in
-    let wide : SFits w32 c.from.result = search rules in
-    let is = word_is values index word c.from.result (omega arith) value (c.cast_unsigned-word.ensures ∙ ap (cast_unsigned w32) (to_z-of_z w32 c.from.result wide)) in
+    let value = to_z-of_z w16 (get_or values index (pos 0)) fits in
+    let is = word_is values index word _ (omega arith) value c.pattern.ensures in
     let within : index < length words = omega (arith, length-map values (cast_unsigned w32)) in (
       rw (words_text-more letter words index word within is)
           (Buffers-then _ _ _ _ _ _ _ (words_text letter 0 (take index words)) (word_text letter index word) c.loop-index.invariant.0 c.in_ok-add_word.ensures.buffers),
