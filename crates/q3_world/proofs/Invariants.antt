@@ -3,6 +3,7 @@ use Rattle.std.proofs.Common.{◌≡◌, ℕ, ◌+◌, ◌-◌, ◌^◌, ◌<◌
 use Rattle.std.specs.Prelude.{slice_set, slice_index_or}
 use Rattle.std.proofs.lemmas.List.{get_or-replicate, get_or-set_same, get_or-set_other, length-set, get_or_append_left, get_or_push, length_push, set-get_or}
 use Rattle.std.proofs.lemmas.Bool.{cases_eq, cases_lt}
+use Rattle.q3_profile.specs.declared.profile.Profile.{Profile}
 use Rattle.q3_player.specs.State.{zero_player, normal_player}
 use Rattle.q3_player.specs.declared.state.PlayerState.{PlayerState}
 use Rattle.q3_bits.specs.Bits.{message_bytes}
@@ -12,7 +13,7 @@ use Rattle.q3_world.specs.State.{MapState, SlotState, ServerState, ClientState, 
 use Rattle.q3_world.specs.Ends.{new_slot, new_client, next_snapshot, sequence_end, accept}
 use Rattle.q3_world.specs.Kept.{with_slot, with_player}
 use Rattle.q3_world.specs.World.{Tag, History, Whole, places, no_history, history_at, built_at, no_snapshot, with_built, with_accepted, opening}
-use Rattle.q3_world.specs.StandsFor.{IsPlain, IsBuilt, IsNewest, AreEnds, IsClient, IsSent, Invariant}
+use Rattle.q3_world.specs.StandsFor.{IsHeld, IsBuilt, IsNewest, AreEnds, IsClient, IsSent, Invariant}
 
 -- ---- lists with one place changed
 
@@ -27,9 +28,9 @@ length_same xs c x n e = length-set xs c x ∙ e
 
 -- ---- the opening world
 
-pub opening-invariant : (words : List (List Bool)) → Invariant words opening
+pub opening-invariant : (profile : Profile) → Invariant profile opening
 unfolding opening
-opening-invariant words =
+opening-invariant profile =
     record {
       slots = refl;
       clients = refl;
@@ -41,20 +42,16 @@ opening-invariant words =
 
 -- ---- the ends of a client
 
-pub plain_zero : IsPlain zero_player
-unfolding zero_player
-plain_zero = record { normal = refl; arrays = record { stats = refl; persistant = refl; ammo = refl; powerups = refl } }
-
 -- a client that just joined
-pub AreEnds-new : (challenge qport dup : ℕ) (address : _) → AreEnds (new_slot challenge qport address) (new_client challenge qport dup) no_history
-AreEnds-new challenge qport dup address =
-    record { begun = refl; player = plain_zero; built = λ k d lt. absurd (omega (arith, lt)); taken = omega arith; newest = refl }
+pub AreEnds-new : (profile : Profile) (challenge qport dup : ℕ) (address : _) → IsHeld profile zero_player → AreEnds profile (new_slot challenge qport address) (new_client challenge qport dup) no_history
+AreEnds-new profile challenge qport dup address zero =
+    record { begun = refl; player = zero; built = λ k d lt. absurd (omega (arith, lt)); taken = omega arith; newest = refl }
 
 -- another player
-pub AreEnds-player : (slot : SlotState) (client : ClientState) (history : History) (player : PlayerState)
-    → IsPlain (normal_player player) → AreEnds slot client history → AreEnds (with_player slot player) client history
-AreEnds-player slot client history player plain ends =
-    record { begun = ends.begun; player = plain; built = ends.built; taken = ends.taken; newest = ends.newest }
+pub AreEnds-player : (profile : Profile) (slot : SlotState) (client : ClientState) (history : History) (player : PlayerState)
+    → IsHeld profile (normal_player profile.player player) → AreEnds profile slot client history → AreEnds profile (with_player profile slot player) client history
+AreEnds-player profile slot client history player held ends =
+    record { begun = ends.begun; player = held; built = ends.built; taken = ends.taken; newest = ends.newest }
 
 -- what was built under a number stays so when one more is built
 newest_stays : (built : List Snapshot) (next : Snapshot) (taken : ℕ) (accepted : Option Snapshot) → taken ≤ length built
@@ -64,36 +61,36 @@ newest_stays built next taken (Some snapshot) le newest =
     (newest.0, newest.1, newest.2 ∙ sym (get_or_append_left built (next ∷ []) no_snapshot (taken - 1) (omega (arith, newest.0))))
 
 -- each snapshot is built, where one more is
-built_more : (built : List Snapshot) (next : Snapshot) (k : ℕ) (d : Snapshot) → k < length built + 1
-    → (k < length built → IsBuilt (k + 1) (get_or built k d)) → (k ≡ length built → IsBuilt (k + 1) next)
-    → IsBuilt (k + 1) (get_or (built ++ next ∷ []) k d)
-built_more built next k d lt before last =
+built_more : (profile : Profile) (built : List Snapshot) (next : Snapshot) (k : ℕ) (d : Snapshot) → k < length built + 1
+    → (k < length built → IsBuilt profile (k + 1) (get_or built k d)) → (k ≡ length built → IsBuilt profile (k + 1) next)
+    → IsBuilt profile (k + 1) (get_or (built ++ next ∷ []) k d)
+built_more profile built next k d lt before last =
     elim (cases_lt k (length built)) [
       | inl within ↦ rw (get_or_append_left built (next ∷ []) d k within) (before within)
       | inr past ↦ let e : length built ≡ k = omega arith in rw (get_or_push built next d k e) (last (sym e))
     ]
 
 -- one message more was begun
-pub AreEnds-built : (map : MapState) (slot : SlotState) (client : ClientState) (history : History)
-    → map.time < 2 ^ 32 → slot.begun + 1 < sequence_end → AreEnds slot client history
-    → AreEnds (record slot { begun = slot.begun + 1 }) client (record history { built = history.built ++ next_snapshot map slot ∷ [] })
-AreEnds-built map slot client history time fits ends =
+pub AreEnds-built : (profile : Profile) (map : MapState) (slot : SlotState) (client : ClientState) (history : History)
+    → map.time < 2 ^ 32 → slot.begun + 1 < sequence_end → AreEnds profile slot client history
+    → AreEnds profile (record slot { begun = slot.begun + 1 }) client (record history { built = history.built ++ next_snapshot map slot ∷ [] })
+AreEnds-built profile map slot client history time fits ends =
     let next = next_snapshot map slot in
     let begun = ends.begun in
     record {
       begun = omega (arith, length_push history.built next);
       player = ends.player;
-      built = λ k d lt. built_more history.built next k d (omega (arith, length_push history.built next)) (ends.built k d)
+      built = λ k d lt. built_more profile history.built next k d (omega (arith, length_push history.built next)) (ends.built k d)
           (λ e. record { number = omega arith; fits = omega arith; time = time; flags = refl; player = ends.player });
       taken = omega (arith, length_push history.built next, ends.taken);
       newest = newest_stays history.built next client.taken client.accepted ends.taken ends.newest;
     }
 
 -- a newer snapshot was accepted
-pub AreEnds-accepted : (slot : SlotState) (client : ClientState) (history : History) (number : ℕ) (more : List Snapshot)
-    → 1 ≤ number → number ≤ length history.built → AreEnds slot client history
-    → AreEnds slot (accept client (get_or history.built (number - 1) no_snapshot)).client (record history { accepted = more })
-AreEnds-accepted slot client history number more some within ends =
+pub AreEnds-accepted : (profile : Profile) (slot : SlotState) (client : ClientState) (history : History) (number : ℕ) (more : List Snapshot)
+    → 1 ≤ number → number ≤ length history.built → AreEnds profile slot client history
+    → AreEnds profile slot (accept client (get_or history.built (number - 1) no_snapshot)).client (record history { accepted = more })
+AreEnds-accepted profile slot client history number more some within ends =
     let is = ends.built (number - 1) no_snapshot (omega arith) in
     let same : (get_or history.built (number - 1) no_snapshot).number ≡ number = omega (arith, is.number) in
     record {
@@ -107,54 +104,54 @@ AreEnds-accepted slot client history number more some within ends =
 -- ---- each event
 
 -- with no slot there is no client and no history
-no_client : (client : Option ClientState) (history : History) → IsClient None client history → history ≡ no_history
-no_client None history none = none
-no_client (Some client) history none = absurd none
+no_client : (profile : Profile) (client : Option ClientState) (history : History) → IsClient profile None client history → history ≡ no_history
+no_client profile None history none = none
+no_client profile (Some client) history none = absurd none
 
 -- with a slot there is a client
-a_client : (slot : SlotState) (client : Option ClientState) (history : History) → IsClient (Some slot) client history
-    → (found : ClientState) × (client ≡ Some found) × AreEnds slot found history
-a_client slot None history none = absurd none
-a_client slot (Some client) history ends = (client, refl, ends)
+a_client : (profile : Profile) (slot : SlotState) (client : Option ClientState) (history : History) → IsClient profile (Some slot) client history
+    → (found : ClientState) × (client ≡ Some found) × AreEnds profile slot found history
+a_client profile slot None history none = absurd none
+a_client profile slot (Some client) history ends = (client, refl, ends)
 
 -- with a client there is a slot
-a_slot : (slot : Option SlotState) (client : ClientState) (history : History) → IsClient slot (Some client) history
-    → (found : SlotState) × (slot ≡ Some found) × AreEnds found client history
-a_slot None client history none = absurd none
-a_slot (Some slot) client history ends = (slot, refl, ends)
+a_slot : (profile : Profile) (slot : Option SlotState) (client : ClientState) (history : History) → IsClient profile slot (Some client) history
+    → (found : SlotState) × (slot ≡ Some found) × AreEnds profile found client history
+a_slot profile None client history none = absurd none
+a_slot profile (Some slot) client history ends = (slot, refl, ends)
 
-abbrev IsClientIn : List (Option SlotState) → List (Option ClientState) → List History → ℕ → Type 0
-IsClientIn slots clients histories k = IsClient (slice_index_or slots k None) (slice_index_or clients k None) (history_at histories k)
+abbrev IsClientIn : Profile → List (Option SlotState) → List (Option ClientState) → List History → ℕ → Type 0
+IsClientIn profile slots clients histories k = IsClient profile (slice_index_or slots k None) (slice_index_or clients k None) (history_at histories k)
 
-abbrev AllSent : List (List Bool) → List History → List Tag → Type 0
-AllSent words histories sent = (k : ℕ) (d : Tag) → k < length sent → IsSent words histories (slice_index_or sent k d)
+abbrev AllSent : Profile → List History → List Tag → Type 0
+AllSent profile histories sent = (k : ℕ) (d : Tag) → k < length sent → IsSent profile histories (slice_index_or sent k d)
 
 some_slot : SlotState → Option SlotState
 some_slot slot = Some slot
 
 -- a client joins
-pub joined-invariant : (words : List (List Bool)) (whole : Whole) (c challenge qport dup : ℕ) (address : _) → c < places
-    → slot_at whole.server c ≡ None → Invariant words whole
-    → Invariant words (record whole {
+pub joined-invariant : (profile : Profile) (whole : Whole) (c challenge qport dup : ℕ) (address : _) → IsHeld profile zero_player → c < places
+    → slot_at whole.server c ≡ None → Invariant profile whole
+    → Invariant profile (record whole {
       server = with_slot whole.server c (new_slot challenge qport address);
       clients = slice_set whole.clients c (Some (new_client challenge qport dup));
     })
-joined-invariant words whole c challenge qport dup address lt none inv =
+joined-invariant profile whole c challenge qport dup address zero lt none inv =
     let slots = whole.server.slots in
     let clients = whole.clients in
     let histories = whole.histories in
     let slot = new_slot challenge qport address in
     let client = new_client challenge qport dup in
     let history_is : history_at histories c ≡ no_history =
-    no_client (client_at clients c) (history_at histories c) (subst (λ (s : Option SlotState). IsClient s (client_at clients c) (history_at histories c)) none (inv.each c lt)) in
-    let ends : AreEnds slot client (history_at histories c) = subst (λ (h : History). AreEnds slot client h) (sym history_is) (AreEnds-new challenge qport dup address) in
+    no_client profile (client_at clients c) (history_at histories c) (subst (λ (s : Option SlotState). IsClient profile s (client_at clients c) (history_at histories c)) none (inv.each c lt)) in
+    let ends : AreEnds profile slot client (history_at histories c) = subst (λ (h : History). AreEnds profile slot client h) (sym history_is) (AreEnds-new profile challenge qport dup address zero) in
     record {
       slots = length_same slots c (Some slot) places inv.slots;
       clients = length_same clients c (Some client) places inv.clients;
       histories = inv.histories;
       time = inv.time;
       each = λ k within. elim (cases_eq k c) [
-        | inl e ↦ subst (λ (k : ℕ). IsClientIn (set slots c (Some slot)) (set clients c (Some client)) histories k) (sym e)
+        | inl e ↦ subst (λ (k : ℕ). IsClientIn profile (set slots c (Some slot)) (set clients c (Some client)) histories k) (sym e)
             (rw (at_same slots c (Some slot) None places inv.slots lt, at_same clients c (Some client) None places inv.clients lt) ends)
         | inr ne ↦ rw (at_other slots c k (Some slot) None ne, at_other clients c k (Some client) None ne) (inv.each k within)
       ];
@@ -162,24 +159,24 @@ joined-invariant words whole c challenge qport dup address lt none inv =
     }
 
 -- a player is handed in
-pub player-invariant : (words : List (List Bool)) (whole : Whole) (c : ℕ) (player : PlayerState) (slot : SlotState) → c < places
-    → slot_at whole.server c ≡ Some slot → IsPlain (normal_player player) → Invariant words whole
-    → Invariant words (record whole { server = with_slot whole.server c (with_player slot player) })
-player-invariant words whole c player slot lt found plain inv =
+pub player-invariant : (profile : Profile) (whole : Whole) (c : ℕ) (player : PlayerState) (slot : SlotState) → c < places
+    → slot_at whole.server c ≡ Some slot → IsHeld profile (normal_player profile.player player) → Invariant profile whole
+    → Invariant profile (record whole { server = with_slot whole.server c (with_player profile slot player) })
+player-invariant profile whole c player slot lt found held inv =
     let slots = whole.server.slots in
     let clients = whole.clients in
     let histories = whole.histories in
-    let next = with_player slot player in
-    let had = a_client slot (client_at clients c) (history_at histories c)
-    (subst (λ (s : Option SlotState). IsClient s (client_at clients c) (history_at histories c)) found (inv.each c lt)) in
-    let ends : AreEnds next had.0 (history_at histories c) = AreEnds-player slot had.0 (history_at histories c) player plain had.2 in
+    let next = with_player profile slot player in
+    let had = a_client profile slot (client_at clients c) (history_at histories c)
+    (subst (λ (s : Option SlotState). IsClient profile s (client_at clients c) (history_at histories c)) found (inv.each c lt)) in
+    let ends : AreEnds profile next had.0 (history_at histories c) = AreEnds-player profile slot had.0 (history_at histories c) player held had.2 in
     record {
       slots = length_same slots c (Some next) places inv.slots;
       clients = inv.clients;
       histories = inv.histories;
       time = inv.time;
       each = λ k within. elim (cases_eq k c) [
-        | inl e ↦ subst (λ (k : ℕ). IsClientIn (set slots c (Some next)) clients histories k) (sym e)
+        | inl e ↦ subst (λ (k : ℕ). IsClientIn profile (set slots c (Some next)) clients histories k) (sym e)
             (rw (at_same slots c (Some next) None places inv.slots lt, had.1) ends)
         | inr ne ↦ rw (at_other slots c k (Some next) None ne) (inv.each k within)
       ];
@@ -187,9 +184,9 @@ player-invariant words whole c player slot lt found plain inv =
     }
 
 -- a tag names the same message when one more is built
-sent_stays : (words : List (List Bool)) (histories : List History) (c : ℕ) (next : Snapshot) (tag : Tag) → c < places → length histories ≡ places
-    → IsSent words histories tag → IsSent words (with_built histories c next) tag
-sent_stays words histories c next tag lt places_are is =
+sent_stays : (profile : Profile) (histories : List History) (c : ℕ) (next : Snapshot) (tag : Tag) → c < places → length histories ≡ places
+    → IsSent profile histories tag → IsSent profile (with_built histories c next) tag
+sent_stays profile histories c next tag lt places_are is =
     elim (cases_eq tag.client c) [
       | inl e ↦
           let history = history_at histories c in
@@ -206,7 +203,7 @@ sent_stays words histories c next tag lt places_are is =
           record {
             client = is.client;
             number = (is.number.0, subst (λ (h : History). tag.number ≤ length h.built) (sym there) (omega (arith, longer)));
-            bytes = is.bytes ∙ ap (λ (s : Snapshot). datagram_bytes tag.number (message_bytes (snapshot_bits words s))) (sym first);
+            bytes = is.bytes ∙ ap (λ (s : Snapshot). datagram_bytes tag.number (message_bytes (snapshot_bits profile s))) (sym first);
           }
       | inr ne ↦
           let history = history_at histories c in
@@ -215,32 +212,32 @@ sent_stays words histories c next tag lt places_are is =
           record {
             client = is.client;
             number = (is.number.0, subst (λ (h : History). tag.number ≤ length h.built) (sym there) is.number.1);
-            bytes = is.bytes ∙ ap (λ (h : History). datagram_bytes tag.number (message_bytes (snapshot_bits words (slice_index_or h.built (tag.number - 1) no_snapshot)))) (sym there);
+            bytes = is.bytes ∙ ap (λ (h : History). datagram_bytes tag.number (message_bytes (snapshot_bits profile (slice_index_or h.built (tag.number - 1) no_snapshot)))) (sym there);
           }
     ]
 
 -- each datagram that was made, and one more
-sent_more : (words : List (List Bool)) (histories : List History) (sent : List Tag) (tag : Tag)
-    → AllSent words histories sent → IsSent words histories tag → AllSent words histories (sent ++ tag ∷ [])
-sent_more words histories sent tag all last k d lt =
+sent_more : (profile : Profile) (histories : List History) (sent : List Tag) (tag : Tag)
+    → AllSent profile histories sent → IsSent profile histories tag → AllSent profile histories (sent ++ tag ∷ [])
+sent_more profile histories sent tag all last k d lt =
     elim (cases_lt k (length sent)) [
       | inl within ↦ rw (get_or_append_left sent (tag ∷ []) d k within) (all k d within)
       | inr past ↦ let e : length sent ≡ k = omega (arith, length_push sent tag) in rw (get_or_push sent tag d k e) last
     ]
 
 -- the tag of a slot's next message
-abbrev pub next_tag : List (List Bool) → MapState → ℕ → SlotState → Tag
-next_tag words map c slot =
+abbrev pub next_tag : Profile → MapState → ℕ → SlotState → Tag
+next_tag profile map c slot =
     record {
       client = c;
       number = slot.begun + 1;
-      bytes = datagram_bytes (slot.begun + 1) (message_bytes (snapshot_bits words (next_snapshot map slot)));
+      bytes = datagram_bytes (slot.begun + 1) (message_bytes (snapshot_bits profile (next_snapshot map slot)));
     }
 
-next_is_sent : (words : List (List Bool)) (map : MapState) (histories : List History) (c : ℕ) (slot : SlotState) → c < places → length histories ≡ places
+next_is_sent : (profile : Profile) (map : MapState) (histories : List History) (c : ℕ) (slot : SlotState) → c < places → length histories ≡ places
     → slot.begun ≡ length (history_at histories c).built
-    → IsSent words (with_built histories c (next_snapshot map slot)) (next_tag words map c slot)
-next_is_sent words map histories c slot lt places_are begun =
+    → IsSent profile (with_built histories c (next_snapshot map slot)) (next_tag profile map c slot)
+next_is_sent profile map histories c slot lt places_are begun =
     let next = next_snapshot map slot in
     let history = history_at histories c in
     let grown = record history { built = history.built ++ next ∷ [] } in
@@ -253,18 +250,18 @@ next_is_sent words map histories c slot lt places_are begun =
     record {
       client = lt;
       number = (omega arith, subst (λ (h : History). slot.begun + 1 ≤ length h.built) (sym there) (omega (arith, longer)));
-      bytes = ap (λ (s : Snapshot). datagram_bytes (slot.begun + 1) (message_bytes (snapshot_bits words s))) (sym is_next);
+      bytes = ap (λ (s : Snapshot). datagram_bytes (slot.begun + 1) (message_bytes (snapshot_bits profile s))) (sym is_next);
     }
 
 -- a message was begun
-pub served-invariant : (words : List (List Bool)) (whole : Whole) (c : ℕ) (slot : SlotState) → c < places
-    → slot_at whole.server c ≡ Some slot → slot.begun + 1 < sequence_end → Invariant words whole
-    → Invariant words (record whole {
+pub served-invariant : (profile : Profile) (whole : Whole) (c : ℕ) (slot : SlotState) → c < places
+    → slot_at whole.server c ≡ Some slot → slot.begun + 1 < sequence_end → Invariant profile whole
+    → Invariant profile (record whole {
       server = with_slot whole.server c (record slot { begun = slot.begun + 1 });
       histories = with_built whole.histories c (next_snapshot whole.server.map slot);
-      sent = whole.sent ++ next_tag words whole.server.map c slot ∷ [];
+      sent = whole.sent ++ next_tag profile whole.server.map c slot ∷ [];
     })
-served-invariant words whole c slot lt found fits inv =
+served-invariant profile whole c slot lt found fits inv =
     let slots = whole.server.slots in
     let clients = whole.clients in
     let histories = whole.histories in
@@ -273,22 +270,22 @@ served-invariant words whole c slot lt found fits inv =
     let begun = record slot { begun = slot.begun + 1 } in
     let history = history_at histories c in
     let grown = record history { built = history.built ++ next ∷ [] } in
-    let had = a_client slot (client_at clients c) history
-    (subst (λ (s : Option SlotState). IsClient s (client_at clients c) history) found (inv.each c lt)) in
-    let ends : AreEnds begun had.0 grown = AreEnds-built map slot had.0 history inv.time fits had.2 in
+    let had = a_client profile slot (client_at clients c) history
+    (subst (λ (s : Option SlotState). IsClient profile s (client_at clients c) history) found (inv.each c lt)) in
+    let ends : AreEnds profile begun had.0 grown = AreEnds-built profile map slot had.0 history inv.time fits had.2 in
     record {
       slots = length_same slots c (Some begun) places inv.slots;
       clients = inv.clients;
       histories = length_same histories c grown places inv.histories;
       time = inv.time;
       each = λ k within. elim (cases_eq k c) [
-        | inl e ↦ subst (λ (k : ℕ). IsClientIn (set slots c (Some begun)) clients (with_built histories c next) k) (sym e)
+        | inl e ↦ subst (λ (k : ℕ). IsClientIn profile (set slots c (Some begun)) clients (with_built histories c next) k) (sym e)
             (rw (at_same slots c (Some begun) None places inv.slots lt, had.1, at_same histories c grown no_history places inv.histories lt) ends)
         | inr ne ↦ rw (at_other slots c k (Some begun) None ne, at_other histories c k grown no_history ne) (inv.each k within)
       ];
-      sent = sent_more words (with_built histories c next) whole.sent (next_tag words map c slot)
-          (λ k d within. sent_stays words histories c next (slice_index_or whole.sent k d) lt inv.histories (inv.sent k d within))
-          (next_is_sent words map histories c slot lt inv.histories had.2.begun);
+      sent = sent_more profile (with_built histories c next) whole.sent (next_tag profile map c slot)
+          (λ k d within. sent_stays profile histories c next (slice_index_or whole.sent k d) lt inv.histories (inv.sent k d within))
+          (next_is_sent profile map histories c slot lt inv.histories had.2.begun);
     }
 
 -- what was built stays when something is accepted
@@ -304,13 +301,13 @@ built_same histories c snapshot k lt places_are =
     ]
 
 -- a newer message arrived
-pub accepted-invariant : (words : List (List Bool)) (whole : Whole) (tag : Tag) (client : ClientState)
-    → IsSent words whole.histories tag → client_at whole.clients tag.client ≡ Some client → Invariant words whole
-    → Invariant words (record whole {
+pub accepted-invariant : (profile : Profile) (whole : Whole) (tag : Tag) (client : ClientState)
+    → IsSent profile whole.histories tag → client_at whole.clients tag.client ≡ Some client → Invariant profile whole
+    → Invariant profile (record whole {
       clients = slice_set whole.clients tag.client (Some (accept client (built_at whole.histories tag.client tag.number)).client);
       histories = with_accepted whole.histories tag.client (built_at whole.histories tag.client tag.number);
     })
-accepted-invariant words whole tag client is found inv =
+accepted-invariant profile whole tag client is found inv =
     let slots = whole.server.slots in
     let clients = whole.clients in
     let histories = whole.histories in
@@ -319,16 +316,16 @@ accepted-invariant words whole tag client is found inv =
     let history = history_at histories c in
     let more = record history { accepted = history.accepted ++ snapshot ∷ [] } in
     let next = (accept client snapshot).client in
-    let had = a_slot (slot_at whole.server c) client history
-    (subst (λ (s : Option ClientState). IsClient (slot_at whole.server c) s history) found (inv.each c is.client)) in
-    let ends : AreEnds had.0 next more = AreEnds-accepted had.0 client history tag.number more.accepted is.number.0 is.number.1 had.2 in
+    let had = a_slot profile (slot_at whole.server c) client history
+    (subst (λ (s : Option ClientState). IsClient profile (slot_at whole.server c) s history) found (inv.each c is.client)) in
+    let ends : AreEnds profile had.0 next more = AreEnds-accepted profile had.0 client history tag.number more.accepted is.number.0 is.number.1 had.2 in
     record {
       slots = inv.slots;
       clients = length_same clients c (Some next) places inv.clients;
       histories = length_same histories c more places inv.histories;
       time = inv.time;
       each = λ k within. elim (cases_eq k c) [
-        | inl e ↦ subst (λ (k : ℕ). IsClientIn slots (set clients c (Some next)) (with_accepted histories c snapshot) k) (sym e)
+        | inl e ↦ subst (λ (k : ℕ). IsClientIn profile slots (set clients c (Some next)) (with_accepted histories c snapshot) k) (sym e)
             (rw (had.1, at_same clients c (Some next) None places inv.clients is.client, at_same histories c more no_history places inv.histories is.client) ends)
         | inr ne ↦ rw (at_other clients c k (Some next) None ne, at_other histories c k more no_history ne) (inv.each k within)
       ];
@@ -339,7 +336,7 @@ accepted-invariant words whole tag client is found inv =
           record {
             client = was.client;
             number = (was.number.0, subst (λ (b : List Snapshot). one.number ≤ length b) (sym same) was.number.1);
-            bytes = was.bytes ∙ ap (λ (b : List Snapshot). datagram_bytes one.number (message_bytes (snapshot_bits words (slice_index_or b (one.number - 1) no_snapshot)))) (sym same);
+            bytes = was.bytes ∙ ap (λ (b : List Snapshot). datagram_bytes one.number (message_bytes (snapshot_bits profile (slice_index_or b (one.number - 1) no_snapshot)))) (sym same);
           };
     }
 
@@ -354,12 +351,12 @@ pub same_clients : (clients : List (Option ClientState)) (c : ℕ) (client : Cli
 same_clients clients c client found = ap (λ (s : Option ClientState). set clients c s) (sym found) ∙ set-get_or clients c None
 
 -- the snapshot that a tag names
-pub built_is : (words : List (List Bool)) (whole : Whole) (tag : Tag) → IsSent words whole.histories tag → Invariant words whole
+pub built_is : (profile : Profile) (whole : Whole) (tag : Tag) → IsSent profile whole.histories tag → Invariant profile whole
     → (client : Option ClientState) → client_at whole.clients tag.client ≡ client → (found : ClientState) → client ≡ Some found
-    → IsBuilt tag.number (built_at whole.histories tag.client tag.number)
-built_is words whole tag is inv client at found some =
-    let had = a_slot (slot_at whole.server tag.client) found (history_at whole.histories tag.client)
-    (subst (λ (s : Option ClientState). IsClient (slot_at whole.server tag.client) s (history_at whole.histories tag.client)) (at ∙ some) (inv.each tag.client is.client)) in
+    → IsBuilt profile tag.number (built_at whole.histories tag.client tag.number)
+built_is profile whole tag is inv client at found some =
+    let had = a_slot profile (slot_at whole.server tag.client) found (history_at whole.histories tag.client)
+    (subst (λ (s : Option ClientState). IsClient profile (slot_at whole.server tag.client) s (history_at whole.histories tag.client)) (at ∙ some) (inv.each tag.client is.client)) in
     let place : tag.number - 1 + 1 ≡ tag.number = omega (arith, is.number.0) in
-    subst (λ (n : ℕ). IsBuilt n (built_at whole.histories tag.client tag.number)) place
+    subst (λ (n : ℕ). IsBuilt profile n (built_at whole.histories tag.client tag.number)) place
     (had.2.built (tag.number - 1) no_snapshot (omega (arith, is.number.0, is.number.1)))

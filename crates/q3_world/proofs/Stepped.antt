@@ -2,6 +2,7 @@
 use Rattle.std.proofs.Common.{◌≡◌, ℕ, ◌+◌, ◌-◌, ◌≤◌, Bool, List, [], length, Option, Some, None, Result, Ok, Err, arith}
 use Rattle.std.specs.Prelude.{OnOk, is_ok, slice_get}
 use Rattle.std.proofs.lemmas.List.{length_push}
+use Rattle.q3_profile.specs.declared.profile.Profile.{Profile}
 use Rattle.q3_script.specs.declared.event.Event.{Event}
 use Rattle.q3_script.specs.declared.event.Event.TheVariants as events
 use Rattle.q3_world.specs.declared.answer.Emitted.{Emitted}
@@ -50,27 +51,27 @@ few_given : (kept : Kept) (c : ℕ) (player : PlayerState) (found : Option SlotS
 few_given kept c player None = omega arith
 few_given kept c player (Some slot) = omega arith
 
-few_delivered : (words : List (List Bool)) (kept : Kept) (number : ℕ) (found : Option SentBytes)
-    → length (kept_deliver words kept number found).kept.datagrams ≤ length kept.datagrams + 1
-few_delivered words kept number None = omega arith
-few_delivered words kept number (Some sent) = omega arith
+few_delivered : (kept : Kept) (number : ℕ) (found : Option SentBytes)
+    → length (kept_deliver kept number found).kept.datagrams ≤ length kept.datagrams + 1
+few_delivered kept number None = omega arith
+few_delivered kept number (Some sent) = omega arith
 
-pub few_more : (words : List (List Bool)) (kept : Kept) (event : Event)
-    → length (kept_step words kept event).kept.datagrams ≤ length kept.datagrams + 1
+pub few_more : (kept : Kept) (event : Event)
+    → length (kept_step kept event).kept.datagrams ≤ length kept.datagrams + 1
 unfolding kept_step
-few_more words kept (events.Client c challenge qport dup address) =
+few_more kept (events.Client c challenge qport dup address) =
     few_joined kept c (new_slot challenge qport address) (new_client challenge qport dup) (slot_at kept.server c)
-few_more words kept (events.Time time) = omega arith
-few_more words kept (events.Player c player) = few_given kept c player (slot_at kept.server c)
-few_more words kept (events.Serve c) =
-    few_served kept.datagrams c (emit_at words kept.server c).answer (emit_at words kept.server c).datagram
-few_more words kept (events.Deliver number) = few_delivered words kept number (slice_get kept.datagrams (number - 1))
-few_more words kept (events.Show c) = omega arith
+few_more kept (events.Time time) = omega arith
+few_more kept (events.Player c player) = few_given kept c player (slot_at kept.server c)
+few_more kept (events.Serve c) =
+    few_served kept.datagrams c (emit_at kept.profile kept.server c).answer (emit_at kept.profile kept.server c).datagram
+few_more kept (events.Deliver number) = few_delivered kept number (slice_get kept.datagrams (number - 1))
+few_more kept (events.Show c) = omega arith
 
 -- ---- the opening world
 
-pub stands_opening : (words : List (List Bool)) (kept : Kept) → kept.server ≡ opening.server → kept.clients ≡ opening.clients
-    → kept.datagrams ≡ [] → StandsFor words kept opening
+pub stands_opening : (profile : Profile) (kept : Kept) → kept.profile ≡ profile → kept.server ≡ opening.server → kept.clients ≡ opening.clients
+    → kept.datagrams ≡ [] → StandsFor profile kept opening
 unfolding opening
-stands_opening words kept server clients datagrams =
-    record { server = server; clients = clients; datagrams = datagrams; invariant = opening-invariant words }
+stands_opening profile kept by server clients datagrams =
+    record { by = by; server = server; clients = clients; datagrams = datagrams; invariant = opening-invariant profile }

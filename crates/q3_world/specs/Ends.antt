@@ -1,6 +1,7 @@
 -- One call of one end: the state after it, and the answer.
 use Rattle.std.specs.Prelude.{ℕ, ◌+◌, ◌^◌, if◌then◌else◌, Bool, List, [], length, take, drop, nat_lt, nat_le, Option, Some, None, slice_set, Result, Ok, Err}
 use Rattle.std.specs.Int.{w32, from_le_bytes}
+use Rattle.q3_profile.specs.declared.profile.Profile.{Profile}
 use Rattle.q3_bits.specs.Bits.{bits_of, message_bytes, message_length}
 use Rattle.q3_player.specs.State.{zero_player}
 use Rattle.q3_io.specs.declared.address.Address.{Address}
@@ -51,10 +52,10 @@ emit_bits slot bits =
       datagram = datagram_bytes (slot.begun + 1) (message_bytes bits);
     }
 
-abbrev pub emit_slot : List (List Bool) → MapState → SlotState → SlotEmission
-emit_slot words map slot =
+abbrev pub emit_slot : Profile → MapState → SlotState → SlotEmission
+emit_slot profile map slot =
     if nat_le sequence_end (slot.begun + 1) then record { slot = slot; answer = emitted.SequenceEnd; datagram = [] }
-    else emit_bits slot (snapshot_bits words (next_snapshot map slot))
+    else emit_bits slot (snapshot_bits profile (next_snapshot map slot))
 
 -- what an emit of the server gives
 pub record Emission : Type 0 where
@@ -62,18 +63,18 @@ pub record Emission : Type 0 where
   pub answer : Emitted
   pub datagram : List ℕ
 
-abbrev pub emit_from : List (List Bool) → ServerState → ℕ → Option SlotState → Emission
-emit_from words server c None = record { server = server; answer = emitted.NoClient; datagram = [] }
-emit_from words server c (Some slot) =
+abbrev pub emit_from : Profile → ServerState → ℕ → Option SlotState → Emission
+emit_from profile server c None = record { server = server; answer = emitted.NoClient; datagram = [] }
+emit_from profile server c (Some slot) =
     record {
-      server = record server { slots = slice_set server.slots c (Some (emit_slot words server.map slot).slot) };
-      answer = (emit_slot words server.map slot).answer;
-      datagram = (emit_slot words server.map slot).datagram;
+      server = record server { slots = slice_set server.slots c (Some (emit_slot profile server.map slot).slot) };
+      answer = (emit_slot profile server.map slot).answer;
+      datagram = (emit_slot profile server.map slot).datagram;
     }
 
 -- the server makes a datagram for a client
-unfoldable pub emit_at : List (List Bool) → ServerState → ℕ → Emission
-emit_at words server c = emit_from words server c (slot_at server c)
+unfoldable pub emit_at : Profile → ServerState → ℕ → Emission
+emit_at profile server c = emit_from profile server c (slot_at server c)
 
 -- what a take of a client gives
 pub record Taken : Type 0 where
@@ -88,13 +89,13 @@ abbrev pub accept_read : ClientState → Result Snapshot cause.Illegible → Tak
 accept_read client (Ok snapshot) = accept client snapshot
 accept_read client (Err e) = record { client = client; answer = Illegible e }
 
-abbrev pub take_message : List (List Bool) → ClientState → ℕ → List ℕ → Taken
-take_message words client number message =
+abbrev pub take_message : Profile → ClientState → ℕ → List ℕ → Taken
+take_message profile client number message =
     if nat_le number client.taken then record { client = client; answer = Old }
-    else accept_read client (snapshot_at words number (bits_of message))
+    else accept_read client (snapshot_at profile number (bits_of message))
 
 -- a client takes a datagram, by its bytes
-unfoldable pub take_at : List (List Bool) → ClientState → List ℕ → Taken
-take_at words client datagram =
+unfoldable pub take_at : Profile → ClientState → List ℕ → Taken
+take_at profile client datagram =
     if nat_lt (length datagram) 4 then record { client = client; answer = Runt }
-    else take_message words client (from_le_bytes w32 (take 4 datagram)) (drop 4 datagram)
+    else take_message profile client (from_le_bytes w32 (take 4 datagram)) (drop 4 datagram)

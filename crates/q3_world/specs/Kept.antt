@@ -1,5 +1,6 @@
 -- What the program's world keeps, and what an event does to it: datagrams are taken by their bytes.
 use Rattle.std.specs.Prelude.{ℕ, ◌+◌, ◌-◌, Bool, List, [], ◌∷◌, ◌++◌, length, Option, Some, None, slice_get, slice_set}
+use Rattle.q3_profile.specs.declared.profile.Profile.{Profile}
 use Rattle.q3_player.specs.State.{normal_player}
 use Rattle.q3_player.specs.declared.state.PlayerState.{PlayerState}
 use Rattle.q3_script.specs.declared.event.Event.{Event}
@@ -20,7 +21,9 @@ pub record SentBytes : Type 0 where
   pub client : ℕ
   pub bytes : List ℕ
 
+-- by which profile, both ends, and every datagram that was made
 pub record Kept : Type 0 where
+  pub profile : Profile
   pub server : ServerState
   pub clients : List (Option ClientState)
   pub datagrams : List SentBytes
@@ -42,14 +45,14 @@ kept_client kept c slot client None =
       answer = Client c handed_in.Ok;
     }
 
--- the slot with another player
-abbrev pub with_player : SlotState → PlayerState → SlotState
-with_player slot player = record slot { player = normal_player player }
+-- the slot with another player, in the normal form of the profile's table
+abbrev pub with_player : Profile → SlotState → PlayerState → SlotState
+with_player profile slot player = record slot { player = normal_player profile.player player }
 
 abbrev pub kept_player : Kept → ℕ → PlayerState → Option SlotState → KeptStep
 kept_player kept c player None = record { kept = kept; answer = Player c handed_in.NoClient }
 kept_player kept c player (Some slot) =
-    record { kept = record kept { server = with_slot kept.server c (with_player slot player) }; answer = Player c handed_in.Ok }
+    record { kept = record kept { server = with_slot kept.server c (with_player kept.profile slot player) }; answer = Player c handed_in.Ok }
 
 -- whether an answer hands out a datagram
 abbrev pub datagrams_after : List SentBytes → ℕ → Emitted → List ℕ → List SentBytes
@@ -68,24 +71,24 @@ pub record Arrival : Type 0 where
   pub clients : List (Option ClientState)
   pub answer : Answer
 
-abbrev pub arrive_at : List (List Bool) → List (Option ClientState) → ℕ → SentBytes → Option ClientState → Arrival
-arrive_at words clients number sent None = record { clients = clients; answer = Unknown number }
-arrive_at words clients number sent (Some client) =
+abbrev pub arrive_at : Profile → List (Option ClientState) → ℕ → SentBytes → Option ClientState → Arrival
+arrive_at profile clients number sent None = record { clients = clients; answer = Unknown number }
+arrive_at profile clients number sent (Some client) =
     record {
-      clients = slice_set clients sent.client (Some (take_at words client sent.bytes).client);
-      answer = Deliver number sent.client (take_at words client sent.bytes).answer;
+      clients = slice_set clients sent.client (Some (take_at profile client sent.bytes).client);
+      answer = Deliver number sent.client (take_at profile client sent.bytes).answer;
     }
 
 -- the client that a datagram is for takes it
-abbrev pub arrived : List (List Bool) → List (Option ClientState) → ℕ → SentBytes → Arrival
-arrived words clients number sent = arrive_at words clients number sent (client_at clients sent.client)
+abbrev pub arrived : Profile → List (Option ClientState) → ℕ → SentBytes → Arrival
+arrived profile clients number sent = arrive_at profile clients number sent (client_at clients sent.client)
 
-abbrev pub kept_deliver : List (List Bool) → Kept → ℕ → Option SentBytes → KeptStep
-kept_deliver words kept number None = record { kept = kept; answer = Unknown number }
-kept_deliver words kept number (Some sent) =
+abbrev pub kept_deliver : Kept → ℕ → Option SentBytes → KeptStep
+kept_deliver kept number None = record { kept = kept; answer = Unknown number }
+kept_deliver kept number (Some sent) =
     record {
-      kept = record kept { clients = (arrived words kept.clients number sent).clients };
-      answer = (arrived words kept.clients number sent).answer;
+      kept = record kept { clients = (arrived kept.profile kept.clients number sent).clients };
+      answer = (arrived kept.profile kept.clients number sent).answer;
     }
 
 abbrev pub newest : Option Snapshot → Shown
@@ -96,12 +99,12 @@ abbrev pub shown_of : Option ClientState → Shown
 shown_of None = shown.NoClient
 shown_of (Some client) = newest client.accepted
 
-unfoldable pub kept_step : List (List Bool) → Kept → Event → KeptStep
-kept_step words kept (events.Client c challenge qport dup address) =
+unfoldable pub kept_step : Kept → Event → KeptStep
+kept_step kept (events.Client c challenge qport dup address) =
     kept_client kept c (new_slot challenge qport address) (new_client challenge qport dup) (slot_at kept.server c)
-kept_step words kept (events.Time time) =
+kept_step kept (events.Time time) =
     record { kept = record kept { server = record kept.server { map = record { time = time } } }; answer = Time }
-kept_step words kept (events.Player c player) = kept_player kept c player (slot_at kept.server c)
-kept_step words kept (events.Serve c) = kept_serve kept c (emit_at words kept.server c)
-kept_step words kept (events.Deliver number) = kept_deliver words kept number (slice_get kept.datagrams (number - 1))
-kept_step words kept (events.Show c) = record { kept = kept; answer = Show c (shown_of (client_at kept.clients c)) }
+kept_step kept (events.Player c player) = kept_player kept c player (slot_at kept.server c)
+kept_step kept (events.Serve c) = kept_serve kept c (emit_at kept.profile kept.server c)
+kept_step kept (events.Deliver number) = kept_deliver kept number (slice_get kept.datagrams (number - 1))
+kept_step kept (events.Show c) = record { kept = kept; answer = Show c (shown_of (client_at kept.clients c)) }

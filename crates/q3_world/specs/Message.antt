@@ -2,7 +2,9 @@
 use Rattle.std.specs.Prelude.{◌≡◌, ℕ, ◌^◌, ◌<◌, ◌==◌, if◌then◌else◌, Bool, List, ◌++◌, Result, Ok, Err}
 use Rattle.std.specs.Int.{w32, to_le_bytes}
 use Rattle.q3_bits.specs.Words.{field_bits, field_read}
-use Rattle.q3_player.specs.State.{zero_player}
+use Rattle.q3_fields.specs.Kinds.{end_mark}
+use Rattle.q3_profile.specs.declared.profile.Profile.{Profile}
+use Rattle.q3_player.specs.State.{zero_player, IsState}
 use Rattle.q3_player.specs.Delta.{player_delta, player_at}
 use Rattle.q3_player.specs.Spelling.{SpellsPlayer}
 use Rattle.q3_world.specs.declared.answer.Snapshot.{Snapshot}
@@ -16,27 +18,24 @@ snapshot_byte = 7
 abbrev pub end_byte : ℕ
 end_byte = 8
 
--- the end mark of an entity list
-abbrev pub end_of_entities : ℕ
-end_of_entities = 1023
-
 -- a message, around the text of its player: the number of the last client command executed; the snapshot's time,
--- base distance, flags, length of the area, player, and no entities; and the end
-abbrev pub message_text : List (List Bool) → ℕ → Snapshot → List Bool → List Bool
-message_text words executed snapshot player =
-    field_bits words 32 executed
-    ++ field_bits words 8 snapshot_byte
-    ++ field_bits words 32 snapshot.time
-    ++ field_bits words 8 0
-    ++ field_bits words 8 snapshot.flags
-    ++ field_bits words 8 0
+-- base distance, flags, length of the area, player, and the end mark of no entities; and the end
+abbrev pub message_text : Profile → ℕ → Snapshot → List Bool → List Bool
+message_text profile executed snapshot player =
+    field_bits profile.code 32 executed
+    ++ field_bits profile.code 8 snapshot_byte
+    ++ field_bits profile.code 32 snapshot.time
+    ++ field_bits profile.code 8 0
+    ++ field_bits profile.code 8 snapshot.flags
+    ++ field_bits profile.code 8 0
     ++ player
-    ++ field_bits words 10 end_of_entities
-    ++ field_bits words 8 end_byte
+    ++ field_bits profile.code 10 (end_mark profile.entity)
+    ++ field_bits profile.code 8 end_byte
 
 -- the message that is built: no client command was executed, and the player goes from zero
-unfoldable pub snapshot_bits : List (List Bool) → Snapshot → List Bool
-snapshot_bits words snapshot = message_text words 0 snapshot (player_delta words zero_player snapshot.player)
+unfoldable pub snapshot_bits : Profile → Snapshot → List Bool
+snapshot_bits profile snapshot =
+    message_text profile 0 snapshot (player_delta profile.code profile.player zero_player snapshot.player)
 
 -- a datagram: the message's number in four bytes, least first, and the message
 abbrev pub datagram_bytes : ℕ → List ℕ → List ℕ
@@ -59,23 +58,24 @@ fixed_at words width value bits = do
   if found.0 == value then Ok found.1 else Err Form
 
 -- the snapshot with which the bits begin, under a number
-unfoldable pub snapshot_at : List (List Bool) → ℕ → List Bool → Result Snapshot Illegible
-snapshot_at words number bits = do
-  executed ← form (field_read words 32 bits)
-  operation ← fixed_at words 8 snapshot_byte executed.1
-  time ← form (field_read words 32 operation)
-  base ← fixed_at words 8 0 time.1
-  flags ← form (field_read words 8 base)
-  area ← fixed_at words 8 0 flags.1
-  player ← form (player_at words zero_player area)
-  entities ← fixed_at words 10 end_of_entities player.1
-  end ← fixed_at words 8 end_byte entities
+unfoldable pub snapshot_at : Profile → ℕ → List Bool → Result Snapshot Illegible
+snapshot_at profile number bits = do
+  executed ← form (field_read profile.code 32 bits)
+  operation ← fixed_at profile.code 8 snapshot_byte executed.1
+  time ← form (field_read profile.code 32 operation)
+  base ← fixed_at profile.code 8 0 time.1
+  flags ← form (field_read profile.code 8 base)
+  area ← fixed_at profile.code 8 0 flags.1
+  player ← form (player_at profile.code profile.player zero_player area)
+  entities ← fixed_at profile.code 10 (end_mark profile.entity) player.1
+  end ← fixed_at profile.code 8 end_byte entities
   Ok (record { number = number; time = time.0; flags = flags.0; player = player.0 })
 
 -- the text is a message of the form: any number of executed commands, any time and flags, and a player in any spelling
-pub record SpellsSnapshot (words : List (List Bool)) (snapshot : Snapshot) (text : List Bool) : Type 0 where
+pub record SpellsSnapshot (profile : Profile) (snapshot : Snapshot) (text : List Bool) : Type 0 where
   pub executed : ℕ
   pub player : List Bool
   pub fits : (executed < 2 ^ 32) × (snapshot.time < 2 ^ 32) × (snapshot.flags < 2 ^ 8)
-  pub spelled : SpellsPlayer words zero_player snapshot.player player
-  pub whole : text ≡ message_text words executed snapshot player
+  pub state : IsState snapshot.player
+  pub spelled : SpellsPlayer profile.code profile.player zero_player snapshot.player player
+  pub whole : text ≡ message_text profile executed snapshot player

@@ -1,6 +1,7 @@
 -- The report of a replay: the lines of each event's answer.
-use Rattle.std.specs.Prelude.{ℕ, Bool, List, [], ◌∷◌, codes, decimal}
+use Rattle.std.specs.Prelude.{ℕ, Bool, List, [], ◌∷◌, ◌++◌, codes, decimal}
 use Rattle.std.specs.List.{flat_map}
+use Rattle.q3_profile.specs.declared.profile.Profile.{Profile}
 use Rattle.q3_script.specs.declared.event.Event.{Event}
 use Rattle.q3_world.specs.declared.answer.Emitted.{Emitted}
 use Rattle.q3_world.specs.declared.answer.Emitted.TheVariants as emitted
@@ -14,7 +15,8 @@ use Rattle.q3_world.specs.declared.answer.Shown.{Shown}
 use Rattle.q3_world.specs.declared.answer.Shown.TheVariants as shown
 use Rattle.q3_world.specs.declared.answer.Answer.{Answer}
 use Rattle.q3_world.specs.declared.answer.Answer.TheVariants.{Client, Time, Player, Serve, Unknown, Deliver, Show}
-use Rattle.q3_io.specs.Print.{joined, words_text}
+use Rattle.q3_io.specs.Print.{joined}
+use Rattle.q3_player.specs.Report.{player_texts}
 use Rattle.q3_world.specs.World.{opening, answers}
 
 -- what stands behind `client C` and `player C`
@@ -49,7 +51,7 @@ shown_text shown.NoClient = codes " noclient\n"
 shown_text shown.Nothing = codes " none\n"
 shown_text (shown.Newest snapshot) =
     joined (codes " snapshot " ∷ decimal snapshot.number ∷ codes " time " ∷ decimal snapshot.time ∷ codes " flags " ∷ decimal snapshot.flags
-    ∷ codes " area -\n+ player" ∷ words_text 0 snapshot.player.words ∷ codes "\n" ∷ [])
+    ∷ codes " area -\n+ player" ∷ player_texts snapshot.player ++ codes "\n" ∷ [])
 
 -- the lines of an answer
 unfoldable pub answer_text : Answer → List ℕ
@@ -63,5 +65,5 @@ answer_text (Deliver datagram c took) =
 answer_text (Show c what) = joined (codes "show " ∷ decimal c ∷ shown_text what ∷ [])
 
 -- the report of a replay of these events, from the opening world
-unfoldable pub report : List (List Bool) → List Event → List ℕ
-report words events = flat_map answer_text (answers words opening events)
+unfoldable pub report : Profile → List Event → List ℕ
+report profile events = flat_map answer_text (answers profile opening events)

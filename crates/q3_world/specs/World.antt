@@ -1,6 +1,7 @@
 -- The whole world: what is kept, and what nothing wipes. A step delivers a datagram by its tag:
 -- what arrives is the snapshot that was built under the message's number.
 use Rattle.std.specs.Prelude.{ℕ, ◌+◌, ◌-◌, if◌then◌else◌, Bool, List, [], ◌∷◌, ◌++◌, length, replicate, nat_le, Option, Some, None, slice_get, slice_set, slice_index_or}
+use Rattle.q3_profile.specs.declared.profile.Profile.{Profile}
 use Rattle.q3_player.specs.State.{zero_player}
 use Rattle.q3_player.specs.declared.state.PlayerState.{PlayerState}
 use Rattle.q3_script.specs.declared.event.Event.{Event}
@@ -80,10 +81,10 @@ join whole c slot client None =
       answer = Client c handed_in.Ok;
     }
 
-abbrev pub set_player : Whole → ℕ → PlayerState → Option SlotState → Step
-set_player whole c player None = record { whole = whole; answer = Player c handed_in.NoClient }
-set_player whole c player (Some slot) =
-    record { whole = record whole { server = with_slot whole.server c (with_player slot player) }; answer = Player c handed_in.Ok }
+abbrev pub set_player : Profile → Whole → ℕ → PlayerState → Option SlotState → Step
+set_player profile whole c player None = record { whole = whole; answer = Player c handed_in.NoClient }
+set_player profile whole c player (Some slot) =
+    record { whole = record whole { server = with_slot whole.server c (with_player profile slot player) }; answer = Player c handed_in.Ok }
 
 -- the snapshot that a message carries is built, and its datagram sent
 abbrev pub with_sent : Whole → ℕ → Option SlotState → Emitted → List ℕ → Whole
@@ -123,22 +124,22 @@ deliver whole number None = record { whole = whole; answer = Unknown number }
 deliver whole number (Some tag) = arrive whole number tag (client_at whole.clients tag.client)
 
 -- one event
-unfoldable pub step : List (List Bool) → Whole → Event → Step
-step words whole (events.Client c challenge qport dup address) =
+unfoldable pub step : Profile → Whole → Event → Step
+step profile whole (events.Client c challenge qport dup address) =
     join whole c (new_slot challenge qport address) (new_client challenge qport dup) (slot_at whole.server c)
-step words whole (events.Time time) =
+step profile whole (events.Time time) =
     record { whole = record whole { server = record whole.server { map = record { time = time } } }; answer = Time }
-step words whole (events.Player c player) = set_player whole c player (slot_at whole.server c)
-step words whole (events.Serve c) = serve whole c (emit_at words whole.server c)
-step words whole (events.Deliver number) = deliver whole number (slice_get whole.sent (number - 1))
-step words whole (events.Show c) = record { whole = whole; answer = Show c (shown_of (client_at whole.clients c)) }
+step profile whole (events.Player c player) = set_player profile whole c player (slot_at whole.server c)
+step profile whole (events.Serve c) = serve whole c (emit_at profile whole.server c)
+step profile whole (events.Deliver number) = deliver whole number (slice_get whole.sent (number - 1))
+step profile whole (events.Show c) = record { whole = whole; answer = Show c (shown_of (client_at whole.clients c)) }
 
 -- the world after these events
-unfoldable pub after : List (List Bool) → Whole → List Event → Whole
-after words whole [] = whole
-after words whole (event ∷ events) = after words (step words whole event).whole events
+unfoldable pub after : Profile → Whole → List Event → Whole
+after profile whole [] = whole
+after profile whole (event ∷ events) = after profile (step profile whole event).whole events
 
 -- what these events answer
-unfoldable pub answers : List (List Bool) → Whole → List Event → List Answer
-answers words whole [] = []
-answers words whole (event ∷ events) = (step words whole event).answer ∷ answers words (step words whole event).whole events
+unfoldable pub answers : Profile → Whole → List Event → List Answer
+answers profile whole [] = []
+answers profile whole (event ∷ events) = (step profile whole event).answer ∷ answers profile (step profile whole event).whole events

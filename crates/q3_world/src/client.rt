@@ -6,7 +6,7 @@ ghost use Rattle.q3_world.specs.Ends.{new_client, take_at};
 
 use crate::answer::{ClientTook, Snapshot};
 use crate::message::read_snapshot;
-use q3_bits::Code;
+use q3_profile::Profile;
 use std::marker::Model;
 
 /// A client: the newest number taken, 0 for none, and the newest snapshot accepted.
@@ -48,9 +48,9 @@ impl Client {
 
     /// Takes a datagram: an old one changes nothing, nor does one that isn't legible.
     #[tactic(auto, unfolding(crate::specs::Ends::take_at))]
-    pub(crate) fn take(&mut self, code: &Code, datagram: &[u8]) -> ClientTook
+    pub(crate) fn take(&mut self, profile: &Profile, datagram: &[u8]) -> ClientTook
         requires { length datagram.now < 2 ^ 60 }
-        ensures { take_at code.now self.old datagram.now ≡ record { client = self.new; answer = result } }
+        ensures { take_at profile.now self.old datagram.now ≡ record { client = self.new; answer = result } }
     {
         if datagram.len() < 4 {
             return ClientTook::Runt;
@@ -60,7 +60,7 @@ impl Client {
         if number <= self.taken {
             return ClientTook::Old;
         }
-        match read_snapshot(code, number, message) {
+        match read_snapshot(profile, number, message) {
             Err(e) => ClientTook::Illegible(e),
             Ok(snapshot) => {
                 self.taken = snapshot.number;

@@ -12,6 +12,7 @@ pub fn built_is_read()
     bits::put_is_read();
     bits::message_holds_bits();
     player::written_is_read();
+    player::zero_is_normal();
 }
 
 /// What is read as a snapshot was spelled so.
@@ -20,6 +21,7 @@ pub fn read_is_spelled()
 {
     bits::read_was_put();
     player::read_is_spelled();
+    player::zero_is_normal();
 }
 
 /// What is spelled as a snapshot is read, with whatever follows it:
@@ -29,6 +31,7 @@ pub fn spelled_is_read()
 {
     bits::put_is_read();
     player::spelled_is_read();
+    player::zero_is_normal();
 }
 
 /// In a replay each event answers the same, whether its datagram is taken by its bytes or by its tag.
@@ -37,6 +40,7 @@ pub fn bytes_follow_tags()
 {
     built_is_read();
     player::normal_is_normal();
+    player::zero_is_normal();
 }
 
 /// In a replay no client ever gets what it can't read.
@@ -52,6 +56,7 @@ pub fn shown_was_built()
 {
     built_is_read();
     player::normal_is_normal();
+    player::zero_is_normal();
 }
 
 /// Whatever came before, a message whose number is above every number taken is accepted when it arrives.

@@ -6,29 +6,30 @@ ghost use Rattle.std.specs.Prelude.{◌≡◌, ◌+◌, ◌^◌, ◌<◌, ◌≤
 ghost use Rattle.q3_bits.specs.Bits.{bits_of, message_length};
 ghost use Rattle.q3_bits.specs.Words.{field_read};
 ghost use Rattle.q3_bits.specs.Streams.{with_rest};
-ghost use Rattle.q3_player.specs.State.{zero_player, SameArrays};
 ghost use Rattle.q3_world.specs.Message.{snapshot_bits, snapshot_at, form, fixed_at};
 
 use crate::answer::{Illegible, Snapshot};
-use q3_bits::{Code, Overflow, Reader, Writer};
+use q3_bits::{Overflow, Reader, Writer};
 use q3_player::{PlayerState, read_player, write_player};
+use q3_profile::Profile;
 
 /// The operations of a server's message that this stage has.
 const SNAPSHOT: u32 = 7;
 
 const END: u32 = 8;
 
-/// The end mark of an entity list.
-const END_OF_ENTITIES: u32 = 1_023;
-
-/// Writes a message with a snapshot whose player has empty arrays.
+/// Writes a message with a snapshot, by a writer of the profile's code.
 /// `Overflow` comes exactly where the message doesn't fit the writer's room.
 #[tactic(auto, unfolding(crate::specs::Message::snapshot_bits))]
-pub(crate) fn write_snapshot(w: &mut Writer, snapshot: &Snapshot) -> Result<(), Overflow>
-    requires { SameArrays zero_player snapshot.now.player }
+pub(crate) fn write_snapshot(
+    w: &mut Writer,
+    profile: &Profile,
+    snapshot: &Snapshot,
+) -> Result<(), Overflow>
+    requires { w.old.words ≡ profile.now.code }
     ensures overflow { IsErr result ↔
-        (w.old.room < message_length (length w.old.bits + length (snapshot_bits w.old.words snapshot.now))) }
-    ensures ok { OnOk result (w.new ≡ record w.old { bits = w.old.bits ++ snapshot_bits w.old.words snapshot.now }) }
+        (w.old.room < message_length (length w.old.bits + length (snapshot_bits profile.now snapshot.now))) }
+    ensures ok { OnOk result (w.new ≡ record w.old { bits = w.old.bits ++ snapshot_bits profile.now snapshot.now }) }
 {
     w.put(0, 32)?;
     w.put(SNAPSHOT, 8)?;
@@ -36,19 +37,23 @@ pub(crate) fn write_snapshot(w: &mut Writer, snapshot: &Snapshot) -> Result<(), 
     w.put(0, 8)?;
     w.put(u32::from(snapshot.flags), 8)?;
     w.put(0, 8)?;
-    write_player(w, &PlayerState::zero(), &snapshot.player)?;
-    w.put(END_OF_ENTITIES, 10)?;
+    write_player(w, &profile.player, &PlayerState::zero(), &snapshot.player)?;
+    w.put(u32::from(profile.entity.end()), 10)?;
     w.put(END, 8)
 }
 
 /// Reads the message's bytes as a snapshot under its number.
 /// `Form` comes exactly where the bits don't begin as such a message; what follows its end isn't read.
 #[tactic(auto, unfolding(crate::specs::Message::snapshot_at))]
-pub(crate) fn read_snapshot(code: &Code, number: u32, message: &[u8]) -> Result<Snapshot, Illegible>
+pub(crate) fn read_snapshot(
+    profile: &Profile,
+    number: u32,
+    message: &[u8],
+) -> Result<Snapshot, Illegible>
     requires { length message.now < 2 ^ 60 }
-    ensures { result ≡ snapshot_at code.now number (bits_of message.now) }
+    ensures { result ≡ snapshot_at profile.now number (bits_of message.now) }
 {
-    let mut r = Reader::new(code, message);
+    let mut r = Reader::new(&profile.code, message);
     let mut player = PlayerState::zero();
     read_bits(&mut r, 32)?;
     read_fixed(&mut r, 8, SNAPSHOT)?;
@@ -56,10 +61,10 @@ pub(crate) fn read_snapshot(code: &Code, number: u32, message: &[u8]) -> Result<
     read_fixed(&mut r, 8, 0)?;
     let flags = read_bits(&mut r, 8)? as u8;
     read_fixed(&mut r, 8, 0)?;
-    if read_player(&mut r, &PlayerState::zero(), &mut player).is_err() {
+    if read_player(&mut r, &profile.player, &PlayerState::zero(), &mut player).is_err() {
         return Err(Illegible::Form);
     }
-    read_fixed(&mut r, 10, END_OF_ENTITIES)?;
+    read_fixed(&mut r, 10, u32::from(profile.entity.end()))?;
     read_fixed(&mut r, 8, END)?;
     Ok(Snapshot {
         number,

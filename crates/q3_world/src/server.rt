@@ -2,7 +2,6 @@
 //! Keeps the rules "datagram" and "end of message numbers", the second of which is this project's own.
 
 ghost use Rattle.std.specs.Prelude.{◌≡◌, ◌<◌, ◌↔◌, ◌≤◌, [], Some, None, IsTrue, IsSome, IsOk, IsErr, IfOk, MatchOption, length, replicate};
-ghost use Rattle.q3_player.specs.State.{zero_player, SameArrays};
 ghost use Rattle.q3_world.specs.Message.{datagram_bytes};
 ghost use Rattle.q3_world.specs.State.{slot_at};
 ghost use Rattle.q3_world.specs.Ends.{new_slot, emit_slot, emit_at};
@@ -11,9 +10,10 @@ ghost use Rattle.q3_world.specs.Kept.{with_slot, with_player};
 use crate::answer::{Emitted, NoClient, Snapshot};
 use crate::message::write_snapshot;
 use arrayvec::ArrayVec;
-use q3_bits::{Code, NoMemory, Writer};
+use q3_bits::{NoMemory, Writer};
 use q3_io::Address;
 use q3_player::PlayerState;
+use q3_profile::Profile;
 use std::alloc::Global;
 use std::marker::Model;
 
@@ -41,7 +41,6 @@ pub(crate) struct Slot {
 
 impl Model for Slot {
     ghost use Rattle.std.specs.Prelude.{◌^◌, ◌<◌};
-    ghost use Rattle.q3_player.specs.State.{zero_player, SameArrays};
     ghost use Rattle.q3_world.specs.State.{SlotState};
 
     ghost Value = { SlotState };
@@ -54,7 +53,7 @@ impl Model for Slot {
       player = s.player;
     } };
 
-    ghost invariant = { λ s. (s.begun < 2 ^ 30) × SameArrays zero_player s.player };
+    ghost invariant = { λ s. (s.begun < 2 ^ 30) };
 }
 
 impl Slot {
@@ -73,16 +72,15 @@ impl Slot {
     }
 
     /// Takes over a player, in normal form.
-    pub(crate) fn set_player(&mut self, player: &PlayerState)
-        requires { SameArrays zero_player player.now }
-        ensures { self.new ≡ with_player self.old player.now }
+    pub(crate) fn set_player(&mut self, profile: &Profile, player: &PlayerState)
+        ensures { self.new ≡ with_player profile.now self.old player.now }
     {
-        self.player = player.normal();
+        self.player = player.normal(&profile.player);
     }
 
     /// Begins the next message, with a whole snapshot at a time, and hands out its datagram.
-    pub(crate) fn emit(&mut self, code: &Code, time: u32, out: &mut Datagram) -> Emitted
-        ensures { emit_slot code.now (record { time = time }) self.old
+    pub(crate) fn emit(&mut self, profile: &Profile, time: u32, out: &mut Datagram) -> Emitted
+        ensures { emit_slot profile.now (record { time = time }) self.old
             ≡ record { slot = self.new; answer = result; datagram = out.new.items } }
     {
         out.clear();
@@ -96,8 +94,8 @@ impl Slot {
             flags: 0,
             player: self.player,
         };
-        let mut w = Writer::new(code, LONGEST_WHOLE);
-        if write_snapshot(&mut w, &snapshot).is_err() {
+        let mut w = Writer::new(&profile.code, LONGEST_WHOLE);
+        if write_snapshot(&mut w, profile, &snapshot).is_err() {
             return Emitted::Overlong;
         }
         self.begun = number;
@@ -163,30 +161,34 @@ impl Server {
     }
 
     /// Takes over the player of a client, if there is one.
-    pub(crate) fn set_player(&mut self, c: usize, player: &PlayerState) -> Result<(), NoClient>
-        requires place { c < 16 }
-        requires arrays { SameArrays zero_player player.now }
+    pub(crate) fn set_player(
+        &mut self,
+        profile: &Profile,
+        c: usize,
+        player: &PlayerState,
+    ) -> Result<(), NoClient>
+        requires { c < 16 }
         ensures { MatchOption (slot_at self.old c) (IsErr result × (self.new ≡ self.old))
-            (λ slot. IsOk result × (self.new ≡ with_slot self.old c (with_player slot player.now))) }
+            (λ slot. IsOk result × (self.new ≡ with_slot self.old c (with_player profile.now slot player.now))) }
     {
         let Some(slot) = &mut self.slots[c] else {
             return Err(NoClient);
         };
-        slot.set_player(player);
+        slot.set_player(profile, player);
         Ok(())
     }
 
     /// Makes the next datagram for a client.
     #[tactic(auto, unfolding(crate::specs::Ends::emit_at))]
-    pub(crate) fn emit(&mut self, code: &Code, c: usize, out: &mut Datagram) -> Emitted
+    pub(crate) fn emit(&mut self, profile: &Profile, c: usize, out: &mut Datagram) -> Emitted
         requires { c < 16 }
-        ensures { emit_at code.now self.old c ≡ record { server = self.new; answer = result; datagram = out.new.items } }
+        ensures { emit_at profile.now self.old c ≡ record { server = self.new; answer = result; datagram = out.new.items } }
     {
         out.clear();
         let time = self.time;
         match &mut self.slots[c] {
             None => Emitted::NoClient,
-            Some(slot) => slot.emit(code, time, out),
+            Some(slot) => slot.emit(profile, time, out),
         }
     }
 

@@ -1,8 +1,8 @@
 //! Both ends over a schedule of events: the world of a replay.
 
 ghost use Rattle.std.specs.Prelude.{◌≡◌, ◌+◌, ◌-◌, ◌<◌, ◌≤◌, length, None, replicate, slice_get, IfOk, OnOk, OnErr, IsErrOf};
-ghost use Rattle.q3_player.specs.State.{zero_player, SameArrays};
-ghost use Rattle.q3_bits.specs.Words.{plain_words};
+ghost use Rattle.q3_profile.specs.declared.profile.Profile.{Profile as ProfileValue};
+ghost use Rattle.q3_profile.specs.Profile.{IsProfile};
 ghost use Rattle.q3_script.specs.Grammar.{IsReplayEvent};
 ghost use Rattle.q3_io.specs.Written.{Adds};
 ghost use Rattle.q3_world.specs.State.{slot_at, client_at};
@@ -18,9 +18,10 @@ use crate::client::Client;
 use crate::laws;
 use crate::report::print_answer;
 use crate::server::{Datagram, PLACES, Server, Slot};
-use q3_bits::{Code, NoMemory};
+use q3_bits::NoMemory;
 use q3_io::{Files, Sink};
 use q3_player::PlayerState;
+use q3_profile::Profile;
 use q3_script::Event;
 use std::alloc::Global;
 use std::marker::Model;
@@ -55,11 +56,11 @@ impl Model for Sent {
     ghost invariant = { λ s. (s.client < 16) × (length s.bytes.items ≤ 1320) };
 }
 
-/// A server, a client for each added slot, and every datagram that was made.
+/// A copy of the profile, a server, a client for each added slot, and every datagram that was made.
 #[derive(Drop)]
 pub struct World {
     alloc: Global,
-    code: Code,
+    profile: Profile,
     server: Server,
     clients: Vec<Option<Client>>,
     datagrams: Vec<Sent>,
@@ -67,14 +68,14 @@ pub struct World {
 
 impl Model for World {
     ghost use Rattle.std.specs.Prelude.{◌≡◌, length};
-    ghost use Rattle.q3_bits.specs.Words.{plain_words};
+    ghost use Rattle.q3_profile.specs.Profile.{IsProfile};
     ghost use Rattle.q3_world.specs.Kept.{Kept};
 
     ghost Value = { Kept };
 
-    ghost view = { λ w. record { server = w.server; clients = w.clients.items; datagrams = w.datagrams.items } };
+    ghost view = { λ w. record { profile = w.profile; server = w.server; clients = w.clients.items; datagrams = w.datagrams.items } };
 
-    ghost invariant = { λ w. (w.code ≡ plain_words) × (length w.clients.items ≡ 16) };
+    ghost invariant = { λ w. IsProfile w.profile × (length w.clients.items ≡ 16) };
 }
 
 impl Sent {
@@ -87,9 +88,14 @@ impl Sent {
     }
 
     /// The client takes the datagram.
-    fn arrive(&self, code: &Code, clients: &mut Vec<Option<Client>>, number: u32) -> Answer
+    fn arrive(
+        &self,
+        profile: &Profile,
+        clients: &mut Vec<Option<Client>>,
+        number: u32,
+    ) -> Answer
         requires { length clients.old.items ≡ 16 }
-        ensures kept { arrived code.now clients.old.items number self.now ≡ record { clients = clients.new.items; answer = result } }
+        ensures kept { arrived profile.now clients.old.items number self.now ≡ record { clients = clients.new.items; answer = result } }
         ensures places { length clients.new.items ≡ 16 }
     {
         let Some(client) = &mut clients[self.client as usize] else {
@@ -98,19 +104,20 @@ impl Sent {
         Answer::Deliver {
             datagram: number,
             c: self.client,
-            took: client.take(code, &self.bytes),
+            took: client.take(profile, &self.bytes),
         }
     }
 }
 
 impl World {
-    /// A world with no client, nothing sent, and the time 0. `Err` is want of memory.
-    pub fn new(alloc: Global) -> Result<World, NoMemory>
-        ensures stands { IfOk result (λ world. StandsFor plain_words world opening) }
+    /// A world by this profile, with no client, nothing sent, and the time 0. `Err` is want of memory.
+    pub fn new(alloc: Global, profile: &Profile) -> Result<World, NoMemory>
+        requires { IsProfile profile.now }
+        ensures stands { IfOk result (λ world. StandsFor profile.now world opening) }
     {
         Ok(World {
             alloc,
-            code: Code::plain(alloc)?,
+            profile: profile.copy(alloc)?,
             server: Server::new(alloc)?,
             clients: no_clients(alloc)?,
             datagrams: Vec::new(alloc),
@@ -128,10 +135,10 @@ impl World {
     ) -> Result<(), StepError>
         requires event { IsReplayEvent event.now }
         requires few { length self.old.datagrams < 4294967295 }
-        ensures stands { OnOk result ((whole : Whole) → StandsFor plain_words self.old whole
-            → StandsFor plain_words self.new (step_of plain_words whole event.now).whole) }
-        ensures lines { (whole : Whole) → StandsFor plain_words self.old whole
-            → Adds (O.written out.old) (O.written out.new) (answer_text (step_of plain_words whole event.now).answer) result }
+        ensures stands { OnOk result ((profile : ProfileValue) (whole : Whole) → StandsFor profile self.old whole
+            → StandsFor profile self.new (step_of profile whole event.now).whole) }
+        ensures lines { (profile : ProfileValue) (whole : Whole) → StandsFor profile self.old whole
+            → Adds (O.written out.old) (O.written out.new) (answer_text (step_of profile whole event.now).answer) result }
         ensures cause { HasStepCause (O.faults out.old) (O.faults out.new) result }
         ensures no_memory { IsErrOf result StepError.NoMemory
             → IsServe event.now × (self.new ≡ self.old) × (O.written out.new ≡ O.written out.old) }
@@ -140,14 +147,23 @@ impl World {
     {
         // No event of this stage uses the files.
         let _ = files;
-        // What is cited here: by the plain code a message is read back, and the normal form is normal.
-        q3_bits::laws::plain_is_a_code();
+        // What is cited here: a message is read back, and the normal form is normal.
         q3_player::laws::normal_is_normal();
+        q3_player::laws::zero_is_normal();
         laws::built_is_read();
+        let _ = self.profile();
         let Ok(answer) = self.apply(event) else {
             return Err(StepError::NoMemory);
         };
         print_answer(&answer, out).map_err(|_| StepError::WriteFault)
+    }
+
+    /// The profile, which passed its check.
+    fn profile(&self) -> &Profile
+        ensures profile { result.now ≡ self.now.profile }
+        ensures passes { IsProfile self.now.profile }
+    {
+        &self.profile
     }
 
     /// Does one event. `Err` is want of memory, at `serve` alone, and changes nothing.
@@ -155,7 +171,7 @@ impl World {
     fn apply(&mut self, event: &Event) -> Result<Answer, NoMemory>
         requires event { IsReplayEvent event.now }
         requires few { length self.old.datagrams < 4294967295 }
-        ensures ok { IfOk result (λ answer. kept_step plain_words self.old event.now ≡ record { kept = self.new; answer = answer }) }
+        ensures ok { IfOk result (λ answer. kept_step self.old event.now ≡ record { kept = self.new; answer = answer }) }
         ensures err { OnErr result (IsServe event.now × (self.new ≡ self.old)) }
     {
         match event {
@@ -206,11 +222,12 @@ impl World {
     }
 
     fn set_player(&mut self, c: u8, player: &PlayerState) -> Answer
-        requires place { c < 16 }
-        requires arrays { SameArrays zero_player player.now }
+        requires { c < 16 }
         ensures { kept_player self.old c player.now (slot_at self.old.server c) ≡ record { kept = self.new; answer = result } }
     {
-        let outcome = match self.server.set_player(c as usize, player) {
+        let outcome = match self
+            .server
+            .set_player(&self.profile, c as usize, player) {
             Ok(()) => HandedIn::Ok,
             Err(NoClient) => HandedIn::NoClient,
         };
@@ -221,13 +238,13 @@ impl World {
     fn serve(&mut self, c: u8) -> Result<Answer, NoMemory>
         requires place { c < 16 }
         requires few { length self.old.datagrams < 4294967295 }
-        ensures ok { IfOk result (λ answer. kept_serve self.old c (emit_at plain_words self.old.server c) ≡ record { kept = self.new; answer = answer }) }
+        ensures ok { IfOk result (λ answer. kept_serve self.old c (emit_at self.old.profile self.old.server c) ≡ record { kept = self.new; answer = answer }) }
         ensures err { OnErr result (self.new ≡ self.old) }
     {
         let mut bytes = Vec::with_capacity(self.alloc, DATAGRAM_ROOM)?;
         self.datagrams.reserve(1)?;
         let mut out = Datagram::new();
-        let emitted = self.server.emit(&self.code, c as usize, &mut out);
+        let emitted = self.server.emit(&self.profile, c as usize, &mut out);
         let datagram = self.datagrams.len() as u32 + 1;
         if let Emitted::Snapshot { .. } = emitted {
             bytes.extend_from_slice(&out).unwrap();
@@ -244,12 +261,12 @@ impl World {
     /// A datagram arrives at its client.
     fn deliver(&mut self, number: u32) -> Answer
         requires { 1 ≤ number }
-        ensures { kept_deliver plain_words self.old number (slice_get self.old.datagrams (number - 1)) ≡ record { kept = self.new; answer = result } }
+        ensures { kept_deliver self.old number (slice_get self.old.datagrams (number - 1)) ≡ record { kept = self.new; answer = result } }
     {
         let Some(sent) = self.datagrams.get(number as usize - 1) else {
             return Answer::Unknown { datagram: number };
         };
-        sent.arrive(&self.code, &mut self.clients, number)
+        sent.arrive(&self.profile, &mut self.clients, number)
     }
 
     fn show(&self, c: u8) -> Answer

@@ -1,8 +1,10 @@
--- How a replay ends.
+-- How a replay of a script by a profile ends, and then of a profile and a script.
 use Rattle.std.proofs.Common.{◌≡◌, ℕ, ◌<◌, List, [], ◌++◌, length, Option, Some, None, Result, Ok, Err, refl, sym, ap, subst, ◌∙◌, inl, inr, arith}
 use Rattle.std.proofs.lemmas.List.{append-nil, length-append}
 use Rattle.std.proofs.lemmas.Bool.{cases_lt, lt-ltb}
-use Rattle.q3_bits.specs.Words.{plain_words}
+use Rattle.q3_profile.specs.declared.profile.Profile.{Profile}
+use Rattle.q3_profile.specs.declared.error.ProfileError.{ProfileError}
+use Rattle.q3_profile.specs.Profile.{checked}
 use Rattle.q3_script.specs.declared.event.Event.{Event}
 use Rattle.q3_script.specs.declared.cause.ScriptKind.TheVariants as kinds
 use Rattle.q3_script.specs.declared.cause.ScriptError.{ScriptError}
@@ -11,7 +13,7 @@ use Rattle.q3_script.specs.Script.{Reads as ReadsScript, script_at, longest_scri
 use Rattle.q3_world.specs.declared.world.StepError.{StepError}
 use Rattle.q3_world.specs.declared.world.StepError.TheVariants as step
 use Rattle.q3_io.specs.Written.{Adds}
-use Rattle.q3_io.specs.Told.{Told, contents_of}
+use Rattle.q3_io.specs.Told.{Told, File, contents_of}
 use Rattle.q3_world.specs.Kept.{Kept}
 use Rattle.q3_world.specs.World.{opening}
 use Rattle.q3_world.specs.StandsFor.{StandsFor}
@@ -22,7 +24,7 @@ use Rattle.q3net.specs.declared.fault.Fault.{Fault}
 use Rattle.q3net.specs.declared.fault.Fault.TheVariants as faults
 use Rattle.q3net.specs.Input.{Reads, ReadsFront}
 use Rattle.q3net.specs.Faults.{input_fault, script_fault, step_fault}
-use Rattle.q3net.specs.Run.{read_replay, report_of, Replays, ReplaysFile, ReplaysTold, ReplaysAdded}
+use Rattle.q3net.specs.Run.{read_replay, report_of, Replays, ReplaysFile, ReplaysChecked, ReplaysBy, ReplaysTold, ReplaysAdded, ScriptTold, ScriptAdded, Loads, LoadsFile, LoadsTold, MayEndLoading}
 use Rattle.q3net.proofs.Stepping.{lines_of}
 
 abbrev some : List ℕ → Option (List ℕ)
@@ -41,98 +43,166 @@ front_reads contents bytes front =
           ap (λ (z : List ℕ). script_at kinds.Replay z) whole
     ]
 
-pub nothing_added : (told : Option Told) (name : List ℕ) (a : Option (List ℕ)) (ended : Result (Unit {0}) Fault)
-    → ReplaysTold told name ended [] → ReplaysAdded told name a a ended
-nothing_added told name None ended h = refl
-nothing_added told name (Some had) ended h = ([], h, ap (λ (z : List ℕ). some z) (sym (append-nil had)))
+pub nothing_added : (profile : Profile) (told : Option Told) (name : List ℕ) (a : Option (List ℕ)) (ended : Result (Unit {0}) Fault)
+    → ScriptTold profile told name ended [] → ScriptAdded profile told name a a ended
+nothing_added profile told name None ended h = refl
+nothing_added profile told name (Some had) ended h = ([], h, ap (λ (z : List ℕ). some z) (sym (append-nil had)))
 
 -- no script was read
-file_ended : (found : Option (List ℕ)) (e : InputError) → ReplaysFile found (Err (input_fault e)) []
-file_ended None input.NoMemory = (tt, refl)
-file_ended None input.Fault = (tt, refl)
-file_ended (Some bytes) input.NoMemory = (report_of (read_replay bytes), refl)
-file_ended (Some bytes) input.Fault = refl
+file_ended : (profile : Profile) (found : Option (List ℕ)) (e : InputError) → ReplaysFile profile found (Err (input_fault e)) []
+file_ended profile None input.NoMemory = (tt, refl)
+file_ended profile None input.Fault = (tt, refl)
+file_ended profile (Some bytes) input.NoMemory = (report_of profile (read_replay bytes), refl)
+file_ended profile (Some bytes) input.Fault = refl
 
-pub input_ended : (told : Option Told) (name : List ℕ) (a : Option (List ℕ)) (e : InputError) → ReplaysAdded told name a a (Err (input_fault e))
-input_ended None name a e = nothing_added None name a (Err (input_fault e)) tt
-input_ended (Some told) name a e = nothing_added (Some told) name a (Err (input_fault e)) (file_ended (contents_of told.files name) e)
+pub input_ended : (profile : Profile) (told : Option Told) (name : List ℕ) (a : Option (List ℕ)) (e : InputError) → ScriptAdded profile told name a a (Err (input_fault e))
+input_ended profile None name a e = nothing_added profile None name a (Err (input_fault e)) tt
+input_ended profile (Some told) name a e = nothing_added profile (Some told) name a (Err (input_fault e)) (file_ended profile (contents_of told.files name) e)
 
 -- of a script that was read
-of_contents : (told now : Option Told) (name bytes printed : List ℕ) (ended : Result (Unit {0}) Fault) → Reads longest_script name told now (Ok bytes)
-    → ((contents : List ℕ) → read_replay bytes ≡ read_replay contents → Replays contents ended printed) → ReplaysTold told name ended printed
-of_contents None now name bytes printed ended reads replays = tt
-of_contents (Some told) now name bytes printed ended reads replays =
-    subst (λ (found : Option (List ℕ)). ReplaysFile found ended printed) (sym reads.2.2)
+of_contents : (profile : Profile) (told now : Option Told) (name bytes printed : List ℕ) (ended : Result (Unit {0}) Fault) → Reads longest_script name told now (Ok bytes)
+    → ((contents : List ℕ) → read_replay bytes ≡ read_replay contents → Replays profile contents ended printed) → ScriptTold profile told name ended printed
+of_contents profile None now name bytes printed ended reads replays = tt
+of_contents profile (Some told) now name bytes printed ended reads replays =
+    subst (λ (found : Option (List ℕ)). ReplaysFile profile found ended printed) (sym reads.2.2)
     (replays reads.2.1 (front_reads reads.2.1 bytes reads.2.3))
 
 -- a bad script
-script_replays : (bytes contents : List ℕ) (e : ScriptError) → ReadsScript (Err e) (read_replay bytes) → read_replay bytes ≡ read_replay contents
-    → Replays contents (Err (script_fault e)) []
-script_replays bytes contents script.NoMemory reads same = (report_of (read_replay contents), refl)
-script_replays bytes contents (script.Line line cause) reads same = (sym same ∙ reads, refl)
+script_replays : (profile : Profile) (bytes contents : List ℕ) (e : ScriptError) → ReadsScript (Err e) (read_replay bytes) → read_replay bytes ≡ read_replay contents
+    → Replays profile contents (Err (script_fault e)) []
+script_replays profile bytes contents script.NoMemory reads same = (report_of profile (read_replay contents), refl)
+script_replays profile bytes contents (script.Line line cause) reads same = (sym same ∙ reads, refl)
 
-pub script_ended : (told now : Option Told) (name bytes : List ℕ) (a : Option (List ℕ)) (e : ScriptError) → Reads longest_script name told now (Ok bytes)
-    → ReadsScript (Err e) (read_replay bytes) → ReplaysAdded told name a a (Err (script_fault e))
-script_ended told now name bytes a e reads says =
-    nothing_added told name a (Err (script_fault e))
-    (of_contents told now name bytes [] (Err (script_fault e)) reads (λ contents same. script_replays bytes contents e says same))
+pub script_ended : (profile : Profile) (told now : Option Told) (name bytes : List ℕ) (a : Option (List ℕ)) (e : ScriptError) → Reads longest_script name told now (Ok bytes)
+    → ReadsScript (Err e) (read_replay bytes) → ScriptAdded profile told name a a (Err (script_fault e))
+script_ended profile told now name bytes a e reads says =
+    nothing_added profile told name a (Err (script_fault e))
+    (of_contents profile told now name bytes [] (Err (script_fault e)) reads (λ contents same. script_replays profile bytes contents e says same))
 
 -- the report of a script that spells events
-report_is : (contents bytes : List ℕ) (events : List Event) → read_replay bytes ≡ Ok events → read_replay bytes ≡ read_replay contents
-    → lines_of opening events ≡ report_of (read_replay contents)
+report_is : (profile : Profile) (contents bytes : List ℕ) (events : List Event) → read_replay bytes ≡ Ok events → read_replay bytes ≡ read_replay contents
+    → lines_of profile opening events ≡ report_of profile (read_replay contents)
 unfolding report
-report_is contents bytes events spells same = ap report_of (sym spells ∙ same)
+report_is profile contents bytes events spells same = ap (report_of profile) (sym spells ∙ same)
 
-step_replays : (contents printed rest : List ℕ) (e : StepError) → printed ++ rest ≡ report_of (read_replay contents) → Replays contents (Err (step_fault e)) printed
-step_replays contents printed rest step.NoMemory front = (rest, front)
-step_replays contents printed rest step.WriteFault front = (rest, front)
+step_replays : (profile : Profile) (contents printed rest : List ℕ) (e : StepError) → printed ++ rest ≡ report_of profile (read_replay contents) → Replays profile contents (Err (step_fault e)) printed
+step_replays profile contents printed rest step.NoMemory front = (rest, front)
+step_replays profile contents printed rest step.WriteFault front = (rest, front)
 
 -- the steps ended early
-pub steps_ended : (told now : Option Told) (name bytes : List ℕ) (events : List Event) (a c : Option (List ℕ)) (e : StepError) → Reads longest_script name told now (Ok bytes)
-    → read_replay bytes ≡ Ok events → Adds {T = Unit {0}} a c (lines_of opening events) (Err e) → ReplaysAdded told name a c (Err (step_fault e))
-steps_ended told now name bytes events None c e reads spells adds = adds
-steps_ended told now name bytes events (Some had) c e reads spells adds = (
+pub steps_ended : (profile : Profile) (told now : Option Told) (name bytes : List ℕ) (events : List Event) (a c : Option (List ℕ)) (e : StepError) → Reads longest_script name told now (Ok bytes)
+    → read_replay bytes ≡ Ok events → Adds {T = Unit {0}} a c (lines_of profile opening events) (Err e) → ScriptAdded profile told name a c (Err (step_fault e))
+steps_ended profile told now name bytes events None c e reads spells adds = adds
+steps_ended profile told now name bytes events (Some had) c e reads spells adds = (
   adds.0,
-  of_contents told now name bytes adds.0 (Err (step_fault e)) reads
-      (λ contents same. step_replays contents adds.0 adds.1.0 e (adds.1.1 ∙ report_is contents bytes events spells same)),
+  of_contents profile told now name bytes adds.0 (Err (step_fault e)) reads
+      (λ contents same. step_replays profile contents adds.0 adds.1.0 e (adds.1.1 ∙ report_is profile contents bytes events spells same)),
   adds.2,
 )
 
 -- every step was done
-pub steps_done : (told now : Option Told) (name bytes : List ℕ) (events : List Event) (a c : Option (List ℕ)) → Reads longest_script name told now (Ok bytes)
-    → read_replay bytes ≡ Ok events → Adds {T = Unit {0}} {E = StepError} a c (lines_of opening events) (Ok tt) → ReplaysAdded told name a c (Ok tt)
+pub steps_done : (profile : Profile) (told now : Option Told) (name bytes : List ℕ) (events : List Event) (a c : Option (List ℕ)) → Reads longest_script name told now (Ok bytes)
+    → read_replay bytes ≡ Ok events → Adds {T = Unit {0}} {E = StepError} a c (lines_of profile opening events) (Ok tt) → ScriptAdded profile told name a c (Ok tt)
 unfolding report
-steps_done told now name bytes events None c reads spells adds = adds
-steps_done told now name bytes events (Some had) c reads spells adds =
-    (adds.0, of_contents told now name bytes adds.0 (Ok tt) reads (λ contents same. (events, sym same ∙ spells, adds.1)), adds.2)
+steps_done profile told now name bytes events None c reads spells adds = adds
+steps_done profile told now name bytes events (Some had) c reads spells adds =
+    (adds.0, of_contents profile told now name bytes adds.0 (Ok tt) reads (λ contents same. (events, sym same ∙ spells, adds.1)), adds.2)
 
 -- a new world has sent nothing
-pub nothing_sent : (kept : Kept) → StandsFor plain_words kept opening → length kept.datagrams ≡ 0
+pub nothing_sent : (profile : Profile) (kept : Kept) → StandsFor profile kept opening → length kept.datagrams ≡ 0
 unfolding opening
-nothing_sent kept stands = ap length stands.datagrams
+nothing_sent profile kept stands = ap length stands.datagrams
 
 -- ---- the same, where it isn't told what the sink took
 
-pub input_so : (told : Option Told) (name : List ℕ) (e : InputError) → (printed : List ℕ) × ReplaysTold told name (Err (input_fault e)) printed
-input_so None name e = ([], tt)
-input_so (Some told) name e = ([], file_ended (contents_of told.files name) e)
+pub input_so : (profile : Profile) (told : Option Told) (name : List ℕ) (e : InputError) → (printed : List ℕ) × ScriptTold profile told name (Err (input_fault e)) printed
+input_so profile None name e = ([], tt)
+input_so profile (Some told) name e = ([], file_ended profile (contents_of told.files name) e)
 
-pub script_so : (told now : Option Told) (name bytes : List ℕ) (e : ScriptError) → Reads longest_script name told now (Ok bytes)
-    → ReadsScript (Err e) (read_replay bytes) → (printed : List ℕ) × ReplaysTold told name (Err (script_fault e)) printed
-script_so told now name bytes e reads says =
-    ([], of_contents told now name bytes [] (Err (script_fault e)) reads (λ contents same. script_replays bytes contents e says same))
+pub script_so : (profile : Profile) (told now : Option Told) (name bytes : List ℕ) (e : ScriptError) → Reads longest_script name told now (Ok bytes)
+    → ReadsScript (Err e) (read_replay bytes) → (printed : List ℕ) × ScriptTold profile told name (Err (script_fault e)) printed
+script_so profile told now name bytes e reads says =
+    ([], of_contents profile told now name bytes [] (Err (script_fault e)) reads (λ contents same. script_replays profile bytes contents e says same))
 
-pub memory_so : (told now : Option Told) (name bytes : List ℕ) → Reads longest_script name told now (Ok bytes)
-    → (printed : List ℕ) × ReplaysTold told name (Err faults.NoMemory) printed
-memory_so told now name bytes reads =
-    ([], of_contents told now name bytes [] (Err faults.NoMemory) reads (λ contents same. (report_of (read_replay contents), refl)))
+pub memory_so : (profile : Profile) (told now : Option Told) (name bytes : List ℕ) → Reads longest_script name told now (Ok bytes)
+    → (printed : List ℕ) × ScriptTold profile told name (Err faults.NoMemory) printed
+memory_so profile told now name bytes reads =
+    ([], of_contents profile told now name bytes [] (Err faults.NoMemory) reads (λ contents same. (report_of profile (read_replay contents), refl)))
 
-pub steps_so : (told now : Option Told) (name bytes : List ℕ) (e : StepError) → Reads longest_script name told now (Ok bytes)
-    → (printed : List ℕ) × ReplaysTold told name (Err (step_fault e)) printed
-steps_so told now name bytes e reads =
-    ([], of_contents told now name bytes [] (Err (step_fault e)) reads (λ contents same. step_replays contents [] (report_of (read_replay contents)) e refl))
+pub steps_so : (profile : Profile) (told now : Option Told) (name bytes : List ℕ) (e : StepError) → Reads longest_script name told now (Ok bytes)
+    → (printed : List ℕ) × ScriptTold profile told name (Err (step_fault e)) printed
+steps_so profile told now name bytes e reads =
+    ([], of_contents profile told now name bytes [] (Err (step_fault e)) reads (λ contents same. step_replays profile contents [] (report_of profile (read_replay contents)) e refl))
 
-pub done_so : (told now : Option Told) (name bytes : List ℕ) (events : List Event) → Reads longest_script name told now (Ok bytes)
-    → read_replay bytes ≡ Ok events → (printed : List ℕ) × ReplaysTold told name (Ok tt) printed
-done_so told now name bytes events reads spells =
-    (report plain_words events, of_contents told now name bytes (report plain_words events) (Ok tt) reads (λ contents same. (events, sym same ∙ spells, refl)))
+pub done_so : (profile : Profile) (told now : Option Told) (name bytes : List ℕ) (events : List Event) → Reads longest_script name told now (Ok bytes)
+    → read_replay bytes ≡ Ok events → (printed : List ℕ) × ScriptTold profile told name (Ok tt) printed
+done_so profile told now name bytes events reads spells =
+    (report profile events, of_contents profile told now name bytes (report profile events) (Ok tt) reads (λ contents same. (events, sym same ∙ spells, refl)))
+
+-- ---- a profile that was read, or wasn't
+
+-- no profile was read, or it fails a rule: nothing was printed
+fails_checked : (says : Result Profile ProfileError) (script : Option (List ℕ)) (loaded : Fault) → MayEndLoading loaded
+    → ((e : ProfileError) → loaded ≡ faults.Profile e → says ≡ Err e) → ReplaysChecked says script (Err loaded) []
+fails_checked (Ok profile) None faults.NoMemory may fails = (tt, refl)
+fails_checked (Ok profile) None faults.Read may fails = (tt, refl)
+fails_checked (Ok profile) (Some bytes) faults.NoMemory may fails = (report_of profile (read_replay bytes), refl)
+fails_checked (Ok profile) (Some bytes) faults.Read may fails = refl
+fails_checked (Ok profile) script (faults.Profile e) may fails = absurd (let none = fails e refl in cc)
+fails_checked (Err d) script faults.NoMemory may fails = (tt, refl)
+fails_checked (Err d) script faults.Read may fails = (tt, refl)
+fails_checked (Err d) script (faults.Profile e) may fails = (let same = fails e refl in cc, refl)
+fails_checked says script faults.Usage may fails = absurd may
+fails_checked says script faults.Write may fails = absurd may
+fails_checked says script (faults.Script line cause) may fails = absurd may
+
+-- what a profile's bytes say where loading failed by them
+says_so : (bytes : List ℕ) (loaded : Fault) → Loads bytes (Err loaded) → (e : ProfileError) → loaded ≡ faults.Profile e → checked bytes ≡ Err e
+says_so bytes loaded loads e is = subst (λ (fault : Fault). Loads bytes (Err fault)) is loads
+
+fails_by : (found script : Option (List ℕ)) (loaded : Fault) → MayEndLoading loaded → LoadsFile found (Err loaded) → ReplaysBy found script (Err loaded) []
+fails_by None script faults.NoMemory may loads = (tt, refl)
+fails_by None script faults.Read may loads = (tt, refl)
+fails_by None script (faults.Profile e) may loads = absurd loads
+fails_by None script faults.Usage may loads = absurd may
+fails_by None script faults.Write may loads = absurd may
+fails_by None script (faults.Script line cause) may loads = absurd may
+fails_by (Some bytes) script loaded may loads = fails_checked (checked bytes) script loaded may (says_so bytes loaded loads)
+
+pub load_so : (told : Option Told) (profile script : List ℕ) (loaded : Fault) → MayEndLoading loaded → LoadsTold told profile (Err loaded)
+    → ReplaysTold told profile script (Err loaded) []
+load_so None profile script loaded may loads = tt
+load_so (Some told) profile script loaded may loads =
+    fails_by (contents_of told.files profile) (contents_of told.files script) loaded may loads
+
+pub load_ended : (told : Option Told) (profile script : List ℕ) (a : Option (List ℕ)) (loaded : Fault) → MayEndLoading loaded
+    → LoadsTold told profile (Err loaded) → ReplaysAdded told profile script a a (Err loaded)
+load_ended told profile script None loaded may loads = refl
+load_ended told profile script (Some had) loaded may loads =
+    ([], load_so told profile script loaded may loads, ap (λ (z : List ℕ). some z) (sym (append-nil had)))
+
+-- a profile was read, and the script's file is as it was
+loaded_by : (found script : Option (List ℕ)) (profile : Profile) (ended : Result (Unit {0}) Fault) (printed : List ℕ) → LoadsFile found (Ok profile)
+    → ReplaysFile profile script ended printed → ReplaysBy found script ended printed
+loaded_by None script profile ended printed loads replays = absurd loads
+loaded_by (Some bytes) script profile ended printed loads replays =
+    subst (λ (says : Result Profile ProfileError). ReplaysChecked says script ended printed) (sym loads) replays
+
+-- what is told before and after keeps every file
+abbrev pub KeepsFiles : Option Told → Option Told → Type 0
+KeepsFiles None now = now ≡ None
+KeepsFiles (Some told) now = (after : Told) × (now ≡ Some after) × (after.files ≡ told.files)
+
+pub then_so : (told now : Option Told) (name script : List ℕ) (profile : Profile) (ended : Result (Unit {0}) Fault) (printed : List ℕ) → KeepsFiles told now
+    → LoadsTold told name (Ok profile) → ScriptTold profile now script ended printed → ReplaysTold told name script ended printed
+then_so None now name script profile ended printed keeps loads replays = tt
+then_so (Some told) now name script profile ended printed keeps loads replays =
+    let after = subst (λ (n : Option Told). ScriptTold profile n script ended printed) keeps.1 replays in
+    loaded_by (contents_of told.files name) (contents_of told.files script) profile ended printed loads
+    (subst (λ (files : List File). ReplaysFile profile (contents_of files script) ended printed) keeps.2 after)
+
+pub then_ended : (told now : Option Told) (name script : List ℕ) (profile : Profile) (a c : Option (List ℕ)) (ended : Result (Unit {0}) Fault) → KeepsFiles told now
+    → LoadsTold told name (Ok profile) → ScriptAdded profile now script a c ended → ReplaysAdded told name script a c ended
+then_ended told now name script profile None c ended keeps loads added = added
+then_ended told now name script profile (Some had) c ended keeps loads added =
+    (added.0, then_so told now name script profile ended added.0 keeps loads added.1, added.2)

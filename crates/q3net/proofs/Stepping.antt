@@ -2,7 +2,7 @@
 use Rattle.std.proofs.Common.{◌≡◌, ℕ, ◌+◌, ◌<◌, ◌≤◌, List, [], ◌∷◌, ◌++◌, length, get_or, drop, Option, Some, None, Result, Ok, Err, refl, sym, ap, subst, ◌∙◌, append_assoc}
 use Rattle.std.specs.List.{flat_map}
 use Rattle.std.proofs.lemmas.List.{append-nil, drop_more, drop_all}
-use Rattle.q3_bits.specs.Words.{plain_words}
+use Rattle.q3_profile.specs.declared.profile.Profile.{Profile}
 use Rattle.q3_script.specs.declared.event.Event.{Event}
 use Rattle.q3_world.specs.declared.world.StepError.{StepError}
 use Rattle.q3_io.specs.Written.{Adds}
@@ -12,18 +12,18 @@ use Rattle.q3_world.specs.StandsFor.{StandsFor}
 use Rattle.q3_world.specs.Report.{answer_text}
 
 -- the lines of these events' answers
-abbrev pub lines_of : Whole → List Event → List ℕ
-lines_of whole events = flat_map answer_text (answers plain_words whole events)
+abbrev pub lines_of : Profile → Whole → List Event → List ℕ
+lines_of profile whole events = flat_map answer_text (answers profile whole events)
 
 -- one event and the others
-lines_of-next : (whole : Whole) (event : Event) (events : List Event)
-    → lines_of whole (event ∷ events) ≡ answer_text (step plain_words whole event).answer ++ lines_of (step plain_words whole event).whole events
+lines_of-next : (profile : Profile) (whole : Whole) (event : Event) (events : List Event)
+    → lines_of profile whole (event ∷ events) ≡ answer_text (step profile whole event).answer ++ lines_of profile (step profile whole event).whole events
 unfolding answers
-lines_of-next whole event events = refl
+lines_of-next profile whole event events = refl
 
-lines_of-none : (whole : Whole) → lines_of whole [] ≡ []
+lines_of-none : (profile : Profile) (whole : Whole) → lines_of profile whole [] ≡ []
 unfolding answers
-lines_of-none whole = refl
+lines_of-none profile whole = refl
 
 some_is : (xs ys : List ℕ) → Some xs ≡ Some ys → xs ≡ ys
 some_is xs ys e = cc
@@ -60,55 +60,55 @@ Adds-none None = refl
 Adds-none (Some had) = ([], refl, ap (λ (z : List ℕ). Some z) (sym (append-nil had)))
 
 -- the events before the k-th were done and their lines written; the lines of the others are still to come
-abbrev pub HasStepped : Kept → Kept → Option (List ℕ) → Option (List ℕ) → List Event → ℕ → Type 0
-HasStepped start now had written events k =
-    (whole : Whole) → StandsFor plain_words start whole
-    → (next : Whole) × StandsFor plain_words now next
-    × (done : List ℕ) × AddsAll had written done × (done ++ lines_of next (drop k events) ≡ lines_of whole events)
+abbrev pub HasStepped : Profile → Kept → Kept → Option (List ℕ) → Option (List ℕ) → List Event → ℕ → Type 0
+HasStepped profile start now had written events k =
+    (whole : Whole) → StandsFor profile start whole
+    → (next : Whole) × StandsFor profile now next
+    × (done : List ℕ) × AddsAll had written done × (done ++ lines_of profile next (drop k events) ≡ lines_of profile whole events)
 
-pub HasStepped-none : (start : Kept) (had : Option (List ℕ)) (events : List Event) → HasStepped start start had had events 0
-HasStepped-none start had events = λ whole stands. (whole, stands, [], Adds-none had, refl)
+pub HasStepped-none : (profile : Profile) (start : Kept) (had : Option (List ℕ)) (events : List Event) → HasStepped profile start start had had events 0
+HasStepped-none profile start had events = λ whole stands. (whole, stands, [], Adds-none had, refl)
 
-pub HasStepped-more : (start now after : Kept) (had written more : Option (List ℕ)) (events : List Event) (k : ℕ) (d : Event) → k < length events
-    → HasStepped start now had written events k
-    → ((whole : Whole) → StandsFor plain_words now whole → StandsFor plain_words after (step plain_words whole (get_or events k d)).whole)
-    → ((whole : Whole) → StandsFor plain_words now whole → AddsAll written more (answer_text (step plain_words whole (get_or events k d)).answer))
-    → HasStepped start after had more events (k + 1)
-HasStepped-more start now after had written more events k d lt stepped stands lines = λ whole begun.
+pub HasStepped-more : (profile : Profile) (start now after : Kept) (had written more : Option (List ℕ)) (events : List Event) (k : ℕ) (d : Event) → k < length events
+    → HasStepped profile start now had written events k
+    → ((whole : Whole) → StandsFor profile now whole → StandsFor profile after (step profile whole (get_or events k d)).whole)
+    → ((whole : Whole) → StandsFor profile now whole → AddsAll written more (answer_text (step profile whole (get_or events k d)).answer))
+    → HasStepped profile start after had more events (k + 1)
+HasStepped-more profile start now after had written more events k d lt stepped stands lines = λ whole begun.
     let was = stepped whole begun in
     let event = get_or events k d in
-    let text = answer_text (step plain_words was.0 event).answer in
-    let next = (step plain_words was.0 event).whole in (
+    let text = answer_text (step profile was.0 event).answer in
+    let next = (step profile was.0 event).whole in (
       next,
       stands was.0 was.1,
       was.2 ++ text,
       Adds-then had written more was.2 text (Ok tt) was.3 (lines was.0 was.1),
-      append_assoc was.2 text (lines_of next (drop (k + 1) events))
-          ∙ (ap (λ (z : List ℕ). was.2 ++ z) (sym (lines_of-next was.0 event (drop (k + 1) events)) ∙ ap (lines_of was.0) (sym (drop_more events k d lt))) ∙ was.4),
+      append_assoc was.2 text (lines_of profile next (drop (k + 1) events))
+          ∙ (ap (λ (z : List ℕ). was.2 ++ z) (sym (lines_of-next profile was.0 event (drop (k + 1) events)) ∙ ap (lines_of profile was.0) (sym (drop_more events k d lt))) ∙ was.4),
     )
 
 -- the sink or memory failed at the k-th event
-pub HasStepped-early : (start now : Kept) (had written more : Option (List ℕ)) (events : List Event) (k : ℕ) (d : Event) (e : StepError) → k < length events
-    → HasStepped start now had written events k
-    → ((whole : Whole) → StandsFor plain_words now whole → Adds {T = Unit {0}} written more (answer_text (step plain_words whole (get_or events k d)).answer) (Err e))
-    → (whole : Whole) → StandsFor plain_words start whole → Adds {T = Unit {0}} had more (lines_of whole events) (Err e)
-HasStepped-early start now had written more events k d e lt stepped lines whole begun =
+pub HasStepped-early : (profile : Profile) (start now : Kept) (had written more : Option (List ℕ)) (events : List Event) (k : ℕ) (d : Event) (e : StepError) → k < length events
+    → HasStepped profile start now had written events k
+    → ((whole : Whole) → StandsFor profile now whole → Adds {T = Unit {0}} written more (answer_text (step profile whole (get_or events k d)).answer) (Err e))
+    → (whole : Whole) → StandsFor profile start whole → Adds {T = Unit {0}} had more (lines_of profile whole events) (Err e)
+HasStepped-early profile start now had written more events k d e lt stepped lines whole begun =
     let was = stepped whole begun in
     let event = get_or events k d in
-    let text = answer_text (step plain_words was.0 event).answer in
-    let others = lines_of (step plain_words was.0 event).whole (drop (k + 1) events) in
-    let total : (was.2 ++ text) ++ others ≡ lines_of whole events =
+    let text = answer_text (step profile was.0 event).answer in
+    let others = lines_of profile (step profile was.0 event).whole (drop (k + 1) events) in
+    let total : (was.2 ++ text) ++ others ≡ lines_of profile whole events =
     append_assoc was.2 text others
-    ∙ (ap (λ (z : List ℕ). was.2 ++ z) (sym (lines_of-next was.0 event (drop (k + 1) events)) ∙ ap (lines_of was.0) (sym (drop_more events k d lt))) ∙ was.4) in
+    ∙ (ap (λ (z : List ℕ). was.2 ++ z) (sym (lines_of-next profile was.0 event (drop (k + 1) events)) ∙ ap (lines_of profile was.0) (sym (drop_more events k d lt))) ∙ was.4) in
     subst (λ (z : List ℕ). Adds {T = Unit {0}} had more z (Err e)) total
     (Adds-early had more (was.2 ++ text) others e (Adds-then had written more was.2 text (Err e) was.3 (lines was.0 was.1)))
 
 -- every event was done
-pub HasStepped-all : (start now : Kept) (had written : Option (List ℕ)) (events : List Event) (k : ℕ) → length events ≤ k
-    → HasStepped start now had written events k
-    → (whole : Whole) → StandsFor plain_words start whole → AddsAll had written (lines_of whole events)
-HasStepped-all start now had written events k le stepped whole begun =
+pub HasStepped-all : (profile : Profile) (start now : Kept) (had written : Option (List ℕ)) (events : List Event) (k : ℕ) → length events ≤ k
+    → HasStepped profile start now had written events k
+    → (whole : Whole) → StandsFor profile start whole → AddsAll had written (lines_of profile whole events)
+HasStepped-all profile start now had written events k le stepped whole begun =
     let was = stepped whole begun in
-    let total : was.2 ≡ lines_of whole events =
-    sym (append-nil was.2) ∙ (ap (λ (z : List ℕ). was.2 ++ z) (sym (lines_of-none was.0) ∙ ap (lines_of was.0) (sym (drop_all k events le))) ∙ was.4) in
+    let total : was.2 ≡ lines_of profile whole events =
+    sym (append-nil was.2) ∙ (ap (λ (z : List ℕ). was.2 ++ z) (sym (lines_of-none profile was.0) ∙ ap (lines_of profile was.0) (sym (drop_all k events le))) ∙ was.4) in
     subst (λ (z : List ℕ). AddsAll had written z) total was.3

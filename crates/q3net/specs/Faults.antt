@@ -1,5 +1,7 @@
 -- Which fault of a run an error of a part is, and when each comes.
 use Rattle.std.specs.Prelude.{◌≡◌, ℕ, ◌≤◌, Result, Err}
+use Rattle.q3_profile.specs.declared.error.ProfileError.{ProfileError}
+use Rattle.q3_profile.specs.declared.error.ProfileError.TheVariants as profile
 use Rattle.q3_script.specs.declared.cause.ScriptError.{ScriptError}
 use Rattle.q3_script.specs.declared.cause.ScriptError.TheVariants as script
 use Rattle.q3_world.specs.declared.world.StepError.{StepError}
@@ -8,11 +10,15 @@ use Rattle.q3_io.specs.Faults.{Rose}
 use Rattle.q3net.specs.declared.input.InputError.{InputError}
 use Rattle.q3net.specs.declared.input.InputError.TheVariants as input
 use Rattle.q3net.specs.declared.fault.Fault.{Fault}
-use Rattle.q3net.specs.declared.fault.Fault.TheVariants.{NoMemory, Read, Write, Script}
+use Rattle.q3net.specs.declared.fault.Fault.TheVariants.{NoMemory, Read, Write, Profile, Script}
 
 abbrev pub input_fault : InputError → Fault
 input_fault input.NoMemory = NoMemory
 input_fault input.Fault = Read
+
+abbrev pub profile_fault : ProfileError → Fault
+profile_fault profile.NoMemory = NoMemory
+profile_fault e = Profile e
 
 abbrev pub script_fault : ScriptError → Fault
 script_fault script.NoMemory = NoMemory
@@ -24,7 +30,7 @@ step_fault step.WriteFault = Write
 
 -- a fault of reading comes only where the files' count rose, one of writing only where the sink's did,
 -- and no fault is passed over
-abbrev pub ReadCause : ℕ → ℕ → Result (Unit {0}) Fault → Type 0
+abbrev pub ReadCause : {T : Type 0} → ℕ → ℕ → Result T Fault → Type 0
 ReadCause before now (Err Read) = (before ≤ now) × Rose before now
 ReadCause before now other = now ≡ before
 
