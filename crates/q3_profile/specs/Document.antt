@@ -1,16 +1,12 @@
 -- The profile's file as a document: what stands under a key.
-use Rattle.std.specs.Prelude.{ℕ, ◌&&◌, if◌then◌else◌, Bool, List, [], ◌∷◌, codes, chars, bytes_eq, encode_utf8_all, ℤ, Option, Some, None, Result, Ok, Err}
-use Rattle.std.specs.Str.{all_scalars}
+use Rattle.std.specs.Prelude.{ℕ, if◌then◌else◌, List, [], ◌∷◌, codes, ℤ, Option, Some, None, Result, Ok, Err}
+use Rattle.std.specs.Str.{is_utf8}
 use Rattle.toml.specs.Data.{Data, Items, no_items, item, Members, get_member, as_integer, as_array}
 use Rattle.toml.specs.Parse.{parse_document}
 use Rattle.q3_profile.specs.declared.error.Key.{Key}
 use Rattle.q3_profile.specs.declared.error.Key.TheVariants as keys
 use Rattle.q3_profile.specs.declared.error.ProfileError.{ProfileError}
 use Rattle.q3_profile.specs.declared.error.ProfileError.TheVariants.{Missing, Kind}
-
--- whether the bytes are the UTF-8 of the characters that they decode to
-abbrev pub is_utf8 : List ℕ → Bool
-is_utf8 bytes = all_scalars (chars bytes) && bytes_eq (encode_utf8_all (chars bytes)) bytes
 
 -- the document that the bytes are: TOML in UTF-8
 unfoldable pub document_of : List ℕ → Option Members

@@ -4,7 +4,7 @@ ghost use Rattle.std.specs.Prelude.{◌≡◌, ◌⊎◌, Some, None, Ok, Err, M
 ghost use Rattle.toml.specs.Data.{as_integer, as_str};
 ghost use Rattle.toml.specs.View.{table_view};
 ghost use Rattle.q3_profile.specs.declared.error.ProfileError.TheVariants as errors;
-ghost use Rattle.q3_profile.specs.Document.{document_of, key_name, value_at, integer_at, items_as, array_at};
+ghost use Rattle.q3_profile.specs.Document.{document_of, value_at, integer_at, items_as, array_at};
 ghost use Rattle.q3_profile.specs.Seen.{seen, seen_items, items_at, Gives};
 ghost use Rattle.q3_bits.specs.CodeWords.{texts_of};
 ghost use Rattle.toml.specs.View.{items_view, array_view};
@@ -30,26 +30,11 @@ pub(crate) fn document(alloc: Global, bytes: &[u8]) -> Result<Table, ProfileErro
     }
 }
 
-/// A key as the file spells it.
-fn key_name(key: Key) -> &'static str
-    ensures { result.now ≡ key_name key }
-{
-    match key {
-        Key::File => "",
-        Key::Protocol => "protocol",
-        Key::ServerRing => "server_ring",
-        Key::ParseRing => "parse_ring",
-        Key::Entity => "entity",
-        Key::Player => "player",
-        Key::Code => "code",
-    }
-}
-
 /// What stands under a key.
 fn value_at<'a>(document: &'a Table, key: Key) -> Result<&'a Value, ProfileError>
     ensures { seen result ≡ value_at key (table_view document.now) }
 {
-    match document.get(key_name(key)) {
+    match document.get(key.name()) {
         Some(value) => Ok(value),
         None => Err(ProfileError::Missing(key)),
     }

@@ -18,6 +18,26 @@ pub enum Key {
     Code,
 }
 
+impl Key {
+    ghost use Rattle.std.specs.Prelude.{◌≡◌};
+    ghost use Rattle.q3_profile.specs.Document.{key_name};
+
+    /// The key as the file spells it; the whole file has no name.
+    pub fn name(self) -> &'static str
+        ensures { result.now ≡ key_name self }
+    {
+        match self {
+            Key::File => "",
+            Key::Protocol => "protocol",
+            Key::ServerRing => "server_ring",
+            Key::ParseRing => "parse_ring",
+            Key::Entity => "entity",
+            Key::Player => "player",
+            Key::Code => "code",
+        }
+    }
+}
+
 /// Why a file is no profile: the first rule that fails, in the order length, document, and for each key in the order
 /// of `Key`: missing, of another kind, its own rule.
 #[derive(Clone, Copy, Debug, PartialEq, Eq)]
