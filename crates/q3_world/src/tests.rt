@@ -1,11 +1,15 @@
 //! The world, event by event.
 
-ghost use Rattle.std.specs.Prelude.{◌≤◌, All, length};
+ghost use Rattle.std.specs.Prelude.{◌≤◌, All, IfOk, length};
+ghost use Rattle.q3_profile.specs.Profile.{IsProfile};
 ghost use Rattle.q3_script.specs.Grammar.{IsReplayEvent};
 
 use super::*;
+use q3_bits::Code;
+use q3_fields::Table;
 use q3_io::{Address, MemFiles, MemSink};
 use q3_player::PlayerState;
+use q3_profile::Profile;
 use q3_script::Event;
 use std::alloc::Global;
 use std::test::*;
@@ -21,12 +25,34 @@ const CLIENT: Event = Event::Client {
     },
 };
 
-/// A player whose word 1 is 7.
+/// The plain code, entity widths 0, 8 and -16, player widths 0 and 16.
+fn profile(alloc: Global) -> Result<Profile, StepError>
+    ensures { IfOk result IsProfile }
+{
+    let Ok(code) = Code::plain(alloc) else {
+        return Err(StepError::NoMemory);
+    };
+    let (Ok(entity), Ok(player)) = (Table::of(&[0, 8, -16]), Table::of(&[0, 16])) else {
+        return Err(StepError::NoMemory);
+    };
+    Ok(Profile {
+        code,
+        entity,
+        player,
+        server_ring: 4_096,
+        parse_ring: 8_192,
+        protocol: 68,
+        mark: 0,
+    })
+}
+
+/// A player whose first field is 1.0, and whose third stat is -1.
 fn player() -> Event
     ensures { IsReplayEvent result }
 {
     let mut player = PlayerState::zero();
-    player.words[1] = 7;
+    player.words[0] = 0x3f80_0000;
+    player.stats[3] = -1;
     Event::Player { c: 0, player }
 }
 
@@ -39,7 +65,8 @@ fn replay(alloc: Global, events: &[Event], out: &mut MemSink) -> Result<(), Step
     let Ok(mut files) = MemFiles::new(alloc, 0, 0, 0, &[]) else {
         return Err(StepError::NoMemory);
     };
-    let Ok(mut world) = World::new(alloc) else {
+    let profile = profile(alloc)?;
+    let Ok(mut world) = World::new(alloc, &profile) else {
         return Err(StepError::NoMemory);
     };
     for event in events {
@@ -64,10 +91,10 @@ fn one_event_of_each_kind(rt: HostRuntime) -> Result<(), Fail> {
     ];
     assert_eq!(rt; replay(rt.alloc(), &events, &mut out), Ok(()));
     let report = "client 0 ok\ntime ok\nplayer 0 ok\n\
-        serve 0 snapshot 1 base 0 bytes 18 datagram 1\n\
+        serve 0 snapshot 1 base 0 bytes 22 datagram 1\n\
         deliver 1 client 0 applied 1\n+ accepted 1 base 0\n\
         deliver 1 client 0 old\n\
-        show 0 snapshot 1 time 1000 flags 0 area -\n+ player 1:7\n";
+        show 0 snapshot 1 time 1000 flags 0 area -\n+ player 0:1065353216 s3:4294967295\n";
     assert_eq!(rt; out.bytes(), report.as_bytes());
     Ok(())
 }

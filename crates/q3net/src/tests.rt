@@ -6,10 +6,34 @@ use std::alloc::{AllocError, Global};
 use std::test::Fail;
 
 const FIRST: &[u8] =
-    b"client 0 17 5000 1 10.0.0.1:27960\ntime 1000\nplayer 0 1:7\nserve 0\ndeliver 1\ndeliver 1\nshow 0\n";
+    b"client 0 17 5000 1 10.0.0.1:27960\ntime 1000\nplayer 0 0:1065353216 s3:65535\nserve 0\ndeliver 1\ndeliver 1\nshow 0\n";
 
 const FIRST_REPORT: &[u8] =
-    b"client 0 ok\ntime ok\nplayer 0 ok\nserve 0 snapshot 1 base 0 bytes 18 datagram 1\ndeliver 1 client 0 applied 1\n+ accepted 1 base 0\ndeliver 1 client 0 old\nshow 0 snapshot 1 time 1000 flags 0 area -\n+ player 1:7\n";
+    b"client 0 ok\ntime ok\nplayer 0 ok\nserve 0 snapshot 1 base 0 bytes 22 datagram 1\ndeliver 1 client 0 applied 1\n+ accepted 1 base 0\ndeliver 1 client 0 old\nshow 0 snapshot 1 time 1000 flags 0 area -\n+ player 0:1065353216 s3:4294967295\n";
+
+/// The lines of a profile before its code.
+const TABLES: &str =
+    "protocol = 68\nserver_ring = 4096\nparse_ring = 8192\nentity = [0, 8, -16]\nplayer = [0, 16]\n";
+
+/// Adds the eight bits of a byte as a text, least first.
+fn add_word(text: &mut String, byte: u32) -> Result<(), AllocError> {
+    text.push_str("\"")?;
+    for bit in 0..8u32 {
+        text.push(if byte >> bit & 1 == 1 { '1' } else { '0' })?;
+    }
+    text.push_str("\", ")
+}
+
+/// A profile with the plain code.
+fn plain_profile(alloc: Global) -> Result<String, AllocError> {
+    let mut text = String::from_str(alloc, TABLES)?;
+    text.push_str("code = [")?;
+    for byte in 0..256 {
+        add_word(&mut text, byte)?;
+    }
+    text.push_str("]\n")?;
+    Ok(text)
+}
 
 /// The words of a command line.
 fn words(alloc: Global, line: &str) -> Result<Vec<String>, AllocError> {
@@ -20,16 +44,17 @@ fn words(alloc: Global, line: &str) -> Result<Vec<String>, AllocError> {
     Ok(words)
 }
 
-/// What a command line answers and prints, where the file `s` has these bytes.
+/// What a command line answers and prints, where the files `p` and `s` have these bytes.
 fn ran(
     rt: &impl std::process::Abort,
     alloc: Global,
     line: &str,
-    script: &[u8],
+    stored: (&[u8], &[u8]),
     fails: (&[u64], &[u64]),
 ) -> Result<(u8, Vec<u8>), Fail> {
-    let mut files = MemFiles::new(alloc, 1, 4_096, 4, fails.0)?;
-    assert!(rt; files.store("s", script));
+    let mut files = MemFiles::new(alloc, 2, 16_384, 4, fails.0)?;
+    assert!(rt; files.store("p", stored.0));
+    assert!(rt; files.store("s", stored.1));
     let mut out = MemSink::new(alloc, 4_096, fails.1)?;
     let status = run(alloc, &words(alloc, line)?, &mut files, &mut out);
     Ok((status, out.bytes().to_vec(alloc)?))
@@ -37,15 +62,13 @@ fn ran(
 
 #[test]
 fn first_replay_over_one_client(rt: HostRuntime) -> Result<(), Fail> {
-    let (status, printed) = ran(&rt, rt.alloc(), "replay - s", FIRST, (&[], &[]))?;
+    let profile = plain_profile(rt.alloc())?;
+    let stored = (profile.as_bytes(), FIRST);
+    let (status, printed) = ran(&rt, rt.alloc(), "replay p s", stored, (&[], &[]))?;
     assert_eq!(rt; status, 0);
     assert_eq!(rt; printed.as_slice(), FIRST_REPORT);
-    Ok(())
-}
-
-#[test]
-fn empty_script_prints_nothing(rt: HostRuntime) -> Result<(), Fail> {
-    let (status, printed) = ran(&rt, rt.alloc(), "replay - s", b"", (&[], &[]))?;
+    let empty: (&[u8], &[u8]) = (profile.as_bytes(), b"");
+    let (status, printed) = ran(&rt, rt.alloc(), "replay p s", empty, (&[], &[]))?;
     assert_eq!(rt; status, 0);
     assert_eq!(rt; printed.as_slice(), b"".as_slice());
     Ok(())
@@ -57,12 +80,11 @@ fn faulty_command_lines(rt: HostRuntime) -> Result<(), Fail> {
         "",
         "make 0 1",
         "replay a",
-        "replay p s",
-        "replay - s s",
-        "serve - s 1.2.3.4:5",
+        "replay p s s",
+        "serve p s 1.2.3.4:5",
         "--helps",
     ] {
-        let (status, printed) = ran(&rt, rt.alloc(), line, FIRST, (&[], &[]))?;
+        let (status, printed) = ran(&rt, rt.alloc(), line, (b"", FIRST), (&[], &[]))?;
         assert_eq!(rt; status, 2, "{line}");
         assert_eq!(rt; printed.as_slice(), b"usage\n".as_slice());
     }
@@ -70,7 +92,36 @@ fn faulty_command_lines(rt: HostRuntime) -> Result<(), Fail> {
 }
 
 #[test]
+fn one_bad_profile_for_each_line(rt: HostRuntime) -> Result<(), Fail> {
+    let table: [(&[u8], &[u8]); 7] = [
+        (b"protocol", b"profile: toml\n"),
+        (b"protocol = 68", b"profile: missing server_ring\n"),
+        (b"protocol = '68'", b"profile: kind protocol\n"),
+        (b"protocol = 71", b"profile: limit protocol\n"),
+        (
+            b"protocol = 68\nserver_ring = 256\nparse_ring = 512\nentity = []",
+            b"profile: fields entity\n",
+        ),
+        (
+            b"protocol = 68\nserver_ring = 256\nparse_ring = 512\nentity = [8]\nplayer = [0, 33]",
+            b"profile: width player 1\n",
+        ),
+        (
+            b"protocol = 68\nserver_ring = 256\nparse_ring = 512\nentity = [8]\nplayer = [0]\ncode = ['0']",
+            b"profile: code count\n",
+        ),
+    ];
+    for (profile, line) in &table {
+        let (status, printed) = ran(&rt, rt.alloc(), "replay p s", (profile, b"x"), (&[], &[]))?;
+        assert_eq!(rt; status, 5);
+        assert_eq!(rt; printed.as_slice(), *line);
+    }
+    Ok(())
+}
+
+#[test]
 fn one_bad_line_for_each_cause(rt: HostRuntime) -> Result<(), Fail> {
+    let profile = plain_profile(rt.alloc())?;
     let table: [(&[u8], &[u8]); 7] = [
         (b"time 1\n\nserve x\n", b"script: line 3: number\n"),
         (b"# none\nmap 1 2\n", b"script: line 2: word\n"),
@@ -81,7 +132,8 @@ fn one_bad_line_for_each_cause(rt: HostRuntime) -> Result<(), Fail> {
         (b"client 0 1 2 6 x\n", b"script: line 1: number\n"),
     ];
     for (script, line) in &table {
-        let (status, printed) = ran(&rt, rt.alloc(), "replay - s", script, (&[], &[]))?;
+        let stored = (profile.as_bytes(), *script);
+        let (status, printed) = ran(&rt, rt.alloc(), "replay p s", stored, (&[], &[]))?;
         assert_eq!(rt; status, 6);
         assert_eq!(rt; printed.as_slice(), *line);
     }
@@ -90,14 +142,16 @@ fn one_bad_line_for_each_cause(rt: HostRuntime) -> Result<(), Fail> {
 
 #[test]
 fn faults_of_the_outside(rt: HostRuntime) -> Result<(), Fail> {
-    let (status, printed) = ran(&rt, rt.alloc(), "replay - s", FIRST, (&[], &[2]))?;
+    let profile = plain_profile(rt.alloc())?;
+    let stored = (profile.as_bytes(), FIRST);
+    let (status, printed) = ran(&rt, rt.alloc(), "replay p s", stored, (&[], &[2]))?;
     assert_eq!(rt; status, 4);
     assert_eq!(rt; printed.as_slice(), b"client 0 ok\n".as_slice());
-    let (status, printed) = ran(&rt, rt.alloc(), "replay - s", FIRST, (&[2], &[]))?;
-    assert_eq!(rt; status, 3);
-    assert_eq!(rt; printed.as_slice(), b"read fault\n".as_slice());
-    let (status, printed) = ran(&rt, rt.alloc(), "replay - t", FIRST, (&[], &[]))?;
-    assert_eq!(rt; status, 3);
-    assert_eq!(rt; printed.as_slice(), b"read fault\n".as_slice());
+    // A read of the profile fails, then one of the script, and then a file is missing.
+    for (line, fails) in [("replay p s", 2), ("replay p s", 5), ("replay t s", 9), ("replay p t", 9)] {
+        let (status, printed) = ran(&rt, rt.alloc(), line, stored, (&[fails], &[]))?;
+        assert_eq!(rt; status, 3);
+        assert_eq!(rt; printed.as_slice(), b"read fault\n".as_slice());
+    }
     Ok(())
 }
