@@ -1,5 +1,4 @@
 pub mod Kinds
-pub mod Floats
 pub mod Texts
 pub mod Spelling
 pub mod Laws

@@ -1,15 +1,12 @@
-//! Kinds of fields, tables of them, and the text of a changed field.
+//! A stand-in for the crate of field kinds.
 #![tactic(auto)]
 
-pub mod float;
 pub mod kind;
-pub mod laws;
 pub mod reading;
 pub mod table;
 pub mod writing;
 
-pub use float::{pattern_of, small_of};
 pub use kind::{Kind, norm};
-pub use reading::{read_entity_field, read_player_field};
-pub use table::{Table, TableError};
-pub use writing::{write_entity_field, write_player_field};
+pub use reading::read_player_field;
+pub use table::Table;
+pub use writing::write_player_field;

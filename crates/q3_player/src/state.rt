@@ -38,7 +38,9 @@ impl PlayerState {
     {
         let mut words = [0; 64];
         for k in 0..table.count() {
-            // by table.kind(k) and norm
+            if let Some(kind) = table.kind(k) {
+                words[k] = norm(kind, self.words[k]);
+            }
         }
         PlayerState { words, ..*self }
     }
