@@ -1,4 +1,4 @@
 pub mod LastChanged
+pub mod Written
 pub mod FieldTexts
-pub mod FieldsRead
-pub mod Spelled
+pub mod Changes

@@ -1,8 +1,11 @@
 //! The state of a player. Keeps the rule "normal form".
 
-ghost use Rattle.std.specs.Prelude.{◌≡◌};
+ghost use Rattle.std.specs.Prelude.{◌≡◌, ◌<◌, length, slice_get, Some};
+ghost use Rattle.q3_fields.specs.Kinds.{IsKind};
+ghost use Rattle.q3_player.specs.State.{patterns_of};
+ghost use Rattle.q3_player.specs.Delta.{shorts_of};
 
-use q3_fields::{Table, norm};
+use q3_fields::{Kind, Table, norm};
 
 /// A player as the game hands it in and as a snapshot carries it: the words of the table's fields,
 /// and four arrays of 16 values, of which the first three hold signed values.
@@ -38,9 +41,7 @@ impl PlayerState {
     {
         let mut words = [0; 64];
         for k in 0..table.count() {
-            if let Some(kind) = table.kind(k) {
-                words[k] = norm(kind, self.words[k]);
-            }
+            words[k] = norm(kind_at(table, k), self.words[k]);
         }
         PlayerState { words, ..*self }
     }
@@ -49,4 +50,35 @@ impl PlayerState {
     pub fn is_state(&self)
         ensures { IsState self.now }
     {}
+}
+
+/// The kind of a field that the table has.
+pub(crate) fn kind_at(table: &Table, k: usize) -> Kind
+    requires { k < length table.now }
+    ensures kind { slice_get table.now k ≡ Some result }
+    ensures allowed { IsKind result }
+{
+    table.kind(k).unwrap()
+}
+
+/// Signed values as words of 32 bits.
+pub(crate) fn patterns(values: &[i16; 16]) -> [u32; 16]
+    ensures { result ≡ patterns_of values.now }
+{
+    let mut words = [0; 16];
+    for k in 0..16 {
+        words[k] = i32::from(values[k]).cast_unsigned();
+    }
+    words
+}
+
+/// The signed values that the low 16 bits of words are.
+pub(crate) fn shorts(words: &[u32; 16]) -> [i16; 16]
+    ensures { result ≡ shorts_of words.now }
+{
+    let mut values = [0; 16];
+    for k in 0..16 {
+        values[k] = ((words[k] % 65536) as u16).cast_signed();
+    }
+    values
 }

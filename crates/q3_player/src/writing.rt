@@ -1,16 +1,16 @@
 //! Writes the player delta. Keeps the rule "player delta", the engine's `MSG_WriteDeltaPlayerstate`.
 
-ghost use Rattle.std.specs.Prelude.{◌≡◌, ◌+◌, ◌^◌, ◌<◌, ◌≤◌, ◌++◌, ◌↔◌, length, take, IsErr, IsTrue, OnOk};
-ghost use Rattle.std.specs.List.{flat_map};
+ghost use Rattle.std.specs.Prelude.{◌≡◌, ◌+◌, ◌^◌, ◌<◌, ◌≤◌, ◌++◌, ◌↔◌, length, take, IsErr, OnOk};
 ghost use Rattle.q3_bits.specs.Bits.{message_length};
 ghost use Rattle.q3_bits.specs.Streams.{Extends};
 ghost use Rattle.q3_fields.specs.Kinds.{IsKind};
 ghost use Rattle.q3_fields.specs.Texts.{player_field};
 ghost use Rattle.q3_player.specs.State.{patterns_of};
 ghost use Rattle.q3_player.specs.Arrays.{changes, mask_of, signed_places};
-ghost use Rattle.q3_player.specs.Delta.{changed_count, field_text, fields_text, values_text, place_text, array_text, arrays_text, no_array_changed, player_delta};
+ghost use Rattle.q3_player.specs.Delta.{changed_count, field_text, fields_text, array_text, arrays_text, no_array_changed, player_delta};
+ghost use Rattle.q3_player.specs.Steps.{place_text, values_text};
 
-use crate::state::PlayerState;
+use crate::state::{PlayerState, kind_at, patterns};
 use q3_bits::{Overflow, Writer};
 use q3_fields::{Kind, Table, write_player_field};
 
@@ -86,5 +86,116 @@ fn write_field(w: &mut Writer, kind: Kind, from: u32, to: u32) -> Result<(), Ove
         return w.put(0, 1);
     }
     w.put(1, 1)?;
+    write_player_field(w, kind, to)
+}
+
+/// Writes a mark for all four arrays, and behind a mark of change each of them.
+#[tactic(auto, unfolding(crate::specs::Delta::arrays_text))]
+fn write_arrays(w: &mut Writer, from: &PlayerState, to: &PlayerState) -> Result<(), Overflow>
+    ensures overflow { IsErr result ↔
+        (w.old.room < message_length (length w.old.bits + length (arrays_text w.old.words from.now to.now))) }
+    ensures ok { OnOk result (w.new ≡ record w.old { bits = w.old.bits ++ arrays_text w.old.words from.now to.now }) }
+    ensures front { Extends w.old w.new (arrays_text w.old.words from.now to.now) }
+{
+    if same_arrays(from, to) {
+        return w.put(0, 1);
+    }
+    w.put(1, 1)?;
+    write_shorts(w, &from.stats, &to.stats)?;
+    write_shorts(w, &from.persistant, &to.persistant)?;
+    write_shorts(w, &from.ammo, &to.ammo)?;
+    write_array(w, Kind::Unsigned(32), &from.powerups, &to.powerups)
+}
+
+/// Whether no array changed.
+fn same_arrays(from: &PlayerState, to: &PlayerState) -> bool
+    ensures { result ≡ no_array_changed from.now to.now }
+{
+    from.stats == to.stats
+        && from.persistant == to.persistant
+        && from.ammo == to.ammo
+        && from.powerups == to.powerups
+}
+
+/// Writes an array of signed values.
+fn write_shorts(w: &mut Writer, from: &[i16; 16], to: &[i16; 16]) -> Result<(), Overflow>
+    ensures overflow { IsErr result ↔
+        (w.old.room < message_length (length w.old.bits + length (array_text w.old.words signed_places (changes (patterns_of from.now) (patterns_of to.now))))) }
+    ensures ok { OnOk result (w.new
+        ≡ record w.old { bits = w.old.bits ++ array_text w.old.words signed_places (changes (patterns_of from.now) (patterns_of to.now)) }) }
+    ensures front { Extends w.old w.new (array_text w.old.words signed_places (changes (patterns_of from.now) (patterns_of to.now))) }
+{
+    write_array(w, Kind::Signed(16), &patterns(from), &patterns(to))
+}
+
+/// Writes a mark, and behind a mark of change the mask of the places that changed and their values.
+fn write_array(
+    w: &mut Writer,
+    kind: Kind,
+    from: &[u32; 16],
+    to: &[u32; 16],
+) -> Result<(), Overflow>
+    requires { IsKind kind }
+    ensures overflow { IsErr result ↔
+        (w.old.room < message_length (length w.old.bits + length (array_text w.old.words kind (changes from.now to.now)))) }
+    ensures ok { OnOk result (w.new ≡ record w.old { bits = w.old.bits ++ array_text w.old.words kind (changes from.now to.now) }) }
+    ensures front { Extends w.old w.new (array_text w.old.words kind (changes from.now to.now)) }
+{
+    let mask = changed_mask(from, to);
+    if mask == 0 {
+        return w.put(0, 1);
+    }
+    w.put(1, 1)?;
+    w.put(mask, 16)?;
+    write_values(w, kind, from, to)
+}
+
+/// A bit for each place that changed.
+fn changed_mask(from: &[u32; 16], to: &[u32; 16]) -> u32
+    ensures { result ≡ mask_of (changes from.now to.now) }
+{
+    let mut mask = 0;
+    for k in 0..16 {
+        if from[k] != to[k] {
+            mask += 1 << k;
+        }
+    }
+    mask
+}
+
+/// Writes the values of the places that changed.
+fn write_values(
+    w: &mut Writer,
+    kind: Kind,
+    from: &[u32; 16],
+    to: &[u32; 16],
+) -> Result<(), Overflow>
+    requires { IsKind kind }
+    ensures overflow { IsErr result ↔
+        (w.old.room < message_length (length w.old.bits + length (values_text w.old.words kind (changes from.now to.now)))) }
+    ensures ok { OnOk result (w.new ≡ record w.old { bits = w.old.bits ++ values_text w.old.words kind (changes from.now to.now) }) }
+    ensures front { Extends w.old w.new (values_text w.old.words kind (changes from.now to.now)) }
+{
+    // what stands there fits the room
+    prove!(w.length() > 0);
+    for k in 0..16 {
+        write_place(w, kind, from[k], to[k])?;
+    }
+    Ok(())
+}
+
+/// Writes the value of a place that changed, and nothing else.
+fn write_place(w: &mut Writer, kind: Kind, from: u32, to: u32) -> Result<(), Overflow>
+    requires { IsKind kind }
+    ensures overflow { IsErr result ↔
+        (w.old.room < message_length (length w.old.bits + length (place_text w.old.words kind from to))) }
+    ensures ok { OnOk result (w.new ≡ record w.old { bits = w.old.bits ++ place_text w.old.words kind from to }) }
+    ensures front { Extends w.old w.new (place_text w.old.words kind from to) }
+{
+    if from == to {
+        // what stands there fits the room
+        prove!(w.length() > 0);
+        return Ok(());
+    }
     write_player_field(w, kind, to)
 }
