@@ -1,13 +1,16 @@
 -- What changed from one array to another, as loops find and write it.
-use Rattle.std.proofs.Common.{◌≡◌, ◌≢◌, ℕ, ◌+◌, ◌^◌, ◌≤◌, ◌<◌, Bool, true, false, cond, eqb, List, [], ◌∷◌, ◌++◌, length, take, drop, get_or, refl, sym, ap, ◌∙◌, arith, inl, inr}
+use Rattle.std.proofs.Common.{◌≡◌, ◌≢◌, ℕ, ◌+◌, ◌^◌, ◌≤◌, ◌<◌, Bool, true, false, cond, eqb, List, [], ◌∷◌, ◌++◌, length, take, drop, get_or, refl, sym, ap, ◌∙◌, add-one, arith, inl, inr}
 use Rattle.std.proofs.lemmas.Bool.{cases_Bool, eq-eqb, ne_eqb}
 use Rattle.std.proofs.lemmas.List.{append-nil, take_more, drop_more, drop_all, length-take-le}
 use Rattle.std.proofs.lemmas.List.Concat.{flat_map-cons}
+use Rattle.std.proofs.Math.Nat.{pow-suc}
 use Rattle.std.proofs.lemmas.Nat.{pow_pos}
+use Rattle.q3_bits.specs.Words.{field_bits}
 use Rattle.q3_fields.specs.declared.kind.Kind.{Kind}
 use Rattle.q3_fields.specs.Texts.{player_field}
 use Rattle.q3_player.specs.Arrays.{Change, changes_from, changes, mask_of}
-use Rattle.q3_player.specs.Steps.{place_text, values_text}
+use Rattle.q3_player.specs.Delta.{array_text}
+use Rattle.q3_player.specs.Steps.{place_text, values_text, changed_text}
 
 -- a place more at the end
 changes_from-push : (place : ℕ) (from to : List ℕ) (x y : ℕ) → length from ≡ length to
@@ -61,6 +64,17 @@ unfolding mask_of
 mask_of-none [] none = refl
 mask_of-none (change ∷ others) none = absurd (omega (arith, pow_pos change.0))
 
+-- an array as it was
+pub array_text_none : (words : List (List Bool)) (kind : Kind) (changed : List Change) → mask_of changed ≡ 0 → array_text words kind changed ≡ field_bits words 1 0
+unfolding array_text
+array_text_none words kind changed none = rw (mask_of-none changed none) refl
+
+-- an array that changed
+pub array_text_some : (words : List (List Bool)) (kind : Kind) (changed : List Change) → mask_of changed ≢ 0 → array_text words kind changed ≡ changed_text words kind changed
+unfolding array_text mask_of values_text
+array_text_some words kind [] some = absurd (some refl)
+array_text_some words kind (change ∷ others) some = refl
+
 -- what is left of the values, one place on
 pub values_text-next : (words same : List (List Bool)) (kind : Kind) (k : ℕ) (from to : List ℕ) → same ≡ words → k < length from → k < length to
     → values_text words kind (changes_from k (drop k from) (drop k to))
@@ -80,3 +94,7 @@ pub values_text-end : (words : List (List Bool)) (kind : Kind) (k : ℕ) (from t
     → values_text words kind (changes_from k (drop k from) (drop k to)) ≡ []
 unfolding changes_from values_text
 values_text-end words kind k from to past = rw (drop_all k from past) refl
+
+-- the next power of two
+pub twice : (k : ℕ) → 2 ^ (k + 1) ≡ 2 ^ k + 2 ^ k
+twice k = rw (add-one, pow-suc 2 k) (omega arith)

@@ -1,5 +1,5 @@
 -- Writing texts one after the other, as a loop and a row of calls do.
-use Rattle.std.proofs.Common.{◌≡◌, ◌+◌, ◌≤◌, ◌<◌, Bool, List, [], ◌++◌, length, refl, sym, ap, subst, ◌∙◌, append_assoc, arith}
+use Rattle.std.proofs.Common.{◌≡◌, ℕ, ◌+◌, ◌≤◌, ◌<◌, Bool, List, [], ◌++◌, length, refl, sym, ap, subst, ◌∙◌, append_assoc, arith}
 use Rattle.std.proofs.lemmas.List.{append-nil, length-append}
 use Rattle.q3_bits.specs.Bits.{message_length}
 use Rattle.q3_bits.specs.Streams.{Writing, Extends}
@@ -73,3 +73,52 @@ HasWritten-fits start now left whole h none over =
     let bits : now.bits ≡ start.bits ++ whole = ap (λ (w : Writing). w.bits) (HasWritten-all start now left whole h none) in
     let fits = h.fits in
     omega (arith, ap length bits, length-append start.bits whole)
+
+-- ---- a row of calls
+
+-- a text was written behind what stood at the start
+pub record HasPut (start now : Writing) (before : List Bool) : Type 0 where
+  pub behind : now ≡ record { words = start.words; bits = start.bits ++ before; room = start.room }
+
+-- the words stay
+pub HasPut-words : (start now : Writing) (before : List Bool) → HasPut start now before → now.words ≡ start.words
+HasPut-words start now before h = ap (λ (w : Writing). w.words) h.behind
+
+-- the first text
+pub HasPut-first : (start next : Writing) (text : List Bool) → next ≡ record { words = start.words; bits = start.bits ++ text; room = start.room } → HasPut start next text
+HasPut-first start next text is = record { behind = is }
+
+-- a text more
+pub HasPut-more : (start now next : Writing) (before : List Bool) (text : List (List Bool) → List Bool) → HasPut start now before
+    → next ≡ record { words = now.words; bits = now.bits ++ text now.words; room = now.room } → HasPut start next (before ++ text start.words)
+HasPut-more start now next before text h is =
+    let room : now.room ≡ start.room = ap (λ (w : Writing). w.room) h.behind in
+    let words : now.words ≡ start.words = ap (λ (w : Writing). w.words) h.behind in
+    let bits : now.bits ≡ start.bits ++ before = ap (λ (w : Writing). w.bits) h.behind in
+    record { behind = is ∙ rw (words, room, bits, append_assoc) refl }
+
+-- a text that doesn't fit is part of a whole that doesn't
+pub HasPut-overflow : (start now : Writing) (before : List Bool) (text : List (List Bool) → List Bool) (others whole : List Bool) → HasPut start now before
+    → whole ≡ before ++ text start.words ++ others
+    → now.room < message_length (length now.bits + length (text now.words)) → start.room < message_length (length start.bits + length whole)
+HasPut-overflow start now before text others whole h is over =
+    let room : now.room ≡ start.room = ap (λ (w : Writing). w.room) h.behind in
+    let bits : now.bits ≡ start.bits ++ before = ap (λ (w : Writing). w.bits) h.behind in
+    let same : length (text now.words) ≡ length (text start.words) = ap (λ ws. length (text ws)) (HasPut-words start now before h) in
+    omega (arith, ap length bits, length-append start.bits before, ap length is, length-append (before ++ text start.words) others, length-append before (text start.words))
+
+-- a front of a text was written
+pub HasPut-front : (start now next : Writing) (before : List Bool) (text : List (List Bool) → List Bool) (others whole : List Bool) → HasPut start now before
+    → whole ≡ before ++ text start.words ++ others → Extends now next (text now.words) → Extends start next whole
+HasPut-front start now next before text others whole h is front =
+    let words = HasPut-words start now before h in
+    rw is (Extends-behind start now next before (text start.words) others h.behind (subst (λ ws. Extends now next (text ws)) words front))
+
+-- the last text doesn't fit exactly where the whole doesn't
+pub HasPut-last : (start now : Writing) (before : List Bool) (text : List (List Bool) → List Bool) → HasPut start now before
+    → start.room < message_length (length start.bits + length (before ++ text start.words)) → now.room < message_length (length now.bits + length (text now.words))
+HasPut-last start now before text h over =
+    let room : now.room ≡ start.room = ap (λ (w : Writing). w.room) h.behind in
+    let bits : now.bits ≡ start.bits ++ before = ap (λ (w : Writing). w.bits) h.behind in
+    let same : length (text now.words) ≡ length (text start.words) = ap (λ ws. length (text ws)) (HasPut-words start now before h) in
+    omega (arith, ap length bits, length-append start.bits before, length-append before (text start.words))

@@ -1,8 +1,8 @@
 //! The state of a player. Keeps the rule "normal form".
 
-ghost use Rattle.std.specs.Prelude.{◌≡◌, ◌<◌, length, slice_get, Some};
+ghost use Rattle.std.specs.Prelude.{◌≡◌, ◌<◌, length, replicate, slice_get, Some};
 ghost use Rattle.q3_fields.specs.Kinds.{IsKind};
-ghost use Rattle.q3_player.specs.State.{patterns_of};
+ghost use Rattle.q3_player.specs.State.{AreWords, AreShorts, patterns_of};
 ghost use Rattle.q3_player.specs.Delta.{shorts_of};
 
 use q3_fields::{Kind, Table, norm};
@@ -39,7 +39,7 @@ impl PlayerState {
     pub fn normal(&self, table: &Table) -> PlayerState
         ensures { result ≡ normal_player table.now self.now }
     {
-        let mut words = [0; 64];
+        let mut words = zeros();
         for k in 0..table.count() {
             words[k] = norm(kind_at(table, k), self.words[k]);
         }
@@ -49,7 +49,30 @@ impl PlayerState {
     /// Every state has words of 32 bits and signed values of 16. This does nothing.
     pub fn is_state(&self)
         ensures { IsState self.now }
-    {}
+    {
+        are_words(&self.words);
+        are_shorts(&self.stats);
+        are_shorts(&self.persistant);
+        are_shorts(&self.ammo);
+        are_words(&self.powerups);
+    }
+}
+
+/// The words of an array have 32 bits. This does nothing.
+fn are_words<const N: usize>(words: &[u32; N])
+    ensures { AreWords N words.now }
+{}
+
+/// The signed values of an array have 16 bits. This does nothing.
+pub(crate) fn are_shorts(values: &[i16; 16])
+    ensures { AreShorts values.now }
+{}
+
+/// So many zeros.
+fn zeros<const N: usize>() -> [u32; N]
+    ensures { result ≡ replicate N 0 }
+{
+    [0; N]
 }
 
 /// The kind of a field that the table has.

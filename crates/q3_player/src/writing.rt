@@ -7,10 +7,10 @@ ghost use Rattle.q3_fields.specs.Kinds.{IsKind};
 ghost use Rattle.q3_fields.specs.Texts.{player_field};
 ghost use Rattle.q3_player.specs.State.{patterns_of};
 ghost use Rattle.q3_player.specs.Arrays.{changes, mask_of, signed_places};
-ghost use Rattle.q3_player.specs.Delta.{changed_count, field_text, fields_text, array_text, arrays_text, no_array_changed, player_delta};
-ghost use Rattle.q3_player.specs.Steps.{place_text, values_text};
+ghost use Rattle.q3_player.specs.Delta.{changed_count, field_text, fields_text, array_text, arrays_text, is_none, no_array_changed, player_delta};
+ghost use Rattle.q3_player.specs.Steps.{place_text, values_text, changed_text, marked_text};
 
-use crate::state::{PlayerState, kind_at, patterns};
+use crate::state::{PlayerState, are_shorts, kind_at, patterns};
 use q3_bits::{Overflow, Writer};
 use q3_fields::{Kind, Table, write_player_field};
 
@@ -100,6 +100,16 @@ fn write_arrays(w: &mut Writer, from: &PlayerState, to: &PlayerState) -> Result<
     if same_arrays(from, to) {
         return w.put(0, 1);
     }
+    write_marked(w, from, to)
+}
+
+/// Writes a mark of change and the four arrays.
+fn write_marked(w: &mut Writer, from: &PlayerState, to: &PlayerState) -> Result<(), Overflow>
+    ensures overflow { IsErr result ↔
+        (w.old.room < message_length (length w.old.bits + length (marked_text w.old.words from.now to.now))) }
+    ensures ok { OnOk result (w.new ≡ record w.old { bits = w.old.bits ++ marked_text w.old.words from.now to.now }) }
+    ensures front { Extends w.old w.new (marked_text w.old.words from.now to.now) }
+{
     w.put(1, 1)?;
     write_shorts(w, &from.stats, &to.stats)?;
     write_shorts(w, &from.persistant, &to.persistant)?;
@@ -111,10 +121,26 @@ fn write_arrays(w: &mut Writer, from: &PlayerState, to: &PlayerState) -> Result<
 fn same_arrays(from: &PlayerState, to: &PlayerState) -> bool
     ensures { result ≡ no_array_changed from.now to.now }
 {
-    from.stats == to.stats
-        && from.persistant == to.persistant
-        && from.ammo == to.ammo
-        && from.powerups == to.powerups
+    same_shorts(&from.stats, &to.stats)
+        && same_shorts(&from.persistant, &to.persistant)
+        && same_shorts(&from.ammo, &to.ammo)
+        && same_words(&from.powerups, &to.powerups)
+}
+
+/// Whether no place of an array of signed values changed.
+fn same_shorts(from: &[i16; 16], to: &[i16; 16]) -> bool
+    ensures { result ≡ is_none (changes (patterns_of from.now) (patterns_of to.now)) }
+{
+    are_shorts(from);
+    are_shorts(to);
+    from == to
+}
+
+/// Whether no place of an array of words changed.
+fn same_words(from: &[u32; 16], to: &[u32; 16]) -> bool
+    ensures { result ≡ is_none (changes from.now to.now) }
+{
+    from == to
 }
 
 /// Writes an array of signed values.
@@ -129,6 +155,7 @@ fn write_shorts(w: &mut Writer, from: &[i16; 16], to: &[i16; 16]) -> Result<(), 
 }
 
 /// Writes a mark, and behind a mark of change the mask of the places that changed and their values.
+#[tactic(auto, using(crate::proofs::Changes::array_text_none, crate::proofs::Changes::array_text_some))]
 fn write_array(
     w: &mut Writer,
     kind: Kind,
@@ -145,6 +172,25 @@ fn write_array(
     if mask == 0 {
         return w.put(0, 1);
     }
+    write_changed(w, kind, mask, from, to)
+}
+
+/// Writes a mark of change, the mask of the places that changed, and their values.
+fn write_changed(
+    w: &mut Writer,
+    kind: Kind,
+    mask: u32,
+    from: &[u32; 16],
+    to: &[u32; 16],
+) -> Result<(), Overflow>
+    requires kind { IsKind kind }
+    requires mask { mask ≡ mask_of (changes from.now to.now) }
+    ensures overflow { IsErr result ↔
+        (w.old.room < message_length (length w.old.bits + length (changed_text w.old.words kind (changes from.now to.now)))) }
+    ensures ok { OnOk result (w.new
+        ≡ record w.old { bits = w.old.bits ++ changed_text w.old.words kind (changes from.now to.now) }) }
+    ensures front { Extends w.old w.new (changed_text w.old.words kind (changes from.now to.now)) }
+{
     w.put(1, 1)?;
     w.put(mask, 16)?;
     write_values(w, kind, from, to)
