@@ -3,3 +3,7 @@ pub mod Written
 pub mod FieldTexts
 pub mod Changes
 pub mod Normal
+pub mod Shorts
+pub mod ReadOver
+pub mod FieldsRead
+pub mod PlacesRead

@@ -1,5 +1,5 @@
 -- Writing texts one after the other, as a loop and a row of calls do.
-use Rattle.std.proofs.Common.{◌≡◌, ℕ, ◌+◌, ◌≤◌, ◌<◌, Bool, List, [], ◌++◌, length, refl, sym, ap, subst, ◌∙◌, append_assoc, arith}
+use Rattle.std.proofs.Common.{◌≡◌, ℕ, ◌+◌, ◌≤◌, ◌<◌, Bool, List, [], ◌++◌, length, Result, Ok, Err, OnOk, OnErr, refl, sym, ap, subst, ◌∙◌, append_assoc, arith}
 use Rattle.std.proofs.lemmas.List.{append-nil, length-append}
 use Rattle.q3_bits.specs.Bits.{message_length}
 use Rattle.q3_bits.specs.Streams.{Writing, Extends}
@@ -122,3 +122,22 @@ HasPut-last start now before text h over =
     let bits : now.bits ≡ start.bits ++ before = ap (λ (w : Writing). w.bits) h.behind in
     let same : length (text now.words) ≡ length (text start.words) = ap (λ ws. length (text ws)) (HasPut-words start now before h) in
     omega (arith, ap length bits, length-append start.bits before, length-append before (text start.words))
+
+-- where nothing is behind the last text
+pub HasPut-front_last : (start now next : Writing) (before : List Bool) (text : List (List Bool) → List Bool) → HasPut start now before
+    → Extends now next (text now.words) → Extends start next (before ++ text start.words)
+HasPut-front_last start now next before text h front =
+    HasPut-front start now next before text [] (before ++ text start.words) h (sym (append-nil (before ++ text start.words))) front
+
+-- the last text is the whole's end
+pub HasPut-last_ok : {A E : Type 0} (result : Result A E) (start now next : Writing) (before : List Bool) (text : List (List Bool) → List Bool) → HasPut start now before
+    → OnOk result (next ≡ record { words = now.words; bits = now.bits ++ text now.words; room = now.room })
+    → OnOk result (next ≡ record { words = start.words; bits = start.bits ++ (before ++ text start.words); room = start.room })
+HasPut-last_ok (Ok x) start now next before text h is = (HasPut-more start now next before text h is).behind
+HasPut-last_ok (Err e) start now next before text h is = tt
+
+-- what a call that writes all or nothing leaves
+pub put-front : {A E : Type 0} (result : Result A E) (now next : Writing) (text : List Bool)
+    → OnOk result (next ≡ record { words = now.words; bits = now.bits ++ text; room = now.room }) → OnErr result (next ≡ now) → Extends now next text
+put-front (Ok x) now next text ok err = (text, [], append-nil text, ok)
+put-front (Err e) now next text ok err = ([], text, refl, err ∙ rw append-nil refl)

@@ -120,7 +120,7 @@ fn read_shorts(r: &mut Reader, values: &mut [i16; 16]) -> Result<(), ReadError>
 }
 
 /// Reads an array over the one that stands there: a mark, and behind a mark of change the mask and the values.
-#[tactic(auto, unfolding(crate::specs::Delta::array_after))]
+#[tactic(auto, using(crate::proofs::PlacesRead::places_after_none), unfolding(crate::specs::Delta::array_after))]
 fn read_array(r: &mut Reader, kind: Kind, values: &mut [u32; 16]) -> Result<(), ReadError>
     requires { IsKind kind }
     ensures reads { MatchResult result

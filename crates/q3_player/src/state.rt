@@ -1,8 +1,8 @@
 //! The state of a player. Keeps the rule "normal form".
 
-ghost use Rattle.std.specs.Prelude.{◌≡◌, ◌<◌, length, replicate, slice_get, Some};
+ghost use Rattle.std.specs.Prelude.{◌≡◌, ◌<◌, ◌^◌, length, replicate, slice_get, Some, All};
 ghost use Rattle.q3_fields.specs.Kinds.{IsKind};
-ghost use Rattle.q3_player.specs.State.{AreWords, AreShorts, patterns_of};
+ghost use Rattle.q3_player.specs.State.{AreShorts, patterns_of};
 ghost use Rattle.q3_player.specs.Delta.{shorts_of};
 
 use q3_fields::{Kind, Table, norm};
@@ -58,15 +58,19 @@ impl PlayerState {
     }
 }
 
-/// The words of an array have 32 bits. This does nothing.
-fn are_words<const N: usize>(words: &[u32; N])
-    ensures { AreWords N words.now }
+/// Words have 32 bits. This does nothing.
+fn are_words(words: &[u32])
+    ensures { All (λ word. word < 2 ^ 32) words.now }
 {}
 
 /// The signed values of an array have 16 bits. This does nothing.
 pub(crate) fn are_shorts(values: &[i16; 16])
     ensures { AreShorts values.now }
-{}
+{
+    for k in 0..16 {
+        let _value = values[k];
+    }
+}
 
 /// So many zeros.
 fn zeros<const N: usize>() -> [u32; N]

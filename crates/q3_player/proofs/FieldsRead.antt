@@ -1,0 +1,34 @@
+-- The fields that a loop reads.
+use Rattle.std.proofs.Common.{◌≡◌, ℕ, ◌+◌, ◌≤◌, ◌<◌, Bool, List, [], ◌∷◌, length, take, drop, get_or, Some, slice_get, Ok, Err, refl, sym, ap, ◌∙◌}
+use Rattle.std.proofs.lemmas.List.{drop_more}
+use Rattle.q3_bits.specs.declared.reader.ReadError.{ReadError}
+use Rattle.q3_fields.specs.declared.kind.Kind.{Kind}
+use Rattle.q3_player.specs.Delta.{field_after, fields_after}
+use Rattle.q3_player.proofs.FieldTexts.{kinds-next, kinds-end}
+use Rattle.q3_player.proofs.ReadOver.{with_first}
+
+-- one field more
+pub fields_after-next : (words same : List (List Bool)) (table : List Kind) (count k : ℕ) (kind : Kind) (from : List ℕ) (x y : ℕ) (bits next : List Bool) → same ≡ words
+    → k < count → count ≤ length table → slice_get table k ≡ Some kind → k < length from → x ≡ get_or from k 0
+    → Ok (y, next) ≡ field_after same kind x bits
+    → fields_after words (drop k (take count table)) (drop k from) bits ≡ with_first y (fields_after words (drop (k + 1) (take count table)) (drop (k + 1) from) next)
+unfolding fields_after
+fields_after-next words same table count k kind from x y bits next is more few here within old read =
+    let first : field_after words kind (get_or from k 0) bits ≡ Ok (y, next) = rw (← is, ← old) (sym read) in
+    rw (kinds-next table count k kind more few here, drop_more from k 0 within, first) refl
+
+-- a fault in the next
+pub fields_after-fault : (words same : List (List Bool)) (table : List Kind) (count k : ℕ) (kind : Kind) (from : List ℕ) (x : ℕ) (bits : List Bool) (e : ReadError) → same ≡ words
+    → k < count → count ≤ length table → slice_get table k ≡ Some kind → k < length from → x ≡ get_or from k 0
+    → Err e ≡ field_after same kind x bits
+    → fields_after words (drop k (take count table)) (drop k from) bits ≡ Err e
+unfolding fields_after
+fields_after-fault words same table count k kind from x bits e is more few here within old read =
+    let first : field_after words kind (get_or from k 0) bits ≡ Err e = rw (← is, ← old) (sym read) in
+    rw (kinds-next table count k kind more few here, drop_more from k 0 within, first) refl
+
+-- no field is left
+pub fields_after-end : (words : List (List Bool)) (table : List Kind) (count k : ℕ) (from : List ℕ) (bits : List Bool) → count ≤ k → count ≤ length table
+    → fields_after words (drop k (take count table)) from bits ≡ Ok (from, bits)
+unfolding fields_after
+fields_after-end words table count k from bits past few = rw (kinds-end table count k past few) refl
