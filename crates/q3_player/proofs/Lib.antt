@@ -7,3 +7,5 @@ pub mod Shorts
 pub mod ReadOver
 pub mod FieldsRead
 pub mod PlacesRead
+pub mod Results
+pub mod ArraysRead
