@@ -1,14 +1,18 @@
-//! Reads a changed field.
+//! Reads a changed field, in every spelling that is accepted. Keeps the rules "entity delta" and "player delta" for one
+//! field, the engine's `MSG_ReadDeltaEntity` and `MSG_ReadDeltaPlayerstate`. That a float in full comes back in normal
+//! form is this project's own.
 
-ghost use Rattle.std.specs.Prelude.{◌≡◌, ◌+◌, length};
+ghost use Rattle.std.specs.Prelude.{◌≡◌, ◌+◌, ◌<◌, ◌≤◌, ◌^◌, length, IfOk};
 ghost use Rattle.q3_bits.specs.Streams.{with_rest};
 ghost use Rattle.q3_fields.specs.Kinds.{IsKind};
-ghost use Rattle.q3_fields.specs.Texts.{player_field_at};
+ghost use Rattle.q3_fields.specs.Texts.{float_at, integer_at, player_field_at, entity_field_at};
 
-use crate::kind::Kind;
+use crate::float::{pattern_of, unbiased};
+use crate::kind::{Kind, norm};
 use q3_bits::{ReadError, Reader};
 
-/// Reads a changed field of a player delta.
+/// Reads a changed field of a player delta, in normal form. `Err` is the first fault in reading order; the reader then
+/// stands anywhere.
 #[tactic(auto, unfolding(crate::specs::Texts::player_field_at))]
 pub fn read_player_field(r: &mut Reader, kind: Kind) -> Result<u32, ReadError>
     requires { IsKind kind }
@@ -16,5 +20,49 @@ pub fn read_player_field(r: &mut Reader, kind: Kind) -> Result<u32, ReadError>
     ensures words { r.new.words ≡ r.old.words }
     ensures place { r.new.place + length r.new.left ≡ r.old.place + length r.old.left }
 {
-    r.get(32)
+    match kind {
+        Kind::Float => read_float(r),
+        Kind::Unsigned(width) => read_integer(r, kind, width),
+        Kind::Signed(width) => read_integer(r, kind, width),
+    }
+}
+
+/// Reads a changed field of an entity delta, in normal form. `Err` is the first fault in reading order; the reader then
+/// stands anywhere.
+#[tactic(auto, unfolding(crate::specs::Texts::entity_field_at))]
+pub fn read_entity_field(r: &mut Reader, kind: Kind) -> Result<u32, ReadError>
+    requires { IsKind kind }
+    ensures value { with_rest r.new.left result ≡ entity_field_at r.old.words kind r.old.left }
+    ensures words { r.new.words ≡ r.old.words }
+    ensures place { r.new.place + length r.new.left ≡ r.old.place + length r.old.left }
+{
+    if r.get(1)? == 0 {
+        return Ok(0);
+    }
+    read_player_field(r, kind)
+}
+
+/// Reads a float: 13 bits behind bit 0, and its pattern behind bit 1.
+#[tactic(auto, unfolding(crate::specs::Texts::float_at))]
+fn read_float(r: &mut Reader) -> Result<u32, ReadError>
+    ensures value { with_rest r.new.left result ≡ float_at r.old.words r.old.left }
+    ensures words { r.new.words ≡ r.old.words }
+    ensures place { r.new.place + length r.new.left ≡ r.old.place + length r.old.left }
+{
+    if r.get(1)? == 0 {
+        return Ok(pattern_of(unbiased(r.get(13)?)));
+    }
+    Ok(norm(Kind::Float, r.get(32)?))
+}
+
+/// Reads an integer of so many bits.
+fn read_integer(r: &mut Reader, kind: Kind, width: u8) -> Result<u32, ReadError>
+    requires kind { IsKind kind }
+    requires some { 1 ≤ width }
+    requires most { width ≤ 32 }
+    ensures value { with_rest r.new.left result ≡ integer_at r.old.words kind width r.old.left }
+    ensures words { r.new.words ≡ r.old.words }
+    ensures place { r.new.place + length r.new.left ≡ r.old.place + length r.old.left }
+{
+    Ok(norm(kind, r.get(u32::from(width))?))
 }

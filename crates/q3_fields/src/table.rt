@@ -1,36 +1,82 @@
-//! Tables of fields.
+//! Tables of fields. Keeps the rule "field tables", the engine's `entityStateFields` and `playerStateFields`.
 
-ghost use Rattle.std.specs.Prelude.{◌≡◌, length, slice_get, IfSome};
-ghost use Rattle.q3_fields.specs.Kinds.{IsKind, IsTable};
+ghost use Rattle.std.specs.Prelude.{◌≡◌, ◌≤◌, length, slice_get, IfOk, IfSome};
+ghost use Rattle.q3_fields.specs.Kinds.{IsKind, IsTable, kind_of, table_of, end_mark};
 
 use crate::kind::Kind;
 use std::marker::Model;
 
-/// The kinds of 2 fields.
+/// Why widths are no table: the first of these.
+#[derive(Clone, Copy, Debug, PartialEq, Eq)]
+pub enum TableError {
+    /// Not 1 to 64 widths.
+    Fields,
+    /// The first width that isn't allowed, by its place.
+    Width(usize),
+}
+
+/// The kinds of 1 to 64 fields, in order. To a caller it is the list of the kinds.
+#[derive(Drop)]
 pub struct Table {
-    kinds: [Kind; 2],
+    count: usize,
+    kinds: [Kind; 64],
 }
 
 impl Model for Table {
     ghost use Rattle.std.specs.Prelude.{List};
     ghost use Rattle.q3_fields.specs.declared.kind.Kind.{Kind};
+    ghost use Rattle.q3_fields.specs.Rows.{kinds_within, IsFilled};
 
     ghost Value = { List Kind };
 
-    ghost view = { λ t. t.kinds };
+    ghost view = { kinds_within };
 
-    ghost use Rattle.q3_fields.specs.Kinds.{IsTable};
-
-    ghost invariant = { λ t. IsTable t.kinds };
+    ghost invariant = { IsFilled };
 }
 
 impl Table {
+    /// The table of these widths: 0 is a float, 1 to 32 an unsigned field, -8, -16 and -24 a signed one.
+    /// `Err` is the first of: other than 1 to 64 widths; the first width that isn't allowed.
+    #[tactic(auto, unfolding(crate::specs::Kinds::table_of))]
+    pub fn of(widths: &[i64]) -> Result<Table, TableError>
+        ensures exact { result ≡ table_of widths.now }
+        ensures is_table { IfOk result IsTable }
+    {
+        if widths.is_empty() || widths.len() > 64 {
+            return Err(TableError::Fields);
+        }
+        let mut kinds = [Kind::Float; 64];
+        for i in 0..widths.len() {
+            let Some(kind) = kind_of(widths[i]) else {
+                return Err(TableError::Width(i));
+            };
+            kinds[i] = kind;
+        }
+        Ok(Table {
+            count: widths.len(),
+            kinds,
+        })
+    }
+
+    /// The same table once more.
+    pub fn copy(&self) -> Table
+        ensures { result ≡ self.now }
+    {
+        Table {
+            count: self.count,
+            kinds: self.kinds,
+        }
+    }
+
     /// The kind of field `i`, or `None` at or above the count.
     pub fn kind(&self, i: usize) -> Option<Kind>
         ensures kind { result ≡ slice_get self.now i }
         ensures allowed { IfSome result IsKind }
     {
-        self.kinds.as_slice().get(i).copied()
+        if i >= self.count {
+            return None;
+        }
+        Some(self.kinds[i])
     }
 
     /// How many fields the table has: 1 to 64.
@@ -38,7 +84,28 @@ impl Table {
         ensures count { result ≡ length self.now }
         ensures is_table { IsTable self.now }
     {
-        let kinds = &self.kinds;
-        kinds.as_slice().len()
+        self.count
+    }
+
+    /// The end mark of entity numbers, which are below it: 1023.
+    pub fn end(&self) -> u16
+        ensures { result ≡ end_mark self.now }
+    {
+        1023
+    }
+}
+
+/// The kind that a width says.
+fn kind_of(width: i64) -> Option<Kind>
+    ensures kind { result ≡ kind_of width }
+    ensures allowed { IfSome result IsKind }
+{
+    match width {
+        0 => Some(Kind::Float),
+        1..=32 => Some(Kind::Unsigned(width as u8)),
+        -8 => Some(Kind::Signed(8)),
+        -16 => Some(Kind::Signed(16)),
+        -24 => Some(Kind::Signed(24)),
+        _ => None,
     }
 }

@@ -1,0 +1,8 @@
+use Rattle.q3_fields.specs.Kinds.{norm}
+use Rattle.q3_fields.specs.Texts.{player_field}
+use Rattle.q3_fields.proofs.laws.player_written_is_read.Goals as goal
+
+pub returns : goal.returns
+returns c =
+    λ words kind word rest code allowed below.
+    c.player_spelled_is_read.ensures words kind (norm kind word) (player_field words kind word) rest code allowed (c.player_field_is_spelled.ensures words kind word allowed below)
