@@ -9,3 +9,7 @@ pub mod FieldsRead
 pub mod PlacesRead
 pub mod Results
 pub mod ArraysRead
+pub mod Kept
+pub mod Maps
+pub mod BitsSpelled
+pub mod ArraySpelled
