@@ -13,3 +13,4 @@ pub mod Kept
 pub mod Maps
 pub mod BitsSpelled
 pub mod ArraySpelled
+pub mod FieldSpelled
