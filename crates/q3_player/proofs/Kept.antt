@@ -57,3 +57,36 @@ short-back (pos n) short =
 short-back (negsuc n) short =
     let few : n < 2 ^ 15 = omega (arith, ints) in
     grind (arith, nat_tests)
+
+-- ---- lists of them
+
+pub patterns-kept : (values : List ℤ) → All IsShort values → All (IsKept signed_places) (patterns_of values)
+patterns-kept values short =
+    All-map (IsKept signed_places) (cast_unsigned w32) values (All-weaker IsShort (λ z. IsKept signed_places (cast_unsigned w32 z)) short-kept values short)
+
+pub powerups-kept : (words : List ℕ) → All (λ word. word < 2 ^ 32) words → All (IsKept powerup_places) words
+powerups-kept words fits = All-weaker (λ word. word < 2 ^ 32) (IsKept powerup_places) powerup-kept words fits
+
+pub kept-fits : (kind : Kind) (words : List ℕ) → All (IsKept kind) words → All (λ word. word < 2 ^ 32) words
+kept-fits kind words kept = All-weaker (IsKept kind) (λ word. word < 2 ^ 32) (λ word k. k.fits) words kept
+
+pub shorts-back : (values : List ℤ) → All IsShort values → shorts_of (patterns_of values) ≡ values
+shorts-back [] short = refl
+shorts-back (z ∷ values) short = rw (short-back z (All-head IsShort z values short), shorts-back values (All-tail IsShort z values short)) refl
+
+pub patterns-back : (words : List ℕ) → All (IsKept signed_places) words → patterns_of (shorts_of words) ≡ words
+patterns-back [] kept = refl
+patterns-back (word ∷ words) kept =
+    rw (short-kept_back word (All-head (IsKept signed_places) word words kept), patterns-back words (All-tail (IsKept signed_places) word words kept)) refl
+
+-- the values of any words are short
+all-short : (words : List ℕ) → All IsShort (shorts_of words)
+all-short [] = All-nil IsShort
+all-short (word ∷ words) = All-cons IsShort (cast_signed w16 (word % 2 ^ 16)) (shorts_of words) (short-of word) (all-short words)
+
+pub are-shorts : (words : List ℕ) → length words ≡ 16 → AreShorts (shorts_of words)
+are-shorts words long = record { count = length-map words (λ word. cast_signed w16 (word % 2 ^ 16)) ∙ long; each = all-short words }
+
+-- the words of signed values are as many
+pub length-patterns : (values : List ℤ) → length (patterns_of values) ≡ length values
+length-patterns values = length-map values (cast_unsigned w32)

@@ -14,3 +14,4 @@ pub mod Maps
 pub mod BitsSpelled
 pub mod ArraySpelled
 pub mod FieldSpelled
+pub mod PlayerSpelled
