@@ -18,7 +18,7 @@ use Rattle.q3_player.specs.Arrays.{Change, changes_from, changes, with_changes, 
 use Rattle.q3_player.specs.Delta.{last_changed, changed_count, fields_text, array_text, stats_text, persistant_text, ammo_text, powerups_text, is_none, no_array_changed, arrays_text, player_delta, ◌>>=◌, fields_after, array_after, shorts_of, arrays_after, bits_error, player_at}
 use Rattle.q3_player.specs.Spelling.{SpellsFields, SpellsArray, SpellsArrays, SameArrays, SpellsMarked, SpellsPlayer}
 use Rattle.q3_player.proofs.LastChanged.{last_changed-le}
-use Rattle.q3_player.proofs.Results.{bind_ok, bits_ok, guard_ok, answer_parts}
+use Rattle.q3_player.proofs.Results.{bind_ok, bits_ok, guard_ok, answer_parts, same_ok}
 use Rattle.q3_player.proofs.BitsSpelled.{bits_were_put, bits_were, bits_are_read}
 use Rattle.q3_player.proofs.Kept.{IsKept, patterns-kept, powerups-kept, kept-fits, shorts-back, patterns-back, are-shorts, length-patterns}
 use Rattle.q3_player.proofs.Maps.{with_changes-changes}
@@ -167,7 +167,7 @@ arrays_were_spelled put law words code from bits found state e =
         of_persistant = as-values words (patterns_of from.persistant) persistant.0.0 found.0.persistant b.text b.kept is_persistant b.spells;
         of_ammo = as-values words (patterns_of from.ammo) ammo.0.0 found.0.ammo c.text c.kept is_ammo c.spells;
         of_powerups = subst (λ (xs : List ℕ). SpellsArray words powerup_places from.powerups xs d.text) is_powerups d.spells;
-        whole = refl;
+        whole = refl {a = a.text ++ b.text ++ c.text ++ d.text};
       };
       stats = subst AreShorts is_stats (are-shorts stats.0.0 a.long);
       persistant = subst AreShorts is_persistant (are-shorts persistant.0.0 b.long);
@@ -227,3 +227,139 @@ at_fields words from fields = bits_error (field_read words 1 fields.1) >>= at_ma
 -- the fields, where the table has so many
 abbrev some_fields : List (List Bool) → List Kind → PlayerState → ℕ × List Bool → Result (List ℕ × List Bool) PlayerError
 some_fields words table from count = cond (ltb (length table) count.0) (Err (Count count.0)) (bits_error (fields_after words (take count.0 table) from.words count.1))
+
+-- the state as it is with other words, or arrays that were read
+mark_parts : (words : List (List Bool)) (from : PlayerState) (fields : List ℕ) (mark : ℕ × List Bool) (to : PlayerState) (rest : List Bool) → at_mark words from fields mark ≡ Ok (to, rest)
+    → ((mark.0 ≡ 0) × (record from { words = fields } ≡ to) × (mark.1 ≡ rest)) ⊎ ((mark.0 ≢ 0) × (arrays_after words (record from { words = fields }) mark.1 ≡ Ok (to, rest)))
+mark_parts words from fields mark to rest e =
+    elim (cases_Bool (eqb mark.0 0)) [
+      | inl none ↦
+          let whole = same_ok _ (record from { words = fields }, mark.1) (to, rest) refl (rw none at e) in
+          inl (eqb-true mark.0 0 none, ap (λ (p : PlayerState × List Bool). p.0) whole, ap (λ (p : PlayerState × List Bool). p.1) whole)
+      | inr some ↦ inr (eqb-false mark.0 0 some, bits_ok (arrays_after words (record from { words = fields }) mark.1) (to, rest) (rw some at e))
+    ]
+
+-- a mark of the arrays that is read, and what is behind it
+record ReadMarked (words : List (List Bool)) (from : PlayerState) (fields : List ℕ) (bits : List Bool) (to : PlayerState) (rest : List Bool) : Type 0 where
+  text : List Bool
+  parts : bits ≡ text ++ rest
+  spells : SpellsMarked words from to text
+  state : IsState to
+  others : fields ≡ to.words
+
+-- was spelled so
+marked_was_spelled : ReadWasPut → PlayerReadIsSpelled → (words : List (List Bool)) → IsCode words → (from : PlayerState) → IsState from → (fields : List ℕ) → AreWords 64 fields
+    → (bits : List Bool) (mark : ℕ × List Bool) (to : PlayerState) (rest : List Bool) → field_read words 1 bits ≡ Ok mark → at_mark words from fields mark ≡ Ok (to, rest)
+    → ReadMarked words from fields bits to rest
+marked_was_spelled put law words code from state fields long bits mark to rest read e =
+    let over : IsState (record from { words = fields }) = record { words = long; stats = state.stats; persistant = state.persistant; ammo = state.ammo; powerups = state.powerups } in
+    elim (mark_parts words from fields mark to rest e) [
+      | inl none ↦ record {
+        text = field_bits words 1 0;
+        parts = bits_were put words code 1 bits mark 0 rest read none.0 none.2;
+        spells = inl (
+          record {
+            stats = ap (λ (p : PlayerState). p.stats) none.1;
+            persistant = ap (λ (p : PlayerState). p.persistant) none.1;
+            ammo = ap (λ (p : PlayerState). p.ammo) none.1;
+            powerups = ap (λ (p : PlayerState). p.powerups) none.1;
+          },
+          refl,
+        );
+        state = subst IsState none.1 over;
+        others = ap (λ (p : PlayerState). p.words) none.1;
+      }
+      | inr some ↦
+          let bit = bits_were_put put words code 1 bits mark read in
+          let one : mark.0 ≡ 1 = omega (arith, bit.0, some.0) in
+          let arrays = arrays_were_spelled put law words code (record from { words = fields }) mark.1 (to, rest) over some.1 in
+          let s = arrays.spells in
+          record {
+            text = field_bits words 1 1 ++ arrays.text;
+            parts = bits_were put words code 1 bits mark 1 (arrays.text ++ rest) read one arrays.parts ∙ sym (append_assoc (field_bits words 1 1) arrays.text rest);
+            spells = inr (
+              arrays.text,
+              record {
+                stats = s.stats; persistant = s.persistant; ammo = s.ammo; powerups = s.powerups;
+                of_stats = s.of_stats; of_persistant = s.of_persistant; of_ammo = s.of_ammo; of_powerups = s.of_powerups; whole = s.whole;
+              },
+              refl,
+            );
+            state = record { words = subst (AreWords 64) (sym arrays.others) long; stats = arrays.stats; persistant = arrays.persistant; ammo = arrays.ammo; powerups = arrays.powerups };
+            others = sym arrays.others;
+          }
+    ]
+
+-- a mark that is spelled so is read
+marked_is_read : PutIsRead → PlayerSpelledIsRead → (words : List (List Bool)) → IsCode words → (from to : PlayerState) (text rest : List Bool) → IsState from → IsState to
+    → SpellsMarked words from to text → (bits_error (field_read words 1 (text ++ rest)) >>= at_mark words from to.words) ≡ Ok (to, rest)
+marked_is_read put law words code from to text rest state state' (inl same) =
+    let arrays = same.0 in
+    let is : record from { words = to.words } ≡ to = rw (arrays.stats, arrays.persistant, arrays.ammo, arrays.powerups) refl in
+    rw (same.1, bits_are_read put words code 1 0 rest (omega arith)) (ap (λ (p : PlayerState). Ok (p, rest)) is)
+marked_is_read put law words code from to text rest state state' (inr marked) =
+    let s = marked.1 in
+    let over : IsState (record from { words = to.words }) = record { words = state'.words; stats = state.stats; persistant = state.persistant; ammo = state.ammo; powerups = state.powerups } in
+    let spells : SpellsArrays words (record from { words = to.words }) to marked.0 = record {
+      stats = s.stats; persistant = s.persistant; ammo = s.ammo; powerups = s.powerups;
+      of_stats = s.of_stats; of_persistant = s.of_persistant; of_ammo = s.of_ammo; of_powerups = s.of_powerups; whole = s.whole;
+    } in
+    rw (
+      marked.2,
+      append_assoc,
+      bits_are_read put words code 1 1 (marked.0 ++ rest) (omega arith),
+      arrays_are_read put law words code (record from { words = to.words }) to marked.0 rest over state' spells,
+    ) refl
+
+-- the count, the fields and the arrays, and what is behind them
+in_three : (bits one two three rest left1 left2 : List Bool) → bits ≡ one ++ left1 → left1 ≡ two ++ left2 → left2 ≡ three ++ rest → bits ≡ (one ++ two ++ three) ++ rest
+in_three bits one two three rest left1 left2 a b c = rw (a, b, c) (simp append_assoc)
+
+-- a state that is read was spelled so
+pub player_was_spelled : ReadWasPut → PlayerReadIsSpelled → (words : List (List Bool)) (table : List Kind) (from to : PlayerState) (bits rest : List Bool) → IsCode words → IsTable table
+    → IsState from → player_at words table from bits ≡ Ok (to, rest)
+    → IsState to × (IsNormal table from → IsNormal table to) × (text : List Bool) × (bits ≡ text ++ rest) × SpellsPlayer words table from to text
+unfolding player_at
+player_was_spelled put law words table from to bits rest code is_table state e =
+    let count = bind_ok (bits_error (field_read words 8 bits)) (λ count. some_fields words table from count >>= at_fields words from) (to, rest) e in
+    let fields = bind_ok (some_fields words table from count.0) (at_fields words from) (to, rest) count.2 in
+    let kinds = take count.0.0 table in
+    let few = guard_ok (ltb (length table) count.0.0) (Count count.0.0) (bits_error (fields_after words kinds from.words count.0.1)) fields.0 fields.1 in
+    let reads = bits_ok (fields_after words kinds from.words count.0.1) fields.0 few.1 in
+    let spelled = fields_were_spelled put law words code kinds (All-take IsKind count.0.0 table is_table.each) from.words count.0.1 fields.0 reads in
+    let mark = bind_ok (bits_error (field_read words 1 fields.0.1)) (at_mark words from fields.0.0) (to, rest) fields.2 in
+    let are_words : AreWords 64 fields.0.0 = record { count = spelled.long ∙ state.words.count; each = spelled.fits state.words.each } in
+    let arrays = marked_was_spelled put law words code from state fields.0.0 are_words fields.0.1 mark.0 to rest (bits_ok (field_read words 1 fields.0.1) mark.0 mark.1) mark.2 in
+    let eight = field_bits words 8 count.0.0 in
+    let first : bits ≡ eight ++ count.0.1 = bits_were put words code 8 bits count.0 count.0.0 count.0.1 (bits_ok (field_read words 8 bits) count.0 count.1) refl refl in (
+      arrays.state,
+      λ normal.
+        let words_are = fields_are_normal put law words code count.0.0 table is_table.each from.words count.0.1 fields.0 reads (ap (λ (p : PlayerState). p.words) normal) in
+        ap (λ (ws : List ℕ). record to { words = ws }) (subst (λ (ws : List ℕ). normal_words table ws ≡ ws) arrays.others words_are),
+      eight ++ spelled.text ++ arrays.text,
+      in_three bits eight spelled.text arrays.text rest count.0.1 fields.0.1 first spelled.parts arrays.parts,
+      record {
+        count = count.0.0;
+        fields = spelled.text;
+        arrays = arrays.text;
+        in_table = ltb-false (length table) count.0.0 few.0;
+        of_fields = subst (λ (ys : List ℕ). SpellsFields words kinds from.words ys spelled.text) arrays.others spelled.spells;
+        of_arrays = arrays.spells;
+        whole = refl {a = eight ++ spelled.text ++ arrays.text};
+      },
+    )
+
+-- a state that is spelled so is read
+pub player_is_read : PutIsRead → PlayerSpelledIsRead → (words : List (List Bool)) (table : List Kind) (from to : PlayerState) (text rest : List Bool) → IsCode words → IsTable table
+    → IsState from → IsState to → SpellsPlayer words table from to text → player_at words table from (text ++ rest) ≡ Ok (to, rest)
+unfolding player_at
+player_is_read put law words table from to text rest code is_table state state' s =
+    let few : s.count < 2 ^ 8 = omega (arith, s.in_table, is_table.few) in
+    let within : ltb (length table) s.count ≡ false = le-ltb (length table) s.count s.in_table in
+    let regrouped : text ++ rest ≡ field_bits words 8 s.count ++ (s.fields ++ (s.arrays ++ rest)) = rw s.whole (simp append_assoc) in
+    rw (
+      regrouped,
+      bits_are_read put words code 8 s.count (s.fields ++ (s.arrays ++ rest)) few,
+      within,
+      fields_are_read put law words code (take s.count table) (All-take IsKind s.count table is_table.each) from.words to.words s.fields (s.arrays ++ rest) s.of_fields,
+    ) (marked_is_read put law words code from to s.arrays rest state state' s.of_arrays)

@@ -27,3 +27,7 @@ pub answer_parts : {A : Type 0} (x x' : A) (rest rest' : List Bool) → answer x
 answer_parts {A = A} x x' rest rest' e =
     let whole : (λ (p : A × List Bool). p) (x, rest) ≡ (x', rest') = cc in
     (ap (λ (p : A × List Bool). p.0) whole, ap (λ (p : A × List Bool). p.1) whole)
+
+-- two values of the same answer
+pub same_ok : {A E : Type 0} (r : Result A E) (x y : A) → r ≡ Ok x → r ≡ Ok y → x ≡ y
+same_ok r x y e e' = cc

@@ -1,6 +1,7 @@
 //! Player states over a table of fields, and the delta in which a message carries one.
 #![tactic(auto)]
 
+pub mod laws;
 pub mod reading;
 pub mod state;
 pub mod writing;
