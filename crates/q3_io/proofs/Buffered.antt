@@ -67,43 +67,43 @@ Adds-from_buffers r (Some had) (Some m) c w xs p q =
     )
 
 -- the text of a word that isn't 0
-pub word_text_some : (index word : ℕ) → (word ≡ 0 → ⊥) → word_text index word ≡ codes " " ++ decimal index ++ codes ":" ++ decimal word
-word_text_some index word some = cond-false (eqb word 0) [] (codes " " ++ decimal index ++ codes ":" ++ decimal word) (ne_eqb word 0 some)
+pub word_text_some : (letter : List ℕ) (index word : ℕ) → (word ≡ 0 → ⊥) → word_text letter index word ≡ codes " " ++ letter ++ decimal index ++ codes ":" ++ decimal word
+word_text_some letter index word some = cond-false (eqb word 0) [] (codes " " ++ letter ++ decimal index ++ codes ":" ++ decimal word) (ne_eqb word 0 some)
 
 -- the words of joined lists
-pub words_text-append : (index : ℕ) (xs ys : List ℕ) → words_text index (xs ++ ys) ≡ words_text index xs ++ words_text (index + length xs) ys
+pub words_text-append : (letter : List ℕ) (index : ℕ) (xs ys : List ℕ) → words_text letter index (xs ++ ys) ≡ words_text letter index xs ++ words_text letter (index + length xs) ys
 unfolding words_text
-words_text-append index [] ys = ap (λ i. words_text i ys) (omega arith)
-words_text-append index (x ∷ xs) ys =
-    ap (λ t. word_text index x ++ t) (words_text-append (index + 1) xs ys)
-    ∙ (sym (append_assoc (word_text index x) (words_text (index + 1) xs) (words_text (index + 1 + length xs) ys))
-    ∙ ap (λ i. (word_text index x ++ words_text (index + 1) xs) ++ words_text i ys) (omega arith))
+words_text-append letter index [] ys = ap (λ i. words_text letter i ys) (omega arith)
+words_text-append letter index (x ∷ xs) ys =
+    ap (λ t. word_text letter index x ++ t) (words_text-append letter (index + 1) xs ys)
+    ∙ (sym (append_assoc (word_text letter index x) (words_text letter (index + 1) xs) (words_text letter (index + 1 + length xs) ys))
+    ∙ ap (λ i. (word_text letter index x ++ words_text letter (index + 1) xs) ++ words_text letter i ys) (omega arith))
 
 -- the words of a list with one more at its end
-pub words_text-push : (index : ℕ) (words : List ℕ) (word : ℕ) → words_text index (words ++ word ∷ []) ≡ words_text index words ++ word_text (index + length words) word
+pub words_text-push : (letter : List ℕ) (index : ℕ) (words : List ℕ) (word : ℕ) → words_text letter index (words ++ word ∷ []) ≡ words_text letter index words ++ word_text letter (index + length words) word
 unfolding words_text
-words_text-push index words word = words_text-append index words (word ∷ []) ∙ ap (λ t. words_text index words ++ t) (append-nil (word_text (index + length words) word))
+words_text-push letter index words word = words_text-append letter index words (word ∷ []) ∙ ap (λ t. words_text letter index words ++ t) (append-nil (word_text letter (index + length words) word))
 
 -- the words before an index and the word there
-pub words_text-more : (words : List ℕ) (index word : ℕ) → index < length words → word ≡ get_or words index 0
-    → words_text 0 (take (index + 1) words) ≡ words_text 0 (take index words) ++ word_text index word
-words_text-more words index word within is =
-    ap (words_text 0) (take_more words index 0 within) ∙ (words_text-push 0 (take index words) (get_or words index 0)
-    ∙ (ap (λ i. words_text 0 (take index words) ++ word_text i (get_or words index 0)) (omega (arith, length-take-le index words (omega arith)))
-    ∙ ap (λ w. words_text 0 (take index words) ++ word_text index w) (sym is)))
+pub words_text-more : (letter words : List ℕ) (index word : ℕ) → index < length words → word ≡ get_or words index 0
+    → words_text letter 0 (take (index + 1) words) ≡ words_text letter 0 (take index words) ++ word_text letter index word
+words_text-more letter words index word within is =
+    ap (words_text letter 0) (take_more words index 0 within) ∙ (words_text-push letter 0 (take index words) (get_or words index 0)
+    ∙ (ap (λ i. words_text letter 0 (take index words) ++ word_text letter i (get_or words index 0)) (omega (arith, length-take-le index words (omega arith)))
+    ∙ ap (λ w. words_text letter 0 (take index words) ++ word_text letter index w) (sym is)))
 
 -- no words have no text
-pub words_text-nil : words_text 0 [] ≡ []
+pub words_text-nil : (letter : List ℕ) → words_text letter 0 [] ≡ []
 unfolding words_text
-words_text-nil = refl
+words_text-nil letter = refl
 
 -- the words before an index, one more, and the others
-pub words_text-split : (words : List ℕ) (index word : ℕ) → index < length words → word ≡ get_or words index 0
-    → (others : List ℕ) × (words_text 0 words ≡ (words_text 0 (take index words) ++ word_text index word) ++ others)
-words_text-split words index word within is =
-    let parts = words_text-append 0 (take (index + 1) words) (drop (index + 1) words) in (
-      words_text (0 + length (take (index + 1) words)) (drop (index + 1) words),
-      ap (words_text 0) (sym (take-append-drop (index + 1) words)) ∙ (parts ∙ ap (λ t. t ++ words_text (0 + length (take (index + 1) words)) (drop (index + 1) words)) (words_text-more words index word within is)),
+pub words_text-split : (letter words : List ℕ) (index word : ℕ) → index < length words → word ≡ get_or words index 0
+    → (others : List ℕ) × (words_text letter 0 words ≡ (words_text letter 0 (take index words) ++ word_text letter index word) ++ others)
+words_text-split letter words index word within is =
+    let parts = words_text-append letter 0 (take (index + 1) words) (drop (index + 1) words) in (
+      words_text letter (0 + length (take (index + 1) words)) (drop (index + 1) words),
+      ap (words_text letter 0) (sym (take-append-drop (index + 1) words)) ∙ (parts ∙ ap (λ t. t ++ words_text letter (0 + length (take (index + 1) words)) (drop (index + 1) words)) (words_text-more letter words index word within is)),
     )
 
 -- nothing goes through

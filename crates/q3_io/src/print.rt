@@ -1,7 +1,8 @@
 //! Prints numbers, texts, and lines that are put together from pieces.
 
-ghost use Rattle.std.specs.Prelude.{◌≡◌, ◌≤◌, ◌++◌, ◌-◌, [], ◌∷◌, ℕ, List, length, take, drop, codes, decimal};
+ghost use Rattle.std.specs.Prelude.{◌≡◌, ◌≤◌, ◌++◌, ◌-◌, [], ◌∷◌, ℕ, List, length, take, drop, map, codes, decimal};
 ghost use Rattle.std.specs.Fmt.{signed_decimal};
+ghost use Rattle.std.specs.Int.{w32, cast_unsigned};
 ghost use Rattle.std.specs.List.{flat_map};
 ghost use Rattle.q3_io.specs.Faults.{HasCause};
 ghost use Rattle.q3_io.specs.Written.{Adds};
@@ -99,27 +100,63 @@ impl Line {
         }
     }
 
-    fn add_words<O: Sink>(&mut self, words: &[u32; 64], out: &mut O) -> Result<(), Failed>
-        ensures buffers { Buffers (O.written out.old) (O.written out.new) self.old self.new (words_text 0 words.now) result }
+    fn add_words<O: Sink>(
+        &mut self,
+        letter: &[u8],
+        words: &[u32],
+        out: &mut O,
+    ) -> Result<(), Failed>
+        ensures buffers { Buffers (O.written out.old) (O.written out.new) self.old self.new (words_text letter.now 0 words.now) result }
         ensures cause { HasCause (O.faults out.old) (O.faults out.new) result }
     {
         for (index, word) in words.iter().enumerate() {
-            self.add_word(index as u32, *word, out)?;
+            self.add_word(letter, index, *word, out)?;
         }
         Ok(())
     }
 
-    fn add_word<O: Sink>(&mut self, index: u32, word: u32, out: &mut O) -> Result<(), Failed>
-        ensures buffers { Buffers (O.written out.old) (O.written out.new) self.old self.new (word_text index word) result }
+    fn add_signed<O: Sink>(
+        &mut self,
+        letter: &[u8],
+        values: &[i16],
+        out: &mut O,
+    ) -> Result<(), Failed>
+        ensures buffers { Buffers (O.written out.old) (O.written out.new) self.old self.new (words_text letter.now 0 (map (cast_unsigned w32) values.now)) result }
+        ensures cause { HasCause (O.faults out.old) (O.faults out.new) result }
+    {
+        for (index, value) in values.iter().enumerate() {
+            self.add_word(letter, index, pattern(*value), out)?;
+        }
+        Ok(())
+    }
+
+    /// Adds a word that isn't 0, behind its letter and index.
+    fn add_word<O: Sink>(
+        &mut self,
+        letter: &[u8],
+        index: usize,
+        word: u32,
+        out: &mut O,
+    ) -> Result<(), Failed>
+        ensures buffers { Buffers (O.written out.old) (O.written out.new) self.old self.new (word_text letter.now index word) result }
         ensures cause { HasCause (O.faults out.old) (O.faults out.new) result }
     {
         if word == 0 {
             return Ok(());
         }
-        self.add(b" ", out)?;
-        self.add_number(index, out)?;
+        self.add_place(letter, index, out)?;
         self.add(b":", out)?;
         self.add_number(word, out)
+    }
+
+    /// Adds a space, a letter and an index.
+    fn add_place<O: Sink>(&mut self, letter: &[u8], index: usize, out: &mut O) -> Result<(), Failed>
+        ensures buffers { Buffers (O.written out.old) (O.written out.new) self.old self.new (codes " " ++ letter.now ++ decimal index) result }
+        ensures cause { HasCause (O.faults out.old) (O.faults out.new) result }
+    {
+        self.add(b" ", out)?;
+        self.add(letter, out)?;
+        self.add_number(index, out)
     }
 
     fn add_number<I: Integer, O: Sink>(&mut self, number: I, out: &mut O) -> Result<(), Failed>
@@ -205,6 +242,13 @@ impl Line {
     {
         out.write_all(&self.bytes[..self.length])
     }
+}
+
+/// A signed value as a word of 32 bits.
+fn pattern(value: i16) -> u32
+    ensures { result ≡ cast_unsigned w32 value }
+{
+    i32::from(value).cast_unsigned()
 }
 
 /// `\x` and two digits.

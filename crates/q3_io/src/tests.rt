@@ -144,3 +144,26 @@ fn a_line_is_one_write(rt: HostRuntime) -> Result<(), Fail> {
     assert_eq!(rt; print_all(&line, &mut sink), Err(Failed));
     Ok(())
 }
+
+#[test]
+fn words_stand_behind_their_letter(rt: HostRuntime) -> Result<(), Fail> {
+    let mut sink = MemSink::new(rt.alloc(), 64, &[])
+        .ok()
+        .ok_or("there is memory")?;
+    let line = [
+        Piece::Words {
+            letter: b"",
+            words: &[7, 0, 4_294_967_295],
+        },
+        Piece::Signed {
+            letter: b"s",
+            values: &[0, -1, -32_768, 5],
+        },
+    ];
+    assert_eq!(rt; print_all(&line, &mut sink), Ok(()));
+    assert_eq!(rt;
+        sink.bytes(),
+        b" 0:7 2:4294967295 s1:4294967295 s2:4294934528 s3:5".as_slice()
+    );
+    Ok(())
+}

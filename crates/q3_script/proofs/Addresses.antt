@@ -1,13 +1,13 @@
--- Addresses and the words of fields against their grammar.
-use Rattle.std.proofs.Common.{◌≡◌, ℕ, ◌^◌, ◌<◌, true, false, eqb, List, ◌∷◌, ◌++◌, Option, Some, None, refl, sym, ap, subst, ◌∙◌, arith, append_assoc}
+-- Addresses against their grammar.
+use Rattle.std.proofs.Common.{◌≡◌, ℕ, true, false, eqb, List, ◌∷◌, ◌++◌, Option, Some, None, refl, sym, ap, subst, ◌∙◌, arith, append_assoc}
 use Rattle.std.specs.Prelude.{not, codes}
 use Rattle.std.specs.Fmt.{decimal}
 use Rattle.std.specs.Option.{option_and_then}
 use Rattle.std.proofs.lemmas.Option.{same_Some}
 use Rattle.std.proofs.lemmas.List.Folds.{list_all-append}
 use Rattle.q3_io.specs.declared.address.Address.{Address}
-use Rattle.q3_script.specs.Numbers.{number_at, cut, host_of, address_at, pair_at}
-use Rattle.q3_script.specs.Grammar.{SpellsAddress, pair_text}
+use Rattle.q3_script.specs.Numbers.{number_at, cut, host_of, address_at}
+use Rattle.q3_script.specs.Grammar.{SpellsAddress}
 use Rattle.q3_script.proofs.Spelled.{number_at-spelled, number_at-again, lacks, lacks-decimal, cut-spelled, cut-again}
 
 infixl 10 ◌>>=◌
@@ -15,7 +15,7 @@ abbrev ◌>>=◌ : {A B : Type 0} → Option A → (A → Option B) → Option B
 o >>= f = option_and_then f o
 
 -- the value of a step that found something
-bind_some : {A B : Type 0} (o : Option A) (f : A → Option B) (y : B) → (o >>= f) ≡ Some y → (x : A) × (o ≡ Some x) × (f x ≡ Some y)
+pub bind_some : {A B : Type 0} (o : Option A) (f : A → Option B) (y : B) → (o >>= f) ≡ Some y → (x : A) × (o ≡ Some x) × (f x ≡ Some y)
 bind_some (Some x) f y e = (x, refl, e)
 bind_some None f y e = absurd cc
 
@@ -59,10 +59,6 @@ regroup a b c d port = simp append_assoc
 joined : (word : List ℕ) (ends first second third : List ℕ × List ℕ) (a b c d port : List ℕ) → word ≡ ends.0 ++ 58 ∷ ends.1 → ends.0 ≡ first.0 ++ 46 ∷ first.1 → first.1 ≡ second.0 ++ 46 ∷ second.1 → second.1 ≡ third.0 ++ 46 ∷ third.1
     → first.0 ≡ a → second.0 ≡ b → third.0 ≡ c → third.1 ≡ d → ends.1 ≡ port → word ≡ a ++ codes "." ++ b ++ codes "." ++ c ++ codes "." ++ d ++ codes ":" ++ port
 joined word ends first second third a b c d port at_colon at_first at_second at_third a_is b_is c_is d_is port_is = rw (at_colon, at_first, at_second, at_third, a_is, b_is, c_is, d_is, port_is) (sym (regroup a b c d port))
-
--- the parts of a field, put together again
-joined_pair : (word front rest index value : List ℕ) → word ≡ front ++ 58 ∷ rest → front ≡ index → rest ≡ value → word ≡ index ++ codes ":" ++ value
-joined_pair word front rest index value e1 e2 e3 = rw (e1, e2, e3) (simp append_assoc)
 
 -- a text whose two parts lack a byte lacks it
 lacks-append : (byte x : ℕ) (front rest : List ℕ) → lacks byte front ≡ true → eqb x byte ≡ false → lacks byte rest ≡ true → lacks byte (front ++ x ∷ rest) ≡ true
@@ -177,23 +173,3 @@ address_at-again word address spelled =
     let d_is = number_at-again 0 255 spelled.d (omega arith) (omega arith) (omega arith) in
     let port_is = number_at-again 1 65535 address.port (omega arith) (omega arith) (omega arith) in
     ap address_at (spelled.whole ∙ regroup a b c d port) ∙ rw (ends, first, second, third, a_is, b_is, c_is, d_is, port_is) (ap (λ (x : Address). Some x) (sym is))
-
--- what is read as a field was spelled so
-pub pair_at-spelled : (word : List ℕ) (pair : ℕ × ℕ) → pair_at word ≡ Some pair → (pair.0 < 64) × (pair.1 < 2 ^ 32) × (word ≡ pair_text pair)
-unfolding pair_at
-pair_at-spelled word pair e =
-    let parts = bind_some (cut 58 word) (λ parts. number_at 0 63 parts.0 >>= λ index. number_at 0 4294967295 parts.1 >>= λ value. Some (index, value)) pair e in
-    let index = bind_some (number_at 0 63 parts.0.0) (λ index. number_at 0 4294967295 parts.0.1 >>= λ value. Some (index, value)) pair parts.2 in
-    let value = bind_some (number_at 0 4294967295 parts.0.1) (λ value. Some (index.0, value)) pair index.2 in
-    let index_is = number_at-spelled 0 63 parts.0.0 index.0 (omega arith) index.1 in
-    let value_is = number_at-spelled 0 4294967295 parts.0.1 value.0 (omega arith) value.1 in
-    let whole = joined_pair word parts.0.0 parts.0.1 (decimal index.0) (decimal value.0) (cut-spelled 58 word parts.0 parts.1) index_is.2 value_is.2 in
-    let fits : (index.0 < 64) × (value.0 < 2 ^ 32) × (word ≡ pair_text (index.0, value.0)) = (omega arith, omega arith, whole) in
-    subst (λ (p : ℕ × ℕ). (p.0 < 64) × (p.1 < 2 ^ 32) × (word ≡ pair_text p)) (same_Some (index.0, value.0) pair value.2) fits
-
--- and what is spelled so is read
-pub pair_at-again : (pair : ℕ × ℕ) → pair.0 < 64 → pair.1 < 2 ^ 32 → pair_at (pair_text pair) ≡ Some pair
-unfolding pair_at
-pair_at-again pair below small =
-    let grouped : pair_text pair ≡ decimal pair.0 ++ 58 ∷ decimal pair.1 = simp append_assoc in
-    rw (grouped, cut-again 58 (decimal pair.0) (decimal pair.1) (lacks-decimal 58 pair.0 refl (omega arith)), number_at-again 0 63 pair.0 (omega arith) (omega arith) (omega arith), number_at-again 0 4294967295 pair.1 (omega arith) (omega arith) (omega arith)) refl

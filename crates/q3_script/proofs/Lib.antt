@@ -5,6 +5,8 @@ pub mod Rising
 pub mod Gather
 pub mod Spelled
 pub mod Addresses
+pub mod Places
+pub mod Parts
 pub mod SpelledEvents
 pub mod SpelledScripts
 pub mod Steps

@@ -23,7 +23,7 @@ digits_test = record {
 }
 
 -- and so is their value
-own : IsNumeralModel (λ word. list_all is_digit word ≡ true) (λ word. fold (λ value digit. 10 * value + (digit - 48)) 0 word)
+pub own : IsNumeralModel (λ word. list_all is_digit word ≡ true) (λ word. fold (λ value digit. 10 * value + (digit - 48)) 0 word)
 own = numerals_by_fold _ digits_test (λ start word. fold (λ value digit. 10 * value + (digit - 48)) start word) (record { empty = λ n. refl; more = λ n c cs range. ap (λ start. fold (λ value digit. 10 * value + (digit - 48)) start cs) (omega arith) })
 
 -- digits alone with no 0 before others are what is written of their value

@@ -5,7 +5,6 @@ use Rattle.std.specs.Fmt.{decimal}
 use Rattle.std.specs.Str.{bytes_eq}
 use Rattle.std.proofs.lemmas.Bool.{cases_Bool, ltb-false, le-ltb}
 use Rattle.std.proofs.lemmas.Slice.Eq.{bytes_eq-Decides}
-use Rattle.q3_player.specs.State.{zero_player}
 use Rattle.q3_player.specs.declared.state.PlayerState.{PlayerState}
 use Rattle.q3_io.specs.declared.address.Address.{Address}
 use Rattle.q3_script.specs.declared.event.Event.{Event}
@@ -13,10 +12,12 @@ use Rattle.q3_script.specs.declared.event.Event.TheVariants.{Client, Time, Playe
 use Rattle.q3_script.specs.declared.cause.LineCause.{LineCause}
 use Rattle.q3_script.specs.declared.cause.LineCause.TheVariants as causes
 use Rattle.q3_script.specs.Numbers.{number_at, address_at, pair_at}
-use Rattle.q3_script.specs.Lines.{◌>>=◌, or_cause, number_word, client_word, fields_at, client_line, time_line, player_line, serve_line, deliver_line, show_line, line_at}
-use Rattle.q3_script.specs.Grammar.{pair_text, AreFields, with_fields, SpellsPlayer, SpellsEvent}
+use Rattle.q3_script.specs.Lines.{◌>>=◌, or_cause, number_word, client_word, fields_at, player_of, client_line, time_line, player_line, serve_line, deliver_line, show_line, line_at}
+use Rattle.q3_script.specs.Grammar.{AreFields, with_fields, SpellsPlayer, SpellsEvent}
 use Rattle.q3_script.proofs.Spelled.{number_at-spelled, number_at-again}
-use Rattle.q3_script.proofs.Addresses.{address_at-spelled, address_at-again, pair_at-spelled, pair_at-again}
+use Rattle.q3_script.proofs.Addresses.{address_at-spelled, address_at-again}
+use Rattle.q3_script.proofs.Places.{place_text, pair_at-spelled, pair_at-again}
+use Rattle.q3_script.proofs.Parts.{Parts, pairs_of, parts_of, pairs_rise, words_are, player_is}
 
 -- an answer, and a refusal
 abbrev pub done : {A E : Type 0} → A → Result A E
@@ -52,16 +53,16 @@ number_word-spelled low high word n small e = number_at-spelled low high word n 
 number_word-again : (low high n : ℕ) → high < 2 ^ 64 → low ≤ n → n ≤ high → number_word low high (decimal n) ≡ Ok n
 number_word-again low high n small lower upper = rw (number_at-again low high n small lower upper) refl
 
--- ---- fields
+-- ---- values by place
 
--- the fields that were put over words
+-- the values that were put over others
 record WereFields (least : ℕ) (values : List ℕ) (words : List (List ℕ)) (result : List ℕ) : Type 0 where
   pairs : List (ℕ × ℕ)
-  fields : AreFields least pairs
-  whole : words ≡ map pair_text pairs
+  fields : AreFields 128 least pairs
+  whole : words ≡ map place_text pairs
   is : result ≡ with_fields values pairs
 
--- fields that are read were spelled so
+-- values that are read were spelled so
 fields_at-spelled : (least : ℕ) (values : List ℕ) (words : List (List ℕ)) (result : List ℕ) → fields_at least values words ≡ Ok result → WereFields least values words result
 unfolding fields_at
 fields_at-spelled least values [] result e = record { pairs = []; fields = tt; whole = refl; is = sym (ok_is values result e) }
@@ -74,18 +75,63 @@ fields_at-spelled least values (word ∷ others) result e =
     let rises : least ≤ pair.0 = ltb-false pair.0 least test.0 in
     record {
       pairs = pair ∷ rest.pairs;
-      fields = (rises, is.0, is.1, rest.fields);
-      whole = ap (λ (w : List ℕ). w ∷ others) is.2 ∙ ap (λ (ws : List (List ℕ)). pair_text pair ∷ ws) rest.whole;
+      fields = (rises, is.place, is.small, rest.fields);
+      whole = ap (λ (w : List ℕ). w ∷ others) is.whole ∙ ap (λ (ws : List (List ℕ)). place_text pair ∷ ws) rest.whole;
       is = rest.is;
     }
 
 -- and what is spelled so is read
-fields_at-again : (least : ℕ) (values : List ℕ) (pairs : List (ℕ × ℕ)) → AreFields least pairs → fields_at least values (map pair_text pairs) ≡ Ok (with_fields values pairs)
+fields_at-again : (least : ℕ) (values : List ℕ) (pairs : List (ℕ × ℕ)) → AreFields 128 least pairs → fields_at least values (map place_text pairs) ≡ Ok (with_fields values pairs)
 unfolding fields_at
 fields_at-again least values [] fields = refl
 fields_at-again least values (pair ∷ pairs) fields =
     let rises : ltb pair.0 least ≡ false = le-ltb pair.0 least fields.0 in
     rw (pair_at-again pair fields.1 fields.2, rises) (fields_at-again (pair.0 + 1) (set values pair.0 pair.1) pairs fields.3)
+
+-- the values of a player's line are spelled by its five parts
+player-spelled : (words : List (List ℕ)) (values : List ℕ) → fields_at 0 (replicate 128 0) words ≡ Ok values → SpellsPlayer words (player_of values)
+player-spelled words values e =
+    let were = fields_at-spelled 0 (replicate 128 0) words values e in
+    let has = parts_of were.pairs were.fields in
+    let p = has.parts in
+    record {
+      fields = p.fields;
+      stats = p.stats;
+      persistant = p.persistant;
+      ammo = p.ammo;
+      powerups = p.powerups;
+      are_fields = p.are_fields;
+      are_stats = p.are_stats;
+      are_persistant = p.are_persistant;
+      are_ammo = p.are_ammo;
+      are_powerups = p.are_powerups;
+      whole = were.whole ∙ ap (map place_text) has.whole ∙ words_are p;
+      state = ap player_of (were.is ∙ ap (with_fields (replicate 128 0)) has.whole) ∙ player_is p;
+    }
+
+-- the parts of a player that is spelled
+abbrev parts_from : {words : List (List ℕ)} {player : PlayerState} → SpellsPlayer words player → Parts
+parts_from spelled = record {
+  fields = spelled.fields;
+  stats = spelled.stats;
+  persistant = spelled.persistant;
+  ammo = spelled.ammo;
+  powerups = spelled.powerups;
+  are_fields = spelled.are_fields;
+  are_stats = spelled.are_stats;
+  are_persistant = spelled.are_persistant;
+  are_ammo = spelled.are_ammo;
+  are_powerups = spelled.are_powerups;
+}
+
+-- and they are read
+player-again : (words : List (List ℕ)) (player : PlayerState) → SpellsPlayer words player → (values : List ℕ) × (fields_at 0 (replicate 128 0) words ≡ Ok values) × (player_of values ≡ player)
+player-again words player spelled =
+    let p = parts_from spelled in (
+      with_fields (replicate 128 0) (pairs_of p),
+      ap (fields_at 0 (replicate 128 0)) (spelled.whole ∙ sym (words_are p)) ∙ fields_at-again 0 (replicate 128 0) (pairs_of p) (pairs_rise p),
+      player_is p ∙ sym spelled.state,
+    )
 
 -- ---- lines
 
@@ -130,13 +176,11 @@ player_line-spelled : (words : List (List ℕ)) (event : Event) → player_line 
 unfolding player_line
 player_line-spelled [] event e = absurd cc
 player_line-spelled (word ∷ words) event e =
-    let c = bind_ok (client_word word) (λ c. fields_at 0 (replicate 64 0) words >>= λ values. Ok (Player c (record zero_player { words = values }))) event e in
-    let values = bind_ok (fields_at 0 (replicate 64 0) words) (λ values. Ok (Player c.0 (record zero_player { words = values }))) event c.2 in
+    let c = bind_ok (client_word word) (λ c. fields_at 0 (replicate 128 0) words >>= λ values. Ok (Player c (player_of values))) event e in
+    let values = bind_ok (fields_at 0 (replicate 128 0) words) (λ values. Ok (Player c.0 (player_of values))) event c.2 in
     let is = number_word-spelled 0 0 word c.0 (omega arith) c.1 in
-    let were = fields_at-spelled 0 (replicate 64 0) words values.0 values.1 in
-    let player : SpellsPlayer words (record zero_player { words = values.0 }) = record { pairs = were.pairs; fields = were.fields; whole = were.whole; state = ap (λ (x : List ℕ). record zero_player { words = x }) were.is } in
-    subst (λ (x : Event). SpellsEvent (codes "player" ∷ word ∷ words) x) (ok_is (Player c.0 (record zero_player { words = values.0 })) event values.2)
-    (omega arith, words, player, ap (λ (w : List ℕ). codes "player" ∷ w ∷ words) is.2)
+    subst (λ (x : Event). SpellsEvent (codes "player" ∷ word ∷ words) x) (ok_is (Player c.0 (player_of values.0)) event values.2)
+    (omega arith, words, player-spelled words values.0 values.1, ap (λ (w : List ℕ). codes "player" ∷ w ∷ words) is.2)
 
 serve_line-spelled : (words : List (List ℕ)) (event : Event) → serve_line words ≡ Ok event → SpellsEvent (codes "serve" ∷ words) event
 unfolding serve_line
@@ -207,8 +251,8 @@ line_at-again words (Client c challenge qport dup address) spelled =
     ) refl
 line_at-again words (Time time) spelled = ap line_at spelled.1 ∙ rw (number_word-again 0 4294967295 time (omega arith) (omega arith) (omega arith)) refl
 line_at-again words (Player c player) spelled =
-    let fields : fields_at 0 (replicate 64 0) spelled.1 ≡ Ok (with_fields (replicate 64 0) spelled.2.pairs) = ap (fields_at 0 (replicate 64 0)) spelled.2.whole ∙ fields_at-again 0 (replicate 64 0) spelled.2.pairs spelled.2.fields in
-    ap line_at spelled.3 ∙ rw (number_word-again 0 0 c (omega arith) (omega arith) (omega arith), fields) (ap (λ (p : PlayerState). Ok (Player c p)) (sym spelled.2.state))
+    let read = player-again spelled.1 player spelled.2 in
+    ap line_at spelled.3 ∙ rw (number_word-again 0 0 c (omega arith) (omega arith) (omega arith), read.1) (ap (λ (p : PlayerState). Ok (Player c p)) read.2)
 line_at-again words (Serve c) spelled = ap line_at spelled.1 ∙ rw (number_word-again 0 0 c (omega arith) (omega arith) (omega arith)) refl
 line_at-again words (Deliver datagram) spelled = ap line_at spelled.2 ∙ rw (number_word-again 1 65536 datagram (omega arith) spelled.0 spelled.1) refl
 line_at-again words (Show c) spelled = ap line_at spelled.1 ∙ rw (number_word-again 0 0 c (omega arith) (omega arith) (omega arith)) refl

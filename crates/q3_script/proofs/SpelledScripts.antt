@@ -1,12 +1,17 @@
 -- Whole scripts against their grammar: what is read was spelled so, and what is spelled so is read.
-use Rattle.std.proofs.Common.{◌≡◌, ℕ, ◌+◌, ◌≤◌, false, ltb, leb, List, [], ◌∷◌, length, set, replicate, Result, Ok, Err, inl, inr, refl, sym, ap, subst, ◌∙◌, arith}
+use Rattle.std.proofs.Common.{◌≡◌, ℕ, ◌+◌, ◌^◌, ◌%◌, ◌<◌, ◌≤◌, false, ltb, leb, List, [], ◌∷◌, length, set, replicate, slice_index_or, Result, Ok, Err, inl, inr, refl, sym, ap, subst, ◌∙◌, arith}
 use Rattle.std.specs.Prelude.{if◌then◌else◌, IfOk, All}
 use Rattle.std.specs.Global.{Vec}
 use Rattle.std.specs.List.{AllByRecursion}
 use Rattle.std.proofs.lemmas.Bool.{cases_Bool, ltb-false, leb-false, le-ltb, lt-leb}
-use Rattle.std.proofs.lemmas.List.{length-set}
-use Rattle.std.proofs.lemmas.List.Elements.{All-from_recursion}
-use Rattle.q3_player.specs.State.{zero_player, SameArrays}
+use Rattle.std.proofs.lemmas.List.{length-map, length-replicate}
+use Rattle.std.proofs.lemmas.List.Elements.{All-from_recursion, All-set, All-map, All-replicate}
+use Rattle.std.specs.Int.{w16, cast_signed}
+use mir.Val.{SFits}
+use Rattle.std.proofs.Math.Facts.{sfits_to_z}
+use Rattle.std.proofs.lemmas.Int.{ints}
+use Rattle.q3_player.specs.State.{AreWords, IsShort, AreShorts, IsState}
+use Rattle.q3_player.specs.Delta.{shorts_of}
 use Rattle.q3_player.specs.declared.state.PlayerState.{PlayerState}
 use Rattle.q3_script.specs.declared.event.Event.{Event}
 use Rattle.q3_script.specs.declared.event.Event.TheVariants.{Client, Time, Player, Serve, Deliver, Show}
@@ -16,7 +21,8 @@ use Rattle.q3_script.specs.declared.cause.ScriptKind.TheVariants.{Replay}
 use Rattle.q3_script.specs.declared.cause.ScriptError.{ScriptError}
 use Rattle.q3_script.specs.Lines.{◌>>=◌, words_of, line_at}
 use Rattle.q3_script.specs.Script.{longest_script, most_events, lines_of, is_passed_over, BadLine, bad_at, events_from, script_at, with_items, Reads}
-use Rattle.q3_script.specs.Grammar.{with_fields, SpellsPlayer, SpellsEvent, SpellEvents, SpellsScript, IsReplayEvent}
+use Rattle.q3_script.specs.Grammar.{AreFields, with_fields, SpellsPlayer, SpellsEvent, SpellEvents, SpellsScript, IsReplayEvent}
+use Rattle.q3_script.proofs.Parts.{length-with_fields}
 use Rattle.q3_script.proofs.SpelledEvents.{ok_is, bind_ok, guard_ok, line_at-spelled, line_at-again}
 
 -- events, and a bad line, as the answer for lines
@@ -97,22 +103,54 @@ script_at-again bytes events script =
 
 -- ---- events of a replay
 
--- fields put over words keep their number
-length-with_fields : (values : List ℕ) (pairs : List (ℕ × ℕ)) → length (with_fields values pairs) ≡ length values
-length-with_fields values [] = refl
-length-with_fields values (pair ∷ pairs) = length-with_fields (set values pair.0 pair.1) pairs ∙ length-set values pair.0 pair.1
+-- fields put over words of 32 bits are such words
+with_fields-each : (limit least : ℕ) (values : List ℕ) (pairs : List (ℕ × ℕ)) → AreFields limit least pairs → All (λ word. word < 2 ^ 32) values → All (λ word. word < 2 ^ 32) (with_fields values pairs)
+with_fields-each limit least values [] are each = each
+with_fields-each limit least values (pair ∷ pairs) are each = with_fields-each limit (pair.0 + 1) (set values pair.0 pair.1) pairs are.3 (All-set (λ word. word < 2 ^ 32) values pair.0 pair.1 are.2 each)
 
--- a player that is spelled has 64 words and four arrays of zeros
-player_is : (words : List (List ℕ)) (player : PlayerState) → SpellsPlayer words player → (length player.words ≡ 64) × SameArrays zero_player player
-player_is words player spelled =
-    let zero : (length (with_fields (replicate 64 0) spelled.pairs) ≡ 64) × SameArrays zero_player (record zero_player { words = with_fields (replicate 64 0) spelled.pairs }) = (length-with_fields (replicate 64 0) spelled.pairs, record { stats = refl; persistant = refl; ammo = refl; powerups = refl }) in
-    subst (λ (p : PlayerState). (length p.words ≡ 64) × SameArrays zero_player p) (sym spelled.state) zero
+-- so many zeros, with fields put over them
+words_are : (count : ℕ) (pairs : List (ℕ × ℕ)) → AreFields count 0 pairs → AreWords count (with_fields (replicate count 0) pairs)
+words_are count pairs are = record {
+  count = length-with_fields (replicate count 0) pairs ∙ length-replicate count 0;
+  each = with_fields-each count 0 (replicate count 0) pairs are (All-replicate (λ word. word < 2 ^ 32) count 0 (omega arith));
+}
+
+-- a word as a signed value of 16 bits
+short_is : (word : ℕ) → IsShort (cast_signed w16 (word % 2 ^ 16))
+short_is word =
+    let fits : SFits w16 (cast_signed w16 (word % 2 ^ 16)) = sfits_to_z (omega arith) in
+    (omega (arith, ints), omega (arith, ints))
+
+-- sixteen words, as signed values
+shorts_are : (words : List ℕ) → length words ≡ 16 → AreShorts (shorts_of words)
+shorts_are words size = record {
+  count = length-map words (λ word. cast_signed w16 (word % 2 ^ 16)) ∙ size;
+  each = All-map IsShort (λ word. cast_signed w16 (word % 2 ^ 16)) words (λ k d l. short_is (slice_index_or words k d));
+}
+
+-- a player that is spelled is a state as the program's type holds it
+is_state : (words : List (List ℕ)) (player : PlayerState) → SpellsPlayer words player → IsState player
+is_state words player spelled =
+    let state : IsState (record {
+      words = with_fields (replicate 64 0) spelled.fields;
+      stats = shorts_of (with_fields (replicate 16 0) spelled.stats);
+      persistant = shorts_of (with_fields (replicate 16 0) spelled.persistant);
+      ammo = shorts_of (with_fields (replicate 16 0) spelled.ammo);
+      powerups = with_fields (replicate 16 0) spelled.powerups;
+    }) = record {
+      words = words_are 64 spelled.fields spelled.are_fields;
+      stats = shorts_are _ (length-with_fields (replicate 16 0) spelled.stats);
+      persistant = shorts_are _ (length-with_fields (replicate 16 0) spelled.persistant);
+      ammo = shorts_are _ (length-with_fields (replicate 16 0) spelled.ammo);
+      powerups = words_are 16 spelled.powerups spelled.are_powerups;
+    } in
+    subst IsState (sym spelled.state) state
 
 -- an event that is spelled is one that a replay may have
 is_replay : (words : List (List ℕ)) (event : Event) → SpellsEvent words event → IsReplayEvent event
 is_replay words (Client c challenge qport dup address) spelled = spelled.0
 is_replay words (Time time) spelled = spelled.0
-is_replay words (Player c player) spelled = let is = player_is spelled.1 player spelled.2 in (spelled.0, is.0, is.1)
+is_replay words (Player c player) spelled = (spelled.0, is_state spelled.1 player spelled.2)
 is_replay words (Serve c) spelled = spelled.0
 is_replay words (Deliver datagram) spelled = (spelled.0, spelled.1)
 is_replay words (Show c) spelled = spelled.0

@@ -2,11 +2,10 @@
 use Rattle.std.proofs.Common.{◌≡◌, ℕ, List, [], ◌∷◌, replicate, Ok, Err, refl}
 use Rattle.std.specs.Prelude.{if◌then◌else◌, codes}
 use Rattle.std.specs.Str.{bytes_eq}
-use Rattle.q3_player.specs.State.{zero_player}
 use Rattle.q3_script.specs.declared.event.Event.TheVariants.{Client, Time, Player, Serve, Deliver, Show}
 use Rattle.q3_script.specs.declared.cause.LineCause.TheVariants.{Address, Count, Word}
 use Rattle.q3_script.specs.Numbers.{address_at}
-use Rattle.q3_script.specs.Lines.{◌>>=◌, or_cause, number_word, client_word, fields_at, client_line, time_line, player_line, serve_line, deliver_line, show_line, line_at}
+use Rattle.q3_script.specs.Lines.{◌>>=◌, or_cause, number_word, client_word, fields_at, player_of, client_line, time_line, player_line, serve_line, deliver_line, show_line, line_at}
 use Rattle.q3_script.specs.Words.{next_of, only_of}
 
 -- a client: four words and the last, then each of them
@@ -30,7 +29,7 @@ time_steps (time ∷ []) = refl
 time_steps (time ∷ other ∷ others) = refl
 
 -- a player: a word, and fields
-pub player_steps : (words : List (List ℕ)) → player_line words ≡ (or_cause (next_of words) Count >>= λ c. client_word c.0 >>= λ client. fields_at 0 (replicate 64 0) c.1 >>= λ values. Ok (Player client (record zero_player { words = values })))
+pub player_steps : (words : List (List ℕ)) → player_line words ≡ (or_cause (next_of words) Count >>= λ c. client_word c.0 >>= λ client. fields_at 0 (replicate 128 0) c.1 >>= λ values. Ok (Player client (player_of values)))
 unfolding player_line
 player_steps [] = refl
 player_steps (c ∷ fields) = refl

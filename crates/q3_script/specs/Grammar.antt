@@ -1,6 +1,7 @@
 -- The grammar of a script: which words spell which event, and which lines which events.
 use Rattle.std.specs.Prelude.{◌≡◌, ℕ, ◌+◌, ◌^◌, ◌<◌, ◌≤◌, Bool, true, false, List, [], ◌∷◌, ◌++◌, length, map, replicate, codes, decimal, slice_set}
-use Rattle.q3_player.specs.State.{zero_player, SameArrays}
+use Rattle.q3_player.specs.State.{IsState}
+use Rattle.q3_player.specs.Delta.{shorts_of}
 use Rattle.q3_player.specs.declared.state.PlayerState.{PlayerState}
 use Rattle.q3_io.specs.declared.address.Address.{Address}
 use Rattle.q3_script.specs.declared.event.Event.{Event}
@@ -20,26 +21,48 @@ pub record SpellsAddress (word : List ℕ) (address : Address) : Type 0 where
   pub port : (1 ≤ address.port) × (address.port < 65536)
   pub whole : word ≡ decimal a ++ codes "." ++ decimal b ++ codes "." ++ decimal c ++ codes "." ++ decimal d ++ codes ":" ++ decimal address.port
 
--- the word of a field
-abbrev pub pair_text : ℕ × ℕ → List ℕ
-pair_text pair = decimal pair.0 ++ codes ":" ++ decimal pair.1
+-- the word of an index and a value: of a field without a letter, of an array behind its letter
+abbrev pub pair_text : List ℕ → ℕ × ℕ → List ℕ
+pair_text letter pair = letter ++ decimal pair.0 ++ codes ":" ++ decimal pair.1
 
--- the indexes rise, from least on, and stay below 64; the words have 32 bits
-abbrev pub AreFields : ℕ → List (ℕ × ℕ) → Type 0
-AreFields least [] = Unit {0}
-AreFields least (pair ∷ pairs) = (least ≤ pair.0) × (pair.0 < 64) × (pair.1 < 2 ^ 32) × AreFields (pair.0 + 1) pairs
+-- the indexes rise, from least on, and stay below a limit; the words have 32 bits
+abbrev pub AreFields : ℕ → ℕ → List (ℕ × ℕ) → Type 0
+AreFields limit least [] = Unit {0}
+AreFields limit least (pair ∷ pairs) = (least ≤ pair.0) × (pair.0 < limit) × (pair.1 < 2 ^ 32) × AreFields limit (pair.0 + 1) pairs
 
 -- these fields put over the words
 abbrev pub with_fields : List ℕ → List (ℕ × ℕ) → List ℕ
 with_fields values [] = values
 with_fields values (pair ∷ pairs) = with_fields (slice_set values pair.0 pair.1) pairs
 
--- a player: the zero state but for these fields
+-- a player: fields, and behind them the values of each array; all others are 0
 pub record SpellsPlayer (words : List (List ℕ)) (player : PlayerState) : Type 0 where
-  pub pairs : List (ℕ × ℕ)
-  pub fields : AreFields 0 pairs
-  pub whole : words ≡ map pair_text pairs
-  pub state : player ≡ record zero_player { words = with_fields (replicate 64 0) pairs }
+  pub fields : List (ℕ × ℕ)
+  pub stats : List (ℕ × ℕ)
+  pub persistant : List (ℕ × ℕ)
+  pub ammo : List (ℕ × ℕ)
+  pub powerups : List (ℕ × ℕ)
+  pub are_fields : AreFields 64 0 fields
+  pub are_stats : AreFields 16 0 stats
+  pub are_persistant : AreFields 16 0 persistant
+  pub are_ammo : AreFields 16 0 ammo
+  pub are_powerups : AreFields 16 0 powerups
+  pub whole :
+      words
+      ≡ map (pair_text []) fields
+      ++ map (pair_text (codes "s")) stats
+      ++ map (pair_text (codes "p")) persistant
+      ++ map (pair_text (codes "a")) ammo
+      ++ map (pair_text (codes "u")) powerups
+  pub state :
+      player
+      ≡ record {
+        words = with_fields (replicate 64 0) fields;
+        stats = shorts_of (with_fields (replicate 16 0) stats);
+        persistant = shorts_of (with_fields (replicate 16 0) persistant);
+        ammo = shorts_of (with_fields (replicate 16 0) ammo);
+        powerups = with_fields (replicate 16 0) powerups;
+      }
 
 -- the words of a line spell an event; the one client has the number 0
 abbrev pub SpellsEvent : List (List ℕ) → Event → Type 0
@@ -73,7 +96,7 @@ pub record SpellsScript (bytes : List ℕ) (events : List Event) : Type 0 where
 abbrev pub IsReplayEvent : Event → Type 0
 IsReplayEvent (Client c challenge qport dup address) = c ≡ 0
 IsReplayEvent (Time time) = time < 2 ^ 32
-IsReplayEvent (Player c player) = (c ≡ 0) × (length player.words ≡ 64) × SameArrays zero_player player
+IsReplayEvent (Player c player) = (c ≡ 0) × IsState player
 IsReplayEvent (Serve c) = c ≡ 0
 IsReplayEvent (Deliver datagram) = (1 ≤ datagram) × (datagram ≤ most_events)
 IsReplayEvent (Show c) = c ≡ 0

@@ -1,8 +1,9 @@
 -- The event that a line of a script spells, or the first cause for which it is refused.
-use Rattle.std.specs.Prelude.{ℕ, ◌+◌, ◌==◌, if◌then◌else◌, List, [], ◌∷◌, replicate, codes, slice_set, nat_lt, Option, Some, None, Result, Ok, Err}
+use Rattle.std.specs.Prelude.{ℕ, ◌+◌, ◌==◌, if◌then◌else◌, List, [], ◌∷◌, take, drop, replicate, codes, slice_set, nat_lt, Option, Some, None, Result, Ok, Err}
 use Rattle.std.specs.List.{slice_split}
 use Rattle.std.specs.Str.{bytes_eq}
-use Rattle.q3_player.specs.State.{zero_player}
+use Rattle.q3_player.specs.declared.state.PlayerState.{PlayerState}
+use Rattle.q3_player.specs.Delta.{shorts_of}
 use Rattle.q3_script.specs.declared.event.Event.{Event}
 use Rattle.q3_script.specs.declared.event.Event.TheVariants.{Client, Time, Player, Serve, Deliver, Show}
 use Rattle.q3_script.specs.declared.cause.LineCause.{LineCause}
@@ -30,7 +31,7 @@ number_word low high word = or_cause (number_at low high word) causes.Number
 abbrev pub client_word : List ℕ → Result ℕ LineCause
 client_word word = number_word 0 0 word
 
--- fields by rising index, from least on, put over these words
+-- values by rising place, from least on, put over these
 unfoldable pub fields_at : ℕ → List ℕ → List (List ℕ) → Result (List ℕ) LineCause
 fields_at least values [] = Ok values
 fields_at least values (word ∷ others) = do
@@ -53,11 +54,21 @@ time_line (time ∷ []) = do
   Ok (Time time)
 time_line words = Err causes.Count
 
+-- the player of the values of all places
+unfoldable pub player_of : List ℕ → PlayerState
+player_of values = record {
+  words = take 64 values;
+  stats = shorts_of (take 16 (drop 64 values));
+  persistant = shorts_of (take 16 (drop 80 values));
+  ammo = shorts_of (take 16 (drop 96 values));
+  powerups = take 16 (drop 112 values);
+}
+
 unfoldable pub player_line : List (List ℕ) → Result Event LineCause
 player_line (c ∷ fields) = do
   c ← client_word c
-  values ← fields_at 0 (replicate 64 0) fields
-  Ok (Player c (record zero_player { words = values }))
+  values ← fields_at 0 (replicate 128 0) fields
+  Ok (Player c (player_of values))
 player_line [] = Err causes.Count
 
 unfoldable pub serve_line : List (List ℕ) → Result Event LineCause

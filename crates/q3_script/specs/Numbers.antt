@@ -50,10 +50,25 @@ address_at word = do
   port ← number_at 1 65535 ends.1
   Some (record { host = host_of a b c d; port = port })
 
--- the index of a field and its word, with a colon between them
-unfoldable pub pair_at : List ℕ → Option (ℕ × ℕ)
-pair_at word = do
-  parts ← cut 58 word
-  index ← number_at 0 63 parts.0
+-- an index up to the last one and a word, with a colon between them; the place is counted on from the first one
+unfoldable pub place_at : ℕ → ℕ → List ℕ → Option (ℕ × ℕ)
+place_at first last text = do
+  parts ← cut 58 text
+  index ← number_at 0 last parts.0
   value ← number_at 0 4294967295 parts.1
-  Some (index, value)
+  Some (first + index, value)
+
+-- the place and the value of a word of a player line, by its letter:
+-- the stats have the places 64 to 79,
+-- the persistant values 80 to 95,
+-- the ammo 96 to 111,
+-- the powerups 112 to 127,
+-- and the fields, without a letter, 0 to 63
+unfoldable pub pair_at : List ℕ → Option (ℕ × ℕ)
+pair_at [] = None
+pair_at (letter ∷ text) =
+    if letter == 115 then place_at 64 15 text
+    else (if letter == 112 then place_at 80 15 text
+    else (if letter == 97 then place_at 96 15 text
+    else (if letter == 117 then place_at 112 15 text
+    else place_at 0 63 (letter ∷ text))))

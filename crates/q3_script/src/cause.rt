@@ -24,7 +24,7 @@ pub enum LineCause {
     Count,
     /// A word isn't its number, or is out of its range.
     Number,
-    /// A word isn't a field, or its index doesn't rise.
+    /// A word is no field and no value of an array, or its place doesn't rise.
     Fields,
     /// The word isn't an address.
     Address,

@@ -1,7 +1,9 @@
 //! Reads one line of a script.
 
-ghost use Rattle.std.specs.Prelude.{◌≡◌, ◌≤◌, IfOk, replicate};
-ghost use Rattle.q3_script.specs.Lines.{words_of, number_word, client_word, fields_at, client_line, time_line, player_line, serve_line, deliver_line, show_line, line_at};
+ghost use Rattle.std.specs.Prelude.{◌≡◌, ◌^◌, ◌%◌, ◌≤◌, IfOk, length, replicate};
+ghost use Rattle.std.specs.Int.{w16, cast_signed};
+ghost use Rattle.q3_player.specs.Delta.{shorts_of};
+ghost use Rattle.q3_script.specs.Lines.{words_of, number_word, client_word, fields_at, player_of, client_line, time_line, player_line, serve_line, deliver_line, show_line, line_at};
 ghost use Rattle.q3_script.specs.Words.{words_left};
 
 use crate::cause::LineCause;
@@ -25,25 +27,62 @@ fn client_word(word: &[u8]) -> Result<u8, LineCause>
     Ok(number_word(word, 0, 0)? as u8)
 }
 
-/// The words of a player that has these fields alone.
-fn fields(start: &[u8]) -> Result<[u32; 64], LineCause>
-    ensures { result ≡ fields_at 0 (replicate 64 0) (words_left start.now) }
+/// The values of all places of a player, by rising place; those that no word names are 0.
+fn fields(start: &[u8]) -> Result<[u32; 128], LineCause>
+    ensures { result ≡ fields_at 0 (replicate 128 0) (words_left start.now) }
 {
-    let mut values = [0; 64];
+    let mut values = [0; 128];
     let mut least = 0;
     let mut left = start;
     while let Some((word, behind)) = next_word(left) {
-        let Some((index, value)) = pair(word) else {
+        let Some((place, value)) = pair(word) else {
             return Err(LineCause::Fields);
         };
-        if index < least {
+        if place < least {
             return Err(LineCause::Fields);
         }
-        values[index] = value;
-        least = index + 1;
+        values[place] = value;
+        least = place + 1;
         left = behind;
     }
     Ok(values)
+}
+
+/// A word cut to 16 bits, as a signed value.
+fn short(word: u32) -> i16
+    ensures { result ≡ cast_signed w16 (word % 2 ^ 16) }
+{
+    ((word % (1 << 16)) as u16).cast_signed()
+}
+
+/// Words cut to 16 bits, as signed values.
+fn shorts(words: &[u32]) -> [i16; 16]
+    requires { length words.now ≡ 16 }
+    ensures { result ≡ shorts_of words.now }
+{
+    let mut values = [0; 16];
+    for (k, word) in words.iter().enumerate() {
+        values[k] = short(*word);
+    }
+    values
+}
+
+/// The player of the values of all places.
+#[tactic(auto, unfolding(crate::specs::Lines::player_of))]
+fn player_of(values: &[u32; 128]) -> PlayerState
+    ensures { result ≡ player_of values.now }
+{
+    let mut words = [0; 64];
+    words.copy_from_slice(&values[..64]);
+    let mut powerups = [0; 16];
+    powerups.copy_from_slice(&values[112..]);
+    PlayerState {
+        words,
+        stats: shorts(&values[64..80]),
+        persistant: shorts(&values[80..96]),
+        ammo: shorts(&values[96..112]),
+        powerups,
+    }
 }
 
 #[tactic(auto, using(crate::proofs::Steps::client_steps))]
@@ -80,12 +119,11 @@ fn player(left: &[u8]) -> Result<Event, LineCause>
 {
     let (c, left) = next_word(left).ok_or(LineCause::Count)?;
     let c = client_word(c)?;
-    let words = fields(left)?;
-    let player = PlayerState {
-        words,
-        ..PlayerState::zero()
-    };
-    Ok(Event::Player { c, player })
+    let values = fields(left)?;
+    Ok(Event::Player {
+        c,
+        player: player_of(&values),
+    })
 }
 
 #[tactic(auto, using(crate::proofs::Steps::serve_steps))]

@@ -1,7 +1,7 @@
 //! Numbers in decimal, and the words that are made of several.
 
-ghost use Rattle.std.specs.Prelude.{◌≡◌, ◌<◌, ◌≤◌, IfSome, option_map};
-ghost use Rattle.q3_script.specs.Numbers.{number_at, cut, address_at, pair_at};
+ghost use Rattle.std.specs.Prelude.{◌≡◌, ◌+◌, ◌<◌, ◌≤◌, IfSome, option_map};
+ghost use Rattle.q3_script.specs.Numbers.{number_at, cut, address_at, place_at, pair_at};
 
 use q3_io::Address;
 
@@ -62,13 +62,31 @@ pub fn address(word: &[u8]) -> Option<Address>
     })
 }
 
-/// The index of a field and its word.
+/// The place and the value of an index up to `last` and a word; the places count on from `first`.
+#[tactic(auto, unfolding(crate::specs::Numbers::place_at))]
+fn place(text: &[u8], first: u32, last: u32) -> Option<(usize, u32)>
+    requires { first + last < 128 }
+    ensures value { result ≡ place_at first last text.now }
+    ensures within { IfSome result (λ pair. pair.0 < 128) }
+{
+    let (index, value) = cut_at(text, b':')?;
+    let place = first + number(index, 0, last)?;
+    Some((place as usize, number(value, 0, u32::MAX)?))
+}
+
+/// The place and the value of a word of a player's line. The fields have the places 0 to 63; behind them stand the
+/// arrays, each with 16 places, in the order of their letters: `s`, `p`, `a` and `u`.
 #[tactic(auto, unfolding(crate::specs::Numbers::pair_at))]
 pub fn pair(word: &[u8]) -> Option<(usize, u32)>
     ensures value { result ≡ pair_at word.now }
-    ensures within { IfSome result (λ field. field.0 < 64) }
+    ensures within { IfSome result (λ pair. pair.0 < 128) }
 {
-    let (index, value) = cut_at(word, b':')?;
-    let index = number(index, 0, 63)? as usize;
-    Some((index, number(value, 0, u32::MAX)?))
+    match word {
+        [] => None,
+        [b's', text @ ..] => place(text, 64, 15),
+        [b'p', text @ ..] => place(text, 80, 15),
+        [b'a', text @ ..] => place(text, 96, 15),
+        [b'u', text @ ..] => place(text, 112, 15),
+        _ => place(word, 0, 63),
+    }
 }

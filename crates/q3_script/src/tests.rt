@@ -5,7 +5,7 @@ use std::test::*;
 
 /// One line of each kind, with two between them that are passed over.
 const SCRIPT: &str =
-    "client 0 17 5000 1 10.0.0.1:27960\ntime 1000\n\nplayer 0 1:7\nserve 0\n# a note\ndeliver 1\nshow 0\n";
+    "client 0 17 5000 1 10.0.0.1:27960\ntime 1000\n\nplayer 0 1:7 s3:65535 s4:32768 s5:65536 p0:1 a15:7 u0:65536 u15:4294967295\nserve 0\n# a note\ndeliver 1\nshow 0\n";
 
 #[test]
 fn one_line_of_each_kind(rt: HostRuntime) -> Result<(), Fail> {
@@ -14,6 +14,12 @@ fn one_line_of_each_kind(rt: HostRuntime) -> Result<(), Fail> {
         .ok_or("the script is a good one")?;
     let mut player = PlayerState::zero();
     player.words[1] = 7;
+    player.stats[3] = -1;
+    player.stats[4] = -32_768;
+    player.persistant[0] = 1;
+    player.ammo[15] = 7;
+    player.powerups[0] = 65_536;
+    player.powerups[15] = 4_294_967_295;
     let wanted = [
         Event::Client {
             c: 0,
@@ -48,7 +54,13 @@ fn bad_scripts(rt: HostRuntime) {
         ("player 0 \n", 1, LineCause::Fields),
         ("player 0 1:1 1:2\n", 1, LineCause::Fields),
         ("player 0 64:1\n", 1, LineCause::Fields),
-        ("player 0 s1:1\n", 1, LineCause::Fields),
+        ("player 0 s0:1 0:1\n", 1, LineCause::Fields),
+        ("player 0 p1:1 s1:1\n", 1, LineCause::Fields),
+        ("player 0 s1:1 s1:2\n", 1, LineCause::Fields),
+        ("player 0 s16:1\n", 1, LineCause::Fields),
+        ("player 0 x1:1\n", 1, LineCause::Fields),
+        ("player 0 s:1\n", 1, LineCause::Fields),
+        ("player 0 u15:4294967296\n", 1, LineCause::Fields),
         ("client 0 1 2 3 10.0.0.256:1\n", 1, LineCause::Address),
         ("client 0 1 2 9 x\n", 1, LineCause::Number),
     ];

@@ -6,12 +6,12 @@ use Rattle.q3_script.proofs.line.fields.Goals as goal
 pub returns-in_default-pair : goal.returns-in_default-pair
 returns-in_default-pair c = fields_at_none c.loop-word.least c.loop-word.values c.in-Some.word.now (words_left c.in-Some.behind.now) (words_left c.loop-word.left.now) _ c.in-Some.ensures c.in_default-pair.ensures.value c.loop-word.invariant.told
 
-pub returns-then-index-least : goal.returns-then-index-least
-returns-then-index-least c = fields_at_low c.loop-word.least c.loop-word.values c.in-Some.word.now (words_left c.in-Some.behind.now) (words_left c.loop-word.left.now) c.in-Some-pair.index c.in-Some-pair.value _ c.in-Some.ensures c.in-Some-pair.ensures.value c.if-index-least.true c.loop-word.invariant.told
+pub returns-then-place-least : goal.returns-then-place-least
+returns-then-place-least c = fields_at_low c.loop-word.least c.loop-word.values c.in-Some.word.now (words_left c.in-Some.behind.now) (words_left c.loop-word.left.now) c.in-Some-pair.place c.in-Some-pair.value _ c.in-Some.ensures c.in-Some-pair.ensures.value c.if-place-least.true c.loop-word.invariant.told
 
 pub loop-word-preserved : goal.loop-word-preserved
 loop-word-preserved c = record {
-  told = fields_at_more c.loop-word.least c.loop-word.values c.in-Some.word.now (words_left c.in-Some.behind.now) (words_left c.loop-word.left.now) c.in-Some-pair.index c.in-Some-pair.value _ c.in-Some.ensures c.in-Some-pair.ensures.value c.if-index-least.false c.loop-word.invariant.told;
+  told = fields_at_more c.loop-word.least c.loop-word.values c.in-Some.word.now (words_left c.in-Some.behind.now) (words_left c.loop-word.left.now) c.in-Some-pair.place c.in-Some-pair.value _ c.in-Some.ensures c.in-Some-pair.ensures.value c.if-place-least.false c.loop-word.invariant.told;
   size = simp length-set c.loop-word.invariant.size;
 }
 
