@@ -1,24 +1,26 @@
 -- Lines of text, put together from pieces.
-use Rattle.std.specs.Prelude.{◌≡◌, ℕ, ◌+◌, ◌==◌, if◌then◌else◌, List, [], ◌∷◌, ◌++◌, codes, decimal, Option, Some, None, Result, Ok, Err}
+use Rattle.std.specs.Prelude.{◌≡◌, ℕ, ◌+◌, ◌==◌, if◌then◌else◌, List, [], ◌∷◌, ◌++◌, map, codes, decimal, Option, Some, None, Result, Ok, Err}
 use Rattle.std.specs.List.{flat_map}
+use Rattle.std.specs.Int.{w32, cast_unsigned}
 use Rattle.q3_io.specs.Quoted.{quoted}
 use Rattle.q3_io.specs.declared.sink.Failed.{Failed}
 use Rattle.q3_io.specs.declared.print.Piece.{Piece}
-use Rattle.q3_io.specs.declared.print.Piece.TheVariants.{Text, Number, Words, Quoted}
+use Rattle.q3_io.specs.declared.print.Piece.TheVariants.{Text, Number, Words, Signed, Quoted}
 
--- a word by its index, with a space before it, if it isn't 0
-abbrev pub word_text : ℕ → ℕ → List ℕ
-word_text index word = if word == 0 then [] else codes " " ++ decimal index ++ codes ":" ++ decimal word
+-- a word by its letter and index, with a space before it, if it isn't 0
+abbrev pub word_text : List ℕ → ℕ → ℕ → List ℕ
+word_text letter index word = if word == 0 then [] else codes " " ++ letter ++ decimal index ++ codes ":" ++ decimal word
 
--- the words that aren't 0, by index from this one on
-unfoldable pub words_text : ℕ → List ℕ → List ℕ
-words_text index [] = []
-words_text index (word ∷ words) = word_text index word ++ words_text (index + 1) words
+-- the words that aren't 0, behind a letter, by index from this one on
+unfoldable pub words_text : List ℕ → ℕ → List ℕ → List ℕ
+words_text letter index [] = []
+words_text letter index (word ∷ words) = word_text letter index word ++ words_text letter (index + 1) words
 
 abbrev pub piece_text : Piece → List ℕ
 piece_text (Text text) = text.now
 piece_text (Number number) = decimal number
-piece_text (Words words) = words_text 0 words.now
+piece_text (Words letter words) = words_text letter.now 0 words.now
+piece_text (Signed letter values) = words_text letter.now 0 (map (cast_unsigned w32) values.now)
 piece_text (Quoted text) = quoted text.now
 
 -- pieces, one behind the other

@@ -18,8 +18,10 @@ use std::marker::Model;
 pub enum Piece<'a> {
     Text(&'a [u8]),
     Number(u64),
-    /// The words that aren't 0, each as its index and its value.
-    Words(&'a [u32; 64]),
+    /// The words that aren't 0, each as a letter or nothing, its index and its value.
+    Words { letter: &'a [u8], words: &'a [u32] },
+    /// The same of signed values, as words of 32 bits.
+    Signed { letter: &'a [u8], values: &'a [i16] },
     /// A text in quotes, spelled as in a script.
     Quoted(&'a [u8]),
 }
@@ -91,7 +93,8 @@ impl Line {
         match piece {
             Piece::Text(text) => self.add(text, out),
             Piece::Number(number) => self.add_number(*number, out),
-            Piece::Words(words) => self.add_words(words, out),
+            Piece::Words { letter, words } => self.add_words(letter, words, out),
+            Piece::Signed { letter, values } => self.add_signed(letter, values, out),
             Piece::Quoted(text) => self.add_quoted(text, out),
         }
     }

@@ -1,4 +1,6 @@
 pub mod State
+pub mod Arrays
 pub mod Delta
 pub mod Spelling
 pub mod Laws
+pub mod Report

@@ -1,27 +1,70 @@
--- The spellings of a player delta that a reader accepts: also a larger count, and a field marked as changed that isn't.
-use Rattle.std.specs.Prelude.{◌≡◌, ◌⊎◌, ℕ, suc, ◌^◌, ◌<◌, ◌≤◌, Bool, List, [], ◌∷◌, ◌++◌}
+-- The spellings of a player delta that a reader accepts: also a larger count, a field or a place that is marked as
+-- changed and isn't, and arrays that are marked as changed without a changed place.
+use Rattle.std.specs.Prelude.{◌≡◌, ◌⊎◌, ℕ, ◌≤◌, Bool, List, [], ◌∷◌, ◌++◌, length, take}
 use Rattle.q3_bits.specs.Words.{field_bits}
+use Rattle.q3_fields.specs.declared.kind.Kind.{Kind}
+use Rattle.q3_fields.specs.Spelling.{SpellsPlayerField}
 use Rattle.q3_player.specs.declared.state.PlayerState.{PlayerState}
-use Rattle.q3_player.specs.State.{field_count}
+use Rattle.q3_player.specs.State.{patterns_of}
+use Rattle.q3_player.specs.Arrays.{Change, mask_of, with_changes, AreRising, signed_places, powerup_places}
 
 -- a field that is as it was, or one that is marked as changed, whatever it was
-abbrev pub SpellsField : List (List Bool) → ℕ → ℕ → List Bool → Type 0
-SpellsField words from to text =
+abbrev pub SpellsField : List (List Bool) → Kind → ℕ → ℕ → List Bool → Type 0
+SpellsField words kind from to text =
     ((to ≡ from) × (text ≡ field_bits words 1 0))
-    ⊎ ((to < 2 ^ 16) × (text ≡ field_bits words 1 1 ++ field_bits words 16 to))
+    ⊎ ((field : List Bool) × SpellsPlayerField words kind to field × (text ≡ field_bits words 1 1 ++ field))
 
--- the first fields, so many, are spelled, and the words behind them stay
-abbrev pub SpellsFields : List (List Bool) → ℕ → List ℕ → List ℕ → List Bool → Type 0
-SpellsFields words (suc count) (x ∷ from) to text =
+-- the fields of these kinds are spelled, and the words behind them stay
+abbrev pub SpellsFields : List (List Bool) → List Kind → List ℕ → List ℕ → List Bool → Type 0
+SpellsFields words (kind ∷ kinds) (x ∷ from) to text =
     (y : ℕ) × (others : List ℕ) × (first : List Bool) × (rest : List Bool) × (to ≡ y ∷ others) × (text ≡ first ++ rest)
-    × SpellsField words x y first × SpellsFields words count from others rest
-SpellsFields words count from to text = (to ≡ from) × (text ≡ [])
+    × SpellsField words kind x y first × SpellsFields words kinds from others rest
+SpellsFields words kinds from to text = (to ≡ from) × (text ≡ [])
+
+-- the values of these places are spelled one after the other
+abbrev pub SpellsValues : List (List Bool) → Kind → List Change → List Bool → Type 0
+SpellsValues words kind [] text = text ≡ []
+SpellsValues words kind (change ∷ others) text =
+    (first : List Bool) × (rest : List Bool) × (text ≡ first ++ rest) × SpellsPlayerField words kind change.1 first × SpellsValues words kind others rest
+
+-- an array: unmarked and as it was, or marked, with a map of values that are put over it
+abbrev pub SpellsArray : List (List Bool) → Kind → List ℕ → List ℕ → List Bool → Type 0
+SpellsArray words kind from to text =
+    ((to ≡ from) × (text ≡ field_bits words 1 0))
+    ⊎ ((changed : List Change) × (values : List Bool) × AreRising 0 changed × (to ≡ with_changes from changed) × SpellsValues words kind changed values
+    × (text ≡ field_bits words 1 1 ++ field_bits words 16 (mask_of changed) ++ values))
+
+-- the four arrays, one after the other
+pub record SpellsArrays (words : List (List Bool)) (from to : PlayerState) (text : List Bool) : Type 0 where
+  pub stats : List Bool
+  pub persistant : List Bool
+  pub ammo : List Bool
+  pub powerups : List Bool
+  pub of_stats : SpellsArray words signed_places (patterns_of from.stats) (patterns_of to.stats) stats
+  pub of_persistant : SpellsArray words signed_places (patterns_of from.persistant) (patterns_of to.persistant) persistant
+  pub of_ammo : SpellsArray words signed_places (patterns_of from.ammo) (patterns_of to.ammo) ammo
+  pub of_powerups : SpellsArray words powerup_places from.powerups to.powerups powerups
+  pub whole : text ≡ stats ++ persistant ++ ammo ++ powerups
+
+-- two states with the same arrays
+pub record SameArrays (one other : PlayerState) : Type 0 where
+  pub stats : one.stats ≡ other.stats
+  pub persistant : one.persistant ≡ other.persistant
+  pub ammo : one.ammo ≡ other.ammo
+  pub powerups : one.powerups ≡ other.powerups
+
+-- all four unmarked and as they were, or marked and spelled
+abbrev pub SpellsMarked : List (List Bool) → PlayerState → PlayerState → List Bool → Type 0
+SpellsMarked words from to text =
+    (SameArrays from to × (text ≡ field_bits words 1 0))
+    ⊎ ((arrays : List Bool) × SpellsArrays words from to arrays × (text ≡ field_bits words 1 1 ++ arrays))
 
 -- the text spells the state `to` against the state `from`
-pub record SpellsPlayer (words : List (List Bool)) (from to : PlayerState) (text : List Bool) : Type 0 where
+pub record SpellsPlayer (words : List (List Bool)) (table : List Kind) (from to : PlayerState) (text : List Bool) : Type 0 where
   pub count : ℕ
   pub fields : List Bool
-  pub in_table : count ≤ field_count
-  pub whole : text ≡ field_bits words 8 count ++ fields ++ field_bits words 1 0
-  pub spelled : SpellsFields words count from.words to.words fields
-  pub others : to ≡ record from { words = to.words }
+  pub arrays : List Bool
+  pub in_table : count ≤ length table
+  pub of_fields : SpellsFields words (take count table) from.words to.words fields
+  pub of_arrays : SpellsMarked words from to arrays
+  pub whole : text ≡ field_bits words 8 count ++ fields ++ arrays

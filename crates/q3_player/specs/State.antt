@@ -1,10 +1,30 @@
--- Player states: the zero state, and the normal form that a state is kept in.
-use Rattle.std.specs.Prelude.{◌≡◌, ℕ, ◌-◌, ◌^◌, ◌%◌, ◌++◌, List, map, take, replicate, pos}
+-- Player states: what the program's type holds, the zero state, and the normal form that a state is kept in.
+use Rattle.std.specs.Prelude.{◌≡◌, ℕ, ◌^◌, ◌<◌, List, [], ◌∷◌, length, map, replicate, All, ℤ, pos, neg_ℤ, ◌≤ℤ◌}
+use Rattle.std.specs.Int.{w32, cast_unsigned}
+use Rattle.q3_fields.specs.declared.kind.Kind.{Kind}
+use Rattle.q3_fields.specs.Kinds.{norm}
 use Rattle.q3_player.specs.declared.state.PlayerState.{PlayerState}
 
--- how many fields the player table has
-abbrev pub field_count : ℕ
-field_count = 2
+-- so many words of 32 bits
+pub record AreWords (places : ℕ) (words : List ℕ) : Type 0 where
+  pub count : length words ≡ places
+  pub each : All (λ word. word < 2 ^ 32) words
+
+abbrev pub IsShort : ℤ → Type 0
+IsShort value = (neg_ℤ (pos 32768) ≤ℤ value) × (value ≤ℤ pos 32767)
+
+-- 16 signed values of 16 bits
+pub record AreShorts (values : List ℤ) : Type 0 where
+  pub count : length values ≡ 16
+  pub each : All IsShort values
+
+-- a state as the program's type holds it
+pub record IsState (player : PlayerState) : Type 0 where
+  pub words : AreWords 64 player.words
+  pub stats : AreShorts player.stats
+  pub persistant : AreShorts player.persistant
+  pub ammo : AreShorts player.ammo
+  pub powerups : AreWords 16 player.powerups
 
 -- the state with nothing in it
 unfoldable pub zero_player : PlayerState
@@ -16,24 +36,19 @@ zero_player = record {
   powerups = replicate 16 0;
 }
 
--- a word of an unsigned field of 16 bits, cut to them
-abbrev pub norm : ℕ → ℕ
-norm word = word % 2 ^ 16
+-- signed values as words of 32 bits
+abbrev pub patterns_of : List ℤ → List ℕ
+patterns_of values = map (cast_unsigned w32) values
 
--- the table's words cut to their fields, and the others 0
-abbrev pub normal_words : List ℕ → List ℕ
-normal_words words = map norm (take field_count words) ++ replicate (64 - field_count) 0
+-- each word in the normal form of its field, and 0 behind the table's fields
+unfoldable pub normal_words : List Kind → List ℕ → List ℕ
+normal_words (kind ∷ table) (word ∷ words) = norm kind word ∷ normal_words table words
+normal_words [] (word ∷ words) = 0 ∷ normal_words [] words
+normal_words table [] = []
 
--- a state in normal form
-abbrev pub normal_player : PlayerState → PlayerState
-normal_player player = record player { words = normal_words player.words }
+-- a state in normal form; the arrays' values have no other
+abbrev pub normal_player : List Kind → PlayerState → PlayerState
+normal_player table player = record player { words = normal_words table player.words }
 
-abbrev pub IsNormal : PlayerState → Type 0
-IsNormal player = normal_player player ≡ player
-
--- two states with the same four arrays
-pub record SameArrays (one other : PlayerState) : Type 0 where
-  pub stats : one.stats ≡ other.stats
-  pub persistant : one.persistant ≡ other.persistant
-  pub ammo : one.ammo ≡ other.ammo
-  pub powerups : one.powerups ≡ other.powerups
+abbrev pub IsNormal : List Kind → PlayerState → Type 0
+IsNormal table player = normal_player table player ≡ player

@@ -2,11 +2,10 @@
 
 ghost use Rattle.std.specs.Prelude.{◌≡◌};
 
-/// How many fields the player table has: two unsigned fields of 16 bits.
-pub const FIELDS: usize = 2;
+use q3_fields::{Table, norm};
 
 /// A player as the game hands it in and as a snapshot carries it: the words of the table's fields,
-/// and four arrays of 16 values.
+/// and four arrays of 16 values, of which the first three hold signed values.
 #[derive(Clone, Copy, Debug, PartialEq, Eq)]
 pub struct PlayerState {
     pub words: [u32; 64],
@@ -17,7 +16,7 @@ pub struct PlayerState {
 }
 
 impl PlayerState {
-    ghost use Rattle.q3_player.specs.State.{zero_player, normal_player};
+    ghost use Rattle.q3_player.specs.State.{zero_player, normal_player, IsState};
 
     /// The state with nothing in it.
     #[tactic(auto, unfolding(crate::specs::State::zero_player))]
@@ -33,14 +32,19 @@ impl PlayerState {
         }
     }
 
-    /// The normal form: the table's words cut to their fields, and the words behind them 0.
-    pub fn normal(&self) -> PlayerState
-        ensures { result ≡ normal_player self.now }
+    /// The normal form: each word in that of its field, and the words behind the table's fields 0.
+    pub fn normal(&self, table: &Table) -> PlayerState
+        ensures { result ≡ normal_player table.now self.now }
     {
         let mut words = [0; 64];
-        for k in 0..FIELDS {
-            words[k] = self.words[k] % (1 << 16);
+        for k in 0..table.count() {
+            // by table.kind(k) and norm
         }
         PlayerState { words, ..*self }
     }
+
+    /// Every state has words of 32 bits and signed values of 16. This does nothing.
+    pub fn is_state(&self)
+        ensures { IsState self.now }
+    {}
 }

@@ -1,0 +1,40 @@
+-- The four arrays of a player: what changed in one is a finite map from places to values, by rising place.
+use Rattle.std.specs.Prelude.{◌≡◌, ℕ, ◌+◌, ◌^◌, ◌<◌, ◌≤◌, ◌==◌, if◌then◌else◌, List, [], ◌∷◌, slice_set}
+use Rattle.q3_fields.specs.declared.kind.Kind.{Kind}
+use Rattle.q3_fields.specs.declared.kind.Kind.TheVariants.{Unsigned, Signed}
+
+-- what an array holds: three of them signed values of 16 bits, the powerups words of 32
+abbrev pub signed_places : Kind
+signed_places = Signed 16
+
+abbrev pub powerup_places : Kind
+powerup_places = Unsigned 32
+
+-- a place that changed, and its value
+abbrev pub Change : Type 0
+Change = ℕ × ℕ
+
+-- what changed, counted from a place on
+unfoldable pub changes_from : ℕ → List ℕ → List ℕ → List Change
+changes_from place (x ∷ from) (y ∷ to) =
+    if x == y then changes_from (place + 1) from to else (place, y) ∷ changes_from (place + 1) from to
+changes_from place from to = []
+
+-- what changed from one array to another
+abbrev pub changes : List ℕ → List ℕ → List Change
+changes from to = changes_from 0 from to
+
+-- the mask of the places: a bit for each
+unfoldable pub mask_of : List Change → ℕ
+mask_of [] = 0
+mask_of (change ∷ others) = 2 ^ change.0 + mask_of others
+
+-- these values put over an array
+unfoldable pub with_changes : List ℕ → List Change → List ℕ
+with_changes values [] = values
+with_changes values (change ∷ others) = with_changes (slice_set values change.0 change.1) others
+
+-- the places rise, from least on, and are below 16
+abbrev pub AreRising : ℕ → List Change → Type 0
+AreRising least [] = Unit {0}
+AreRising least (change ∷ others) = (least ≤ change.0) × (change.0 < 16) × AreRising (change.0 + 1) others
