@@ -87,7 +87,7 @@ impl Table {
         self.count
     }
 
-    /// The end mark of entity numbers, which are below it: 1023.
+    /// The end mark of an entity list. The numbers of entities are below it.
     pub fn end(&self) -> u16
         ensures { result ≡ end_mark self.now }
     {

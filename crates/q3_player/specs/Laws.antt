@@ -4,7 +4,7 @@ use Rattle.q3_bits.specs.Words.{IsCode}
 use Rattle.q3_fields.specs.declared.kind.Kind.{Kind}
 use Rattle.q3_fields.specs.Kinds.{IsTable}
 use Rattle.q3_player.specs.declared.state.PlayerState.{PlayerState}
-use Rattle.q3_player.specs.State.{normal_player, IsState, IsNormal}
+use Rattle.q3_player.specs.State.{zero_player, normal_player, IsState, IsNormal}
 use Rattle.q3_player.specs.Delta.{last_changed, player_delta, player_at}
 use Rattle.q3_player.specs.Spelling.{SpellsPlayer}
 
@@ -40,3 +40,7 @@ abbrev pub WrittenIsRead : Type 0
 WrittenIsRead = (words : List (List Bool)) (table : List Kind) (from to : PlayerState) (rest : List Bool) → IsCode words → IsTable table
     → IsState from → IsNormal table from → IsState to
     → player_at words table from (player_delta words table from to ++ rest) ≡ Ok (normal_player table to, rest)
+
+-- the zero state is a state, in the normal form of every table
+abbrev pub ZeroIsNormal : Type 0
+ZeroIsNormal = (table : List Kind) → IsTable table → IsState zero_player × IsNormal table zero_player

@@ -4,3 +4,4 @@ pub mod Delta
 pub mod Steps
 pub mod Spelling
 pub mod Laws
+pub mod Report

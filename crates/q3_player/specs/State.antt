@@ -6,8 +6,8 @@ use Rattle.q3_fields.specs.Kinds.{norm}
 use Rattle.q3_player.specs.declared.state.PlayerState.{PlayerState}
 
 -- so many words of 32 bits
-pub record AreWords (most : ℕ) (words : List ℕ) : Type 0 where
-  pub count : length words ≡ most
+pub record AreWords (places : ℕ) (words : List ℕ) : Type 0 where
+  pub count : length words ≡ places
   pub each : All (λ word. word < 2 ^ 32) words
 
 abbrev pub IsShort : ℤ → Type 0

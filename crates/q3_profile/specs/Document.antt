@@ -1,0 +1,62 @@
+-- The profile's file as a document: what stands under a key.
+use Rattle.std.specs.Prelude.{◌≡◌, ℕ, ◌&&◌, if◌then◌else◌, Bool, List, [], ◌∷◌, codes, chars, bytes_eq, encode_utf8_all, ℤ, Option, Some, None, Result, Ok, Err}
+use Rattle.std.specs.Str.{all_scalars}
+use Rattle.toml.specs.Data.{Data, Items, no_items, item, Members, get_member, as_integer, as_str, as_array}
+use Rattle.toml.specs.Parse.{parse_document}
+use Rattle.q3_profile.specs.declared.error.Key.{Key}
+use Rattle.q3_profile.specs.declared.error.Key.TheVariants as keys
+use Rattle.q3_profile.specs.declared.error.ProfileError.{ProfileError}
+use Rattle.q3_profile.specs.declared.error.ProfileError.TheVariants.{Missing, Kind}
+
+-- whether the bytes are the UTF-8 of the characters that they decode to
+abbrev pub is_utf8 : List ℕ → Bool
+is_utf8 bytes = all_scalars (chars bytes) && bytes_eq (encode_utf8_all (chars bytes)) bytes
+
+-- the document that the bytes are: TOML in UTF-8
+unfoldable pub document_of : List ℕ → Option Members
+document_of bytes = if is_utf8 bytes then parse_document bytes else None
+
+-- a key as the file spells it; the file itself has none
+abbrev pub key_name : Key → List ℕ
+key_name keys.File = []
+key_name keys.Protocol = codes "protocol"
+key_name keys.ServerRing = codes "server_ring"
+key_name keys.ParseRing = codes "parse_ring"
+key_name keys.Entity = codes "entity"
+key_name keys.Player = codes "player"
+key_name keys.Code = codes "code"
+
+infixl 10 ◌>>=◌
+abbrev pub ◌>>=◌ : {A B E : Type 0} → Result A E → (A → Result B E) → Result B E
+(Ok x) >>= f = f x
+(Err e) >>= f = Err e
+
+abbrev pub or_error : {A E : Type 0} → Option A → E → Result A E
+or_error (Some x) e = Ok x
+or_error None e = Err e
+
+-- each item, where all are of the type
+unfoldable pub items_as : {A : Type 0} → (Data → Option A) → Items → Option (List A)
+items_as type no_items = Some []
+items_as type (item one others) = both (type one) (items_as type others)
+  where
+    both : {A : Type 0} → Option A → Option (List A) → Option (List A)
+    both (Some x) (Some xs) = Some (x ∷ xs)
+    both x xs = None
+
+-- what stands under a key
+abbrev pub value_at : Key → Members → Result Data ProfileError
+value_at key document = or_error (get_member (key_name key) document) (Missing key)
+
+-- the integer under a key
+unfoldable pub integer_at : Key → Members → Result ℤ ProfileError
+integer_at key document = do
+  value ← value_at key document
+  or_error (as_integer value) (Kind key)
+
+-- the array under a key, whose items are all integers, or all texts
+unfoldable pub array_at : {A : Type 0} → (Data → Option A) → Key → Members → Result (List A) ProfileError
+array_at type key document = do
+  value ← value_at key document
+  items ← or_error (as_array value) (Kind key)
+  or_error (items_as type items) (Kind key)

@@ -1,0 +1,90 @@
+-- The profile that a file's bytes spell, or the first rule that they break.
+use Rattle.std.specs.Prelude.{◌≡◌, ℕ, ◌^◌, ◌≤◌, ◌==◌, ◌&&◌, if◌then◌else◌, Bool, true, false, List, length, map, nat_lt, nat_le, ℤ, pos, negsuc, Option, Some, None, Result, Ok, Err}
+use Rattle.std.specs.List.{range_with_len, list_any}
+use Rattle.toml.specs.Data.{Members, as_integer, as_str}
+use Rattle.q3_bits.specs.Words.{IsCode}
+use Rattle.q3_bits.specs.CodeWords.{bits_of_text, code_fault}
+use Rattle.q3_bits.specs.declared.words.CodeError.{CodeError}
+use Rattle.q3_fields.specs.declared.kind.Kind.{Kind as FieldKind}
+use Rattle.q3_fields.specs.declared.table.TableError.{TableError}
+use Rattle.q3_fields.specs.declared.table.TableError.TheVariants as table
+use Rattle.q3_fields.specs.Kinds.{IsTable, table_of}
+use Rattle.q3_profile.specs.declared.error.Key.{Key}
+use Rattle.q3_profile.specs.declared.error.Key.TheVariants.{File, Protocol, ServerRing, ParseRing, Entity, Player, Code}
+use Rattle.q3_profile.specs.declared.error.ProfileError.{ProfileError}
+use Rattle.q3_profile.specs.declared.error.ProfileError.TheVariants as errors
+use Rattle.q3_profile.specs.declared.profile.Profile.{Profile}
+use Rattle.q3_profile.specs.Document.{◌>>=◌, or_error, document_of, integer_at, array_at}
+use Rattle.q3_profile.specs.Mark.{mark_of}
+
+-- the longest file
+abbrev pub longest_profile : ℕ
+longest_profile = 1048576
+
+
+abbrev pub is_protocol : ℕ → Bool
+is_protocol n = n == 68
+
+-- 256 to 262,144 places
+abbrev pub is_server_ring : ℕ → Bool
+is_server_ring n = nat_le 256 n && nat_le n 262144
+
+-- a power of two from 512 to 65,536
+abbrev pub is_parse_ring : ℕ → Bool
+is_parse_ring n = list_any (λ e. n == 2 ^ e) (range_with_len 9 8)
+
+-- the number under a key, where it meets the key's rule
+abbrev pub number_at : Key → (ℕ → Bool) → Members → Result ℕ ProfileError
+number_at key rule document = do
+  number ← integer_at key document
+  ruled number
+  where
+    ruled : ℤ → Result ℕ ProfileError
+    ruled (pos n) = if rule n then Ok n else Err (errors.Limit key)
+    ruled (negsuc n) = Err (errors.Limit key)
+
+abbrev pub table_error : {A : Type 0} → Key → Result A TableError → Result A ProfileError
+table_error key (Ok x) = Ok x
+table_error key (Err table.Fields) = Err (errors.Fields key)
+table_error key (Err (table.Width i)) = Err (errors.Width key i)
+
+-- the table of the widths under a key
+abbrev pub table_at : Key → Members → Result (List FieldKind) ProfileError
+table_at key document = do
+  widths ← array_at as_integer key document
+  table_error key (table_of widths)
+
+-- the code of these texts
+abbrev pub code_of : List (List ℕ) → Result (List (List Bool)) ProfileError
+code_of texts = unless (code_fault texts)
+  where
+    unless : Option CodeError → Result (List (List Bool)) ProfileError
+    unless None = Ok (map bits_of_text texts)
+    unless (Some e) = Err (errors.Code e)
+
+-- the keys in their order, each with its rule
+unfoldable pub profile_at : ℕ → Members → Result Profile ProfileError
+profile_at mark document = do
+  protocol ← number_at Protocol is_protocol document
+  server_ring ← number_at ServerRing is_server_ring document
+  parse_ring ← number_at ParseRing is_parse_ring document
+  entity ← table_at Entity document
+  player ← table_at Player document
+  texts ← array_at as_str Code document
+  code ← code_of texts
+  Ok (record { code = code; entity = entity; player = player; server_ring = server_ring; parse_ring = parse_ring; protocol = protocol; mark = mark })
+
+-- the profile of a file's bytes, or the first rule that fails: the length, the document, and then the keys
+unfoldable pub checked : List ℕ → Result Profile ProfileError
+checked bytes = do
+  document ← if nat_lt longest_profile (length bytes) then Err (errors.Limit File) else or_error (document_of bytes) errors.NotToml
+  profile_at (mark_of bytes) document
+
+-- a profile that passed its check
+pub record IsProfile (profile : Profile) : Type 0 where
+  pub code : IsCode profile.code
+  pub entity : IsTable profile.entity
+  pub player : IsTable profile.player
+  pub server_ring : (256 ≤ profile.server_ring) × (profile.server_ring ≤ 262144)
+  pub parse_ring : is_parse_ring profile.parse_ring ≡ true
+  pub protocol : profile.protocol ≡ 68

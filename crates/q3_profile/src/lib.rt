@@ -1,0 +1,10 @@
+//! The profile: code words, field tables and ring sizes, read from a file that the user writes.
+#![tactic(auto)]
+
+pub mod error;
+pub mod profile;
+mod read;
+
+pub use error::{Key, ProfileError};
+pub use profile::Profile;
+pub use read::read_profile;

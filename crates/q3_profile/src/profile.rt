@@ -1,0 +1,28 @@
+//! The profile.
+
+use q3_bits::{Code, NoMemory};
+use q3_fields::Table;
+use std::alloc::Global;
+
+/// Code words, field tables and sizes that both ends share.
+pub struct Profile {
+    pub code: Code,
+    /// The fields of entities.
+    pub entity: Table,
+    /// The fields of players.
+    pub player: Table,
+    /// How many entities the server's ring has room for: 256 to 262,144.
+    pub server_ring: u32,
+    /// How many entities a client's ring has room for: a power of two from 512 to 65,536.
+    pub parse_ring: u32,
+    /// The protocol: 68.
+    pub protocol: u32,
+    /// A number over the file's bytes.
+    pub mark: u64,
+}
+
+impl Profile {
+    /// The same profile once more. `Err` is want of memory.
+    pub fn copy(&self, alloc: Global) -> Result<Profile, NoMemory>
+        ensures { IfOk result (λ copy. copy ≡ self.now) }
+}
