@@ -1,6 +1,6 @@
 //! Laws of the player delta, each the contract of a call that does nothing but cite the laws below it.
 
-ghost use Rattle.q3_player.specs.Laws.{NormalIsNormal, LastChangedIsLeast, WrittenIsSpelled, ReadIsSpelled, SpelledIsRead, WrittenIsRead};
+ghost use Rattle.q3_player.specs.Laws.{NormalIsNormal, LastChangedIsLeast, WrittenIsSpelled, ReadIsSpelled, SpelledIsRead, WrittenIsRead, ZeroIsNormal};
 
 /// The normal form of a state is a state, in normal form.
 pub fn normal_is_normal()
@@ -45,3 +45,8 @@ pub fn written_is_read()
     written_is_spelled();
     spelled_is_read();
 }
+
+/// The state with nothing in it is a state, in the normal form of every table.
+pub fn zero_is_normal()
+    ensures { ZeroIsNormal }
+{}

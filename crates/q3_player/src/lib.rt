@@ -2,10 +2,12 @@
 #![tactic(auto)]
 
 pub mod laws;
+pub mod print;
 pub mod reading;
 pub mod state;
 pub mod writing;
 
+pub use print::print_words;
 pub use reading::{PlayerError, read_player};
 pub use state::PlayerState;
 pub use writing::write_player;
