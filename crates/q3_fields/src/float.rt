@@ -70,8 +70,8 @@ fn nearest(word: u32) -> i32
     number.min(4095)
 }
 
-/// The one number from 1 to 4096 whose exponent and fraction these may be: the bits above the point.
-/// Other exponents than its have 0.
+/// The one number from 1 to 4096 whose exponent and fraction these may be: the bits before the point.
+/// It is 0 where no such number has the exponent.
 fn leading_bits(word: u32) -> u32
     ensures most { result ≤ 4096 }
     ensures zero { word ≡ 0 → result ≡ 0 }

@@ -1,104 +1,35 @@
 -- The text of the first fields, as a loop writes it.
-use Rattle.std.proofs.Common.{◌≡◌, ℕ, suc, ◌+◌, ◌-◌, ◌/◌, ◌%◌, ◌≤◌, ◌<◌, Bool, List, [], ◌++◌, length, drop, get_or, refl, sym, ap, subst, ◌∙◌, append_assoc, arith}
-use Rattle.std.proofs.lemmas.List.{append-nil, length-append, drop_more}
-use Rattle.q3_bits.specs.Bits.{message_length, low_bits}
-use Rattle.q3_bits.specs.Words.{field_bits, bytes_bits}
-use Rattle.q3_bits.specs.Streams.{Writing, Extends}
-use Rattle.q3_player.specs.State.{norm}
+use Rattle.std.proofs.Common.{◌≡◌, ℕ, ◌+◌, ◌≤◌, ◌<◌, Bool, List, [], ◌∷◌, ◌++◌, length, take, drop, get_or, Some, slice_get, refl, sym, ap, ◌∙◌, arith}
+use Rattle.std.proofs.lemmas.List.{drop_more, drop_all, length-take-le, get_or-take}
+use Rattle.std.proofs.lemmas.Option.{slice_get_within, get_or_from_slice_get}
+use Rattle.q3_fields.specs.declared.kind.Kind.{Kind}
 use Rattle.q3_player.specs.Delta.{field_text, fields_text}
 
--- no bits and two words, of the bytes that a number cut to 16 bits has too
-pub field_bits-norm : (words : List (List Bool)) (value : ℕ) → field_bits words 16 value ≡ field_bits words 16 (norm value)
-unfolding field_bits low_bits bytes_bits
-field_bits-norm words value =
-    let low : norm value % 256 ≡ value % 256 = omega arith in
-    let high : norm value / 256 % 256 ≡ value / 256 % 256 = omega arith in
-    let one : value / 1 ≡ value = omega arith in
-    let cut : norm value / 1 ≡ norm value = omega arith in
-    rw (one, cut, low, high) refl
+-- the first of the kinds that are left, so many in all
+pub kinds-next : (table : List Kind) (count k : ℕ) (kind : Kind) → k < count → count ≤ length table → slice_get table k ≡ Some kind
+    → drop k (take count table) ≡ kind ∷ drop (k + 1) (take count table)
+kinds-next table count k kind more few is =
+    let long : length (take count table) ≡ count = length-take-le count table few in
+    let here : get_or (take count table) k kind ≡ kind = get_or-take count table k kind more ∙ get_or_from_slice_get table k kind kind is in
+    drop_more (take count table) k kind (omega arith) ∙ ap (λ (x : Kind). x ∷ drop (k + 1) (take count table)) here
+
+-- no kind is left
+pub kinds-end : (table : List Kind) (count k : ℕ) → count ≤ k → count ≤ length table → drop k (take count table) ≡ []
+kinds-end table count k past few =
+    let long : length (take count table) ≡ count = length-take-le count table few in
+    drop_all k (take count table) (omega arith)
 
 -- what is left of the text, one field on
-pub fields_text-next : (words same : List (List Bool)) (count k : ℕ) (from to : List ℕ) → same ≡ words → k < count → k < length from → k < length to
-    → fields_text words (count - k) (drop k from) (drop k to)
-    ≡ field_text same (get_or from k 0) (get_or to k 0) ++ fields_text words (count - (k + 1)) (drop (k + 1) from) (drop (k + 1) to)
+pub fields_text-next : (words same : List (List Bool)) (table : List Kind) (count k : ℕ) (kind : Kind) (from to : List ℕ) → same ≡ words
+    → k < count → count ≤ length table → slice_get table k ≡ Some kind → k < length from → k < length to
+    → fields_text words (drop k (take count table)) (drop k from) (drop k to)
+    ≡ field_text same kind (get_or from k 0) (get_or to k 0) ++ fields_text words (drop (k + 1) (take count table)) (drop (k + 1) from) (drop (k + 1) to)
 unfolding fields_text
-fields_text-next words same count k from to is more within within' =
-    let next : count - k ≡ suc (count - (k + 1)) = omega arith in
-    rw (is, next, drop_more from k 0 within, drop_more to k 0 within') refl
+fields_text-next words same table count k kind from to is more few here within within' =
+    rw (is, kinds-next table count k kind more few here, drop_more from k 0 within, drop_more to k 0 within') refl
 
 -- nothing is left at the end
-pub fields_text-end : (words : List (List Bool)) (count k : ℕ) (from to : List ℕ) → count ≤ k → fields_text words (count - k) from to ≡ []
+pub fields_text-end : (words : List (List Bool)) (table : List Kind) (count k : ℕ) (from to : List ℕ) → count ≤ k → count ≤ length table
+    → fields_text words (drop k (take count table)) from to ≡ []
 unfolding fields_text
-fields_text-end words count k from to past =
-    let none : count - k ≡ 0 = omega arith in
-    rw none refl
-
--- a front of the whole was written behind what stood at the start and fits the room, and others are left of it
-pub record HasWritten (start now : Writing) (left whole : List Bool) : Type 0 where
-  pub written : List Bool
-  pub parts : written ++ left ≡ whole
-  pub behind : now ≡ record { words = start.words; bits = start.bits ++ written; room = start.room }
-  pub fits : message_length (length now.bits) ≤ start.room
-
--- the words stay
-pub HasWritten-words : (start now : Writing) (left whole : List Bool) → HasWritten start now left whole → now.words ≡ start.words
-HasWritten-words start now left whole h = ap (λ (w : Writing). w.words) h.behind
-
--- a piece that doesn't fit is part of a whole that doesn't
-pub HasWritten-overflow : (start now : Writing) (left whole piece others : List Bool) → HasWritten start now left whole → left ≡ piece ++ others
-    → now.room < message_length (length now.bits + length piece)
-    → start.room < message_length (length start.bits + length whole)
-HasWritten-overflow start now left whole piece others h cut over =
-    let room : now.room ≡ start.room = ap (λ (w : Writing). w.room) h.behind in
-    let bits : now.bits ≡ start.bits ++ h.written = ap (λ (w : Writing). w.bits) h.behind in
-    omega (arith, ap length bits, length-append start.bits h.written, ap length h.parts, length-append h.written left, ap length cut, length-append piece others)
-
--- a piece more is written
-pub HasWritten-more : (start now next : Writing) (left whole piece others : List Bool) → HasWritten start now left whole → left ≡ piece ++ others
-    → next ≡ record { words = now.words; bits = now.bits ++ piece; room = now.room }
-    → (now.room < message_length (length now.bits + length piece) → ⊥)
-    → HasWritten start next others whole
-HasWritten-more start now next left whole piece others h cut is enough =
-    let room : now.room ≡ start.room = ap (λ (w : Writing). w.room) h.behind in
-    let words : now.words ≡ start.words = ap (λ (w : Writing). w.words) h.behind in
-    let bits : now.bits ≡ start.bits ++ h.written = ap (λ (w : Writing). w.bits) h.behind in
-    let more : now.bits ++ piece ≡ start.bits ++ (h.written ++ piece) = rw bits (append_assoc start.bits h.written piece) in
-    rw is (record {
-      written = h.written ++ piece;
-      parts = append_assoc h.written piece others ∙ ap (λ (ys : List Bool). h.written ++ ys) (sym cut) ∙ h.parts;
-      behind = rw (words, room, more) refl;
-      fits = omega (arith, length-append now.bits piece);
-    })
-
--- a front of a text was written behind what stands before the text
-pub Extends-behind : (start now next : Writing) (before text others : List Bool) → now ≡ record { words = start.words; bits = start.bits ++ before; room = start.room }
-    → Extends now next text → Extends start next (before ++ text ++ others)
-Extends-behind start now next before text others behind front =
-    let room : now.room ≡ start.room = ap (λ (w : Writing). w.room) behind in
-    let words : now.words ≡ start.words = ap (λ (w : Writing). w.words) behind in
-    let bits : now.bits ≡ start.bits ++ before = ap (λ (w : Writing). w.bits) behind in
-    let more : now.bits ++ front.0 ≡ start.bits ++ (before ++ front.0) = rw bits (append_assoc start.bits before front.0) in
-    let regrouped : (before ++ front.0) ++ (front.1 ++ others) ≡ before ++ (front.0 ++ front.1) ++ others = simp append_assoc in
-    (before ++ front.0, front.1 ++ others, regrouped ∙ ap (λ (ys : List Bool). before ++ ys ++ others) front.2, front.3 ∙ rw (words, room, more) refl)
-
--- a front of the next piece is written
-pub HasWritten-front : (start now next : Writing) (left whole piece others : List Bool) → HasWritten start now left whole → left ≡ piece ++ others
-    → Extends now next piece → Extends start next whole
-HasWritten-front start now next left whole piece others h cut front =
-    let all : h.written ++ piece ++ others ≡ whole = append_assoc h.written piece others ∙ ap (λ (ys : List Bool). h.written ++ ys) (sym cut) ∙ h.parts in
-    subst (Extends start next) all (Extends-behind start now next h.written piece others h.behind front)
-
--- nothing is left
-pub HasWritten-all : (start now : Writing) (left whole : List Bool) → HasWritten start now left whole → left ≡ []
-    → now ≡ record { words = start.words; bits = start.bits ++ whole; room = start.room }
-HasWritten-all start now left whole h none =
-    let all : h.written ≡ whole = sym (append-nil h.written) ∙ ap (λ (ys : List Bool). h.written ++ ys) (sym none) ∙ h.parts in
-    h.behind ∙ rw all refl
-
--- the whole fits
-pub HasWritten-fits : (start now : Writing) (left whole : List Bool) → HasWritten start now left whole → left ≡ []
-    → start.room < message_length (length start.bits + length whole) → ⊥
-HasWritten-fits start now left whole h none over =
-    let bits : now.bits ≡ start.bits ++ whole = ap (λ (w : Writing). w.bits) (HasWritten-all start now left whole h none) in
-    let fits = h.fits in
-    omega (arith, ap length bits, length-append start.bits whole)
+fields_text-end words table count k from to past few = rw (kinds-end table count k past few) refl

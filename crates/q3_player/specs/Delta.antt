@@ -1,5 +1,5 @@
 -- The player delta: the one text that is written, and what a reader answers.
-use Rattle.std.specs.Prelude.{ℕ, suc, ◌+◌, ◌/◌, ◌%◌, ◌==◌, ◌&&◌, Bool, if◌then◌else◌, List, [], ◌∷◌, ◌++◌, length, take, map, nat_lt, Result, Ok, Err}
+use Rattle.std.specs.Prelude.{ℕ, ◌+◌, ◌/◌, ◌%◌, ◌^◌, ◌==◌, ◌&&◌, Bool, if◌then◌else◌, List, [], ◌∷◌, ◌++◌, length, take, map, nat_lt, ℤ, Result, Ok, Err}
 use Rattle.std.specs.List.{flat_map}
 use Rattle.std.specs.Int.{w16, cast_signed}
 use Rattle.q3_bits.specs.Words.{field_bits, field_read}
@@ -132,5 +132,4 @@ player_at words table from bits = do
   count ← bits_error (field_read words 8 bits)
   fields ← if nat_lt (length table) count.0 then Err (Count count.0) else bits_error (fields_after words (take count.0 table) from.words count.1)
   mark ← bits_error (field_read words 1 fields.1)
-  if mark.0 == 0 then Ok (record from { words = fields.0 }, mark.1)
-  else bits_error (arrays_after words (record from { words = fields.0 }) mark.1)
+  if mark.0 == 0 then Ok (record from { words = fields.0 }, mark.1) else bits_error (arrays_after words (record from { words = fields.0 }) mark.1)

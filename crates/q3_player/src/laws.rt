@@ -1,13 +1,13 @@
 //! Laws of the player delta, each the contract of a call that does nothing but cite the laws below it.
 
-ghost use Rattle.q3_player.specs.Laws.{NormalIsNormal, LastChangedIsLeast, WrittenIsSpelled, ReadIsSpelled, SpelledIsRead, WrittenIsRead};
+ghost use Rattle.q3_player.specs.Laws.{NormalIsNormal, LastChangedIsLeast, WrittenIsSpelled, ReadIsSpelled, SpelledIsRead, WrittenIsRead, ZeroIsNormal};
 
-use q3_bits::laws;
-
-/// The normal form is in normal form.
+/// The normal form of a state is a state, in normal form.
 pub fn normal_is_normal()
     ensures { NormalIsNormal }
-{}
+{
+    q3_fields::laws::norm_is_normal();
+}
 
 /// The count of fields in a delta is the least number from which on all words agree.
 pub fn last_changed_is_least()
@@ -18,27 +18,35 @@ pub fn last_changed_is_least()
 pub fn written_is_spelled()
     ensures { WrittenIsSpelled }
 {
-    laws::put_is_read();
+    q3_fields::laws::player_field_is_spelled();
 }
 
-/// What is read was spelled so.
+/// What is read was spelled so, and is a state, in normal form where the other is.
 pub fn read_is_spelled()
     ensures { ReadIsSpelled }
 {
-    laws::read_was_put();
+    q3_bits::laws::read_was_put();
+    q3_fields::laws::player_read_is_spelled();
 }
 
 /// What is spelled so is read, with whatever follows it.
 pub fn spelled_is_read()
     ensures { SpelledIsRead }
 {
-    laws::put_is_read();
+    q3_bits::laws::put_is_read();
+    q3_fields::laws::player_spelled_is_read();
 }
 
-/// What is written against a normal state is read back as the normal form of the other.
+/// What is written against a normal state is read back as the normal form of the other, with whatever follows it.
 pub fn written_is_read()
     ensures { WrittenIsRead }
 {
+    normal_is_normal();
     written_is_spelled();
     spelled_is_read();
 }
+
+/// The state with nothing in it is a state, in the normal form of every table.
+pub fn zero_is_normal()
+    ensures { ZeroIsNormal }
+{}

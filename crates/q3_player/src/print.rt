@@ -10,6 +10,7 @@ use q3_io::{Failed, Piece, Sink, print_all};
 /// Prints the words that aren't 0, each with a space before it: of the fields `I:W`, and of the arrays `sI:W`, `pI:W`,
 /// `aI:W` and `uI:W`, signed values as words of 32 bits. The spelling is this project's own.
 /// `Failed` comes only where the sink's count rose.
+#[tactic(auto, unfolding(crate::specs::Report::player_text))]
 pub fn print_words<O: Sink>(player: &PlayerState, out: &mut O) -> Result<(), Failed>
     ensures adds { Adds (O.written out.old) (O.written out.new) (player_text player.now) result }
     ensures cause { HasCause (O.faults out.old) (O.faults out.new) result }

@@ -1,12 +1,15 @@
 //! Reads the player delta, in every spelling that is accepted.
 
-ghost use Rattle.std.specs.Prelude.{◌≡◌, ◌+◌, ◌≤◌, length, MatchResult, Ok, Err};
+ghost use Rattle.std.specs.Prelude.{◌≡◌, ◌+◌, ◌≤◌, length, take, MatchResult, Ok, Err};
 ghost use Rattle.q3_bits.specs.Streams.{with_rest};
+ghost use Rattle.q3_fields.specs.Kinds.{IsKind};
 ghost use Rattle.q3_player.specs.declared.reading.PlayerError.TheVariants.{Bits};
-ghost use Rattle.q3_player.specs.Delta.{field_after, fields_after, player_at};
+ghost use Rattle.q3_player.specs.Delta.{field_after, fields_after, places_after, array_after, arrays_after, player_at};
+ghost use Rattle.q3_player.specs.Steps.{place_after, shorts_after};
 
-use crate::state::{FIELDS, PlayerState};
+use crate::state::{PlayerState, kind_at, patterns, shorts};
 use q3_bits::{ReadError, Reader};
+use q3_fields::{Kind, Table, read_player_field};
 
 /// Why no player could be read: the first fault in reading order.
 #[derive(Clone, Copy, Debug, PartialEq, Eq)]
@@ -15,8 +18,6 @@ pub enum PlayerError {
     Bits(ReadError),
     /// The count of fields is above the table's.
     Count(u8),
-    /// An array is marked as changed; at this stage the four arrays are always zero.
-    Arrays,
 }
 
 impl From<ReadError> for PlayerError {
@@ -31,56 +32,140 @@ impl From<ReadError> for PlayerError {
 #[tactic(auto, unfolding(crate::specs::Delta::player_at))]
 pub fn read_player(
     r: &mut Reader,
+    table: &Table,
     from: &PlayerState,
     into: &mut PlayerState,
 ) -> Result<(), PlayerError>
     ensures reads { MatchResult result
-        (λ _. player_at r.old.words from.now r.old.left ≡ Ok (into.new, r.new.left))
-        (λ e. player_at r.old.words from.now r.old.left ≡ Err e) }
+        (λ _. player_at r.old.words table.now from.now r.old.left ≡ Ok (into.new, r.new.left))
+        (λ e. player_at r.old.words table.now from.now r.old.left ≡ Err e) }
     ensures words { r.new.words ≡ r.old.words }
     ensures place { r.new.place + length r.new.left ≡ r.old.place + length r.old.left }
 {
     let count = r.get(8)? as usize;
-    if count > FIELDS {
+    if count > table.count() {
         return Err(PlayerError::Count(count as u8));
     }
     *into = *from;
-    read_fields(r, count, &from.words, &mut into.words)?;
-    if r.get(1)? != 0 {
-        return Err(PlayerError::Arrays);
+    read_fields(r, table, count, &mut into.words)?;
+    if r.get(1)? == 0 {
+        return Ok(());
     }
+    read_arrays(r, into)?;
     Ok(())
 }
 
-/// Reads the first fields, so many, over the words of another state.
+/// Reads the first fields, so many, over the words that stand there.
 fn read_fields(
     r: &mut Reader,
+    table: &Table,
     count: usize,
-    from: &[u32; 64],
-    into: &mut [u32; 64],
+    words: &mut [u32; 64],
 ) -> Result<(), ReadError>
+    requires in_table { count ≤ length table.now }
     requires few { count ≤ 64 }
-    requires same { into.old ≡ from.now }
     ensures reads { MatchResult result
-        (λ _. fields_after r.old.words count from.now r.old.left ≡ Ok (into.new, r.new.left))
-        (λ e. fields_after r.old.words count from.now r.old.left ≡ Err e) }
+        (λ _. fields_after r.old.words (take count table.now) words.old r.old.left ≡ Ok (words.new, r.new.left))
+        (λ e. fields_after r.old.words (take count table.now) words.old r.old.left ≡ Err e) }
     ensures words { r.new.words ≡ r.old.words }
     ensures place { r.new.place + length r.new.left ≡ r.old.place + length r.old.left }
 {
     for k in 0..count {
-        into[k] = read_field(r, from[k])?;
+        words[k] = read_field(r, kind_at(table, k), words[k])?;
     }
     Ok(())
 }
 
+/// Reads a mark, and behind a mark of change the field.
 #[tactic(auto, unfolding(crate::specs::Delta::field_after))]
-fn read_field(r: &mut Reader, from: u32) -> Result<u32, ReadError>
-    ensures reads { with_rest r.new.left result ≡ field_after r.old.words from r.old.left }
+fn read_field(r: &mut Reader, kind: Kind, from: u32) -> Result<u32, ReadError>
+    requires { IsKind kind }
+    ensures reads { with_rest r.new.left result ≡ field_after r.old.words kind from r.old.left }
     ensures words { r.new.words ≡ r.old.words }
     ensures place { r.new.place + length r.new.left ≡ r.old.place + length r.old.left }
 {
     if r.get(1)? == 0 {
         return Ok(from);
     }
-    r.get(16)
+    read_player_field(r, kind)
+}
+
+/// Reads the four arrays over those that stand there.
+fn read_arrays(r: &mut Reader, into: &mut PlayerState) -> Result<(), ReadError>
+    ensures reads { MatchResult result
+        (λ _. arrays_after r.old.words into.old r.old.left ≡ Ok (into.new, r.new.left))
+        (λ e. arrays_after r.old.words into.old r.old.left ≡ Err e) }
+    ensures words { r.new.words ≡ r.old.words }
+    ensures place { r.new.place + length r.new.left ≡ r.old.place + length r.old.left }
+{
+    read_shorts(r, &mut into.stats)?;
+    read_shorts(r, &mut into.persistant)?;
+    read_shorts(r, &mut into.ammo)?;
+    read_array(r, Kind::Unsigned(32), &mut into.powerups)
+}
+
+/// Reads an array of signed values over those that stand there.
+#[tactic(auto, unfolding(crate::specs::Steps::shorts_after))]
+fn read_shorts(r: &mut Reader, values: &mut [i16; 16]) -> Result<(), ReadError>
+    ensures reads { MatchResult result
+        (λ _. shorts_after r.old.words values.old r.old.left ≡ Ok (values.new, r.new.left))
+        (λ e. shorts_after r.old.words values.old r.old.left ≡ Err e) }
+    ensures words { r.new.words ≡ r.old.words }
+    ensures place { r.new.place + length r.new.left ≡ r.old.place + length r.old.left }
+{
+    let mut words = patterns(values);
+    read_array(r, Kind::Signed(16), &mut words)?;
+    *values = shorts(&words);
+    Ok(())
+}
+
+/// Reads an array over the one that stands there: a mark, and behind a mark of change the mask and the values.
+#[tactic(auto, using(crate::proofs::PlacesRead::places_after_none), unfolding(crate::specs::Delta::array_after))]
+fn read_array(r: &mut Reader, kind: Kind, values: &mut [u32; 16]) -> Result<(), ReadError>
+    requires { IsKind kind }
+    ensures reads { MatchResult result
+        (λ _. array_after r.old.words kind values.old r.old.left ≡ Ok (values.new, r.new.left))
+        (λ e. array_after r.old.words kind values.old r.old.left ≡ Err e) }
+    ensures words { r.new.words ≡ r.old.words }
+    ensures place { r.new.place + length r.new.left ≡ r.old.place + length r.old.left }
+{
+    if r.get(1)? == 0 {
+        return Ok(());
+    }
+    let mask = r.get(16)?;
+    read_values(r, kind, mask, values)
+}
+
+/// Reads the values of the places that the mask has, over those that stand there.
+fn read_values(
+    r: &mut Reader,
+    kind: Kind,
+    mask: u32,
+    values: &mut [u32; 16],
+) -> Result<(), ReadError>
+    requires { IsKind kind }
+    ensures reads { MatchResult result
+        (λ _. places_after r.old.words kind mask values.old r.old.left ≡ Ok (values.new, r.new.left))
+        (λ e. places_after r.old.words kind mask values.old r.old.left ≡ Err e) }
+    ensures words { r.new.words ≡ r.old.words }
+    ensures place { r.new.place + length r.new.left ≡ r.old.place + length r.old.left }
+{
+    for k in 0..16 {
+        values[k] = read_place(r, kind, mask >> k, values[k])?;
+    }
+    Ok(())
+}
+
+/// Reads the value of a place whose bit, the mask's next, is 1.
+#[tactic(auto, unfolding(crate::specs::Steps::place_after))]
+fn read_place(r: &mut Reader, kind: Kind, mask: u32, from: u32) -> Result<u32, ReadError>
+    requires { IsKind kind }
+    ensures reads { with_rest r.new.left result ≡ place_after r.old.words kind mask from r.old.left }
+    ensures words { r.new.words ≡ r.old.words }
+    ensures place { r.new.place + length r.new.left ≡ r.old.place + length r.old.left }
+{
+    if mask % 2 == 1 {
+        return read_player_field(r, kind);
+    }
+    Ok(from)
 }

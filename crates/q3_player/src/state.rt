@@ -1,8 +1,11 @@
 //! The state of a player. Keeps the rule "normal form".
 
-ghost use Rattle.std.specs.Prelude.{◌≡◌};
+ghost use Rattle.std.specs.Prelude.{◌≡◌, ◌<◌, ◌^◌, length, replicate, slice_get, Some, All};
+ghost use Rattle.q3_fields.specs.Kinds.{IsKind};
+ghost use Rattle.q3_player.specs.State.{AreShorts, patterns_of};
+ghost use Rattle.q3_player.specs.Delta.{shorts_of};
 
-use q3_fields::{Table, norm};
+use q3_fields::{Kind, Table, norm};
 
 /// A player as the game hands it in and as a snapshot carries it: the words of the table's fields,
 /// and four arrays of 16 values, of which the first three hold signed values.
@@ -36,9 +39,9 @@ impl PlayerState {
     pub fn normal(&self, table: &Table) -> PlayerState
         ensures { result ≡ normal_player table.now self.now }
     {
-        let mut words = [0; 64];
+        let mut words = zeros();
         for k in 0..table.count() {
-            // by table.kind(k) and norm
+            words[k] = norm(kind_at(table, k), self.words[k]);
         }
         PlayerState { words, ..*self }
     }
@@ -46,5 +49,63 @@ impl PlayerState {
     /// Every state has words of 32 bits and signed values of 16. This does nothing.
     pub fn is_state(&self)
         ensures { IsState self.now }
-    {}
+    {
+        are_words(&self.words);
+        are_shorts(&self.stats);
+        are_shorts(&self.persistant);
+        are_shorts(&self.ammo);
+        are_words(&self.powerups);
+    }
+}
+
+/// Words have 32 bits. This does nothing.
+fn are_words(words: &[u32])
+    ensures { All (λ word. word < 2 ^ 32) words.now }
+{}
+
+/// The signed values of an array have 16 bits. This does nothing.
+pub(crate) fn are_shorts(values: &[i16; 16])
+    ensures { AreShorts values.now }
+{
+    for k in 0..16 {
+        let _value = values[k];
+    }
+}
+
+/// So many zeros.
+fn zeros<const N: usize>() -> [u32; N]
+    ensures { result ≡ replicate N 0 }
+{
+    [0; N]
+}
+
+/// The kind of a field that the table has.
+pub(crate) fn kind_at(table: &Table, k: usize) -> Kind
+    requires { k < length table.now }
+    ensures kind { slice_get table.now k ≡ Some result }
+    ensures allowed { IsKind result }
+{
+    table.kind(k).unwrap()
+}
+
+/// Signed values as words of 32 bits.
+pub(crate) fn patterns(values: &[i16; 16]) -> [u32; 16]
+    ensures { result ≡ patterns_of values.now }
+{
+    let mut words = [0; 16];
+    for k in 0..16 {
+        words[k] = i32::from(values[k]).cast_unsigned();
+    }
+    words
+}
+
+/// The signed values that the low 16 bits of words are.
+pub(crate) fn shorts(words: &[u32; 16]) -> [i16; 16]
+    ensures { result ≡ shorts_of words.now }
+{
+    let mut values = [0; 16];
+    for k in 0..16 {
+        values[k] = ((words[k] % 65536) as u16).cast_signed();
+    }
+    values
 }

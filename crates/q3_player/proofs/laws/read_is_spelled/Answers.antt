@@ -1,5 +1,5 @@
-use Rattle.q3_player.proofs.Spelled.{player_was_spelled}
+use Rattle.q3_player.proofs.PlayerSpelled.{player_was_spelled}
 use Rattle.q3_player.proofs.laws.read_is_spelled.Goals as goal
 
 pub returns : goal.returns
-returns c = player_was_spelled c.read_was_put.ensures
+returns c = player_was_spelled c.read_was_put.ensures c.player_read_is_spelled.ensures

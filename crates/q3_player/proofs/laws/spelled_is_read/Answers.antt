@@ -1,5 +1,5 @@
-use Rattle.q3_player.proofs.Spelled.{player_is_read}
+use Rattle.q3_player.proofs.PlayerSpelled.{player_is_read}
 use Rattle.q3_player.proofs.laws.spelled_is_read.Goals as goal
 
 pub returns : goal.returns
-returns c = player_is_read c.put_is_read.ensures
+returns c = player_is_read c.put_is_read.ensures c.player_spelled_is_read.ensures

@@ -4,5 +4,6 @@ use Rattle.q3_player.proofs.laws.written_is_read.Goals as goal
 
 pub returns : goal.returns
 returns c =
-    λ words from to rest code normal long arrays.
-    c.spelled_is_read.ensures words from (normal_player to) (player_delta words from to) rest code (c.written_is_spelled.ensures words from to code normal long arrays)
+    λ words table from to rest code is_table state normal other.
+    c.spelled_is_read.ensures words table from (normal_player table to) (player_delta words table from to) rest code is_table state (c.normal_is_normal.ensures table to is_table other).0
+    (c.written_is_spelled.ensures words table from to code is_table state normal other)

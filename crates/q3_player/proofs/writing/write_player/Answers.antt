@@ -1,17 +1,31 @@
-use Rattle.std.proofs.Common.{◌++◌, ap, subst}
+use Rattle.std.proofs.Common.{ℕ, ◌++◌, take, sym, ap, subst, append_assoc}
+use Rattle.q3_bits.specs.Streams.{Extends}
 use Rattle.q3_bits.specs.Words.{field_bits}
-use Rattle.q3_bits.specs.Streams.{Writing, Extends}
-use Rattle.q3_player.specs.Delta.{fields_text, player_delta}
-use Rattle.q3_player.proofs.FieldTexts.{Extends-behind}
+use Rattle.q3_player.specs.Delta.{fields_text, arrays_text, player_delta}
+use Rattle.q3_player.proofs.Written.{HasPut-first, HasPut-more, HasPut-front, HasPut-front_last}
 use Rattle.q3_player.proofs.writing.write_player.Goals as goal
 
 pub returns-in_err-write_fields-clause-front : goal.returns-in_err-write_fields-clause-front
 unfolding player_delta
 returns-in_err-write_fields-clause-front c =
+    let from = c.args.from.now in
+    let to = c.args.to.now in
+    let table = c.args.table.now in
     let words = c.args.w.now.words in
-    let from = c.args.from.now.words in
-    let to = c.args.to.now.words in
-    let same = ap (λ (w : Writing). w.words) c.in_ok-put.ensures.ok in
-    let front = subst (λ ws. Extends c.put.new.self c.write_fields.new.w (fields_text ws c.changed_fields-count.result from to)) same c.in_err-write_fields.ensures.front in
-    subst (λ count. Extends c.args.w.now c.write_fields.new.w (field_bits words 8 count ++ fields_text words count from to ++ field_bits words 1 0)) c.changed_fields-count.ensures.count
-    (Extends-behind c.args.w.now c.put.new.self c.write_fields.new.w _ _ (field_bits words 1 0) c.in_ok-put.ensures.ok front)
+    let put = HasPut-first _ _ _ c.in_ok-put.ensures.ok in
+    HasPut-front _ _ _ _ (λ ws. fields_text ws (take c.changed_fields-count.result table) from.words to.words) (arrays_text words from to) _ put
+    (ap (λ (count : ℕ). field_bits words 8 count ++ fields_text words (take count table) from.words to.words ++ arrays_text words from to) (sym c.changed_fields-count.ensures.count))
+    c.in_err-write_fields.ensures.front
+
+pub returns-clause-front : goal.returns-clause-front
+unfolding player_delta
+returns-clause-front c =
+    let from = c.args.from.now in
+    let to = c.args.to.now in
+    let table = c.args.table.now in
+    let words = c.args.w.now.words in
+    let put = HasPut-first _ _ _ c.in_ok-put.ensures.ok in
+    let fields = HasPut-more _ _ _ _ (λ ws. fields_text ws (take c.changed_fields-count.result table) from.words to.words) put c.in_ok-write_fields.ensures.ok in
+    subst (λ (count : ℕ). Extends c.args.w.now c.write_arrays.new.w (field_bits words 8 count ++ fields_text words (take count table) from.words to.words ++ arrays_text words from to))
+    c.changed_fields-count.ensures.count
+    (HasPut-front_last _ _ _ _ (λ ws. arrays_text ws from to) fields c.write_arrays.ensures.front)

@@ -1,6 +1,7 @@
-use Rattle.std.proofs.Common.{◌≡◌, ◌-◌, ◌++◌, map, take, replicate}
-use Rattle.q3_player.specs.State.{norm}
+use Rattle.std.proofs.Common.{◌≡◌, take}
+use Rattle.q3_player.specs.State.{normal_words}
 use Rattle.q3_player.proofs.state.PlayerState.normal.Given as goal
 
+-- so many words are normal, and the others 0
 abbrev pub invariant-loop-k : goal.invariant-loop-k
-invariant-loop-k l = l.words ≡ map norm (take l.k l.self.words) ++ replicate (64 - l.k) 0
+invariant-loop-k l = l.words ≡ normal_words (take l.k l.table) l.self.words
