@@ -157,11 +157,26 @@ fn print_shown<O: Sink>(c: u8, shown: &Shown, out: &mut O) -> Result<(), Failed>
                     Piece::Text(b" flags "),
                     Piece::Number(u64::from(snapshot.flags)),
                     Piece::Text(b" area -\n+ player"),
-                    Piece::Words { letter: b"", words: &snapshot.player.words },
-                    Piece::Signed { letter: b"s", values: &snapshot.player.stats },
-                    Piece::Signed { letter: b"p", values: &snapshot.player.persistant },
-                    Piece::Signed { letter: b"a", values: &snapshot.player.ammo },
-                    Piece::Words { letter: b"u", words: &snapshot.player.powerups },
+                    Piece::Words {
+                        letter: b"",
+                        words: &snapshot.player.words,
+                    },
+                    Piece::Signed {
+                        letter: b"s",
+                        values: &snapshot.player.stats,
+                    },
+                    Piece::Signed {
+                        letter: b"p",
+                        values: &snapshot.player.persistant,
+                    },
+                    Piece::Signed {
+                        letter: b"a",
+                        values: &snapshot.player.ammo,
+                    },
+                    Piece::Words {
+                        letter: b"u",
+                        words: &snapshot.player.powerups,
+                    },
                     Piece::Text(b"\n"),
                 ],
                 out,

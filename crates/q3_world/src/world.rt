@@ -88,12 +88,7 @@ impl Sent {
     }
 
     /// The client takes the datagram.
-    fn arrive(
-        &self,
-        profile: &Profile,
-        clients: &mut Vec<Option<Client>>,
-        number: u32,
-    ) -> Answer
+    fn arrive(&self, profile: &Profile, clients: &mut Vec<Option<Client>>, number: u32) -> Answer
         requires { length clients.old.items ≡ 16 }
         ensures kept { arrived profile.now clients.old.items number self.now ≡ record { clients = clients.new.items; answer = result } }
         ensures places { length clients.new.items ≡ 16 }
@@ -225,9 +220,7 @@ impl World {
         requires { c < 16 }
         ensures { kept_player self.old c player.now (slot_at self.old.server c) ≡ record { kept = self.new; answer = result } }
     {
-        let outcome = match self
-            .server
-            .set_player(&self.profile, c as usize, player) {
+        let outcome = match self.server.set_player(&self.profile, c as usize, player) {
             Ok(()) => HandedIn::Ok,
             Err(NoClient) => HandedIn::NoClient,
         };

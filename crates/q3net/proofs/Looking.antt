@@ -4,18 +4,16 @@ use Rattle.std.specs.Prelude.{◌⊎◌}
 use Rattle.std.proofs.lemmas.List.{append-nil}
 use Rattle.q3_profile.specs.declared.profile.Profile.{Profile}
 use Rattle.q3_profile.specs.declared.error.ProfileError.{ProfileError}
-use Rattle.q3_profile.specs.declared.error.ProfileError.TheVariants as profile
 use Rattle.q3_io.specs.Told.{Told, Named}
 use Rattle.q3net.specs.declared.fault.Fault.{Fault}
 use Rattle.q3net.specs.declared.fault.Fault.TheVariants as faults
 use Rattle.q3net.specs.declared.input.InputError.{InputError}
 use Rattle.q3net.specs.declared.input.InputError.TheVariants as input
 use Rattle.q3net.specs.Command.{Command, files_of}
-use Rattle.q3net.specs.Faults.{input_fault, profile_fault}
+use Rattle.q3net.specs.Faults.{input_fault}
 use Rattle.q3net.specs.Input.{LookedUp, MayHaveLookedUp, Reads}
 use Rattle.q3net.specs.Lines.{ending_status}
 use Rattle.q3net.specs.Run.{looked_up, LooksUp, LooksUpFirst, LooksUpFile, HasLookedUp, HasGiven, Gives, Touches, LooksUpAll, MayEndLoading}
-use Rattle.q3net.proofs.Replaying.{KeepsFiles}
 
 -- no name was given
 pub looks_up_none : (told : Told) → LooksUp told told []
@@ -54,11 +52,14 @@ first_of_two told now one two first =
 
 -- one name, and the first of one more
 then_first : (told mid now : Told) (one two : List ℕ) → LooksUp told mid (one ∷ []) → LooksUpFirst mid now (two ∷ []) → LooksUpFirst told now (one ∷ two ∷ [])
-then_first told mid now one two first second =
-    (one ∷ second.0, (second.1.0, ap (λ (names : List (List ℕ)). one ∷ names) second.1.1), record {
-      files = second.2.files ∙ first.files;
-      named = second.2.named ∙ (ap (λ (given : List Named). given ++ map looked_up second.0) first.named ∙ append_assoc told.named (looked_up one ∷ []) (map looked_up second.0));
-    })
+then_first told mid now one two first second = (
+  one ∷ second.0,
+  (second.1.0, ap (λ (names : List (List ℕ)). one ∷ names) second.1.1),
+  record {
+    files = second.2.files ∙ first.files;
+    named = second.2.named ∙ (ap (λ (given : List Named). given ++ map looked_up second.0) first.named ∙ append_assoc told.named (looked_up one ∷ []) (map looked_up second.0));
+  },
+)
 
 -- ---- a replay
 
@@ -72,22 +73,21 @@ pub input_looks_up : (A : Type 0) (e : InputError) (most : ℕ) (name : List ℕ
 input_looks_up A e most name None now reads = reads
 input_looks_up A e most name (Some told) now reads = (reads.0, reads.1, input_looked A e name told reads.0 reads.2)
 
--- a profile's file was read, and it fails a rule
-profile_looked : (e : ProfileError) (name : List ℕ) (told now : Told) → LooksUp told now (name ∷ []) → HasLookedUp {A = Profile} (Err (profile_fault e)) name told now
-profile_looked profile.NoMemory name told now looks = all_first told now (name ∷ []) looks
-profile_looked profile.NotToml name told now looks = looks
-profile_looked (profile.Missing key) name told now looks = looks
-profile_looked (profile.Kind key) name told now looks = looks
-profile_looked (profile.Code d) name told now looks = looks
-profile_looked (profile.Width key i) name told now looks = looks
-profile_looked (profile.Fields key) name told now looks = looks
-profile_looked (profile.Limit key) name told now looks = looks
+-- a file was read, however it goes on
+any_looked : (A : Type 0) (ended : Result A Fault) (name : List ℕ) (told now : Told) → LooksUp told now (name ∷ []) → HasLookedUp ended name told now
+any_looked A (Ok x) name told now looks = looks
+any_looked A (Err (faults.Profile e)) name told now looks = looks
+any_looked A (Err (faults.Script line cause)) name told now looks = looks
+any_looked A (Err faults.NoMemory) name told now looks = all_first told now (name ∷ []) looks
+any_looked A (Err faults.Usage) name told now looks = all_first told now (name ∷ []) looks
+any_looked A (Err faults.Read) name told now looks = all_first told now (name ∷ []) looks
+any_looked A (Err faults.Write) name told now looks = all_first told now (name ∷ []) looks
 
-pub profile_looks_up : (e : ProfileError) (most : ℕ) (name bytes : List ℕ) (told now : Option Told) → Reads most name told now (Ok bytes)
-    → LooksUpFile {A = Profile} (Err (profile_fault e)) name told now
-profile_looks_up e most name bytes None now reads = reads
-profile_looks_up e most name bytes (Some told) now reads =
-    (reads.0, reads.1, profile_looked e name told reads.0 (looks_up_one told reads.0 name reads.2.0))
+pub read_looks_up : (A : Type 0) (ended : Result A Fault) (most : ℕ) (name bytes : List ℕ) (told now : Option Told) → Reads most name told now (Ok bytes)
+    → LooksUpFile ended name told now
+read_looks_up A ended most name bytes None now reads = reads
+read_looks_up A ended most name bytes (Some told) now reads =
+    (reads.0, reads.1, any_looked A ended name told reads.0 (looks_up_one told reads.0 name reads.2.0))
 
 -- no profile was read
 load_given : (loaded : Fault) (one two : List ℕ) (told now : Told) → MayEndLoading loaded → HasLookedUp {A = Profile} (Err loaded) one told now
@@ -122,11 +122,6 @@ then_gives profile ended one two None mid now not first looked = subst (λ (m : 
 then_gives profile ended one two (Some told) mid now not first looked =
     let second = subst (λ (m : Option Told). LooksUpFile ended two m now) first.1 looked in
     (second.0, second.1, then_given ended one two told first.0 second.0 not first.2 second.2)
-
--- it kept every file
-pub loaded_keeps : (profile : Profile) (name : List ℕ) (told now : Option Told) → LooksUpFile {A = Profile} (Ok profile) name told now → KeepsFiles told now
-loaded_keeps profile name None now looked = looked
-loaded_keeps profile name (Some told) now looked = (looked.0, looked.1, looked.2.files)
 
 -- ---- a command
 

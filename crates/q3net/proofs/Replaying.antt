@@ -1,10 +1,12 @@
--- How a replay of a script by a profile ends, and then of a profile and a script.
+-- How a replay of a script by a profile ends, and what reading a profile answers.
 use Rattle.std.proofs.Common.{◌≡◌, ℕ, ◌<◌, List, [], ◌++◌, length, Option, Some, None, Result, Ok, Err, refl, sym, ap, subst, ◌∙◌, inl, inr, arith}
+use Rattle.std.specs.Prelude.{◌⊎◌}
 use Rattle.std.proofs.lemmas.List.{append-nil, length-append}
 use Rattle.std.proofs.lemmas.Bool.{cases_lt, lt-ltb}
 use Rattle.q3_profile.specs.declared.profile.Profile.{Profile}
 use Rattle.q3_profile.specs.declared.error.ProfileError.{ProfileError}
-use Rattle.q3_profile.specs.Profile.{checked}
+use Rattle.q3_profile.specs.declared.error.ProfileError.TheVariants as profile
+use Rattle.q3_profile.specs.Profile.{longest_profile, checked}
 use Rattle.q3_script.specs.declared.event.Event.{Event}
 use Rattle.q3_script.specs.declared.cause.ScriptKind.TheVariants as kinds
 use Rattle.q3_script.specs.declared.cause.ScriptError.{ScriptError}
@@ -13,7 +15,7 @@ use Rattle.q3_script.specs.Script.{Reads as ReadsScript, script_at, longest_scri
 use Rattle.q3_world.specs.declared.world.StepError.{StepError}
 use Rattle.q3_world.specs.declared.world.StepError.TheVariants as step
 use Rattle.q3_io.specs.Written.{Adds}
-use Rattle.q3_io.specs.Told.{Told, File, contents_of}
+use Rattle.q3_io.specs.Told.{Told, contents_of}
 use Rattle.q3_world.specs.Kept.{Kept}
 use Rattle.q3_world.specs.World.{opening}
 use Rattle.q3_world.specs.StandsFor.{StandsFor}
@@ -23,8 +25,8 @@ use Rattle.q3net.specs.declared.input.InputError.TheVariants as input
 use Rattle.q3net.specs.declared.fault.Fault.{Fault}
 use Rattle.q3net.specs.declared.fault.Fault.TheVariants as faults
 use Rattle.q3net.specs.Input.{Reads, ReadsFront}
-use Rattle.q3net.specs.Faults.{input_fault, script_fault, step_fault}
-use Rattle.q3net.specs.Run.{read_replay, report_of, Replays, ReplaysFile, ReplaysChecked, ReplaysBy, ReplaysTold, ReplaysAdded, ScriptTold, ScriptAdded, Loads, LoadsFile, LoadsTold, MayEndLoading}
+use Rattle.q3net.specs.Faults.{input_fault, profile_fault, script_fault, step_fault}
+use Rattle.q3net.specs.Run.{read_replay, report_of, Replays, ReplaysFile, ScriptTold, ScriptAdded, Loads, LoadsFile, LoadsTold}
 use Rattle.q3net.proofs.Stepping.{lines_of}
 
 abbrev some : List ℕ → Option (List ℕ)
@@ -139,70 +141,42 @@ pub done_so : (profile : Profile) (told now : Option Told) (name bytes : List �
 done_so profile told now name bytes events reads spells =
     (report profile events, of_contents profile told now name bytes (report profile events) (Ok tt) reads (λ contents same. (events, sym same ∙ spells, refl)))
 
--- ---- a profile that was read, or wasn't
+-- ---- reading a profile
 
--- no profile was read, or it fails a rule: nothing was printed
-fails_checked : (says : Result Profile ProfileError) (script : Option (List ℕ)) (loaded : Fault) → MayEndLoading loaded
-    → ((e : ProfileError) → loaded ≡ faults.Profile e → says ≡ Err e) → ReplaysChecked says script (Err loaded) []
-fails_checked (Ok profile) None faults.NoMemory may fails = (tt, refl)
-fails_checked (Ok profile) None faults.Read may fails = (tt, refl)
-fails_checked (Ok profile) (Some bytes) faults.NoMemory may fails = (report_of profile (read_replay bytes), refl)
-fails_checked (Ok profile) (Some bytes) faults.Read may fails = refl
-fails_checked (Ok profile) script (faults.Profile e) may fails = absurd (let none = fails e refl in cc)
-fails_checked (Err d) script faults.NoMemory may fails = (tt, refl)
-fails_checked (Err d) script faults.Read may fails = (tt, refl)
-fails_checked (Err d) script (faults.Profile e) may fails = (let same = fails e refl in cc, refl)
-fails_checked says script faults.Usage may fails = absurd may
-fails_checked says script faults.Write may fails = absurd may
-fails_checked says script (faults.Script line cause) may fails = absurd may
+-- a front that is longer than a profile may be says what the whole says
+front_checks : (contents bytes : List ℕ) → ReadsFront longest_profile contents bytes → checked bytes ≡ checked contents
+unfolding checked
+front_checks contents bytes front =
+    elim (cases_lt longest_profile (length bytes)) [
+      | inl long ↦
+          let longer : longest_profile < length contents = omega (arith, long, length-append bytes front.0, ap length front.1) in
+          rw (lt-ltb longest_profile (length bytes) long, lt-ltb longest_profile (length contents) longer) refl
+      | inr short ↦
+          let whole : bytes ≡ contents = sym (append-nil bytes) ∙ (ap (λ (z : List ℕ). bytes ++ z) (sym (front.2 short)) ∙ front.1) in
+          rw whole refl
+    ]
 
--- what a profile's bytes say where loading failed by them
-says_so : (bytes : List ℕ) (loaded : Fault) → Loads bytes (Err loaded) → (e : ProfileError) → loaded ≡ faults.Profile e → checked bytes ≡ Err e
-says_so bytes loaded loads e is = subst (λ (fault : Fault). Loads bytes (Err fault)) is loads
+-- what the contents say, where a profile was read from the bytes or a rule failed
+loads_contents : (contents bytes : List ℕ) (e : ProfileError) → checked bytes ≡ checked contents → (e ≡ profile.NoMemory) ⊎ (checked bytes ≡ Err e)
+    → Loads contents (Err (profile_fault e))
+loads_contents contents bytes profile.NoMemory same says = tt
+loads_contents contents bytes profile.NotToml same says = elim says [ inl none ↦ absurd (let e = none in cc) | inr e ↦ sym same ∙ e ]
+loads_contents contents bytes (profile.Missing key) same says = elim says [ inl none ↦ absurd (let e = none in cc) | inr e ↦ sym same ∙ e ]
+loads_contents contents bytes (profile.Kind key) same says = elim says [ inl none ↦ absurd (let e = none in cc) | inr e ↦ sym same ∙ e ]
+loads_contents contents bytes (profile.Code d) same says = elim says [ inl none ↦ absurd (let e = none in cc) | inr e ↦ sym same ∙ e ]
+loads_contents contents bytes (profile.Width key i) same says = elim says [ inl none ↦ absurd (let e = none in cc) | inr e ↦ sym same ∙ e ]
+loads_contents contents bytes (profile.Fields key) same says = elim says [ inl none ↦ absurd (let e = none in cc) | inr e ↦ sym same ∙ e ]
+loads_contents contents bytes (profile.Limit key) same says = elim says [ inl none ↦ absurd (let e = none in cc) | inr e ↦ sym same ∙ e ]
 
-fails_by : (found script : Option (List ℕ)) (loaded : Fault) → MayEndLoading loaded → LoadsFile found (Err loaded) → ReplaysBy found script (Err loaded) []
-fails_by None script faults.NoMemory may loads = (tt, refl)
-fails_by None script faults.Read may loads = (tt, refl)
-fails_by None script (faults.Profile e) may loads = absurd loads
-fails_by None script faults.Usage may loads = absurd may
-fails_by None script faults.Write may loads = absurd may
-fails_by None script (faults.Script line cause) may loads = absurd may
-fails_by (Some bytes) script loaded may loads = fails_checked (checked bytes) script loaded may (says_so bytes loaded loads)
+pub refused_loads : (told now : Option Told) (name bytes : List ℕ) (e : ProfileError) → Reads longest_profile name told now (Ok bytes)
+    → (e ≡ profile.NoMemory) ⊎ (checked bytes ≡ Err e) → LoadsTold told name (Err (profile_fault e))
+refused_loads None now name bytes e reads says = tt
+refused_loads (Some told) now name bytes e reads says =
+    subst (λ (found : Option (List ℕ)). LoadsFile found (Err (profile_fault e))) (sym reads.2.2)
+    (loads_contents reads.2.1 bytes e (front_checks reads.2.1 bytes reads.2.3) says)
 
-pub load_so : (told : Option Told) (profile script : List ℕ) (loaded : Fault) → MayEndLoading loaded → LoadsTold told profile (Err loaded)
-    → ReplaysTold told profile script (Err loaded) []
-load_so None profile script loaded may loads = tt
-load_so (Some told) profile script loaded may loads =
-    fails_by (contents_of told.files profile) (contents_of told.files script) loaded may loads
-
-pub load_ended : (told : Option Told) (profile script : List ℕ) (a : Option (List ℕ)) (loaded : Fault) → MayEndLoading loaded
-    → LoadsTold told profile (Err loaded) → ReplaysAdded told profile script a a (Err loaded)
-load_ended told profile script None loaded may loads = refl
-load_ended told profile script (Some had) loaded may loads =
-    ([], load_so told profile script loaded may loads, ap (λ (z : List ℕ). some z) (sym (append-nil had)))
-
--- a profile was read, and the script's file is as it was
-loaded_by : (found script : Option (List ℕ)) (profile : Profile) (ended : Result (Unit {0}) Fault) (printed : List ℕ) → LoadsFile found (Ok profile)
-    → ReplaysFile profile script ended printed → ReplaysBy found script ended printed
-loaded_by None script profile ended printed loads replays = absurd loads
-loaded_by (Some bytes) script profile ended printed loads replays =
-    subst (λ (says : Result Profile ProfileError). ReplaysChecked says script ended printed) (sym loads) replays
-
--- what is told before and after keeps every file
-abbrev pub KeepsFiles : Option Told → Option Told → Type 0
-KeepsFiles None now = now ≡ None
-KeepsFiles (Some told) now = (after : Told) × (now ≡ Some after) × (after.files ≡ told.files)
-
-pub then_so : (told now : Option Told) (name script : List ℕ) (profile : Profile) (ended : Result (Unit {0}) Fault) (printed : List ℕ) → KeepsFiles told now
-    → LoadsTold told name (Ok profile) → ScriptTold profile now script ended printed → ReplaysTold told name script ended printed
-then_so None now name script profile ended printed keeps loads replays = tt
-then_so (Some told) now name script profile ended printed keeps loads replays =
-    let after = subst (λ (n : Option Told). ScriptTold profile n script ended printed) keeps.1 replays in
-    loaded_by (contents_of told.files name) (contents_of told.files script) profile ended printed loads
-    (subst (λ (files : List File). ReplaysFile profile (contents_of files script) ended printed) keeps.2 after)
-
-pub then_ended : (told now : Option Told) (name script : List ℕ) (profile : Profile) (a c : Option (List ℕ)) (ended : Result (Unit {0}) Fault) → KeepsFiles told now
-    → LoadsTold told name (Ok profile) → ScriptAdded profile now script a c ended → ReplaysAdded told name script a c ended
-then_ended told now name script profile None c ended keeps loads added = added
-then_ended told now name script profile (Some had) c ended keeps loads added =
-    (added.0, then_so told now name script profile ended added.0 keeps loads added.1, added.2)
+pub passed_loads : (told now : Option Told) (name bytes : List ℕ) (by : Profile) → Reads longest_profile name told now (Ok bytes)
+    → checked bytes ≡ Ok by → LoadsTold told name (Ok by)
+passed_loads None now name bytes by reads says = tt
+passed_loads (Some told) now name bytes by reads says =
+    subst (λ (found : Option (List ℕ)). LoadsFile found (Ok by)) (sym reads.2.2) (sym (front_checks reads.2.1 bytes reads.2.3) ∙ says)

@@ -148,7 +148,12 @@ fn faults_of_the_outside(rt: HostRuntime) -> Result<(), Fail> {
     assert_eq!(rt; status, 4);
     assert_eq!(rt; printed.as_slice(), b"client 0 ok\n".as_slice());
     // A read of the profile fails, then one of the script, and then a file is missing.
-    for (line, fails) in [("replay p s", 2), ("replay p s", 5), ("replay t s", 9), ("replay p t", 9)] {
+    for (line, fails) in [
+        ("replay p s", 2),
+        ("replay p s", 5),
+        ("replay t s", 9),
+        ("replay p t", 9),
+    ] {
         let (status, printed) = ran(&rt, rt.alloc(), line, stored, (&[fails], &[]))?;
         assert_eq!(rt; status, 3);
         assert_eq!(rt; printed.as_slice(), b"read fault\n".as_slice());

@@ -2,6 +2,7 @@ use Rattle.std.proofs.Common.{ℕ, List, Ok, sym, subst, arith}
 use Rattle.std.proofs.lemmas.Result.{err_from_is_err_and}
 use Rattle.q3_world.specs.World.{opening}
 use Rattle.q3net.specs.Input.{Reads}
+use Rattle.q3net.proofs.Looking.{input_looks_up, read_looks_up}
 use Rattle.q3net.proofs.Replaying.{input_ended, script_ended, steps_ended, steps_done, nothing_sent, input_so, script_so, memory_so, steps_so, done_so}
 use Rattle.q3net.proofs.run.replay_by.Goals as goal
 
@@ -65,3 +66,21 @@ returns-clause-so g c =
     done_so c.args.profile.now (g.F.Files.told c.args.files.now) (g.F.Files.told c.read_file.new.files) c.args.script.now c.deref.result.now c.deref-2.result.now
     (subst (λ (bytes : List ℕ). Reads 67108864 c.args.script.now (g.F.Files.told c.args.files.now) (g.F.Files.told c.read_file.new.files) (Ok bytes)) (sym c.deref.ensures.value) c.in_ok-bytes.ensures.reads)
     (rw c.deref-2.ensures.value c.in_ok-events.ensures.exact)
+
+pub returns-in_err-bytes-clause-touches : goal.returns-in_err-bytes-clause-touches
+returns-in_err-bytes-clause-touches g c =
+    let p = err_from_is_err_and c.from_residual.result c.from_residual.ensures.1 in
+    rw (p.1, p.2) (input_looks_up (Unit {0}) c.in_err-bytes.field-0.0 67108864 c.args.script.now (g.F.Files.told c.args.files.now) (g.F.Files.told c.read_file.new.files) c.in_err-bytes.ensures.reads)
+
+pub returns-in_err-events-clause-touches : goal.returns-in_err-events-clause-touches
+returns-in_err-events-clause-touches g c =
+    read_looks_up (Unit {0}) c.from_residual-in_err-events.result 67108864 c.args.script.now _ (g.F.Files.told c.args.files.now) (g.F.Files.told c.read_file.new.files) c.in_ok-bytes.ensures.reads
+
+pub returns-in_err-world-clause-touches : goal.returns-in_err-world-clause-touches
+returns-in_err-world-clause-touches g c =
+    read_looks_up (Unit {0}) c.from_residual-in_err-world.result 67108864 c.args.script.now _ (g.F.Files.told c.args.files.now) (g.F.Files.told c.read_file.new.files) c.in_ok-bytes.ensures.reads
+
+pub returns-in_err-step_all-clause-touches : goal.returns-in_err-step_all-clause-touches
+returns-in_err-step_all-clause-touches g c =
+    rw c.in_err-step_all.ensures.files
+    (read_looks_up (Unit {0}) c.from_residual-in_err-step_all.result 67108864 c.args.script.now _ (g.F.Files.told c.args.files.now) (g.F.Files.told c.read_file.new.files) c.in_ok-bytes.ensures.reads)
