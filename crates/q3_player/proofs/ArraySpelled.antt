@@ -59,8 +59,15 @@ unfolding places_after place_after mask_of with_changes
 places_were_spelled law words code kind allowed mask [] bits found below e =
     let parts = answer_parts [] found.0 bits found.1 e in
     record {
-      changed = []; text = []; rises = tt; mask_is = omega arith; values_are = sym parts.0; parts = parts.1; spells = refl;
-      kept = λ all. rw (← parts.0) all; long = ap length (sym parts.0);
+      changed = [];
+      text = [];
+      rises = tt;
+      mask_is = omega arith;
+      values_are = sym parts.0;
+      parts = parts.1;
+      spells = refl;
+      kept = λ all. rw (← parts.0) all;
+      long = ap length (sym parts.0);
     }
 places_were_spelled law words code kind allowed mask (x ∷ from) bits found below e =
     let half : mask / 2 < 2 ^ length from = omega (arith, pow-suc 2 (length from)) in

@@ -196,7 +196,7 @@ fronts count from to long = simp length-take (ap (min count) long)
 pub fields_are_spelled : PlayerFieldIsSpelled → (words : List (List Bool)) (table : List Kind) → All IsKind table → (from to : List ℕ) → length from ≡ length to
     → All (λ word. word < 2 ^ 32) to → normal_words table from ≡ from
     → SpellsFields words (take (last_changed (take (length table) from) (take (length table) to)) table) from (normal_words table to)
-      (fields_text words (take (last_changed (take (length table) from) (take (length table) to)) table) from to)
+    (fields_text words (take (last_changed (take (length table) from) (take (length table) to)) table) from to)
 unfolding last_changed fields_text normal_words
 fields_are_spelled law words [] allowed from to long fits normal =
     (sym (normal_words-front [] from to long refl) ∙ normal, refl)
@@ -216,8 +216,14 @@ fields_are_spelled law words (kind ∷ table) allowed (x ∷ from) (y ∷ to) lo
           let others : normal_words table to ≡ from = sym (normal_words-front table from to as_long agree) ∙ behind in
           rw none (rw (← eqb-true x y both.1, here, others) refl, refl)
       | inr some ↦
-          rw (some, add-one)
-          (norm kind y, normal_words table to, field_text words kind x y, fields_text words (take (last_changed old new) table) from to, refl, refl,
-          field_is_spelled law words kind (All-head IsKind kind table allowed) x y (All-head Fits y to fits) here,
-          fields_are_spelled law words table (All-tail IsKind kind table allowed) from to as_long (All-tail Fits y to fits) behind)
+          rw (some, add-one) (
+            norm kind y,
+            normal_words table to,
+            field_text words kind x y,
+            fields_text words (take (last_changed old new) table) from to,
+            refl,
+            refl,
+            field_is_spelled law words kind (All-head IsKind kind table allowed) x y (All-head Fits y to fits) here,
+            fields_are_spelled law words table (All-tail IsKind kind table allowed) from to as_long (All-tail Fits y to fits) behind,
+          )
     ]

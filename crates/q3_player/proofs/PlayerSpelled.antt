@@ -280,8 +280,15 @@ marked_was_spelled put law words code from state fields long bits mark to rest r
             spells = inr (
               arrays.text,
               record {
-                stats = s.stats; persistant = s.persistant; ammo = s.ammo; powerups = s.powerups;
-                of_stats = s.of_stats; of_persistant = s.of_persistant; of_ammo = s.of_ammo; of_powerups = s.of_powerups; whole = s.whole;
+                stats = s.stats;
+                persistant = s.persistant;
+                ammo = s.ammo;
+                powerups = s.powerups;
+                of_stats = s.of_stats;
+                of_persistant = s.of_persistant;
+                of_ammo = s.of_ammo;
+                of_powerups = s.of_powerups;
+                whole = s.whole;
               },
               refl,
             );
@@ -301,8 +308,15 @@ marked_is_read put law words code from to text rest state state' (inr marked) =
     let s = marked.1 in
     let over : IsState (record from { words = to.words }) = record { words = state'.words; stats = state.stats; persistant = state.persistant; ammo = state.ammo; powerups = state.powerups } in
     let spells : SpellsArrays words (record from { words = to.words }) to marked.0 = record {
-      stats = s.stats; persistant = s.persistant; ammo = s.ammo; powerups = s.powerups;
-      of_stats = s.of_stats; of_persistant = s.of_persistant; of_ammo = s.of_ammo; of_powerups = s.of_powerups; whole = s.whole;
+      stats = s.stats;
+      persistant = s.persistant;
+      ammo = s.ammo;
+      powerups = s.powerups;
+      of_stats = s.of_stats;
+      of_persistant = s.of_persistant;
+      of_ammo = s.of_ammo;
+      of_powerups = s.of_powerups;
+      whole = s.whole;
     } in
     rw (
       marked.2,
@@ -334,8 +348,8 @@ player_was_spelled put law words table from to bits rest code is_table state e =
     let first : bits ≡ eight ++ count.0.1 = bits_were put words code 8 bits count.0 count.0.0 count.0.1 (bits_ok (field_read words 8 bits) count.0 count.1) refl refl in (
       arrays.state,
       λ normal.
-        let words_are = fields_are_normal put law words code count.0.0 table is_table.each from.words count.0.1 fields.0 reads (ap (λ (p : PlayerState). p.words) normal) in
-        ap (λ (ws : List ℕ). record to { words = ws }) (subst (λ (ws : List ℕ). normal_words table ws ≡ ws) arrays.others words_are),
+          let words_are = fields_are_normal put law words code count.0.0 table is_table.each from.words count.0.1 fields.0 reads (ap (λ (p : PlayerState). p.words) normal) in
+          ap (λ (ws : List ℕ). record to { words = ws }) (subst (λ (ws : List ℕ). normal_words table ws ≡ ws) arrays.others words_are),
       eight ++ spelled.text ++ arrays.text,
       in_three bits eight spelled.text arrays.text rest count.0.1 fields.0.1 first spelled.parts arrays.parts,
       record {

@@ -156,12 +156,7 @@ fn write_shorts(w: &mut Writer, from: &[i16; 16], to: &[i16; 16]) -> Result<(), 
 
 /// Writes a mark, and behind a mark of change the mask of the places that changed and their values.
 #[tactic(auto, using(crate::proofs::Changes::array_text_none, crate::proofs::Changes::array_text_some))]
-fn write_array(
-    w: &mut Writer,
-    kind: Kind,
-    from: &[u32; 16],
-    to: &[u32; 16],
-) -> Result<(), Overflow>
+fn write_array(w: &mut Writer, kind: Kind, from: &[u32; 16], to: &[u32; 16]) -> Result<(), Overflow>
     requires { IsKind kind }
     ensures overflow { IsErr result ↔
         (w.old.room < message_length (length w.old.bits + length (array_text w.old.words kind (changes from.now to.now)))) }
