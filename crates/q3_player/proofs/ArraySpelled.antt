@@ -1,18 +1,17 @@
 -- The spellings of an array: what is written is one of them, and a reader takes each of them and no other text.
-use Rattle.std.proofs.Common.{◌≡◌, ◌≢◌, ◌⊎◌, ℕ, zero, suc, ◌+◌, ◌*◌, ◌/◌, ◌%◌, ◌^◌, ◌≤◌, ◌<◌, Bool, true, false, cond, eqb, List, [], ◌∷◌, ◌++◌, length, set, Result, Ok, Err, refl, sym, ap, subst, ◌∙◌, append_assoc, arith, inl, inr}
+use Rattle.std.proofs.Common.{◌≡◌, ◌≢◌, ◌⊎◌, ℕ, suc, ◌/◌, ◌%◌, ◌^◌, ◌<◌, Bool, true, false, cond, eqb, List, [], ◌∷◌, ◌++◌, length, Result, Ok, refl, sym, ap, subst, ◌∙◌, append_assoc, arith, inl, inr}
 use Rattle.std.proofs.Math.Nat.{pow-suc}
 use Rattle.std.proofs.lemmas.Bool.{cases_Bool, eqb-true, eqb-false, eq-eqb, ne_eqb}
-use Rattle.std.proofs.lemmas.List.Elements.{All-nil, All-cons, All-head, All-tail}
+use Rattle.std.proofs.lemmas.List.Elements.{All-cons, All-head, All-tail}
 use Rattle.std.specs.List.{All}
 use Rattle.q3_bits.specs.Words.{IsCode, field_bits, field_read}
 use Rattle.q3_bits.specs.Laws.{ReadWasPut, PutIsRead}
 use Rattle.q3_bits.specs.declared.reader.ReadError.{ReadError}
 use Rattle.q3_fields.specs.declared.kind.Kind.{Kind}
-use Rattle.q3_fields.specs.Kinds.{IsKind, norm}
-use Rattle.q3_fields.specs.Texts.{player_field, player_field_at}
-use Rattle.q3_fields.specs.Spelling.{SpellsPlayerField}
+use Rattle.q3_fields.specs.Kinds.{IsKind}
+use Rattle.q3_fields.specs.Texts.{player_field_at}
 use Rattle.q3_fields.specs.Laws.{PlayerFieldIsSpelled, PlayerReadIsSpelled, PlayerSpelledIsRead}
-use Rattle.q3_player.specs.Arrays.{Change, changes_from, changes, mask_of, with_changes, AreRising}
+use Rattle.q3_player.specs.Arrays.{Change, changes, mask_of, with_changes, AreRising}
 use Rattle.q3_player.specs.Delta.{◌>>=◌, array_text, places_after, array_after}
 use Rattle.q3_player.specs.Spelling.{SpellsValues, SpellsArray}
 use Rattle.q3_player.specs.Steps.{values_text, place_after}

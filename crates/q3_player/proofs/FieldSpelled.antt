@@ -1,5 +1,5 @@
 -- The spellings of the fields: what is written is one of them, and a reader takes each of them and no other text.
-use Rattle.std.proofs.Common.{◌≡◌, ◌≢◌, ◌⊎◌, ℕ, zero, suc, ◌+◌, ◌^◌, ◌≤◌, ◌<◌, Bool, cond, eqb, ◌&&◌, List, [], ◌∷◌, ◌++◌, length, take, min, Result, Ok, Err, refl, sym, ap, subst, ◌∙◌, append_assoc, add-one, arith, inl, inr}
+use Rattle.std.proofs.Common.{◌≡◌, ◌≢◌, ◌⊎◌, ℕ, zero, suc, ◌^◌, ◌<◌, Bool, cond, eqb, ◌&&◌, List, [], ◌∷◌, ◌++◌, length, take, min, Result, Ok, refl, sym, ap, subst, ◌∙◌, append_assoc, add-one, arith, inl, inr}
 use Rattle.std.proofs.lemmas.Bool.{cases_Bool, eqb-true, eqb-false, and_parts}
 use Rattle.std.proofs.lemmas.List.{length-take}
 use Rattle.std.proofs.lemmas.List.Elements.{All-cons, All-head, All-tail}
@@ -10,7 +10,6 @@ use Rattle.q3_bits.specs.declared.reader.ReadError.{ReadError}
 use Rattle.q3_fields.specs.declared.kind.Kind.{Kind}
 use Rattle.q3_fields.specs.Kinds.{IsKind, norm}
 use Rattle.q3_fields.specs.Texts.{player_field, player_field_at}
-use Rattle.q3_fields.specs.Spelling.{SpellsPlayerField}
 use Rattle.q3_fields.specs.Laws.{PlayerFieldIsSpelled, PlayerReadIsSpelled, PlayerSpelledIsRead}
 use Rattle.q3_player.specs.State.{normal_words}
 use Rattle.q3_player.specs.Delta.{last_changed, field_text, fields_text, ◌>>=◌, field_after, fields_after}

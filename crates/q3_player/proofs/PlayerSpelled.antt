@@ -1,5 +1,5 @@
 -- The spellings of a delta: what is written is one of them, and a reader takes each of them and no other text.
-use Rattle.std.proofs.Common.{◌≡◌, ◌≢◌, ◌⊎◌, ℕ, ◌+◌, ◌^◌, ◌≤◌, ◌<◌, Bool, true, false, cond, eqb, ltb, ◌&&◌, List, [], ◌∷◌, ◌++◌, length, take, Result, Ok, Err, refl, sym, ap, subst, ◌∙◌, append_assoc, arith, inl, inr}
+use Rattle.std.proofs.Common.{◌≡◌, ◌≢◌, ◌⊎◌, ℕ, ◌^◌, ◌≤◌, ◌<◌, Bool, true, false, cond, eqb, ltb, ◌&&◌, List, [], ◌++◌, length, take, Result, Ok, Err, refl, sym, ap, subst, ◌∙◌, append_assoc, arith, inl, inr}
 use Rattle.std.proofs.lemmas.Bool.{cases_Bool, eqb-true, eqb-false, and_parts, ltb-false, le-ltb}
 use Rattle.std.proofs.lemmas.List.{length-take-le, nil_from_length}
 use Rattle.std.proofs.lemmas.List.Elements.{All-take}
@@ -13,10 +13,10 @@ use Rattle.q3_fields.specs.Laws.{PlayerFieldIsSpelled, PlayerReadIsSpelled, Play
 use Rattle.q3_player.specs.declared.state.PlayerState.{PlayerState}
 use Rattle.q3_player.specs.declared.reading.PlayerError.{PlayerError}
 use Rattle.q3_player.specs.declared.reading.PlayerError.TheVariants.{Count}
-use Rattle.q3_player.specs.State.{AreWords, AreShorts, IsState, IsShort, patterns_of, normal_words, normal_player, IsNormal}
-use Rattle.q3_player.specs.Arrays.{Change, changes_from, changes, with_changes, signed_places, powerup_places}
-use Rattle.q3_player.specs.Delta.{last_changed, changed_count, fields_text, array_text, stats_text, persistant_text, ammo_text, powerups_text, is_none, no_array_changed, arrays_text, player_delta, ◌>>=◌, fields_after, array_after, shorts_of, arrays_after, bits_error, player_at}
-use Rattle.q3_player.specs.Spelling.{SpellsFields, SpellsArray, SpellsArrays, SameArrays, SpellsMarked, SpellsPlayer}
+use Rattle.q3_player.specs.State.{AreWords, AreShorts, IsState, patterns_of, normal_words, normal_player, IsNormal}
+use Rattle.q3_player.specs.Arrays.{changes, with_changes, signed_places, powerup_places}
+use Rattle.q3_player.specs.Delta.{changed_count, fields_text, array_text, stats_text, persistant_text, ammo_text, powerups_text, is_none, no_array_changed, arrays_text, player_delta, ◌>>=◌, fields_after, array_after, shorts_of, arrays_after, bits_error, player_at}
+use Rattle.q3_player.specs.Spelling.{SpellsFields, SpellsArray, SpellsArrays, SpellsMarked, SpellsPlayer}
 use Rattle.q3_player.proofs.LastChanged.{last_changed-le}
 use Rattle.q3_player.proofs.Results.{bind_ok, bits_ok, guard_ok, answer_parts, same_ok}
 use Rattle.q3_player.proofs.BitsSpelled.{bits_were_put, bits_were, bits_are_read}

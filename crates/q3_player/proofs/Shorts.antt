@@ -1,20 +1,19 @@
 -- Signed values of 16 bits as words of 32.
-use Rattle.std.proofs.Common.{◌≡◌, ℕ, ◌+◌, ◌<◌, Bool, true, false, cond, eqb, ◌&&◌, List, [], ◌∷◌, length, map, refl, sym, ap, ◌∙◌, arith, inl, inr}
+use Rattle.std.proofs.Common.{◌≡◌, ℕ, ◌+◌, eqb, List, [], ◌∷◌, length, refl, sym, ap, ◌∙◌, arith, inl, inr}
 use Rattle.std.proofs.Math.Dec.{eqb-suc-zero}
 use Rattle.std.proofs.lemmas.Bool.{cases_Bool}
 use Rattle.std.proofs.lemmas.Bool.Decides.{same_from_decides, Decides-eqb, Decides-int_eq, Decides-like}
 use Rattle.std.proofs.lemmas.Int.{ints, to_z-of_z}
-use Rattle.std.proofs.lemmas.List.{length-map}
 use Rattle.std.proofs.lemmas.List.Elements.{All-head, All-tail}
 use Rattle.std.specs.List.{All}
 use Rattle.std.specs.Int.{cast_unsigned, cast_signed}
 use Rattle.std.specs.Ordering.{int_eq}
-use Rattle.q3_player.specs.State.{IsShort, AreShorts, patterns_of}
-use Rattle.q3_player.specs.Arrays.{Change, changes_from, changes}
+use Rattle.q3_player.specs.State.{IsShort, patterns_of}
+use Rattle.q3_player.specs.Arrays.{changes_from}
 use lib.IntN.{ℤ, pos, negsuc}
 use lib.Pointwise.{pointwise}
 use mir.Val.{SFits}
-use mir.Syntax.{w16, w32}
+use mir.Syntax.{w32}
 
 -- a value of 16 bits has 32
 fits-short : (z : ℤ) → IsShort z → SFits w32 z

@@ -1,4 +1,4 @@
-use Rattle.std.proofs.Common.{◌∙◌, length, sym, arith}
+use Rattle.std.proofs.Common.{◌∙◌, arith}
 use Rattle.std.proofs.lemmas.List.{length-map}
 use Rattle.q3_player.specs.State.{patterns_of}
 use Rattle.q3_player.proofs.Shorts.{shorts-same, words-same}
