@@ -1,18 +1,17 @@
 -- The spellings of an array: what is written is one of them, and a reader takes each of them and no other text.
-use Rattle.std.proofs.Common.{◌≡◌, ◌≢◌, ◌⊎◌, ℕ, zero, suc, ◌+◌, ◌*◌, ◌/◌, ◌%◌, ◌^◌, ◌≤◌, ◌<◌, Bool, true, false, cond, eqb, List, [], ◌∷◌, ◌++◌, length, set, Result, Ok, Err, refl, sym, ap, subst, ◌∙◌, append_assoc, arith, inl, inr}
+use Rattle.std.proofs.Common.{◌≡◌, ◌≢◌, ◌⊎◌, ℕ, suc, ◌/◌, ◌%◌, ◌^◌, ◌<◌, Bool, true, false, cond, eqb, List, [], ◌∷◌, ◌++◌, length, Result, Ok, refl, sym, ap, subst, ◌∙◌, append_assoc, arith, inl, inr}
 use Rattle.std.proofs.Math.Nat.{pow-suc}
 use Rattle.std.proofs.lemmas.Bool.{cases_Bool, eqb-true, eqb-false, eq-eqb, ne_eqb}
-use Rattle.std.proofs.lemmas.List.Elements.{All-nil, All-cons, All-head, All-tail}
+use Rattle.std.proofs.lemmas.List.Elements.{All-cons, All-head, All-tail}
 use Rattle.std.specs.List.{All}
 use Rattle.q3_bits.specs.Words.{IsCode, field_bits, field_read}
 use Rattle.q3_bits.specs.Laws.{ReadWasPut, PutIsRead}
 use Rattle.q3_bits.specs.declared.reader.ReadError.{ReadError}
 use Rattle.q3_fields.specs.declared.kind.Kind.{Kind}
-use Rattle.q3_fields.specs.Kinds.{IsKind, norm}
-use Rattle.q3_fields.specs.Texts.{player_field, player_field_at}
-use Rattle.q3_fields.specs.Spelling.{SpellsPlayerField}
+use Rattle.q3_fields.specs.Kinds.{IsKind}
+use Rattle.q3_fields.specs.Texts.{player_field_at}
 use Rattle.q3_fields.specs.Laws.{PlayerFieldIsSpelled, PlayerReadIsSpelled, PlayerSpelledIsRead}
-use Rattle.q3_player.specs.Arrays.{Change, changes_from, changes, mask_of, with_changes, AreRising}
+use Rattle.q3_player.specs.Arrays.{Change, changes, mask_of, with_changes, AreRising}
 use Rattle.q3_player.specs.Delta.{◌>>=◌, array_text, places_after, array_after}
 use Rattle.q3_player.specs.Spelling.{SpellsValues, SpellsArray}
 use Rattle.q3_player.specs.Steps.{values_text, place_after}
@@ -59,8 +58,15 @@ unfolding places_after place_after mask_of with_changes
 places_were_spelled law words code kind allowed mask [] bits found below e =
     let parts = answer_parts [] found.0 bits found.1 e in
     record {
-      changed = []; text = []; rises = tt; mask_is = omega arith; values_are = sym parts.0; parts = parts.1; spells = refl;
-      kept = λ all. rw (← parts.0) all; long = ap length (sym parts.0);
+      changed = [];
+      text = [];
+      rises = tt;
+      mask_is = omega arith;
+      values_are = sym parts.0;
+      parts = parts.1;
+      spells = refl;
+      kept = λ all. rw (← parts.0) all;
+      long = ap length (sym parts.0);
     }
 places_were_spelled law words code kind allowed mask (x ∷ from) bits found below e =
     let half : mask / 2 < 2 ^ length from = omega (arith, pow-suc 2 (length from)) in

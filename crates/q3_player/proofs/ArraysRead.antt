@@ -1,5 +1,5 @@
 -- The four arrays, read one after the other.
-use Rattle.std.proofs.Common.{◌≡◌, ℕ, Bool, List, Result, Ok, Err, MatchResult, refl, ap, sym, ◌∙◌}
+use Rattle.std.proofs.Common.{◌≡◌, ℕ, Bool, List, Result, Ok, Err, MatchResult, refl, ap, ◌∙◌}
 use Rattle.q3_bits.specs.declared.reader.ReadError.{ReadError}
 use Rattle.q3_player.specs.declared.state.PlayerState.{PlayerState}
 use Rattle.q3_player.specs.State.{patterns_of}
@@ -19,10 +19,11 @@ shorts_after-ok words from bits values rest e =
     let parts = answer_parts (shorts_of whole.0.0) values whole.0.1 rest whole.2 in
     (whole.0.0, whole.1 ∙ ap (λ (left : List Bool). Ok (whole.0.0, left)) parts.1, parts.0)
 
--- a fault among them
+-- words that were read, as values
 abbrev as_shorts : List ℕ × List Bool → Result (List ℤ × List Bool) ReadError
 as_shorts read = Ok (shorts_of read.0, read.1)
 
+-- a fault among them
 bind-err : (r : Read) (e : ReadError) → (r >>= as_shorts) ≡ Err e → r ≡ Err e
 bind-err (Ok x) e bad = absurd cc
 bind-err (Err d) e bad = cc

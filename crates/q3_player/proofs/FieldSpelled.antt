@@ -1,5 +1,5 @@
 -- The spellings of the fields: what is written is one of them, and a reader takes each of them and no other text.
-use Rattle.std.proofs.Common.{◌≡◌, ◌≢◌, ◌⊎◌, ℕ, zero, suc, ◌+◌, ◌^◌, ◌≤◌, ◌<◌, Bool, cond, eqb, ◌&&◌, List, [], ◌∷◌, ◌++◌, length, take, min, Result, Ok, Err, refl, sym, ap, subst, ◌∙◌, append_assoc, add-one, arith, inl, inr}
+use Rattle.std.proofs.Common.{◌≡◌, ◌≢◌, ◌⊎◌, ℕ, zero, suc, ◌^◌, ◌<◌, Bool, cond, eqb, ◌&&◌, List, [], ◌∷◌, ◌++◌, length, take, min, Result, Ok, refl, sym, ap, subst, ◌∙◌, append_assoc, add-one, arith, inl, inr}
 use Rattle.std.proofs.lemmas.Bool.{cases_Bool, eqb-true, eqb-false, and_parts}
 use Rattle.std.proofs.lemmas.List.{length-take}
 use Rattle.std.proofs.lemmas.List.Elements.{All-cons, All-head, All-tail}
@@ -10,7 +10,6 @@ use Rattle.q3_bits.specs.declared.reader.ReadError.{ReadError}
 use Rattle.q3_fields.specs.declared.kind.Kind.{Kind}
 use Rattle.q3_fields.specs.Kinds.{IsKind, norm}
 use Rattle.q3_fields.specs.Texts.{player_field, player_field_at}
-use Rattle.q3_fields.specs.Spelling.{SpellsPlayerField}
 use Rattle.q3_fields.specs.Laws.{PlayerFieldIsSpelled, PlayerReadIsSpelled, PlayerSpelledIsRead}
 use Rattle.q3_player.specs.State.{normal_words}
 use Rattle.q3_player.specs.Delta.{last_changed, field_text, fields_text, ◌>>=◌, field_after, fields_after}
@@ -196,7 +195,7 @@ fronts count from to long = simp length-take (ap (min count) long)
 pub fields_are_spelled : PlayerFieldIsSpelled → (words : List (List Bool)) (table : List Kind) → All IsKind table → (from to : List ℕ) → length from ≡ length to
     → All (λ word. word < 2 ^ 32) to → normal_words table from ≡ from
     → SpellsFields words (take (last_changed (take (length table) from) (take (length table) to)) table) from (normal_words table to)
-      (fields_text words (take (last_changed (take (length table) from) (take (length table) to)) table) from to)
+    (fields_text words (take (last_changed (take (length table) from) (take (length table) to)) table) from to)
 unfolding last_changed fields_text normal_words
 fields_are_spelled law words [] allowed from to long fits normal =
     (sym (normal_words-front [] from to long refl) ∙ normal, refl)
@@ -216,8 +215,14 @@ fields_are_spelled law words (kind ∷ table) allowed (x ∷ from) (y ∷ to) lo
           let others : normal_words table to ≡ from = sym (normal_words-front table from to as_long agree) ∙ behind in
           rw none (rw (← eqb-true x y both.1, here, others) refl, refl)
       | inr some ↦
-          rw (some, add-one)
-          (norm kind y, normal_words table to, field_text words kind x y, fields_text words (take (last_changed old new) table) from to, refl, refl,
-          field_is_spelled law words kind (All-head IsKind kind table allowed) x y (All-head Fits y to fits) here,
-          fields_are_spelled law words table (All-tail IsKind kind table allowed) from to as_long (All-tail Fits y to fits) behind)
+          rw (some, add-one) (
+            norm kind y,
+            normal_words table to,
+            field_text words kind x y,
+            fields_text words (take (last_changed old new) table) from to,
+            refl,
+            refl,
+            field_is_spelled law words kind (All-head IsKind kind table allowed) x y (All-head Fits y to fits) here,
+            fields_are_spelled law words table (All-tail IsKind kind table allowed) from to as_long (All-tail Fits y to fits) behind,
+          )
     ]

@@ -1,7 +1,6 @@
 -- What the arrays hold is normal: a signed value of 16 bits as a word of 32, and a word of 32 bits.
-use Rattle.std.proofs.Common.{◌≡◌, ℕ, ◌+◌, ◌-◌, ◌%◌, ◌^◌, ◌≤◌, ◌<◌, Bool, true, false, cond, ltb, List, [], ◌∷◌, length, map, get_or, refl, sym, ap, ◌∙◌, arith, inl, inr}
+use Rattle.std.proofs.Common.{◌≡◌, ℕ, ◌%◌, ◌^◌, ◌<◌, List, [], ◌∷◌, length, refl, ◌∙◌, arith}
 use Rattle.std.proofs.Math.Nat.{mod-eq_of_lt}
-use Rattle.std.proofs.lemmas.Bool.{cases_Bool}
 use Rattle.std.proofs.lemmas.Bool.Decides.{nat_tests}
 use Rattle.std.proofs.lemmas.Int.{ints}
 use Rattle.std.proofs.lemmas.List.{length-map}
@@ -10,7 +9,7 @@ use Rattle.std.specs.List.{All}
 use Rattle.std.specs.Int.{cast_unsigned, cast_signed}
 use Rattle.q3_fields.specs.declared.kind.Kind.{Kind}
 use Rattle.q3_fields.specs.Kinds.{norm}
-use Rattle.q3_player.specs.State.{IsShort, AreShorts, AreWords, patterns_of}
+use Rattle.q3_player.specs.State.{IsShort, AreShorts, patterns_of}
 use Rattle.q3_player.specs.Arrays.{signed_places, powerup_places}
 use Rattle.q3_player.specs.Delta.{shorts_of}
 use lib.IntN.{ℤ, pos, negsuc}

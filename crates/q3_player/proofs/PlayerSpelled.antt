@@ -1,5 +1,5 @@
 -- The spellings of a delta: what is written is one of them, and a reader takes each of them and no other text.
-use Rattle.std.proofs.Common.{◌≡◌, ◌≢◌, ◌⊎◌, ℕ, ◌+◌, ◌^◌, ◌≤◌, ◌<◌, Bool, true, false, cond, eqb, ltb, ◌&&◌, List, [], ◌∷◌, ◌++◌, length, take, Result, Ok, Err, refl, sym, ap, subst, ◌∙◌, append_assoc, arith, inl, inr}
+use Rattle.std.proofs.Common.{◌≡◌, ◌≢◌, ◌⊎◌, ℕ, ◌^◌, ◌≤◌, ◌<◌, Bool, true, false, cond, eqb, ltb, ◌&&◌, List, [], ◌++◌, length, take, Result, Ok, Err, refl, sym, ap, subst, ◌∙◌, append_assoc, arith, inl, inr}
 use Rattle.std.proofs.lemmas.Bool.{cases_Bool, eqb-true, eqb-false, and_parts, ltb-false, le-ltb}
 use Rattle.std.proofs.lemmas.List.{length-take-le, nil_from_length}
 use Rattle.std.proofs.lemmas.List.Elements.{All-take}
@@ -13,10 +13,10 @@ use Rattle.q3_fields.specs.Laws.{PlayerFieldIsSpelled, PlayerReadIsSpelled, Play
 use Rattle.q3_player.specs.declared.state.PlayerState.{PlayerState}
 use Rattle.q3_player.specs.declared.reading.PlayerError.{PlayerError}
 use Rattle.q3_player.specs.declared.reading.PlayerError.TheVariants.{Count}
-use Rattle.q3_player.specs.State.{AreWords, AreShorts, IsState, IsShort, patterns_of, normal_words, normal_player, IsNormal}
-use Rattle.q3_player.specs.Arrays.{Change, changes_from, changes, with_changes, signed_places, powerup_places}
-use Rattle.q3_player.specs.Delta.{last_changed, changed_count, fields_text, array_text, stats_text, persistant_text, ammo_text, powerups_text, is_none, no_array_changed, arrays_text, player_delta, ◌>>=◌, fields_after, array_after, shorts_of, arrays_after, bits_error, player_at}
-use Rattle.q3_player.specs.Spelling.{SpellsFields, SpellsArray, SpellsArrays, SameArrays, SpellsMarked, SpellsPlayer}
+use Rattle.q3_player.specs.State.{AreWords, AreShorts, IsState, patterns_of, normal_words, normal_player, IsNormal}
+use Rattle.q3_player.specs.Arrays.{changes, with_changes, signed_places, powerup_places}
+use Rattle.q3_player.specs.Delta.{changed_count, fields_text, array_text, stats_text, persistant_text, ammo_text, powerups_text, is_none, no_array_changed, arrays_text, player_delta, ◌>>=◌, fields_after, array_after, shorts_of, arrays_after, bits_error, player_at}
+use Rattle.q3_player.specs.Spelling.{SpellsFields, SpellsArray, SpellsArrays, SpellsMarked, SpellsPlayer}
 use Rattle.q3_player.proofs.LastChanged.{last_changed-le}
 use Rattle.q3_player.proofs.Results.{bind_ok, bits_ok, guard_ok, answer_parts, same_ok}
 use Rattle.q3_player.proofs.BitsSpelled.{bits_were_put, bits_were, bits_are_read}
@@ -280,8 +280,15 @@ marked_was_spelled put law words code from state fields long bits mark to rest r
             spells = inr (
               arrays.text,
               record {
-                stats = s.stats; persistant = s.persistant; ammo = s.ammo; powerups = s.powerups;
-                of_stats = s.of_stats; of_persistant = s.of_persistant; of_ammo = s.of_ammo; of_powerups = s.of_powerups; whole = s.whole;
+                stats = s.stats;
+                persistant = s.persistant;
+                ammo = s.ammo;
+                powerups = s.powerups;
+                of_stats = s.of_stats;
+                of_persistant = s.of_persistant;
+                of_ammo = s.of_ammo;
+                of_powerups = s.of_powerups;
+                whole = s.whole;
               },
               refl,
             );
@@ -301,8 +308,15 @@ marked_is_read put law words code from to text rest state state' (inr marked) =
     let s = marked.1 in
     let over : IsState (record from { words = to.words }) = record { words = state'.words; stats = state.stats; persistant = state.persistant; ammo = state.ammo; powerups = state.powerups } in
     let spells : SpellsArrays words (record from { words = to.words }) to marked.0 = record {
-      stats = s.stats; persistant = s.persistant; ammo = s.ammo; powerups = s.powerups;
-      of_stats = s.of_stats; of_persistant = s.of_persistant; of_ammo = s.of_ammo; of_powerups = s.of_powerups; whole = s.whole;
+      stats = s.stats;
+      persistant = s.persistant;
+      ammo = s.ammo;
+      powerups = s.powerups;
+      of_stats = s.of_stats;
+      of_persistant = s.of_persistant;
+      of_ammo = s.of_ammo;
+      of_powerups = s.of_powerups;
+      whole = s.whole;
     } in
     rw (
       marked.2,
@@ -334,8 +348,8 @@ player_was_spelled put law words table from to bits rest code is_table state e =
     let first : bits ≡ eight ++ count.0.1 = bits_were put words code 8 bits count.0 count.0.0 count.0.1 (bits_ok (field_read words 8 bits) count.0 count.1) refl refl in (
       arrays.state,
       λ normal.
-        let words_are = fields_are_normal put law words code count.0.0 table is_table.each from.words count.0.1 fields.0 reads (ap (λ (p : PlayerState). p.words) normal) in
-        ap (λ (ws : List ℕ). record to { words = ws }) (subst (λ (ws : List ℕ). normal_words table ws ≡ ws) arrays.others words_are),
+          let words_are = fields_are_normal put law words code count.0.0 table is_table.each from.words count.0.1 fields.0 reads (ap (λ (p : PlayerState). p.words) normal) in
+          ap (λ (ws : List ℕ). record to { words = ws }) (subst (λ (ws : List ℕ). normal_words table ws ≡ ws) arrays.others words_are),
       eight ++ spelled.text ++ arrays.text,
       in_three bits eight spelled.text arrays.text rest count.0.1 fields.0.1 first spelled.parts arrays.parts,
       record {

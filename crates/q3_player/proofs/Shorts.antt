@@ -1,20 +1,19 @@
 -- Signed values of 16 bits as words of 32.
-use Rattle.std.proofs.Common.{◌≡◌, ℕ, ◌+◌, ◌<◌, Bool, true, false, cond, eqb, ◌&&◌, List, [], ◌∷◌, length, map, refl, sym, ap, ◌∙◌, arith, inl, inr}
+use Rattle.std.proofs.Common.{◌≡◌, ℕ, ◌+◌, true, eqb, List, [], ◌∷◌, length, refl, sym, ap, subst, ◌∙◌, arith, inl, inr}
 use Rattle.std.proofs.Math.Dec.{eqb-suc-zero}
 use Rattle.std.proofs.lemmas.Bool.{cases_Bool}
 use Rattle.std.proofs.lemmas.Bool.Decides.{same_from_decides, Decides-eqb, Decides-int_eq, Decides-like}
 use Rattle.std.proofs.lemmas.Int.{ints, to_z-of_z}
-use Rattle.std.proofs.lemmas.List.{length-map}
 use Rattle.std.proofs.lemmas.List.Elements.{All-head, All-tail}
 use Rattle.std.specs.List.{All}
 use Rattle.std.specs.Int.{cast_unsigned, cast_signed}
 use Rattle.std.specs.Ordering.{int_eq}
-use Rattle.q3_player.specs.State.{IsShort, AreShorts, patterns_of}
-use Rattle.q3_player.specs.Arrays.{Change, changes_from, changes}
+use Rattle.q3_player.specs.State.{IsShort, patterns_of}
+use Rattle.q3_player.specs.Arrays.{changes_from}
 use lib.IntN.{ℤ, pos, negsuc}
-use lib.Pointwise.{pointwise}
+use lib.Pointwise.{pointwise, pointwise_decides, bytes_decides}
 use mir.Val.{SFits}
-use mir.Syntax.{w16, w32}
+use mir.Syntax.{w32}
 
 -- a value of 16 bits has 32
 fits-short : (z : ℤ) → IsShort z → SFits w32 z
@@ -54,3 +53,11 @@ words-same place (x ∷ from) (y ∷ to) same =
       | inl as_it_was ↦ rw as_it_was (words-same (place + 1) from to (omega arith))
       | inr differs ↦ rw (differs, eqb-suc-zero (length (changes_from (place + 1) from to))) refl
     ]
+
+-- where values are the same none changed
+pub shorts-same_none : (from to : List ℤ) → pointwise int_eq from to ≡ true → eqb (length (changes_from 0 (patterns_of from) (patterns_of to))) 0 ≡ true
+shorts-same_none from to same =
+    let is : from ≡ to = (pointwise_decides Decides-int_eq from to).0 same in
+    let words = patterns_of from in
+    let none : eqb (length (changes_from 0 words words)) 0 ≡ true = sym (words-same 0 words words refl) ∙ (bytes_decides words words).1 refl in
+    subst (λ (values : List ℤ). eqb (length (changes_from 0 words (patterns_of values))) 0 ≡ true) is none

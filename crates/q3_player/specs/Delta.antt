@@ -119,8 +119,15 @@ arrays_after words from bits = do
   persistant ← array_after words signed_places (patterns_of from.persistant) stats.1
   ammo ← array_after words signed_places (patterns_of from.ammo) persistant.1
   powerups ← array_after words powerup_places from.powerups ammo.1
-  Ok (record from {
-    stats = shorts_of stats.0; persistant = shorts_of persistant.0; ammo = shorts_of ammo.0; powerups = powerups.0 }, powerups.1)
+  Ok (
+    record from {
+      stats = shorts_of stats.0;
+      persistant = shorts_of persistant.0;
+      ammo = shorts_of ammo.0;
+      powerups = powerups.0;
+    },
+    powerups.1,
+  )
 
 abbrev pub bits_error : {A : Type 0} → Result A ReadError → Result A PlayerError
 bits_error (Ok x) = Ok x

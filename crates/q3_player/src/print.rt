@@ -17,11 +17,26 @@ pub fn print_words<O: Sink>(player: &PlayerState, out: &mut O) -> Result<(), Fai
 {
     print_all(
         &[
-            Piece::Words { letter: b"", words: &player.words },
-            Piece::Signed { letter: b"s", values: &player.stats },
-            Piece::Signed { letter: b"p", values: &player.persistant },
-            Piece::Signed { letter: b"a", values: &player.ammo },
-            Piece::Words { letter: b"u", words: &player.powerups },
+            Piece::Words {
+                letter: b"",
+                words: &player.words,
+            },
+            Piece::Signed {
+                letter: b"s",
+                values: &player.stats,
+            },
+            Piece::Signed {
+                letter: b"p",
+                values: &player.persistant,
+            },
+            Piece::Signed {
+                letter: b"a",
+                values: &player.ammo,
+            },
+            Piece::Words {
+                letter: b"u",
+                words: &player.powerups,
+            },
         ],
         out,
     )

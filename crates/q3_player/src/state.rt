@@ -46,7 +46,7 @@ impl PlayerState {
         PlayerState { words, ..*self }
     }
 
-    /// Every state has words of 32 bits and signed values of 16. This does nothing.
+    /// Every state has words of 32 bits and signed values of 16. This changes nothing.
     pub fn is_state(&self)
         ensures { IsState self.now }
     {
@@ -63,7 +63,7 @@ fn are_words(words: &[u32])
     ensures { All (λ word. word < 2 ^ 32) words.now }
 {}
 
-/// The signed values of an array have 16 bits. This does nothing.
+/// The signed values of an array have 16 bits, as each of them tells that is read. This changes nothing.
 pub(crate) fn are_shorts(values: &[i16; 16])
     ensures { AreShorts values.now }
 {

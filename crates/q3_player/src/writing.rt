@@ -1,10 +1,9 @@
 //! Writes the player delta. Keeps the rule "player delta", the engine's `MSG_WriteDeltaPlayerstate`.
 
-ghost use Rattle.std.specs.Prelude.{◌≡◌, ◌+◌, ◌^◌, ◌<◌, ◌≤◌, ◌++◌, ◌↔◌, length, take, IsErr, OnOk};
+ghost use Rattle.std.specs.Prelude.{◌≡◌, ◌+◌, ◌<◌, ◌≤◌, ◌++◌, ◌↔◌, length, take, IsErr, OnOk};
 ghost use Rattle.q3_bits.specs.Bits.{message_length};
 ghost use Rattle.q3_bits.specs.Streams.{Extends};
 ghost use Rattle.q3_fields.specs.Kinds.{IsKind};
-ghost use Rattle.q3_fields.specs.Texts.{player_field};
 ghost use Rattle.q3_player.specs.State.{patterns_of};
 ghost use Rattle.q3_player.specs.Arrays.{changes, mask_of, signed_places};
 ghost use Rattle.q3_player.specs.Delta.{changed_count, field_text, fields_text, array_text, arrays_text, is_none, no_array_changed, player_delta};
@@ -131,9 +130,13 @@ fn same_arrays(from: &PlayerState, to: &PlayerState) -> bool
 fn same_shorts(from: &[i16; 16], to: &[i16; 16]) -> bool
     ensures { result ≡ is_none (changes (patterns_of from.now) (patterns_of to.now)) }
 {
+    if from == to {
+        return true;
+    }
+    // values of 16 bits that differ have words that differ
     are_shorts(from);
     are_shorts(to);
-    from == to
+    false
 }
 
 /// Whether no place of an array of words changed.
@@ -156,12 +159,7 @@ fn write_shorts(w: &mut Writer, from: &[i16; 16], to: &[i16; 16]) -> Result<(), 
 
 /// Writes a mark, and behind a mark of change the mask of the places that changed and their values.
 #[tactic(auto, using(crate::proofs::Changes::array_text_none, crate::proofs::Changes::array_text_some))]
-fn write_array(
-    w: &mut Writer,
-    kind: Kind,
-    from: &[u32; 16],
-    to: &[u32; 16],
-) -> Result<(), Overflow>
+fn write_array(w: &mut Writer, kind: Kind, from: &[u32; 16], to: &[u32; 16]) -> Result<(), Overflow>
     requires { IsKind kind }
     ensures overflow { IsErr result ↔
         (w.old.room < message_length (length w.old.bits + length (array_text w.old.words kind (changes from.now to.now)))) }

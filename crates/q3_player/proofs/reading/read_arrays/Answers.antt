@@ -1,4 +1,4 @@
-use Rattle.std.proofs.Common.{◌≡◌, ◌∙◌, sym, rules}
+use Rattle.std.proofs.Common.{◌∙◌}
 use Rattle.std.proofs.lemmas.Result.{err_from_is_err_and}
 use Rattle.q3_player.proofs.ArraysRead.{arrays_after-stats, arrays_after-persistant, arrays_after-ammo, arrays_after-powerups, arrays_after-last}
 use Rattle.q3_player.proofs.reading.read_arrays.Goals as goal

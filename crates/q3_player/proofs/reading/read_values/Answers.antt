@@ -1,4 +1,4 @@
-use Rattle.std.proofs.Common.{◌≡◌, ◌/◌, ℕ, refl, ap, ◌∙◌, arith}
+use Rattle.std.proofs.Common.{◌≡◌, ◌/◌, ℕ, ap, ◌∙◌, arith}
 use Rattle.std.proofs.lemmas.Result.{err_from_is_err_and}
 use Rattle.q3_player.specs.Delta.{places_after}
 use Rattle.q3_player.proofs.ReadOver.{HasRead-none, HasRead-here, HasRead-more, HasRead-ends, HasRead-all}

@@ -1,4 +1,4 @@
-use Rattle.std.proofs.Common.{◌≡◌, get_or, sym, subst, rules, arith, below_more}
+use Rattle.std.proofs.Common.{get_or, rules, arith, below_more}
 use Rattle.std.proofs.lemmas.List.Elements.{All-from_get_or}
 use Rattle.std.proofs.lemmas.Int.{ints}
 use Rattle.q3_player.specs.State.{IsShort}

@@ -1,6 +1,5 @@
-use Rattle.std.proofs.Common.{◌≡◌, ◌+◌, ◌*◌, ◌^◌, refl, sym, ◌∙◌, arith}
-use Rattle.std.proofs.Math.Nat.{pow-suc}
-use Rattle.std.proofs.lemmas.Nat.{one_shl, pow_pos}
+use Rattle.std.proofs.Common.{refl, sym, ◌∙◌, arith}
+use Rattle.std.proofs.lemmas.Nat.{one_shl}
 use Rattle.q3_player.specs.Arrays.{changes_from, mask_of}
 use Rattle.q3_player.proofs.Changes.{mask-differs, mask-same, twice}
 use Rattle.q3_player.proofs.writing.changed_mask.Goals as goal

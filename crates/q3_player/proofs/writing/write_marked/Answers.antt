@@ -1,6 +1,5 @@
 use Rattle.std.proofs.Common.{[], ◌++◌, refl, sym, append_assoc}
 use Rattle.std.proofs.lemmas.List.{append-nil}
-use Rattle.q3_bits.specs.Words.{field_bits}
 use Rattle.q3_player.specs.Delta.{stats_text, persistant_text, ammo_text, powerups_text}
 use Rattle.q3_player.proofs.Written.{HasPut-first, HasPut-more, HasPut-front, HasPut-overflow, HasPut-last, HasPut-last_ok, HasPut-front_last}
 use Rattle.q3_player.proofs.writing.write_marked.Goals as goal

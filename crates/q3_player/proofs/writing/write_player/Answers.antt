@@ -1,4 +1,4 @@
-use Rattle.std.proofs.Common.{ℕ, ◌++◌, take, sym, ap, subst, append_assoc}
+use Rattle.std.proofs.Common.{ℕ, ◌++◌, take, sym, ap, subst}
 use Rattle.q3_bits.specs.Streams.{Extends}
 use Rattle.q3_bits.specs.Words.{field_bits}
 use Rattle.q3_player.specs.Delta.{fields_text, arrays_text, player_delta}

@@ -1,7 +1,5 @@
-use Rattle.std.proofs.Common.{◌≡◌, ◌<◌, ℕ, List, sym, ap, ◌∙◌, length, set, replicate, refl, arith}
+use Rattle.std.proofs.Common.{◌≡◌, ℕ, sym, ap, ◌∙◌, length, replicate, refl, arith}
 use Rattle.std.proofs.lemmas.List.{take_all}
-use Rattle.q3_fields.specs.Kinds.{norm}
-use Rattle.q3_player.specs.State.{normal_words}
 use Rattle.q3_player.proofs.Normal.{normal_words-none, normal_words-more}
 use Rattle.q3_player.proofs.state.PlayerState.normal.Goals as goal
 
