@@ -1,4 +1,4 @@
-//! The numbers of a profile, each with its rule: what the engine fixes as `PROTOCOL_VERSION`, `numSnapshotEntities`
+//! The numbers of a profile, each with its rule: the protocol, and what the engine fixes as `numSnapshotEntities`
 //! and `MAX_PARSE_ENTITIES`. The bounds are this project's own.
 
 ghost use Rattle.std.specs.Prelude.{◌≡◌, ◌&&◌, nat_le};
