@@ -24,14 +24,32 @@ fn add_word(text: &mut String, byte: u32) -> Result<(), AllocError> {
     text.push_str("\", ")
 }
 
-/// A profile with the plain code.
-fn plain_profile(alloc: Global) -> Result<String, AllocError> {
+/// A profile with the plain code, but for the word of one byte.
+fn profile_with(alloc: Global, other: u32, word: &str) -> Result<String, AllocError> {
     let mut text = String::from_str(alloc, TABLES)?;
     text.push_str("code = [")?;
     for byte in 0..256 {
-        add_word(&mut text, byte)?;
+        if byte == other {
+            text.push_str(word)?;
+        } else {
+            add_word(&mut text, byte)?;
+        }
     }
     text.push_str("]\n")?;
+    Ok(text)
+}
+
+/// A profile with the plain code.
+fn plain_profile(alloc: Global) -> Result<String, AllocError> {
+    profile_with(alloc, 256, "")
+}
+
+/// A file of spaces, one byte longer than a profile may be.
+fn large_profile(alloc: Global) -> Result<String, AllocError> {
+    let mut text = String::new(alloc);
+    for _ in 0..1_048_577u32 {
+        text.push(' ')?;
+    }
     Ok(text)
 }
 
@@ -52,7 +70,7 @@ fn ran(
     stored: (&[u8], &[u8]),
     fails: (&[u64], &[u64]),
 ) -> Result<(u8, Vec<u8>), Fail> {
-    let mut files = MemFiles::new(alloc, 2, 16_384, 4, fails.0)?;
+    let mut files = MemFiles::new(alloc, 2, 1_050_000, 4, fails.0)?;
     assert!(rt; files.store("p", stored.0));
     assert!(rt; files.store("s", stored.1));
     let mut out = MemSink::new(alloc, 4_096, fails.1)?;
@@ -113,6 +131,33 @@ fn one_bad_profile_for_each_line(rt: HostRuntime) -> Result<(), Fail> {
     ];
     for (profile, line) in &table {
         let (status, printed) = ran(&rt, rt.alloc(), "replay p s", (profile, b"x"), (&[], &[]))?;
+        assert_eq!(rt; status, 5);
+        assert_eq!(rt; printed.as_slice(), *line);
+    }
+    let large = large_profile(rt.alloc())?;
+    let stored: (&[u8], &[u8]) = (large.as_bytes(), b"x");
+    let (status, printed) = ran(&rt, rt.alloc(), "replay p s", stored, (&[], &[]))?;
+    assert_eq!(rt; status, 5);
+    assert_eq!(rt; printed.as_slice(), b"profile: large\n".as_slice());
+    Ok(())
+}
+
+#[test]
+fn one_bad_code_for_each_line(rt: HostRuntime) -> Result<(), Fail> {
+    let table: [(u32, &str, &[u8]); 4] = [
+        (3, "'', ", b"profile: code empty 3\n"),
+        (
+            3,
+            "'0000000000000000000000001', ",
+            b"profile: code long 3\n",
+        ),
+        (3, "'11x00000', ", b"profile: code bits 3\n"),
+        (255, "'0000000', ", b"profile: code clash 255 0\n"),
+    ];
+    for (byte, word, line) in &table {
+        let profile = profile_with(rt.alloc(), *byte, word)?;
+        let stored: (&[u8], &[u8]) = (profile.as_bytes(), b"x");
+        let (status, printed) = ran(&rt, rt.alloc(), "replay p s", stored, (&[], &[]))?;
         assert_eq!(rt; status, 5);
         assert_eq!(rt; printed.as_slice(), *line);
     }
