@@ -1,7 +1,6 @@
 -- The text of a message: what is built is read back, what is read was spelled so, and what is spelled so is read.
-use Rattle.std.proofs.Common.{◌≡◌, ℕ, ◌-◌, ◌*◌, ◌^◌, ◌<◌, Bool, true, false, cond, eqb, List, ◌++◌, length, map, take, replicate, Option, Some, None, Result, Ok, Err, refl, sym, ap, subst, ◌∙◌, append_assoc, arith}
+use Rattle.std.proofs.Common.{◌≡◌, ℕ, ◌-◌, ◌*◌, ◌^◌, ◌<◌, Bool, true, false, cond, eqb, List, ◌++◌, length, replicate, Option, Some, None, Result, Ok, Err, refl, sym, ap, subst, ◌∙◌, append_assoc, arith}
 use Rattle.std.proofs.lemmas.Bool.{eqb-true, eq-eqb}
-use Rattle.std.proofs.lemmas.List.{length-append, length-map, length-take, length-replicate}
 use Rattle.q3_bits.specs.Bits.{message_length}
 use Rattle.q3_bits.specs.Words.{IsCode, field_bits, field_at, field_read, or_cause, cause_of}
 use Rattle.q3_bits.specs.Laws.{ReadWasPut, PutIsRead, MessageHoldsBits}

@@ -1,5 +1,5 @@
 -- What a step of the program's world answers.
-use Rattle.std.proofs.Common.{◌≡◌, ℕ, ◌+◌, ◌-◌, ◌≤◌, Bool, List, [], length, Option, Some, None, Result, Ok, Err, arith}
+use Rattle.std.proofs.Common.{◌≡◌, ℕ, ◌+◌, ◌-◌, ◌≤◌, List, [], length, Option, Some, None, Result, Ok, Err, arith}
 use Rattle.std.specs.Prelude.{OnOk, is_ok, slice_get}
 use Rattle.std.proofs.lemmas.List.{length_push}
 use Rattle.q3_profile.specs.declared.profile.Profile.{Profile}

@@ -1,6 +1,6 @@
 -- What is kept stands for a whole world: the parts are the same, and each datagram's bytes are those of the message
 -- that its tag names.
-use Rattle.std.specs.Prelude.{◌≡◌, ℕ, ◌+◌, ◌-◌, ◌^◌, ◌<◌, ◌≤◌, Bool, List, length, map, Option, Some, None, slice_index_or}
+use Rattle.std.specs.Prelude.{◌≡◌, ℕ, ◌+◌, ◌-◌, ◌^◌, ◌<◌, ◌≤◌, List, length, map, Option, Some, None, slice_index_or}
 use Rattle.q3_profile.specs.declared.profile.Profile.{Profile}
 use Rattle.q3_bits.specs.Bits.{message_bytes}
 use Rattle.q3_player.specs.State.{IsState, IsNormal}

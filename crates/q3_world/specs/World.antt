@@ -1,6 +1,6 @@
 -- The whole world: what is kept, and what nothing wipes. A step delivers a datagram by its tag:
 -- what arrives is the snapshot that was built under the message's number.
-use Rattle.std.specs.Prelude.{ℕ, ◌+◌, ◌-◌, if◌then◌else◌, Bool, List, [], ◌∷◌, ◌++◌, length, replicate, nat_le, Option, Some, None, slice_get, slice_set, slice_index_or}
+use Rattle.std.specs.Prelude.{ℕ, ◌+◌, ◌-◌, if◌then◌else◌, List, [], ◌∷◌, ◌++◌, length, replicate, nat_le, Option, Some, None, slice_get, slice_set, slice_index_or}
 use Rattle.q3_profile.specs.declared.profile.Profile.{Profile}
 use Rattle.q3_player.specs.State.{zero_player}
 use Rattle.q3_player.specs.declared.state.PlayerState.{PlayerState}

@@ -9,7 +9,6 @@ use Rattle.q3net.specs.declared.fault.Fault.{Fault}
 use Rattle.q3net.specs.declared.fault.Fault.TheVariants as faults
 use Rattle.q3net.specs.declared.input.InputError.{InputError}
 use Rattle.q3net.specs.declared.input.InputError.TheVariants as input
-use Rattle.q3net.specs.Command.{Command, files_of}
 use Rattle.q3net.specs.Faults.{input_fault}
 use Rattle.q3net.specs.Input.{LookedUp, MayHaveLookedUp, Reads}
 use Rattle.q3net.specs.Lines.{ending_status}

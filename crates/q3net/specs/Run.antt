@@ -8,7 +8,7 @@ use Rattle.q3_script.specs.declared.cause.ScriptKind.TheVariants as kinds
 use Rattle.q3_script.specs.Script.{BadLine, script_at}
 use Rattle.q3_io.specs.Told.{Told, Named, Lookup, contents_of}
 use Rattle.q3_world.specs.Report.{report}
-use Rattle.q3net.specs.Command.{Command, Help, Version, Replay, files_of}
+use Rattle.q3net.specs.Command.{Command, Help, Version, Replay}
 use Rattle.q3net.specs.Lines.{help_text, version_text, ending_line, ending_status}
 use Rattle.q3net.specs.declared.fault.Fault.{Fault}
 use Rattle.q3net.specs.declared.fault.Fault.TheVariants as faults

@@ -1,4 +1,3 @@
-use Rattle.std.proofs.Common.{sym, subst}
 use Rattle.std.proofs.lemmas.Result.{err_from_is_err_and}
 use Rattle.q3_profile.specs.declared.profile.Profile.{Profile}
 use Rattle.q3net.proofs.Looking.{input_looks_up, read_looks_up}
