@@ -99,8 +99,9 @@ pub(crate) fn patterns(values: &[i16; 16]) -> [u32; 16]
     words
 }
 
-/// The signed values that the low 16 bits of words are.
-pub(crate) fn shorts(words: &[u32; 16]) -> [i16; 16]
+/// The signed values that the low 16 bits of 16 words are.
+pub fn shorts(words: &[u32]) -> [i16; 16]
+    requires { length words.now ≡ 16 }
     ensures { result ≡ shorts_of words.now }
 {
     let mut values = [0; 16];

@@ -1,8 +1,6 @@
 //! Reads one line of a script.
 
-ghost use Rattle.std.specs.Prelude.{◌≡◌, ◌^◌, ◌%◌, ◌≤◌, IfOk, length, replicate};
-ghost use Rattle.std.specs.Int.{w16, cast_signed};
-ghost use Rattle.q3_player.specs.Delta.{shorts_of};
+ghost use Rattle.std.specs.Prelude.{◌≡◌, ◌≤◌, IfOk, replicate};
 ghost use Rattle.q3_script.specs.Lines.{words_of, number_word, client_word, fields_at, player_of, client_line, time_line, player_line, serve_line, deliver_line, show_line, line_at};
 ghost use Rattle.q3_script.specs.Words.{words_left};
 
@@ -11,6 +9,7 @@ use crate::event::Event;
 use crate::number::{address, number, pair};
 use crate::words::{first_word, next_word, only_word};
 use q3_player::PlayerState;
+use q3_player::state::shorts;
 
 /// The number that a word spells, if it is one from `low` to `high`.
 fn number_word(word: &[u8], low: u32, high: u32) -> Result<u32, LineCause>
@@ -46,25 +45,6 @@ fn fields(start: &[u8]) -> Result<[u32; 128], LineCause>
         left = behind;
     }
     Ok(values)
-}
-
-/// A word cut to 16 bits, as a signed value.
-fn short(word: u32) -> i16
-    ensures { result ≡ cast_signed w16 (word % 2 ^ 16) }
-{
-    ((word % (1 << 16)) as u16).cast_signed()
-}
-
-/// Words cut to 16 bits, as signed values.
-fn shorts(words: &[u32]) -> [i16; 16]
-    requires { length words.now ≡ 16 }
-    ensures { result ≡ shorts_of words.now }
-{
-    let mut values = [0; 16];
-    for (k, word) in words.iter().enumerate() {
-        values[k] = short(*word);
-    }
-    values
 }
 
 /// The player of the values of all places.
