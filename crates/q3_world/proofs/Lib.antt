@@ -1,5 +1,1 @@
-pub mod Invariants
-pub mod Agreement
-pub mod Stepped
 pub mod MessageText
-pub mod EverySchedule

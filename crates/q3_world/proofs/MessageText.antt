@@ -12,12 +12,12 @@ use Rattle.q3_profile.specs.Profile.{IsProfile}
 use Rattle.q3_player.specs.State.{zero_player}
 use Rattle.q3_player.specs.Delta.{player_delta, player_at}
 use Rattle.q3_player.specs.Laws as player
-use Rattle.q3_world.specs.declared.answer.Snapshot.{Snapshot}
-use Rattle.q3_world.specs.declared.answer.Illegible.{Illegible}
-use Rattle.q3_world.specs.declared.answer.Illegible.TheVariants.{Form}
-use Rattle.q3_world.specs.Message.{snapshot_byte, end_byte, message_text, snapshot_bits, ◌>>=◌, form, fixed_at, snapshot_at, SpellsSnapshot}
-use Rattle.q3_world.specs.StandsFor.{IsHeld}
-use Rattle.q3_world.specs.Schedules.{BuiltIsRead, ReadIsSpelled, SpelledIsRead}
+use Rattle.q3_world.specs.declared.message.Snapshot.{Snapshot}
+use Rattle.q3_world.specs.declared.message.Illegible.{Illegible}
+use Rattle.q3_world.specs.declared.message.Illegible.TheVariants.{Form}
+use Rattle.q3_world.specs.Message.{IsHeld, snapshot_byte, end_byte, message_text, snapshot_bits, ◌>>=◌, form, fixed_at, snapshot_at, SpellsSnapshot}
+
+use Rattle.q3_world.specs.MessageLaws.{BuiltIsRead, ReadIsSpelled, SpelledIsRead}
 
 -- ---- what is put is read
 

@@ -4,12 +4,30 @@ use Rattle.std.specs.Int.{w32, to_le_bytes}
 use Rattle.q3_bits.specs.Words.{field_bits, field_read}
 use Rattle.q3_fields.specs.Kinds.{end_mark}
 use Rattle.q3_profile.specs.declared.profile.Profile.{Profile}
-use Rattle.q3_player.specs.State.{zero_player, IsState}
+use Rattle.q3_player.specs.declared.state.PlayerState.{PlayerState}
+use Rattle.q3_player.specs.State.{zero_player, IsState, IsNormal}
 use Rattle.q3_player.specs.Delta.{player_delta, player_at}
 use Rattle.q3_player.specs.Spelling.{SpellsPlayer}
-use Rattle.q3_world.specs.declared.answer.Snapshot.{Snapshot}
-use Rattle.q3_world.specs.declared.answer.Illegible.{Illegible}
-use Rattle.q3_world.specs.declared.answer.Illegible.TheVariants.{Form}
+use Rattle.q3_world.specs.declared.message.Snapshot.{Snapshot}
+use Rattle.q3_world.specs.declared.message.Illegible.{Illegible}
+use Rattle.q3_world.specs.declared.message.Illegible.TheVariants.{Form}
+
+-- message numbers end here
+abbrev pub sequence_end : ℕ
+sequence_end = 2 ^ 30
+
+-- a player as the server holds it: a state of the program's type, in normal form
+pub record IsHeld (profile : Profile) (player : PlayerState) : Type 0 where
+  pub state : IsState player
+  pub normal : IsNormal profile.player player
+
+-- a snapshot as it is built under a number
+pub record IsBuilt (profile : Profile) (n : ℕ) (snapshot : Snapshot) : Type 0 where
+  pub number : snapshot.number ≡ n
+  pub fits : n < sequence_end
+  pub time : snapshot.time < 2 ^ 32
+  pub flags : snapshot.flags ≡ 0
+  pub player : IsHeld profile snapshot.player
 
 -- the operations of a server's message
 abbrev pub snapshot_byte : ℕ

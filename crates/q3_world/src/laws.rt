@@ -1,6 +1,7 @@
 //! Laws of the messages and of every schedule, each the contract of a call that does nothing but cite the laws below it.
 
-ghost use Rattle.q3_world.specs.Schedules.{BuiltIsRead, ReadIsSpelled, SpelledIsRead, BytesFollowTags, AlwaysLegible, ShownWasBuilt, NewerIsAccepted};
+ghost use Rattle.q3_world.specs.MessageLaws.{BuiltIsRead, ReadIsSpelled, SpelledIsRead};
+ghost use Rattle.q3_world.specs.Schedules.{BytesFollowTags, AlwaysLegible, AcceptedWereBuilt, ShownWasBuilt, NewerIsAccepted};
 
 use q3_bits::laws as bits;
 use q3_player::laws as player;

@@ -8,10 +8,27 @@ ghost use Rattle.q3_bits.specs.Words.{field_read};
 ghost use Rattle.q3_bits.specs.Streams.{with_rest};
 ghost use Rattle.q3_world.specs.Message.{snapshot_bits, snapshot_at, form, fixed_at};
 
-use crate::answer::{Illegible, Snapshot};
 use q3_bits::{Overflow, Reader, Writer};
 use q3_player::{PlayerState, read_player, write_player};
 use q3_profile::Profile;
+
+/// A snapshot as the server builds it and as a client accepts it.
+#[derive(Debug, PartialEq, Eq, Drop)]
+pub struct Snapshot {
+    /// The number of the message that carries it.
+    pub number: u32,
+    /// The server's time, in milliseconds.
+    pub time: u32,
+    pub flags: u8,
+    pub player: PlayerState,
+}
+
+/// Why a message isn't legible.
+#[derive(Clone, Copy, Debug, PartialEq, Eq)]
+pub enum Illegible {
+    /// It doesn't begin as a whole snapshot without area and entities, the one form of this stage.
+    Form,
+}
 
 /// The operations of a server's message that this stage has.
 const SNAPSHOT: u32 = 7;
