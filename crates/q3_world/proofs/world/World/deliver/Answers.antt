@@ -1,23 +1,24 @@
-use Rattle.std.proofs.Common.{rules, ◌≡◌, ◌+◌, ◌-◌, ◌<◌, ◌≤◌, [], length, slice_get, IfOk, OnOk, OnErr, IsErrOf, ℕ, ◌*◌, ◌/◌, ◌%◌, Bool, true, false, nat_eq, nat_lt, List, ◌∷◌, ◌++◌, slice_index_or, slice_set, bit_and, bit_or, Fits, w8, w32, w64, Bor, MutBor}
-use Rattle.std.specs.Option.{option_copied}
-use Rattle.q3_profile.specs.declared.profile.Profile.{Profile as ProfileValue}
-use Rattle.q3_profile.specs.Profile.{IsProfile}
-use Rattle.q3_script.specs.Grammar.{IsReplayEvent}
-use Rattle.q3_io.specs.Written.{Adds}
-use Rattle.q3_world.specs.Server.{places, emit_at}
-use Rattle.q3_world.specs.Ends.{answered, lent, newest, client_at, shown_of, join, set_time, set_player}
-use Rattle.q3_world.specs.Kept.{opening_kept, kept_step, kept_ends, kept_serve, kept_deliver}
-use Rattle.q3_world.specs.World.{Whole, opening}
-use Rattle.q3_world.specs.World.{step as step_of}
-use Rattle.q3_world.specs.StandsFor.{StandsFor}
-use Rattle.q3_world.specs.Report.{answer_text}
-use Rattle.q3_world.specs.Outcome.{TakesMemory, HasStepCause}
+use Rattle.std.proofs.Common.{◌≡◌, ◌<◌, length, refl, arith, Some, None}
+use Rattle.q3_world.specs.Kept.{SentBytes, Kept}
+use Rattle.q3_world.proofs.Delivering.{same_place, delivers}
 use Rattle.q3_world.proofs.world.World.deliver.Goals as goal
 
--- src/world.rt:253:13
 pub returns-in_default-index_mut : goal.returns-in_default-index_mut
-returns-in_default-index_mut c = ?
+returns-in_default-index_mut c =
+    let w = c.self.inside in
+    let kept : Kept = record { profile = w.profile; ends = record { server = w.server; clients = w.clients.items }; datagrams = w.datagrams.items } in
+    let sent : SentBytes = record { client = c.sent.inside.client; bytes = c.sent.inside.bytes.items } in
+    let found = rw (c.deref.ensures.value, ← c.sent.view_is) at c.in-Some.ensures.lookup in
+    let same = same_place w.clients.items sent.client c.index_mut.result.now c.index_mut.result.now c.index_mut.ensures.value in
+    let within : sent.client < length w.clients.items = omega (arith, c.sent.invariant.0, c.self.invariant.1) in
+    rw (← c.self.view_is, delivers kept c.args.number sent c.index_mut.result.now None found.3.0 found.1 within c.index_mut.ensures.value c.in_default-index_mut.is, same) refl
 
--- src/world.rt:244:5
 pub returns : goal.returns
-returns c = ?
+returns c =
+    let w = c.self.inside in
+    let kept : Kept = record { profile = w.profile; ends = record { server = w.server; clients = w.clients.items }; datagrams = w.datagrams.items } in
+    let sent : SentBytes = record { client = c.sent.inside.client; bytes = c.sent.inside.bytes.items } in
+    let found = rw (c.deref.ensures.value, ← c.sent.view_is) at c.in-Some.ensures.lookup in
+    let within : sent.client < length w.clients.items = omega (arith, c.sent.invariant.0, c.self.invariant.1) in
+    let took = rw c.deref-2.ensures.value at c.take.ensures in
+    rw (← c.self.view_is, delivers kept c.args.number sent c.index_mut.result.now (Some c.in-Some-index_mut.client) found.3.0 found.1 within c.index_mut.ensures.value c.in-Some-index_mut.is, took) refl
