@@ -1,12 +1,12 @@
 -- A step by bytes is a step by tags.
-use Rattle.std.proofs.Common.{◌≡◌, ℕ, ◌+◌, ◌-◌, ◌^◌, ◌<◌, ◌≤◌, Bool, true, false, cond, List, [], ◌∷◌, length, map, take, Option, Some, None, Result, Ok, Err, refl, sym, ap, subst, ◌∙◌, inl, inr, arith}
+use Rattle.std.proofs.Common.{◌≡◌, ℕ, ◌+◌, ◌-◌, ◌<◌, false, cond, List, [], length, map, Option, Some, None, Ok, refl, sym, ap, subst, ◌∙◌, inl, inr, arith}
 use Rattle.std.specs.Prelude.{◌⊎◌, nat_le, nat_lt, slice_get, slice_set}
-use Rattle.std.specs.Int.{w32, to_le_bytes, from_le_bytes}
+use Rattle.std.specs.Int.{w32, to_le_bytes}
 use Rattle.std.specs.Option.{option_map}
 use Rattle.std.proofs.lemmas.List.{length-map, map_push, length-append, set-get_or}
 use Rattle.std.proofs.lemmas.Option.{slice_get-map, slice_get_within, get_or_from_slice_get}
 use Rattle.std.proofs.lemmas.Nat.{from_le_bytes-to_le_bytes_4}
-use Rattle.std.proofs.lemmas.Bool.{cases_Bool, leb-true, leb-false, cond-true, cond-false, le-ltb}
+use Rattle.std.proofs.lemmas.Bool.{cases_Bool, leb-false, cond-true, cond-false, le-ltb}
 use Rattle.q3_bits.specs.Bits.{bits_of, message_bytes, message_length}
 use Rattle.q3_profile.specs.declared.profile.Profile.{Profile}
 use Rattle.q3_player.specs.State.{zero_player, normal_player, IsState}
@@ -20,13 +20,13 @@ use Rattle.q3_world.specs.declared.server.Emitted.{Emitted}
 use Rattle.q3_world.specs.declared.server.Emitted.TheVariants as emitted
 use Rattle.q3_world.specs.declared.client.ClientTook.TheVariants.{Old}
 use Rattle.q3_world.specs.Message.{IsHeld, IsBuilt, sequence_end, snapshot_bits, datagram_bytes, snapshot_at}
-use Rattle.q3_world.specs.Server.{MapState, SlotState, ServerState, Built, Emission, SlotEmission, places, fragment_size, slot_at, with_slot, with_player, next_message, built_bits, nothing, emit_bits, emit_slot, emission_at, emit_from, emit_at}
-use Rattle.q3_world.specs.Client.{ClientState, Taken, new_client, applied, take_message, take_at}
+use Rattle.q3_world.specs.Server.{MapState, SlotState, ServerState, Emission, SlotEmission, places, fragment_size, slot_at, with_slot, with_player, next_message, built_bits, nothing, emit_bits, emit_slot, emission_at, emit_from, emit_at}
+use Rattle.q3_world.specs.Client.{ClientState, Taken, applied, number_of_datagram, take_at}
 use Rattle.q3_world.specs.Ends.{Ends, EndsStep, client_at, join, set_player, delivered}
 use Rattle.q3_world.specs.Kept.{SentBytes, Kept, KeptStep, kept_ends, datagrams_after, kept_serve, kept_taken, kept_arrive, kept_deliver, kept_step}
-use Rattle.q3_world.specs.World.{Tag, Step, Whole, with_ends, sent_after, serve, snapshot_of, arrive_new, arrive, deliver, step}
+use Rattle.q3_world.specs.World.{Tag, Step, Whole, with_ends, sent_after, serve, snapshot_of, arrive, deliver, step}
 use Rattle.q3_world.specs.StandsFor.{IsSent, StandsFor, bytes_of}
-use Rattle.q3_world.proofs.Events.{Holds, with_new_slot, Holds-new, Holds-player, Holds-map, Holds-begun, Holds-applied, next_tag, with_begun, with_applied, tag_was_built, client_by}
+use Rattle.q3_world.proofs.Events.{Holds, with_new_slot, Holds-new, Holds-player, Holds-map, Holds-begun, Holds-applied, next_tag, tag_was_built, client_by}
 
 -- ---- what is cited of the layers below
 
@@ -46,7 +46,7 @@ pub record Cited (profile : Profile) : Type 0 where
 abbrev pub kept_of : Profile → Whole → Kept
 kept_of profile whole = record { profile = profile; ends = whole.ends; datagrams = map bytes_of whole.sent }
 
-abbrev seen : Profile → Step → KeptStep
+abbrev pub seen : Profile → Step → KeptStep
 seen profile s = record { kept = kept_of profile s.whole; answer = s.answer }
 
 -- a step by bytes is a step by tags, and what holds stays
@@ -172,15 +172,18 @@ not_a_runt number message = le-ltb (length (datagram_bytes number message)) 4 (o
 abbrev taken_by_tag : ClientState → ℕ → Snapshot → Taken
 taken_by_tag client number snapshot = cond (nat_le number client.taken) (record { client = client; answer = Old }) (applied client snapshot)
 
+-- the number of a datagram
+pub number_is : (profile : Profile) (number : ℕ) (snapshot : Snapshot) (message : List ℕ) → IsBuilt profile number snapshot
+    → number_of_datagram (datagram_bytes number message) ≡ number
+number_is profile number snapshot message built = let fits = built.fits in from_le_bytes-to_le_bytes_4 number (omega arith)
+
 -- a message that was built is taken by its bytes as by its tag
 take_by_tag : (profile : Profile) (client : ClientState) (number : ℕ) (snapshot : Snapshot) → ReadsBack profile → IsBuilt profile number snapshot → client.profile ≡ profile
     → take_at client (datagram_bytes number (message_bytes (snapshot_bits profile snapshot))) ≡ taken_by_tag client number snapshot
 unfolding take_at
 take_by_tag profile client number snapshot reads built by =
     let message = message_bytes (snapshot_bits profile snapshot) in
-    let fits = built.fits in
-    let header : from_le_bytes w32 (take 4 (datagram_bytes number message)) ≡ number = from_le_bytes-to_le_bytes_4 number (omega arith) in
-    rw (not_a_runt number message, header, by, reads number snapshot built) refl
+    rw (not_a_runt number message, number_is profile number snapshot message built, by, reads number snapshot built) refl
 
 -- the same, where a client takes it so
 taken_same : (profile : Profile) (whole : Whole) (number : ℕ) (tag : Tag) (client : ClientState)
@@ -206,7 +209,7 @@ taken_same profile whole number tag client found is holds =
     ]
 
 -- a datagram that was made is one of a message that was begun
-is_sent : (profile : Profile) (whole : Whole) (k : ℕ) (tag : Tag) → slice_get whole.sent k ≡ Some tag → Holds profile whole → IsSent profile whole.histories tag
+pub is_sent : (profile : Profile) (whole : Whole) (k : ℕ) (tag : Tag) → slice_get whole.sent k ≡ Some tag → Holds profile whole → IsSent profile whole.histories tag
 is_sent profile whole k tag at holds =
     subst (λ (t : Tag). IsSent profile whole.histories t) (get_or_from_slice_get whole.sent k tag tag at)
     (holds.facts.sent k tag (slice_get_within whole.sent k tag at))
@@ -231,6 +234,12 @@ sent_at profile whole number None reads at holds = record { same = refl; holds =
 sent_at profile whole number (Some tag) reads at holds =
     delivered_to profile whole number tag (client_at whole.ends tag.client) reads (is_sent profile whole (number - 1) tag at holds) refl holds
 
+pub delivers_agree : (profile : Profile) (whole : Whole) (number : ℕ) → Cited profile → Holds profile whole
+    → Agree profile (kept_step (kept_of profile whole) (events.Deliver number)) (step profile whole (events.Deliver number))
+unfolding kept_step step
+delivers_agree profile whole number cited holds =
+    rw (slice_get-map bytes_of whole.sent (number - 1)) (sent_at profile whole number (slice_get whole.sent (number - 1)) cited.reads refl holds)
+
 -- ---- every event
 
 pub steps_agree : (profile : Profile) (whole : Whole) (event : Event) → Cited profile
@@ -242,13 +251,12 @@ steps_agree profile whole (events.Player c player) cited is holds =
     handed profile whole (set_player whole.ends c player) (holds_player profile whole c player (cited.normal player is.1) (omega (arith, is.0)) holds)
 steps_agree profile whole (events.Time time) cited is holds = record { same = refl; holds = Holds-map profile whole (record { time = time }) is holds }
 steps_agree profile whole (events.Serve c) cited is holds = served profile whole c (omega (arith, is)) holds
-steps_agree profile whole (events.Deliver number) cited is holds =
-    rw (slice_get-map bytes_of whole.sent (number - 1)) (sent_at profile whole number (slice_get whole.sent (number - 1)) cited.reads refl holds)
+steps_agree profile whole (events.Deliver number) cited is holds = delivers_agree profile whole number cited holds
 steps_agree profile whole (events.Show c) cited is holds = record { same = refl; holds = holds }
 
 -- ---- what stands for a whole
 
-kept_is : (profile : Profile) (kept : Kept) (whole : Whole) → StandsFor profile kept whole → kept ≡ kept_of profile whole
+pub kept_is : (profile : Profile) (kept : Kept) (whole : Whole) → StandsFor profile kept whole → kept ≡ kept_of profile whole
 kept_is profile kept whole stands =
     ap (λ (p : Profile). record { profile = p; ends = kept.ends; datagrams = kept.datagrams }) stands.by
     ∙ (ap (λ (e : Ends). record { profile = profile; ends = e; datagrams = kept.datagrams }) stands.ends

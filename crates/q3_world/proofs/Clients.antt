@@ -11,8 +11,8 @@ use Rattle.q3_world.specs.declared.message.Snapshot.{Snapshot}
 use Rattle.q3_world.specs.Message.{IsHeld, IsBuilt, sequence_end}
 use Rattle.q3_world.specs.Server.{MapState, SlotState, Built, new_slot, with_player, next_message}
 use Rattle.q3_world.specs.Client.{ClientState, new_client, applied}
-use Rattle.q3_world.specs.World.{History, no_history, no_message, built_at}
-use Rattle.q3_world.specs.StandsFor.{AreEnds, IsClient, WasBuilt, number_of_newest, Rise, AreJoined, IsJoined}
+use Rattle.q3_world.specs.World.{History, no_history}
+use Rattle.q3_world.specs.StandsFor.{AreEnds, IsClient, WasBuilt, number_of_newest, Rise, AreJoined}
 use Rattle.q3_world.proofs.Growth.{was_built_more, each_more}
 
 -- ---- presence
@@ -95,7 +95,7 @@ last_push : {X : Type 0} (o : Option X) (xs : List X) (x : X) → last_or o (xs 
 last_push o [] x = refl
 last_push o (y ∷ xs) x = last_push (Some y) xs x
 
-last_is : {X : Type 0} (o : Option X) (xs : List X) (d : X) → 0 < length xs → last_or o xs ≡ Some (get_or xs (length xs - 1) d)
+pub last_is : {X : Type 0} (o : Option X) (xs : List X) (d : X) → 0 < length xs → last_or o xs ≡ Some (get_or xs (length xs - 1) d)
 last_is o [] d some = absurd (omega arith)
 last_is o (x ∷ []) d some = refl
 last_is o (x ∷ y ∷ xs) d some =

@@ -6,3 +6,4 @@ pub mod Clients
 pub mod Events
 pub mod Agreement
 pub mod EverySchedule
+pub mod Stepped

@@ -16,7 +16,6 @@ use Rattle.q3_world.specs.declared.message.Snapshot.{Snapshot}
 use Rattle.q3_world.specs.declared.message.Illegible.{Illegible}
 use Rattle.q3_world.specs.declared.message.Illegible.TheVariants.{Form}
 use Rattle.q3_world.specs.Message.{IsHeld, snapshot_byte, end_byte, message_text, snapshot_bits, ◌>>=◌, form, fixed_at, snapshot_at, SpellsSnapshot}
-
 use Rattle.q3_world.specs.MessageLaws.{BuiltIsRead, ReadIsSpelled, SpelledIsRead}
 
 -- ---- what is put is read

@@ -14,7 +14,7 @@ use Rattle.q3_world.specs.declared.answer.HandedIn.{HandedIn as Outcome}
 use Rattle.q3_world.specs.declared.answer.HandedIn.TheVariants as handed_in
 use Rattle.q3_world.specs.declared.answer.Shown.{Shown}
 use Rattle.q3_world.specs.declared.answer.Shown.TheVariants as shown
-use Rattle.q3_world.specs.Server.{HandedIn, ServerState, places, new_server, add_client_at, set_time_at, set_player_at}
+use Rattle.q3_world.specs.Server.{ServerState, places, new_server, add_client_at, set_time_at, set_player_at}
 use Rattle.q3_world.specs.Client.{ClientState, new_client}
 
 -- the server, and each client at its place

@@ -21,10 +21,7 @@ pub enum ClientTook {
     Old,
     Illegible(Illegible),
     /// The message was applied, and its snapshot accepted: its number, and that of the base, 0 for none.
-    Applied {
-        number: u32,
-        base: u32,
-    },
+    Applied { number: u32, base: u32 },
 }
 
 /// A client: a copy of the profile, the newest number taken, 0 for none, and the newest snapshot accepted.

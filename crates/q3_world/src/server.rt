@@ -132,7 +132,7 @@ impl Slot {
           slot = self.new;
           answer = result;
           began = (emit_slot profile.now map.now self.old).began;
-          datagram = out.new.items
+          datagram = out.new.items;
         } }
     {
         let number = self.begun + 1;
@@ -245,7 +245,7 @@ impl Server {
           server = self.new;
           answer = result;
           began = (emit_at self.old slot).began;
-          datagram = out.new.items
+          datagram = out.new.items;
         } }
     {
         out.clear();

@@ -1,4 +1,4 @@
-use Rattle.std.proofs.Common.{◌≡◌, ◌<◌, length, refl, arith, Some, None}
+use Rattle.std.proofs.Common.{◌<◌, length, refl, arith, Some, None}
 use Rattle.q3_world.specs.Kept.{SentBytes, Kept}
 use Rattle.q3_world.proofs.Delivering.{same_place, delivers}
 use Rattle.q3_world.proofs.world.World.deliver.Goals as goal
