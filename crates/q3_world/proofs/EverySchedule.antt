@@ -23,7 +23,7 @@ use Rattle.q3_world.specs.Ends.{Ends, Answered, delivered, client_at, newest, jo
 use Rattle.q3_world.specs.Kept.{SentBytes, Kept, KeptStep, opening_kept, kept_step, kept_after, kept_answers}
 use Rattle.q3_world.specs.World.{Tag, Whole, History, history_at, opening, step, after, answers, deliver, arrive, arrive_new, snapshot_of}
 use Rattle.q3_world.specs.StandsFor.{IsClient, WasBuilt, Rise, AreJoined, IsJoined, StandsFor, bytes_of}
-use Rattle.q3_world.specs.Schedules.{BytesFollowTags, IsLegible, AlwaysLegible, AcceptedWereBuilt, ShownWasBuilt, NewerIsAccepted}
+use Rattle.q3_world.specs.Schedules.{StepFollows, BytesFollowTags, IsLegible, AlwaysLegible, AcceptedWereBuilt, ShownWasBuilt, NewerIsAccepted}
 use Rattle.q3_world.proofs.Events.{Holds, Holds-opening, tag_was_built}
 use Rattle.q3_world.proofs.Agreement.{Cited, stands_of, stands_next, kept_is, is_sent, number_is, delivers_agree}
 use Rattle.q3_world.proofs.Clients.{last_is}
@@ -40,28 +40,31 @@ cited_of reads normal zero profile is =
 
 -- ---- bytes and tags
 
+pub step_follows : BuiltIsRead → NormalIsNormal → ZeroIsNormal → StepFollows
+step_follows reads normal zero profile kept whole event is stands =
+    stands_next profile kept whole event (cited_of reads normal zero profile stands.facts.passes) is stands
+
 -- from what stands for a whole on, events answer the same, and what is kept stands for the whole
-follow : (profile : Profile) (all : List Event) (kept : Kept) (whole : Whole) → Cited profile → AllByRecursion IsReplayEvent all
+follow : StepFollows → (profile : Profile) (all : List Event) (kept : Kept) (whole : Whole) → AllByRecursion IsReplayEvent all
     → StandsFor profile kept whole
     → StandsFor profile (kept_after kept all) (after profile whole all) × (kept_answers kept all ≡ answers profile whole all)
 unfolding kept_after kept_answers after answers
-follow profile [] kept whole cited are stands = (stands, refl)
-follow profile (event ∷ events) kept whole cited are stands =
-    let next = stands_next profile kept whole event cited are.0 stands in
-    let others = follow profile events (kept_step kept event).kept (step profile whole event).whole cited are.1 next.0 in (
+follow law profile [] kept whole are stands = (stands, refl)
+follow law profile (event ∷ events) kept whole are stands =
+    let next = law profile kept whole event are.0 stands in
+    let others = follow law profile events (kept_step kept event).kept (step profile whole event).whole are.1 next.0 in (
       others.0,
       ap (λ (a : Answered). a ∷ kept_answers (kept_step kept event).kept events) next.1
           ∙ ap (λ (rest : List Answered). (step profile whole event).answer ∷ rest) others.1,
     )
 
 -- what is kept at first stands for the opening world
-pub stands_opening : (profile : Profile) → StandsFor profile (opening_kept profile) (opening profile)
+pub stands_opening : (profile : Profile) → IsProfile profile → StandsFor profile (opening_kept profile) (opening profile)
 unfolding opening
-stands_opening profile = stands_of profile (opening profile) (Holds-opening profile)
+stands_opening profile passes = stands_of profile (opening profile) (Holds-opening profile passes)
 
-pub bytes_follow_tags : BuiltIsRead → NormalIsNormal → ZeroIsNormal → BytesFollowTags
-bytes_follow_tags reads normal zero profile all is are =
-    follow profile all (opening_kept profile) (opening profile) (cited_of reads normal zero profile is) are (stands_opening profile)
+pub bytes_follow_tags : StepFollows → BytesFollowTags
+bytes_follow_tags law profile all is are = follow law profile all (opening_kept profile) (opening profile) are (stands_opening profile is)
 
 -- the worlds after the events
 abbrev kept_then : Profile → List Event → Kept

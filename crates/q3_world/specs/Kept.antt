@@ -14,6 +14,10 @@ pub record SentBytes : Type 0 where
   pub client : ℕ
   pub bytes : List ℕ
 
+-- datagrams have numbers of 32 bits
+abbrev pub most_datagrams : ℕ
+most_datagrams = 4294967295
+
 -- by which profile, both ends, and every datagram that was made
 pub record Kept : Type 0 where
   pub profile : Profile

@@ -13,9 +13,15 @@ use Rattle.q3_world.specs.declared.answer.Answer.TheVariants.{Deliver}
 use Rattle.q3_world.specs.Server.{places}
 use Rattle.q3_world.specs.Client.{ClientState, number_of_datagram}
 use Rattle.q3_world.specs.Ends.{client_at, delivered}
-use Rattle.q3_world.specs.Kept.{SentBytes, opening_kept, kept_step, kept_after, kept_answers}
-use Rattle.q3_world.specs.World.{history_at, opening, after, answers}
+use Rattle.q3_world.specs.Kept.{SentBytes, Kept, opening_kept, kept_step, kept_after, kept_answers}
+use Rattle.q3_world.specs.World.{Whole, history_at, opening, step, after, answers}
 use Rattle.q3_world.specs.StandsFor.{StandsFor, WasBuilt, Rise}
+
+-- a step by bytes of what stands for a whole world gives what stands for its step by tags, and answers the same
+abbrev pub StepFollows : Type 0
+StepFollows = (profile : Profile) (kept : Kept) (whole : Whole) (event : Event) → IsReplayEvent event → StandsFor profile kept whole
+    → StandsFor profile (kept_step kept event).kept (step profile whole event).whole
+    × ((kept_step kept event).answer ≡ (step profile whole event).answer)
 
 -- in a replay what is kept after the events, where each datagram is taken by its bytes, stands for the whole world after
 -- them, where each is taken by its tag; and each event answers the same

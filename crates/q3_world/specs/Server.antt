@@ -56,7 +56,7 @@ new_server profile = record { profile = profile; map = record { time = 0 }; slot
 -- ---- what the game hands in
 
 -- the server after something was handed in, and the answer
-pub record HandedIn (E : Type 0) : Type 0 where
+pub record Handed (E : Type 0) : Type 0 where
   pub server : ServerState
   pub answer : Result (Unit {0}) E
 
@@ -65,12 +65,12 @@ abbrev pub new_slot : ℕ → ℕ → Address → SlotState
 new_slot challenge qport address =
     record { challenge = challenge; address = address; qport = qport; begun = 0; player = zero_player }
 
-abbrev pub add_to : ServerState → ℕ → SlotState → Option SlotState → HandedIn SlotError
+abbrev pub add_to : ServerState → ℕ → SlotState → Option SlotState → Handed SlotError
 add_to server c slot (Some old) = record { server = server; answer = Err Taken }
 add_to server c slot None = record { server = with_slot server c slot; answer = Ok tt }
 
 -- a client joins, in a slot that has none
-abbrev pub add_client_at : ServerState → ℕ → ℕ → ℕ → Address → HandedIn SlotError
+abbrev pub add_client_at : ServerState → ℕ → ℕ → ℕ → Address → Handed SlotError
 add_client_at server c challenge qport address = add_to server c (new_slot challenge qport address) (slot_at server c)
 
 abbrev pub set_time_at : ServerState → ℕ → ServerState
@@ -80,13 +80,13 @@ set_time_at server time = record server { map = record server.map { time = time 
 abbrev pub with_player : Profile → SlotState → PlayerState → SlotState
 with_player profile slot player = record slot { player = normal_player profile.player player }
 
-abbrev pub give_player : ServerState → ℕ → PlayerState → Option SlotState → HandedIn NoClient
+abbrev pub give_player : ServerState → ℕ → PlayerState → Option SlotState → Handed NoClient
 give_player server c player None = record { server = server; answer = Err (record {}) }
 give_player server c player (Some slot) =
     record { server = with_slot server c (with_player server.profile slot player); answer = Ok tt }
 
 -- the player of a client
-abbrev pub set_player_at : ServerState → ℕ → PlayerState → HandedIn NoClient
+abbrev pub set_player_at : ServerState → ℕ → PlayerState → Handed NoClient
 set_player_at server c player = give_player server c player (slot_at server c)
 
 -- ---- messages

@@ -1,7 +1,7 @@
 //! Laws of the messages and of every schedule, each the contract of a call that does nothing but cite the laws below it.
 
 ghost use Rattle.q3_world.specs.MessageLaws.{BuiltIsRead, ReadIsSpelled, SpelledIsRead};
-ghost use Rattle.q3_world.specs.Schedules.{BytesFollowTags, AlwaysLegible, AcceptedWereBuilt, ShownWasBuilt, NewerIsAccepted};
+ghost use Rattle.q3_world.specs.Schedules.{StepFollows, BytesFollowTags, AlwaysLegible, AcceptedWereBuilt, ShownWasBuilt, NewerIsAccepted};
 
 use q3_bits::laws as bits;
 use q3_player::laws as player;
@@ -35,14 +35,22 @@ pub fn spelled_is_read()
     player::zero_is_normal();
 }
 
+/// A step of what stands for a whole world, where each datagram is taken by its bytes, is the whole world's step, where
+/// each is taken by its tag.
+pub fn step_follows()
+    ensures { StepFollows }
+{
+    built_is_read();
+    player::normal_is_normal();
+    player::zero_is_normal();
+}
+
 /// In a replay what is kept, where each datagram is taken by its bytes, stands for the whole world, where each is taken
 /// by its tag, and each event answers the same.
 pub fn bytes_follow_tags()
     ensures { BytesFollowTags }
 {
-    built_is_read();
-    player::normal_is_normal();
-    player::zero_is_normal();
+    step_follows();
 }
 
 /// In a replay no client ever gets what it can't read.

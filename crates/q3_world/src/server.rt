@@ -25,7 +25,7 @@ const FRAGMENT_SIZE: usize = 1_300;
 pub(crate) const DATAGRAM_ROOM: usize = 1_320;
 
 /// The bytes of one datagram.
-pub(crate) type Datagram = ArrayVec<u8, 1320>;
+pub(crate) type Datagram = ArrayVec<u8, DATAGRAM_ROOM>;
 
 /// No such client was added.
 #[derive(Clone, Copy, Debug, PartialEq, Eq)]

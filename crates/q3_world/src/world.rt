@@ -8,7 +8,7 @@ ghost use Rattle.q3_script.specs.Grammar.{IsReplayEvent};
 ghost use Rattle.q3_io.specs.Written.{Adds};
 ghost use Rattle.q3_world.specs.Server.{places, emit_at};
 ghost use Rattle.q3_world.specs.Ends.{answered, lent, newest, client_at, shown_of, join, set_time, set_player};
-ghost use Rattle.q3_world.specs.Kept.{opening_kept, kept_step, kept_ends, kept_serve, kept_deliver};
+ghost use Rattle.q3_world.specs.Kept.{most_datagrams, kept_step, kept_ends, kept_serve, kept_deliver};
 ghost use Rattle.q3_world.specs.World.{Whole, opening, step as step_of};
 ghost use Rattle.q3_world.specs.StandsFor.{StandsFor};
 ghost use Rattle.q3_world.specs.Report.{answer_text};
@@ -69,7 +69,6 @@ pub struct World {
 
 impl Model for World {
     ghost use Rattle.std.specs.Prelude.{◌≡◌, length};
-    ghost use Rattle.q3_profile.specs.Profile.{IsProfile};
     ghost use Rattle.q3_world.specs.Server.{places};
     ghost use Rattle.q3_world.specs.Kept.{Kept};
 
@@ -81,7 +80,7 @@ impl Model for World {
       datagrams = w.datagrams.items;
     } };
 
-    ghost invariant = { λ w. IsProfile w.profile × (length w.clients.items ≡ places) };
+    ghost invariant = { λ w. length w.clients.items ≡ places };
 }
 
 impl World {
@@ -109,7 +108,7 @@ impl World {
         out: &mut O,
     ) -> Result<(), StepError>
         requires event { IsReplayEvent event.now }
-        requires few { length self.old.datagrams < 4294967295 }
+        requires few { length self.old.datagrams < most_datagrams }
         ensures stands { OnOk result ((profile : ProfileValue) (whole : Whole) → StandsFor profile self.old whole
             → StandsFor profile self.new (step_of profile whole event.now).whole) }
         ensures kept { OnOk result (self.new ≡ (kept_step self.old event.now).kept) }
@@ -123,30 +122,19 @@ impl World {
     {
         // No event of this stage uses the files.
         let _ = files;
-        // What is cited here: a message is read back, and the normal form is normal.
-        q3_player::laws::normal_is_normal();
-        q3_player::laws::zero_is_normal();
-        laws::built_is_read();
-        let _ = self.profile();
+        // What the clauses on the whole world cite.
+        laws::step_follows();
         let Ok(answer) = self.apply(event) else {
             return Err(StepError::NoMemory);
         };
         print_answer(&answer, self.lent(answer), out).map_err(|_| StepError::WriteFault)
     }
 
-    /// The profile, which passed its check.
-    fn profile(&self) -> &Profile
-        ensures profile { result.now ≡ self.now.profile }
-        ensures passes { IsProfile self.now.profile }
-    {
-        &self.profile
-    }
-
     /// Does one event. `Err` is want of memory, at `client` and `serve` alone, and changes nothing.
     #[tactic(auto, unfolding(crate::specs::Kept::kept_step))]
     fn apply(&mut self, event: &Event) -> Result<Answer, NoMemory>
         requires event { IsReplayEvent event.now }
-        requires few { length self.old.datagrams < 4294967295 }
+        requires few { length self.old.datagrams < most_datagrams }
         ensures ok { IfOk result (λ answer. kept_step self.old event.now
             ≡ record { kept = self.new; answer = answered self.new.ends answer }) }
         ensures err { OnErr result (TakesMemory event.now × (self.new ≡ self.old)) }
@@ -218,7 +206,7 @@ impl World {
     /// The server makes a datagram, whose memory is taken first.
     fn serve(&mut self, c: u8) -> Result<Answer, NoMemory>
         requires place { c < places }
-        requires few { length self.old.datagrams < 4294967295 }
+        requires few { length self.old.datagrams < most_datagrams }
         ensures ok { IfOk result (λ answer. kept_serve self.old c (emit_at self.old.ends.server c)
             ≡ record { kept = self.new; answer = answered self.new.ends answer }) }
         ensures err { OnErr result (self.new ≡ self.old) }
