@@ -1,9 +1,7 @@
 //! Writes a changed field. Keeps the rules "entity delta" and "player delta" for one field, the engine's
 //! `MSG_WriteDeltaEntity` and `MSG_WriteDeltaPlayerstate`.
 
-ghost use Rattle.std.specs.Prelude.{◌≡◌, ◌+◌, ◌<◌, ◌≤◌, ◌++◌, ◌↔◌, length, IsErr, OnOk};
-ghost use Rattle.q3_bits.specs.Bits.{message_length};
-ghost use Rattle.q3_bits.specs.Streams.{Extends};
+ghost use Rattle.q3_bits.specs.Streams.{Writes};
 ghost use Rattle.q3_fields.specs.Kinds.{IsKind};
 ghost use Rattle.q3_fields.specs.Floats.{small_float};
 ghost use Rattle.q3_fields.specs.Texts.{float_bits, player_field, entity_field};
@@ -17,10 +15,7 @@ use q3_bits::{Overflow, Writer};
 #[tactic(auto, unfolding(crate::specs::Texts::player_field))]
 pub fn write_player_field(w: &mut Writer, kind: Kind, word: u32) -> Result<(), Overflow>
     requires { IsKind kind }
-    ensures overflow { IsErr result ↔
-        (w.old.room < message_length (length w.old.bits + length (player_field w.old.words kind word))) }
-    ensures ok { OnOk result (w.new ≡ record w.old { bits = w.old.bits ++ player_field w.old.words kind word }) }
-    ensures front { Extends w.old w.new (player_field w.old.words kind word) }
+    ensures { Writes w.old w.new (player_field w.old.words kind word) result }
 {
     match kind {
         Kind::Float => write_float(w, word),
@@ -34,10 +29,7 @@ pub fn write_player_field(w: &mut Writer, kind: Kind, word: u32) -> Result<(), O
 #[tactic(auto, unfolding(crate::specs::Texts::entity_field))]
 pub fn write_entity_field(w: &mut Writer, kind: Kind, word: u32) -> Result<(), Overflow>
     requires { IsKind kind }
-    ensures overflow { IsErr result ↔
-        (w.old.room < message_length (length w.old.bits + length (entity_field w.old.words kind word))) }
-    ensures ok { OnOk result (w.new ≡ record w.old { bits = w.old.bits ++ entity_field w.old.words kind word }) }
-    ensures front { Extends w.old w.new (entity_field w.old.words kind word) }
+    ensures { Writes w.old w.new (entity_field w.old.words kind word) result }
 {
     if norm(kind, word) == 0 {
         return w.put(0, 1);
@@ -48,11 +40,7 @@ pub fn write_entity_field(w: &mut Writer, kind: Kind, word: u32) -> Result<(), O
 
 /// Writes a float: bit 0 and 13 bits where it is small, else bit 1 and its pattern.
 fn write_float(w: &mut Writer, word: u32) -> Result<(), Overflow>
-    ensures overflow { IsErr result ↔
-        (w.old.room < message_length (length w.old.bits + length (float_bits w.old.words word (small_float word)))) }
-    ensures ok { OnOk result (w.new
-        ≡ record w.old { bits = w.old.bits ++ float_bits w.old.words word (small_float word) }) }
-    ensures front { Extends w.old w.new (float_bits w.old.words word (small_float word)) }
+    ensures { Writes w.old w.new (float_bits w.old.words word (small_float word)) result }
 {
     let Some(k) = small_of(word) else {
         w.put(1, 1)?;
