@@ -35,8 +35,8 @@ pub record TextsAreWritten : Type 0 where
   -- nothing is written where what stands there fits
   pub nothing : (w : Writing) → ¬ IsOverlong w [] → Writes w w [] (Ok tt)
   -- a text behind a text is both
-  pub then : (start mid now : Writing) (first second whole : List Bool) (result : Result (Unit {0}) Overflow) → whole ≡ first ++ second
-      → Writes start mid first (Ok tt) → Writes mid now second result → Writes start now whole result
+  pub then : (start mid now : Writing) (first whole : List Bool) (second : List (List Bool) → List Bool) (result : Result (Unit {0}) Overflow)
+      → whole ≡ first ++ second start.words → Writes start mid first (Ok tt) → Writes mid now (second mid.words) result → Writes start now whole result
   -- where a text is refused, so is one that begins with it
   pub early : (start now : Writing) (first others whole : List Bool) (e : Overflow) → whole ≡ first ++ others
       → Writes start now first (Err e) → Writes start now whole (Err e)

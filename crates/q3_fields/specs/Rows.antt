@@ -5,7 +5,7 @@ use Rattle.q3_fields.specs.Kinds.{Layout, IsTable}
 
 -- the first kinds, so many
 abbrev pub layout_of : Inside → Layout
-layout_of t = record { kinds = take t.count t.kinds; number_bits = 10 }
+layout_of t = record { kinds = take t.count t.kinds; number_bits = t.number_bits }
 
 -- they are a table, and there is a place for each
 pub record IsFilled (t : Inside) : Type 0 where

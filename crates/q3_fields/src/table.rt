@@ -15,7 +15,7 @@ pub enum TableError {
     Width(usize),
 }
 
-/// How many bits a number of an entity has.
+/// How many bits a number of an entity has in this protocol.
 const NUMBER_BITS: u32 = 10;
 
 /// The kinds of 1 to 64 fields, in order. To a caller it is a record of the kinds and of how many bits a number of an
@@ -24,6 +24,7 @@ const NUMBER_BITS: u32 = 10;
 pub struct Table {
     count: usize,
     kinds: [Kind; 64],
+    number_bits: u32,
 }
 
 impl Model for Table {
@@ -58,6 +59,7 @@ impl Table {
         Ok(Table {
             count: widths.len(),
             kinds,
+            number_bits: NUMBER_BITS,
         })
     }
 
@@ -68,6 +70,7 @@ impl Table {
         Table {
             count: self.count,
             kinds: self.kinds,
+            number_bits: self.number_bits,
         }
     }
 
@@ -96,14 +99,14 @@ impl Table {
         ensures some { 1 ≤ result }
         ensures most { result ≤ 16 }
     {
-        NUMBER_BITS
+        self.number_bits
     }
 
     /// The end mark of an entity list. The numbers of entities are below it.
     pub fn end(&self) -> u16
         ensures { result ≡ end_mark self.now }
     {
-        ((1u32 << NUMBER_BITS) - 1) as u16
+        ((1u32 << self.number_bits) - 1) as u16
     }
 }
 
