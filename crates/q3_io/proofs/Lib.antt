@@ -1,4 +1,4 @@
 pub mod ToldPlaces
 pub mod ToldStored
 pub mod ToldHeld
-pub mod Buffered
+pub mod Sinks
