@@ -1,6 +1,6 @@
 //! A line buffer: a sink that hands on what is written to it in few writes.
 
-ghost use Rattle.std.specs.Prelude.{◌≡◌, ◌≤◌, ◌-◌, [], ◌++◌, length};
+ghost use Rattle.std.specs.Prelude.{◌≡◌, ◌↔◌, ◌+◌, ◌≤◌, [], ◌++◌, length, if◌then◌else◌, IsTrue};
 ghost use Rattle.q3_io.specs.Faults.{HasCause};
 ghost use Rattle.q3_io.specs.Written.{Adds, NothingWaits};
 ghost use Rattle.q3_io.specs.Line.{held_behind};
@@ -46,15 +46,34 @@ impl<O: Sink> Line<O> {
         &self.sink
     }
 
-    /// Hands on the bytes that are held, in one write.
+    /// Holds the bytes behind the others, where they fit.
+    fn hold(&mut self, bytes: &[u8]) -> bool
+        ensures { self.new ≡ (if result then record self.old { held = self.old.held ++ bytes.now } else self.old) }
+    {
+        self.held.keep(bytes)
+    }
+
+    /// Hands on the bytes that are held, in one write if there are any.
     fn hand_on(&mut self) -> Result<(), Failed>
         ensures adds { Adds (O.written self.old.sink) (O.written self.new.sink) self.old.held result }
         ensures cause { HasCause (O.faults self.old.sink) (O.faults self.new.sink) result }
         ensures held { self.new.held ≡ [] }
     {
+        if self.held.is_empty() {
+            return Ok(());
+        }
         let written = self.held.write(&mut self.sink);
         self.held.clear();
         written
+    }
+
+    /// Hands these bytes on, in a write of their own.
+    fn pass_on(&mut self, bytes: &[u8]) -> Result<(), Failed>
+        ensures adds { Adds (O.written self.old.sink) (O.written self.new.sink) bytes.now result }
+        ensures cause { HasCause (O.faults self.old.sink) (O.faults self.new.sink) result }
+        ensures held { self.new.held ≡ self.old.held }
+    {
+        self.sink.write_all(bytes)
     }
 }
 
@@ -64,14 +83,14 @@ impl<O: Sink> Sink for Line<O> {
     ghost written = { λ l. held_behind (O.written l.sink) l.held };
 
     fn write_all(&mut self, bytes: &[u8]) -> Result<(), Failed> {
-        if bytes.len() > self.held.room() {
-            self.hand_on()?;
+        if self.hold(bytes) {
+            return Ok(());
         }
-        if bytes.len() > ROOM {
-            return self.sink.write_all(bytes);
+        self.hand_on()?;
+        if self.hold(bytes) {
+            return Ok(());
         }
-        self.held.keep(bytes);
-        Ok(())
+        self.pass_on(bytes)
     }
 
     fn flush(&mut self) -> Result<(), Failed> {
@@ -107,18 +126,23 @@ impl Held {
         }
     }
 
-    fn room(&self) -> usize
-        ensures { result ≡ 1024 - length self.now }
+    fn is_empty(&self) -> bool
+        ensures { IsTrue result ↔ (self.now ≡ []) }
     {
-        ROOM - self.length
+        self.length == 0
     }
 
-    fn keep(&mut self, bytes: &[u8])
-        requires { length bytes.now ≤ 1024 - length self.old }
-        ensures { self.new ≡ self.old ++ bytes.now }
+    /// Holds the bytes behind the others, where they fit.
+    fn keep(&mut self, bytes: &[u8]) -> bool
+        ensures fits { IsTrue result ↔ (length self.old + length bytes.now ≤ 1024) }
+        ensures held { self.new ≡ (if result then self.old ++ bytes.now else self.old) }
     {
+        if bytes.len() > ROOM - self.length {
+            return false;
+        }
         self.bytes[self.length..self.length + bytes.len()].copy_from_slice(bytes);
         self.length += bytes.len();
+        true
     }
 
     fn clear(&mut self)

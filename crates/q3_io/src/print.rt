@@ -63,17 +63,12 @@ pub fn print_indexed<O: Sink>(letter: &[u8], words: &[u32], out: &mut O) -> Resu
     Ok(())
 }
 
-fn print_word<O: Sink>(
-    letter: &[u8],
-    index: usize,
-    word: u32,
-    out: &mut O,
-) -> Result<(), Failed>
+fn print_word<O: Sink>(letter: &[u8], index: usize, word: u32, out: &mut O) -> Result<(), Failed>
     ensures adds { Adds (O.written out.old) (O.written out.new) (word_text letter.now index word) result }
     ensures cause { HasCause (O.faults out.old) (O.faults out.new) result }
 {
     if word == 0 {
-        return out.write_all(b"");
+        return Ok(());
     }
     print_all(
         &[
