@@ -1,12 +1,12 @@
-use Rattle.std.proofs.Common.{take, Ok}
+use Rattle.std.proofs.Common.{take, Ok, true}
 use Rattle.std.specs.List.{flat_map}
 use Rattle.q3_io.specs.Faults.{HasCause}
-use Rattle.q3_io.specs.Print.{Buffers}
+use Rattle.q3_io.specs.Written.{Wrote}
 use Rattle.q3_io.specs.Quoted.{byte_spelling}
 use Rattle.q3_io.specs.declared.sink.Failed.{Failed}
-use Rattle.q3_io.proofs.print.Line.add_spelled.Given as goal
+use Rattle.q3_io.proofs.print.print_spelled.Given as goal
 
 abbrev pub invariant-loop-byte : goal.invariant-loop-byte
 invariant-loop-byte g l =
-    Buffers (g.O.Sink.written l.initial.out) (g.O.Sink.written l.out) l.initial.self l.self (flat_map byte_spelling (take l.byte-index l.text)) (Ok tt)
+    Wrote (g.O.Sink.written l.initial.out) (g.O.Sink.written l.out) (flat_map byte_spelling (take l.byte-index l.text)) true
     × HasCause {T = Unit {0}} {E = Failed} (g.O.Sink.faults l.initial.out) (g.O.Sink.faults l.out) (Ok tt)
