@@ -1,4 +1,5 @@
 pub mod Numbers
+pub mod Windows
 pub mod CodeText
 pub mod Causes
 pub mod WordTexts
