@@ -4,8 +4,7 @@ use Rattle.std.specs.List.{position, position_or_len}
 use Rattle.std.proofs.lemmas.Bool.{cases_Bool, ltb-false}
 use Rattle.std.proofs.lemmas.Option.{same_Some}
 use Rattle.std.proofs.lemmas.List.{take_all, drop_all}
-use Rattle.q3_script.specs.Lines.{words_of}
-use Rattle.q3_script.specs.Words.{words_left, next_of, only_of}
+use Rattle.q3_script.specs.Words.{words_of, words_left, next_of, only_of}
 
 -- the byte between two words
 abbrev is_space : ℕ → Bool
