@@ -9,3 +9,4 @@ pub mod Rising
 pub mod Steps
 pub mod SpelledEvents
 pub mod SpelledScripts
+pub mod PlayerParts

@@ -1,5 +1,5 @@
 -- The leading fields of a letter, taken one after the other.
-use Rattle.std.proofs.Common.{◌≡◌, ℕ, ◌+◌, List, [], ◌∷◌, set, Option, Some, None, refl, sym, ap, ◌∙◌}
+use Rattle.std.proofs.Common.{◌≡◌, ℕ, ◌+◌, List, [], ◌∷◌, set, Option, Some, None}
 use Rattle.q3_script.specs.Words.{next_of}
 use Rattle.q3_script.specs.Fields.{field_at, Fields, fields_at, with_fields}
 use Rattle.q3_script.proofs.Spaces.{some_next, none_next, next_of_some, next_of_none}

@@ -18,7 +18,7 @@ abbrev none_place : Option ℕ
 none_place = None
 
 -- the first word ends at the first space, or at the end
-words_at_space : (text : List ℕ) → words_of text ≡ take (position_or_len is_space text) text ∷ words_left (drop (position_or_len is_space text) text)
+pub words_at_space : (text : List ℕ) → words_of text ≡ take (position_or_len is_space text) text ∷ words_left (drop (position_or_len is_space text) text)
 words_at_space [] = refl
 words_at_space (x ∷ text) =
     elim (cases_Bool (eqb x 32)) [

@@ -25,7 +25,7 @@ use Rattle.q3_script.specs.ResultBind.{◌>>=◌}
 use Rattle.q3_script.specs.Numbers.{number_at, address_at}
 use Rattle.q3_script.specs.Fields.{with_fields, values_of, player_of, player_at}
 use Rattle.q3_script.specs.Lines.{last_datagram, number_word, client_word, client_line, player_line, time_line, serve_line, deliver_line, show_line, replay_lines, line_at}
-use Rattle.q3_script.specs.Grammar.{AreFields, SpellsPlayer, IsReplayEvent, HasWords, SpellsEvent}
+use Rattle.q3_script.specs.Grammar.{AreFields, SpellsPlayer, SpellsEvent}
 use Rattle.q3_script.proofs.Numerals.{number_at-spelled, number_at-again}
 use Rattle.q3_script.proofs.Addresses.{address_at-spelled, address_at-again}
 use Rattle.q3_script.proofs.FieldWords.{player_at-spelled, player_at-again}

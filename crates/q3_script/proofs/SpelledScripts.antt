@@ -1,5 +1,5 @@
 -- Whole scripts against their grammar: what is read was spelled so, and what is spelled so is read.
-use Rattle.std.proofs.Common.{◌≡◌, ℕ, ◌+◌, ◌≤◌, true, false, cond, leb, ltb, List, [], ◌∷◌, length, Result, Ok, Err, inl, inr, refl, sym, ap, subst, ◌∙◌, arith}
+use Rattle.std.proofs.Common.{◌≡◌, ℕ, ◌+◌, ◌≤◌, false, leb, ltb, List, [], ◌∷◌, length, Result, Ok, Err, inl, inr, refl, sym, ap, subst, ◌∙◌, arith}
 use Rattle.std.specs.Global.{Vec}
 use Rattle.std.specs.Prelude.{IfOk, All}
 use Rattle.std.specs.List.{AllByRecursion}
@@ -14,7 +14,7 @@ use Rattle.q3_script.specs.ResultBind.{◌>>=◌}
 use Rattle.q3_script.specs.Words.{words_of}
 use Rattle.q3_script.specs.Lines.{line_at}
 use Rattle.q3_script.specs.Script.{longest_script, most_events, lines_of, is_passed_over, BadLine, event_at, at_line, events_from, script_at, with_items, Reads}
-use Rattle.q3_script.specs.Grammar.{SpellsEvent, SpellEvents, SpellsScript, IsReplayEvent}
+use Rattle.q3_script.specs.Grammar.{SpellEvents, SpellsScript, IsReplayEvent}
 use Rattle.q3_script.proofs.SpelledEvents.{ok_is, bind_ok, guard_ok, line_at-spelled, line_at-again}
 
 -- events, and a bad line, as the answer for lines
