@@ -3,6 +3,7 @@
 
 mod document;
 pub mod error;
+pub mod laws;
 mod mark;
 mod numbers;
 pub mod profile;
