@@ -39,7 +39,7 @@ ReadsBack profile = (number : ℕ) (snapshot : Snapshot) → IsBuilt profile num
 pub record Cited (profile : Profile) : Type 0 where
   pub reads : ReadsBack profile
   pub zero : IsHeld profile zero_player
-  pub normal : (player : PlayerState) → IsState player → IsHeld profile (normal_player profile.player player)
+  pub normal : (player : PlayerState) → IsState player → IsHeld profile (normal_player profile.player.kinds player)
 
 -- ---- what is kept of a whole world
 
@@ -74,7 +74,7 @@ holds_join profile whole c challenge qport dup address zero lt holds =
       | inr found ↦ rw found.1 holds
     ]
 
-holds_player : (profile : Profile) (whole : Whole) (c : ℕ) (player : PlayerState) → IsHeld profile (normal_player profile.player player) → c < places → Holds profile whole
+holds_player : (profile : Profile) (whole : Whole) (c : ℕ) (player : PlayerState) → IsHeld profile (normal_player profile.player.kinds player) → c < places → Holds profile whole
     → Holds profile (record whole { ends = (set_player whole.ends c player).ends })
 holds_player profile whole c player held lt holds =
     elim (found_or (slot_at whole.ends.server c)) [

@@ -44,7 +44,7 @@ AreEnds-new profile challenge qport dup address zero =
 
 -- another player
 pub AreEnds-player : (profile : Profile) (slot : SlotState) (client : ClientState) (history : History) (player : PlayerState)
-    → IsHeld profile (normal_player profile.player player) → AreEnds profile slot client history → AreEnds profile (with_player profile slot player) client history
+    → IsHeld profile (normal_player profile.player.kinds player) → AreEnds profile slot client history → AreEnds profile (with_player profile slot player) client history
 AreEnds-player profile slot client history player held ends = record { begun = ends.begun; player = held; built = ends.built; by = ends.by }
 
 -- one message more was begun

@@ -4,7 +4,7 @@ use Rattle.std.specs.Prelude.{slice_set}
 use Rattle.std.proofs.lemmas.List.{get_or-replicate, length_push, get_or_push}
 use Rattle.q3_bits.specs.Bits.{message_bytes}
 use Rattle.q3_profile.specs.declared.profile.Profile.{Profile}
-use Rattle.q3_profile.specs.Profile.{IsProfile}
+use Rattle.q3_profile.specs.Profile.{IsCodec}
 use Rattle.q3_player.specs.State.{zero_player, normal_player}
 use Rattle.q3_player.specs.declared.state.PlayerState.{PlayerState}
 use Rattle.q3_io.specs.declared.address.Address.{Address}
@@ -24,14 +24,14 @@ pub record Holds (profile : Profile) (whole : Whole) : Type 0 where
   pub joined : AllJoined whole
 
 -- at the beginning
-pub Holds-opening : (profile : Profile) → IsProfile profile → Holds profile (opening profile)
+pub Holds-opening : (profile : Profile) → IsCodec profile → Holds profile (opening profile)
 unfolding opening
-Holds-opening profile passes =
+Holds-opening profile codec =
     let no_slots = λ (c : ℕ) (lt : c < places). get_or-replicate {A = Option SlotState} places c None None lt in
     let no_clients = λ (c : ℕ) (lt : c < places). get_or-replicate {A = Option ClientState} places c None None lt in
     record {
       facts = record {
-        passes = passes;
+        codec = codec;
         by = refl;
         slots = refl;
         clients = refl;
@@ -63,7 +63,7 @@ Holds-at profile c old new differ client joined sent holds =
     let facts = holds.facts in
     record {
       facts = record {
-        passes = facts.passes;
+        codec = facts.codec;
         by = differ.by ∙ facts.by;
         slots = differ.slots.count ∙ facts.slots;
         clients = differ.clients.count ∙ facts.clients;
@@ -132,7 +132,7 @@ has profile whole c slot lt found holds =
     (ends.0, ends.1, ends.2, subst (λ (e : Option ClientState). IsJoined map (some_slot slot) e history) ends.1 joined)
 
 pub Holds-player : (profile : Profile) (whole : Whole) (c : ℕ) (slot : SlotState) (player : PlayerState) → c < places
-    → slot_at whole.ends.server c ≡ Some slot → IsHeld profile (normal_player profile.player player) → Holds profile whole
+    → slot_at whole.ends.server c ≡ Some slot → IsHeld profile (normal_player profile.player.kinds player) → Holds profile whole
     → Holds profile (with_new_slot whole c (with_player profile slot player))
 Holds-player profile whole c slot player lt found held holds =
     let facts = holds.facts in
@@ -307,6 +307,6 @@ pub Holds-map : (profile : Profile) (whole : Whole) (map : MapState) → map.tim
 Holds-map profile whole map time holds =
     let facts = holds.facts in
     record {
-      facts = record { passes = facts.passes; by = facts.by; slots = facts.slots; clients = facts.clients; histories = facts.histories; time = time; each = facts.each; sent = facts.sent };
+      facts = record { codec = facts.codec; by = facts.by; slots = facts.slots; clients = facts.clients; histories = facts.histories; time = time; each = facts.each; sent = facts.sent };
       joined = λ c lt. joined_map whole.ends.server.map map (slot_at whole.ends.server c) (client_at whole.ends c) (history_at whole.histories c) (holds.joined c lt);
     }

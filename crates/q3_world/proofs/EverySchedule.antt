@@ -6,7 +6,7 @@ use Rattle.std.specs.Option.{option_map}
 use Rattle.std.proofs.lemmas.Option.{slice_get-map}
 use Rattle.std.proofs.lemmas.Bool.{lt-leb}
 use Rattle.q3_profile.specs.declared.profile.Profile.{Profile}
-use Rattle.q3_profile.specs.Profile.{IsProfile}
+use Rattle.q3_profile.specs.Profile.{IsCodec}
 use Rattle.q3_player.specs.Laws.{NormalIsNormal, ZeroIsNormal}
 use Rattle.q3_script.specs.declared.event.Event.{Event}
 use Rattle.q3_script.specs.declared.event.Event.TheVariants as events
@@ -29,20 +29,20 @@ use Rattle.q3_world.proofs.Agreement.{Cited, stands_of, stands_next, kept_is, is
 use Rattle.q3_world.proofs.Clients.{last_is}
 
 -- what is cited, of a profile that passed its check
-pub cited_of : BuiltIsRead → NormalIsNormal → ZeroIsNormal → (profile : Profile) → IsProfile profile → Cited profile
+pub cited_of : BuiltIsRead → NormalIsNormal → ZeroIsNormal → (profile : Profile) → IsCodec profile → Cited profile
 cited_of reads normal zero profile is =
-    let at_first = zero profile.player is.player in
+    let at_first = zero profile.player.kinds is.player.kinds in
     record {
       reads = reads profile is;
       zero = record { state = at_first.0; normal = at_first.1 };
-      normal = λ player state. let made = normal profile.player player is.player state in record { state = made.0; normal = made.1 };
+      normal = λ player state. let made = normal profile.player.kinds player is.player.kinds state in record { state = made.0; normal = made.1 };
     }
 
 -- ---- bytes and tags
 
 pub step_follows : BuiltIsRead → NormalIsNormal → ZeroIsNormal → StepFollows
 step_follows reads normal zero profile kept whole event is stands =
-    stands_next profile kept whole event (cited_of reads normal zero profile stands.facts.passes) is stands
+    stands_next profile kept whole event (cited_of reads normal zero profile stands.facts.codec) is stands
 
 -- from what stands for a whole on, events answer the same, and what is kept stands for the whole
 follow : StepFollows → (profile : Profile) (all : List Event) (kept : Kept) (whole : Whole) → AllByRecursion IsReplayEvent all
@@ -59,9 +59,9 @@ follow law profile (event ∷ events) kept whole are stands =
     )
 
 -- what is kept at first stands for the opening world
-pub stands_opening : (profile : Profile) → IsProfile profile → StandsFor profile (opening_kept profile) (opening profile)
+pub stands_opening : (profile : Profile) → IsCodec profile → StandsFor profile (opening_kept profile) (opening profile)
 unfolding opening
-stands_opening profile passes = stands_of profile (opening profile) (Holds-opening profile passes)
+stands_opening profile codec = stands_of profile (opening profile) (Holds-opening profile codec)
 
 pub bytes_follow_tags : StepFollows → BytesFollowTags
 bytes_follow_tags law profile all is are = follow law profile all (opening_kept profile) (opening profile) are (stands_opening profile is)

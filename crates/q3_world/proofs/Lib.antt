@@ -7,3 +7,4 @@ pub mod Events
 pub mod Agreement
 pub mod EverySchedule
 pub mod Stepped
+pub mod Printing

@@ -1,9 +1,9 @@
--- What a step of the program's world answers.
-use Rattle.std.proofs.Common.{◌≡◌, ℕ, ◌+◌, ◌-◌, ◌≤◌, List, length, Option, Some, None, Result, Ok, Err, arith}
+-- An event makes one datagram at most.
+use Rattle.std.proofs.Common.{◌≡◌, ℕ, Bool, ◌+◌, ◌-◌, ◌≤◌, List, length, Option, Some, None, Result, Ok, Err, sym, subst, arith}
 use Rattle.std.specs.Prelude.{OnOk, is_ok, slice_get}
 use Rattle.std.proofs.lemmas.List.{length_push}
 use Rattle.q3_io.specs.declared.sink.Failed.{Failed}
-use Rattle.q3_io.specs.Written.{Adds}
+use Rattle.q3_io.specs.Written.{Written, Wrote, Adds}
 use Rattle.q3_script.specs.declared.event.Event.{Event}
 use Rattle.q3_script.specs.declared.event.Event.TheVariants as events
 use Rattle.q3_world.specs.declared.server.Emitted.{Emitted}
@@ -13,22 +13,6 @@ use Rattle.q3_world.specs.Server.{emit_at}
 use Rattle.q3_world.specs.Client.{ClientState}
 use Rattle.q3_world.specs.Ends.{client_at}
 use Rattle.q3_world.specs.Kept.{SentBytes, Kept, datagrams_after, kept_arrive, kept_deliver, kept_step}
-
--- what holds whatever the result is
-pub on_ok_from : {T E P : Type 0} (r : Result T E) → P → OnOk r P
-on_ok_from (Ok x) p = p
-on_ok_from (Err e) p = tt
-
--- the same bytes went out, under another error
-pub Adds-error : (a c : Option (List ℕ)) (xs : List ℕ) (r : Result (Unit {0}) Failed) (s : Result (Unit {0}) StepError)
-    → is_ok s ≡ is_ok r → Adds a c xs r → Adds a c xs s
-Adds-error None c xs r s same adds = adds
-Adds-error (Some had) c xs (Ok x) (Ok y) same adds = adds
-Adds-error (Some had) c xs (Ok x) (Err e) same adds = absurd cc
-Adds-error (Some had) c xs (Err d) (Ok y) same adds = absurd cc
-Adds-error (Some had) c xs (Err d) (Err e) same adds = adds
-
--- ---- an event makes one datagram at most
 
 few_served : (datagrams : List SentBytes) (c : ℕ) (answer : Emitted) (datagram : List ℕ)
     → length (datagrams_after datagrams c answer datagram) ≤ length datagrams + 1

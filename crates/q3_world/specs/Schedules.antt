@@ -2,7 +2,7 @@
 use Rattle.std.specs.Prelude.{◌≡◌, ℕ, ◌-◌, ◌<◌, List, length, Some, slice_get, slice_index_or}
 use Rattle.std.specs.List.{AllByRecursion}
 use Rattle.q3_profile.specs.declared.profile.Profile.{Profile}
-use Rattle.q3_profile.specs.Profile.{IsProfile}
+use Rattle.q3_profile.specs.Profile.{IsCodec}
 use Rattle.q3_script.specs.declared.event.Event.{Event}
 use Rattle.q3_script.specs.declared.event.Event.TheVariants as events
 use Rattle.q3_script.specs.Grammar.{IsReplayEvent}
@@ -26,7 +26,7 @@ StepFollows = (profile : Profile) (kept : Kept) (whole : Whole) (event : Event) 
 -- in a replay what is kept after the events, where each datagram is taken by its bytes, stands for the whole world after
 -- them, where each is taken by its tag; and each event answers the same
 abbrev pub BytesFollowTags : Type 0
-BytesFollowTags = (profile : Profile) (all : List Event) → IsProfile profile → AllByRecursion IsReplayEvent all
+BytesFollowTags = (profile : Profile) (all : List Event) → IsCodec profile → AllByRecursion IsReplayEvent all
     → StandsFor profile (kept_after (opening_kept profile) all) (after profile (opening profile) all)
     × (kept_answers (opening_kept profile) all ≡ answers profile (opening profile) all)
 
@@ -38,12 +38,12 @@ IsLegible other = Unit {0}
 
 -- in a replay no client ever gets what it can't read
 abbrev pub AlwaysLegible : Type 0
-AlwaysLegible = (profile : Profile) (all : List Event) → IsProfile profile → AllByRecursion IsReplayEvent all
+AlwaysLegible = (profile : Profile) (all : List Event) → IsCodec profile → AllByRecursion IsReplayEvent all
     → AllByRecursion (λ given. IsLegible given.answer) (kept_answers (opening_kept profile) all)
 
 -- each snapshot that a client accepted is the one that the server built for it under that number, and the numbers rise
 abbrev pub AcceptedWereBuilt : Type 0
-AcceptedWereBuilt = (profile : Profile) (all : List Event) (c : ℕ) → IsProfile profile → AllByRecursion IsReplayEvent all → c < places
+AcceptedWereBuilt = (profile : Profile) (all : List Event) (c : ℕ) → IsCodec profile → AllByRecursion IsReplayEvent all → c < places
     → ((k : ℕ) (d : Snapshot) → k < length (history_at (after profile (opening profile) all).histories c).accepted
     → WasBuilt (history_at (after profile (opening profile) all).histories c).built
     (slice_index_or (history_at (after profile (opening profile) all).histories c).accepted k d))
@@ -52,14 +52,14 @@ AcceptedWereBuilt = (profile : Profile) (all : List Event) (c : ℕ) → IsProfi
 -- where a client that takes datagrams by their bytes shows a snapshot, it is the one that the server built for it
 -- under that number
 abbrev pub ShownWasBuilt : Type 0
-ShownWasBuilt = (profile : Profile) (all : List Event) (c : ℕ) (snapshot : Snapshot) → IsProfile profile
+ShownWasBuilt = (profile : Profile) (all : List Event) (c : ℕ) (snapshot : Snapshot) → IsCodec profile
     → AllByRecursion IsReplayEvent all → c < places
     → (kept_step (kept_after (opening_kept profile) all) (events.Show c)).answer.snapshot ≡ Some snapshot
     → WasBuilt (history_at (after profile (opening profile) all).histories c).built snapshot
 
 -- a datagram whose number is above every number that its client has taken is accepted, by its bytes, when it arrives
 abbrev pub NewerIsAccepted : Type 0
-NewerIsAccepted = (profile : Profile) (all : List Event) (number : ℕ) (sent : SentBytes) (client : ClientState) → IsProfile profile
+NewerIsAccepted = (profile : Profile) (all : List Event) (number : ℕ) (sent : SentBytes) (client : ClientState) → IsCodec profile
     → AllByRecursion IsReplayEvent all
     → slice_get (kept_after (opening_kept profile) all).datagrams (number - 1) ≡ Some sent
     → client_at (kept_after (opening_kept profile) all).ends sent.client ≡ Some client

@@ -78,7 +78,7 @@ set_time_at server time = record server { map = record server.map { time = time 
 
 -- the slot with another player, in the normal form of the profile's table
 abbrev pub with_player : Profile → SlotState → PlayerState → SlotState
-with_player profile slot player = record slot { player = normal_player profile.player player }
+with_player profile slot player = record slot { player = normal_player profile.player.kinds player }
 
 abbrev pub give_player : ServerState → ℕ → PlayerState → Option SlotState → Handed NoClient
 give_player server c player None = record { server = server; answer = Err (record {}) }

@@ -3,7 +3,7 @@
 use Rattle.std.specs.Prelude.{◌≡◌, ℕ, ◌+◌, ◌^◌, ◌<◌, ◌≤◌, List, length, map, Option, Some, None, slice_index_or}
 use Rattle.std.specs.List.{last_or}
 use Rattle.q3_profile.specs.declared.profile.Profile.{Profile}
-use Rattle.q3_profile.specs.Profile.{IsProfile}
+use Rattle.q3_profile.specs.Profile.{IsCodec}
 use Rattle.q3_bits.specs.Bits.{message_bytes}
 use Rattle.q3_world.specs.declared.message.Snapshot.{Snapshot}
 use Rattle.q3_world.specs.Message.{IsHeld, IsBuilt, datagram_bytes}
@@ -36,7 +36,7 @@ pub record IsSent (profile : Profile) (histories : List History) (tag : Tag) : T
   pub bytes : tag.bytes ≡ datagram_bytes tag.number (message_bytes (built_bits profile (built_at (history_at histories tag.client).built tag.number)))
 
 pub record Facts (profile : Profile) (whole : Whole) : Type 0 where
-  pub passes : IsProfile profile
+  pub codec : IsCodec profile
   pub by : whole.ends.server.profile ≡ profile
   pub slots : length whole.ends.server.slots ≡ places
   pub clients : length whole.ends.clients ≡ places

@@ -9,7 +9,6 @@ ghost use Rattle.q3_world.specs.Client.{new_client, applied, take_at};
 use crate::message::{Illegible, Snapshot, read_snapshot};
 use q3_bits::NoMemory;
 use q3_profile::Profile;
-use std::alloc::Global;
 use std::marker::Model;
 
 /// What a client's take answers.
@@ -53,7 +52,6 @@ impl Model for Client {
 impl Client {
     /// A client that has taken nothing. It repeats `dup` old moves. `Err` is want of memory.
     pub(crate) fn new(
-        alloc: Global,
         profile: &Profile,
         challenge: u32,
         qport: u16,
@@ -62,7 +60,7 @@ impl Client {
         ensures { IfOk result (λ client. client ≡ new_client profile.now challenge qport dup) }
     {
         Ok(Client {
-            profile: profile.copy(alloc)?,
+            profile: profile.copy()?,
             challenge,
             qport,
             dup,
@@ -74,7 +72,6 @@ impl Client {
     /// Takes a datagram: an old one changes nothing, nor does one that isn't legible.
     #[tactic(auto, unfolding(crate::specs::Client::take_at))]
     pub(crate) fn take(&mut self, datagram: &[u8]) -> ClientTook
-        requires { length datagram.now < 2 ^ 60 }
         ensures { take_at self.old datagram.now ≡ record { client = self.new; answer = result } }
     {
         if datagram.len() < 4 {

@@ -194,7 +194,7 @@ impl Server {
         ensures { IfOk result (λ server. server ≡ new_server profile.now) }
     {
         Ok(Server {
-            profile: profile.copy(alloc)?,
+            profile: profile.copy()?,
             map: Map { time: 0 },
             slots: empty_places(alloc)?,
         })

@@ -5,14 +5,14 @@ ghost use Rattle.std.specs.Option.{option_copied};
 ghost use Rattle.q3_profile.specs.declared.profile.Profile.{Profile as ProfileValue};
 ghost use Rattle.q3_profile.specs.Profile.{IsProfile};
 ghost use Rattle.q3_script.specs.Grammar.{IsReplayEvent};
-ghost use Rattle.q3_io.specs.Written.{Adds};
+ghost use Rattle.q3_io.specs.Written.{NothingWaits};
 ghost use Rattle.q3_world.specs.Server.{places, emit_at};
 ghost use Rattle.q3_world.specs.Ends.{answered, lent, newest, client_at, shown_of, join, set_time, set_player};
 ghost use Rattle.q3_world.specs.Kept.{most_datagrams, kept_step, kept_ends, kept_serve, kept_deliver};
 ghost use Rattle.q3_world.specs.World.{Whole, opening, step as step_of};
 ghost use Rattle.q3_world.specs.StandsFor.{StandsFor};
 ghost use Rattle.q3_world.specs.Report.{answer_text};
-ghost use Rattle.q3_world.specs.Outcome.{TakesMemory, HasStepCause};
+ghost use Rattle.q3_world.specs.Outcome.{TakesMemory, Prints, HasStepCause};
 
 use crate::answer::{Answer, HandedIn, Shown};
 use crate::client::Client;
@@ -22,7 +22,7 @@ use crate::places::empty_places;
 use crate::report::print_answer;
 use crate::server::{DATAGRAM_ROOM, Datagram, Emitted, NoClient, Server, SlotError};
 use q3_bits::NoMemory;
-use q3_io::{Address, Files, Sink};
+use q3_io::{Address, Failed, Files, Sink};
 use q3_player::PlayerState;
 use q3_profile::Profile;
 use q3_script::Event;
@@ -46,7 +46,7 @@ struct Sent {
 }
 
 impl Model for Sent {
-    ghost use Rattle.std.specs.Prelude.{◌<◌, ◌≤◌, length};
+    ghost use Rattle.std.specs.Prelude.{◌<◌};
     ghost use Rattle.q3_world.specs.Server.{places};
     ghost use Rattle.q3_world.specs.Kept.{SentBytes};
 
@@ -54,7 +54,7 @@ impl Model for Sent {
 
     ghost view = { λ s. record { client = s.client; bytes = s.bytes.items } };
 
-    ghost invariant = { λ s. (s.client < places) × (length s.bytes.items ≤ 1320) };
+    ghost invariant = { λ s. s.client < places };
 }
 
 /// A copy of the profile, a server, a client for each added slot, and every datagram that was made.
@@ -91,7 +91,7 @@ impl World {
     {
         Ok(World {
             alloc,
-            profile: profile.copy(alloc)?,
+            profile: profile.copy()?,
             server: Server::new(alloc, profile)?,
             clients: empty_places(alloc)?,
             datagrams: Vec::new(alloc),
@@ -113,7 +113,8 @@ impl World {
             → StandsFor profile self.new (step_of profile whole event.now).whole) }
         ensures kept { OnOk result (self.new ≡ (kept_step self.old event.now).kept) }
         ensures lines { (profile : ProfileValue) (whole : Whole) → StandsFor profile self.old whole
-            → Adds (O.written out.old) (O.written out.new) (answer_text (step_of profile whole event.now).answer) result }
+            → Prints (O.written out.old) (O.written out.new) (answer_text (step_of profile whole event.now).answer) result }
+        ensures flushed { OnOk result (NothingWaits (O.written out.new)) }
         ensures cause { HasStepCause (O.faults out.old) (O.faults out.new) result }
         ensures no_memory { IsErrOf result StepError.NoMemory
             → TakesMemory event.now × (self.new ≡ self.old) × (O.written out.new ≡ O.written out.old) }
@@ -127,7 +128,10 @@ impl World {
         let Ok(answer) = self.apply(event) else {
             return Err(StepError::NoMemory);
         };
-        print_answer(&answer, self.lent(answer), out).map_err(|_| StepError::WriteFault)
+        match print_answer(&answer, self.lent(answer), out) {
+            Ok(()) => Ok(()),
+            Err(Failed) => Err(StepError::WriteFault),
+        }
     }
 
     /// Does one event. `Err` is want of memory, at `client` and `serve` alone, and changes nothing.
@@ -169,7 +173,7 @@ impl World {
             ≡ record { kept = self.new; answer = answered self.new.ends answer }) }
         ensures err { OnErr result (self.new ≡ self.old) }
     {
-        let client = Client::new(self.alloc, &self.profile, challenge, qport, dup)?;
+        let client = Client::new(&self.profile, challenge, qport, dup)?;
         if let Err(SlotError::Taken) = self.server.add_client(c, challenge, qport, address) {
             return Ok(Answer::Client {
                 c,
