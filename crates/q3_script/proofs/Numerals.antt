@@ -1,15 +1,14 @@
--- The words of a line against their grammar: what is read was spelled so, and what is spelled so is read.
-use Rattle.std.proofs.Common.{◌≡◌, ℕ, ◌+◌, ◌*◌, ◌-◌, ◌^◌, ◌<◌, ◌≤◌, Bool, true, false, leb, ltb, eqb, List, [], ◌∷◌, ◌++◌, length, get_or, Option, Some, None, inl, inr, ◌⊎◌, refl, sym, ap, ◌∙◌, arith}
-use Rattle.std.specs.Prelude.{◌&&◌, ◌||◌, not}
+-- Numbers against their grammar: what is read was spelled so, and what is spelled so is read.
+use Rattle.std.proofs.Common.{◌≡◌, ℕ, ◌+◌, ◌*◌, ◌-◌, ◌^◌, ◌<◌, ◌≤◌, true, false, leb, ltb, eqb, List, [], ◌∷◌, length, get_or, Some, inl, inr, refl, sym, ap, ◌∙◌, arith}
+use Rattle.std.specs.Prelude.{◌&&◌, ◌||◌}
 use Rattle.std.specs.Fmt.{decimal}
 use Rattle.std.specs.List.{list_all, fold}
-use Rattle.std.proofs.lemmas.Bool.{leb-true, ltb-true, lt-ltb, le-leb, and_parts, and_from, or_cases, or_right, cases_eq, ne_eqb, eq-eqb, eqb-true, cases_Bool, not-true, false≢true}
-use Rattle.std.proofs.lemmas.Option.{cond_some, same_Some}
+use Rattle.std.proofs.lemmas.Bool.{leb-true, ltb-true, lt-ltb, le-leb, and_parts, and_from, or_cases, or_right, cases_eq, ne_eqb, false≢true}
+use Rattle.std.proofs.lemmas.Option.{cond_some}
 use Rattle.std.proofs.lemmas.Fmt.{decimal-digits_value, digits_decimal, digits_value-decimal, decimal_nonempty, first_decimal, decimal_digit}
 use Rattle.std.proofs.lemmas.Str.Parse.{IsDigitsTest, IsNumeralModel, numerals_by_fold}
-use Rattle.q3_script.specs.Numbers.{is_digit, value_of, is_decimal, number_at, cut}
-
--- ---- numbers
+use Rattle.q3_script.specs.Numbers.{is_digit, value_of, is_decimal, number_at}
+use Rattle.q3_script.proofs.Cuts.{lacks}
 
 -- the digits of this crate are those of std
 digits_test : IsDigitsTest (λ word. list_all is_digit word ≡ true)
@@ -71,19 +70,6 @@ number_at-again low high n small lower upper =
     let most : leb n high ≡ true = le-leb _ _ upper in
     rw (text, value, least, most) refl
 
--- ---- cuts
-
--- two parts, and none
-abbrev some_of : List ℕ × List ℕ → Option (List ℕ × List ℕ)
-some_of parts = Some parts
-
-abbrev none_of : Option (List ℕ × List ℕ)
-none_of = None
-
--- a text without a byte
-abbrev pub lacks : ℕ → List ℕ → Bool
-lacks byte text = list_all (λ x. not (eqb x byte)) text
-
 -- digits lack what is no digit
 lacks-digits : (byte : ℕ) (text : List ℕ) → is_digit byte ≡ false → list_all is_digit text ≡ true → lacks byte text ≡ true
 lacks-digits byte [] other digits = refl
@@ -95,34 +81,3 @@ lacks-digits byte (x ∷ text) other digits =
 -- decimals have only digits
 pub lacks-decimal : (byte n : ℕ) → is_digit byte ≡ false → n < 2 ^ 64 → lacks byte (decimal n) ≡ true
 lacks-decimal byte n other small = lacks-digits byte (decimal n) other (digits_decimal own n small)
-
--- there is a value, or none
-option_cases : {A : Type 0} (o : Option A) → (o ≡ None) ⊎ ((x : A) × (o ≡ Some x))
-option_cases None = inl refl
-option_cases (Some x) = inr (x, refl)
-
--- a text that was cut is what stood before and behind the byte
-pub cut-spelled : (byte : ℕ) (text : List ℕ) (parts : List ℕ × List ℕ) → cut byte text ≡ Some parts → text ≡ parts.0 ++ byte ∷ parts.1
-unfolding cut
-cut-spelled byte [] parts e = absurd cc
-cut-spelled byte (x ∷ text) parts e =
-    elim (cases_Bool (eqb x byte)) [
-      | inl same ↦
-          let whole : some_of ([], text) ≡ some_of parts = rw same at e in
-          rw (← same_Some ([], text) parts whole, eqb-true x byte same) refl
-      | inr other ↦ elim (option_cases (cut byte text)) [
-        | inl none ↦ let nothing : none_of ≡ some_of parts = rw (other, none) at e in absurd cc
-        | inr (rest, some) ↦
-            let whole : some_of (x ∷ rest.0, rest.1) ≡ some_of parts = rw (other, some) at e in
-            rw (← same_Some (x ∷ rest.0, rest.1) parts whole) (ap (λ (t : List ℕ). x ∷ t) (cut-spelled byte text rest some))
-      ]
-    ]
-
--- and a byte behind a text without it is where that is cut
-pub cut-again : (byte : ℕ) (front rest : List ℕ) → lacks byte front ≡ true → cut byte (front ++ byte ∷ rest) ≡ Some (front, rest)
-unfolding cut
-cut-again byte [] rest none = rw (eq-eqb byte byte refl) refl
-cut-again byte (x ∷ front) rest none =
-    let parts = and_parts (not (eqb x byte)) (lacks byte front) none in
-    let differs : eqb x byte ≡ false = not-true (eqb x byte) parts.0 in
-    rw (differs, cut-again byte front rest parts.1) refl
