@@ -76,18 +76,40 @@ fn files_of_the_system_are_written_and_read(rt: HostRuntime) -> Result<(), Fail>
         .ok()
         .ok_or("there is memory")?;
     assert_eq!(rt; files.create("written"), Ok(0));
-    assert_eq!(rt; files.append(0, b"one "), Ok(()));
-    assert_eq!(rt; files.append(0, b"two"), Ok(()));
+    assert_eq!(rt; files.append(0, b"first"), Ok(()));
+    assert_eq!(rt; files.create("written"), Ok(1));
+    assert_eq!(rt; files.append(1, b"one "), Ok(()));
+    assert_eq!(rt; files.append(1, b"two "), Ok(()));
+    assert_eq!(rt; files.append(1, b"three"), Ok(()));
+    let mut into = [0u8; 4];
+    assert_eq!(rt; files.read_at(1, 0, &mut into), Err(Failed));
+    assert_eq!(rt; files.append(1, b"!"), Ok(()));
+    assert_eq!(rt; files.lookup("written"), Ok(2));
+    assert_eq!(rt; files.size(2), Ok(14));
+    for _ in 0..2 {
+        assert_eq!(rt; files.read_at(2, 8, &mut into), Ok(4));
+        assert_eq!(rt; into, *b"thre");
+    }
+    assert_eq!(rt; files.read_at(2, 12, &mut into), Ok(2));
+    assert_eq!(rt; into, *b"e!re");
+    assert_eq!(rt; files.read_at(2, 14, &mut into), Ok(0));
+    assert_eq!(rt; files.read_at(2, 0, &mut into), Ok(4));
+    assert_eq!(rt; into, *b"one ");
+    Ok(())
+}
+
+#[test]
+fn faults_of_the_system_are_told(rt: HostRuntime) -> Result<(), Fail> {
+    let mut files = HostFiles::new(rt.alloc(), &rt)
+        .ok()
+        .ok_or("there is memory")?;
     assert_eq!(rt; files.lookup("none"), Err(Failed));
     assert_eq!(rt; files.lookup("."), Err(Failed));
-    assert_eq!(rt; files.lookup("written"), Ok(1));
-    assert_eq!(rt; files.size(1), Ok(7));
-    let mut into = [0u8; 4];
-    assert_eq!(rt; files.read_at(1, 4, &mut into), Ok(3));
-    assert_eq!(rt; into, *b"two\0");
-    assert_eq!(rt; files.read_at(1, 7, &mut into), Ok(0));
-    assert_eq!(rt; files.read_at(1, 0, &mut into), Ok(4));
-    assert_eq!(rt; into, *b"one ");
+    assert_eq!(rt; files.create("."), Err(Failed));
+    assert_eq!(rt; files.create("/dev/full"), Ok(0));
+    assert_eq!(rt; files.append(0, b"lost"), Err(Failed));
+    assert_eq!(rt; files.lookup("/proc/self/mem"), Ok(1));
+    assert_eq!(rt; files.read_at(1, 0, &mut [0; 4]), Err(Failed));
     Ok(())
 }
 
