@@ -2,7 +2,7 @@
 use Rattle.std.specs.Prelude.{ℕ, ◌-◌, Bool, not, ◌&&◌, nat_le, nat_lt, if◌then◌else◌, List, [], ◌++◌, length, is_some}
 use Rattle.q3_io.specs.Told.{Told, Lookup, Create, contents_of, name_of, contents_at, after_named, after_given, can_ask, after_asked, after_written}
 use Rattle.q3_io.specs.MemoryCalls.{MadeCalls, one_more, next_fails, after_call}
-use Rattle.q3_io.specs.MemoryStore.{StoreState, has_room, after_put}
+use Rattle.q3_io.specs.FileStore.{StoreState, has_room, after_put}
 
 -- what is told, the room that is left in bytes, files and numbers, the calls, and the counts of faults
 pub record FilesState : Type 0 where

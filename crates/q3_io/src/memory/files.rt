@@ -4,7 +4,7 @@ ghost use Rattle.std.specs.Prelude.{◌≡◌, ◌<◌, ◌≤◌, [], Some, Non
 ghost use Rattle.q3_io.specs.Faults.{HasCause};
 ghost use Rattle.q3_io.specs.Told.{contents_of, contents_at, IsGiven, LooksUp, Measures, ReadsAt, Creates, Appends};
 ghost use Rattle.q3_io.specs.MemoryCalls.{next_fails};
-ghost use Rattle.q3_io.specs.MemoryStore.{read_count};
+ghost use Rattle.q3_io.specs.FileStore.{read_count};
 ghost use Rattle.q3_io.specs.MemoryFiles.{finds, after_lookup, after_size, reads, after_read, creates, after_create, appends, after_append, stores, after_store};
 
 use crate::files::Files;
