@@ -1,11 +1,6 @@
 -- Files in memory, by their names, and the room that is left for more.
-use Rattle.std.specs.Prelude.{ℕ, ◌+◌, ◌-◌, Bool, ◌&&◌, ◌||◌, nat_le, nat_lt, min, if◌then◌else◌, List, [], ◌++◌, length, unwrap_or, is_some}
+use Rattle.std.specs.Prelude.{◌≡◌, ◌<◌, ℕ, ◌+◌, ◌-◌, Bool, ◌&&◌, ◌||◌, nat_le, nat_lt, min, if◌then◌else◌, List, [], ◌∷◌, ◌++◌, length, slice_index_or, slice_set, Some, unwrap_or, is_some}
 use Rattle.q3_io.specs.Told.{File, contents_of, with_contents}
-
--- some bytes, and how many there may be
-pub record BytesState : Type 0 where
-  pub bytes : List ℕ
-  pub room : ℕ
 
 -- what stands past the last file
 abbrev pub no_file : File
@@ -47,3 +42,15 @@ after_add store name bytes =
 -- how many bytes a read from a place on gives
 abbrev pub read_count : List ℕ → ℕ → List ℕ → ℕ
 read_count contents at into = min (length into) (length contents - at)
+
+-- files by their names and contents
+unfoldable pub files_of : List (List ℕ) → List (List ℕ) → List File
+files_of (name ∷ names) (text ∷ texts) = record { name = name; contents = text } ∷ files_of names texts
+files_of [] texts = []
+files_of names [] = []
+
+-- the file of this name stands at this place
+pub record StandsAt (files : List File) (name : List ℕ) (place : ℕ) : Type 0 where
+  pub within : place < length files
+  pub contents : contents_of files name ≡ Some (slice_index_or files place no_file).contents
+  pub put : (bytes : List ℕ) → with_contents files name bytes ≡ slice_set files place (record (slice_index_or files place no_file) { contents = bytes })

@@ -1,8 +1,8 @@
-//! Files in memory, written and read by their names.
+//! Files in memory, by their names.
 
 ghost use Rattle.std.specs.Prelude.{◌≡◌, ◌≤◌, ◌++◌, length, take, drop, if◌then◌else◌, is_some};
 ghost use Rattle.q3_io.specs.Told.{contents_of};
-ghost use Rattle.q3_io.specs.MemoryStore.{has_room, after_put, can_add, after_add, held, read_count};
+ghost use Rattle.q3_io.specs.FileStore.{has_room, after_put, can_add, after_add, held, read_count};
 
 use crate::memory::store::Store;
 
