@@ -1,4 +1,6 @@
 pub mod Numbers
+pub mod Texts
+pub mod ReadOver
 pub mod Windows
 pub mod CodeText
 pub mod Causes

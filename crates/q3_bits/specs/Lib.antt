@@ -5,6 +5,7 @@ pub mod Words
 pub mod CodeWords
 pub mod Table
 pub mod Streams
+pub mod InPlace
 pub mod Buffer
 pub mod Found
 pub mod Unread

@@ -30,6 +30,12 @@ pub record Writes (old new : Writing) (text : List Bool) (result : Result (Unit 
   pub ok : OnOk result (new ≡ record old { bits = old.bits ++ text })
   pub front : Extends old new text
 
+-- a front of a whole was written behind what stood at the start, and the rest is left
+pub record HasWritten (start now : Writing) (left whole : List Bool) : Type 0 where
+  pub written : List Bool
+  pub parts : written ++ left ≡ whole
+  pub writes : Writes start now written (Ok tt)
+
 -- an answer, with what is left to read behind it
 abbrev pub with_rest : {T : Type 0} → {E : Type 0} → List Bool → Result T E → Result (T × List Bool) E
 with_rest left (Ok value) = Ok (value, left)

@@ -2,7 +2,7 @@
 //! nothing. A proof above cites a law by calling it.
 
 ghost use Rattle.q3_bits.specs.Words.{IsCode, plain_words};
-ghost use Rattle.q3_bits.specs.Laws.{ReadWasPut, PutIsRead, FieldsEndCutShort, PlainBitsEnd, TextsAreWritten, MessageHoldsBits, MessageIsBytes};
+ghost use Rattle.q3_bits.specs.Laws.{ReadWasPut, PutIsRead, FieldsEndCutShort, PlainBitsEnd, TextsAreWritten, ListsAreRead, MessageHoldsBits, MessageIsBytes};
 
 /// The plain code has a word for each byte, and none begins another.
 pub fn plain_is_a_code()
@@ -33,6 +33,11 @@ pub fn plain_bits_end()
 /// Texts that are written one after the other are written as one.
 pub fn texts_are_written()
     ensures { TextsAreWritten }
+{}
+
+/// Values that are read one after the other over those of a list are read as one list.
+pub fn lists_are_read()
+    ensures { ListsAreRead }
 {}
 
 /// The bytes of a message hold its bits, and then zeros.

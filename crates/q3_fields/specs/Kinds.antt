@@ -41,11 +41,15 @@ table_of widths = do
   kinds ← if nat_le 1 (length widths) && nat_le (length widths) 64 then kinds_from 0 widths else Err Fields
   Ok (record { kinds = kinds; number_bits = 10 })
 
--- 1 to 64 fields of allowed kinds, and numbers of 1 to 16 bits
+-- 1 to 64 fields of allowed kinds
+pub record AreKinds (kinds : List Kind) : Type 0 where
+  pub some : 1 ≤ length kinds
+  pub few : length kinds ≤ 64
+  pub each : All IsKind kinds
+
+-- a table has such fields, and numbers of 1 to 16 bits
 pub record IsTable (table : Layout) : Type 0 where
-  pub some : 1 ≤ length table.kinds
-  pub few : length table.kinds ≤ 64
-  pub each : All IsKind table.kinds
+  pub kinds : AreKinds table.kinds
   pub number_bits : (1 ≤ table.number_bits) × (table.number_bits ≤ 16)
 
 -- the end mark of the entity numbers: all bits 1

@@ -5,9 +5,10 @@ use Rattle.std.specs.Option.{ok_or}
 use Rattle.toml.specs.Data.{Data, Items, Members, item, as_array}
 use Rattle.toml.specs.View.{view, items_view}
 use Rattle.toml.specs.declared.value.Value.{Value}
+use Rattle.q3_bits.specs.ResultBind.{◌>>=◌}
 use Rattle.q3_profile.specs.declared.error.Key.{Key}
 use Rattle.q3_profile.specs.declared.error.ProfileError.TheVariants.{Kind}
-use Rattle.q3_profile.specs.Document.{◌>>=◌, value_at, items_as, array_at}
+use Rattle.q3_profile.specs.Document.{value_at, items_as, array_at}
 use Rattle.q3_profile.specs.Seen.{items_at}
 
 -- the items so far and those that are left are all items

@@ -1,9 +1,10 @@
 -- The profile's file as a document: what stands under a key.
-use Rattle.std.specs.Prelude.{ℕ, if◌then◌else◌, List, [], ◌∷◌, codes, ℤ, Option, Some, None, Result, Ok, Err}
+use Rattle.std.specs.Prelude.{ℕ, if◌then◌else◌, List, [], ◌∷◌, codes, ℤ, Option, Some, None, Result}
 use Rattle.std.specs.Option.{ok_or}
 use Rattle.std.specs.Str.{is_utf8}
 use Rattle.toml.specs.Data.{Data, Items, no_items, item, Members, get_member, as_integer, as_array}
 use Rattle.toml.specs.Parse.{parse_document}
+use Rattle.q3_bits.specs.ResultBind.{◌>>=◌}
 use Rattle.q3_profile.specs.declared.error.Key.{Key}
 use Rattle.q3_profile.specs.declared.error.Key.TheVariants as keys
 use Rattle.q3_profile.specs.declared.error.ProfileError.{ProfileError}
@@ -22,11 +23,6 @@ key_name keys.ParseRing = codes "parse_ring"
 key_name keys.Entity = codes "entity"
 key_name keys.Player = codes "player"
 key_name keys.Code = codes "code"
-
-infixl 10 ◌>>=◌
-abbrev pub ◌>>=◌ : {A B E : Type 0} → Result A E → (A → Result B E) → Result B E
-(Ok x) >>= f = f x
-(Err e) >>= f = Err e
 
 -- each item, where all are of the type
 unfoldable pub items_as : {A : Type 0} → (Data → Option A) → Items → Option (List A)

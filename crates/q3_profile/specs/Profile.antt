@@ -5,16 +5,16 @@ use Rattle.std.specs.Option.{ok_or, option_map_or}
 use Rattle.std.specs.Result.{result_map_both}
 use Rattle.toml.specs.Data.{Members, as_integer, as_str}
 use Rattle.q3_bits.specs.CodeWords.{bits_of_text, code_fault}
-use Rattle.q3_fields.specs.declared.kind.Kind.{Kind as FieldKind}
 use Rattle.q3_fields.specs.declared.table.TableError.{TableError}
 use Rattle.q3_fields.specs.declared.table.TableError.TheVariants as table
-use Rattle.q3_fields.specs.Kinds.{table_of}
+use Rattle.q3_fields.specs.Kinds.{Layout, table_of}
+use Rattle.q3_bits.specs.ResultBind.{◌>>=◌}
 use Rattle.q3_profile.specs.declared.error.Key.{Key}
 use Rattle.q3_profile.specs.declared.error.Key.TheVariants.{File, Protocol, ServerRing, ParseRing, Entity, Player, Code}
 use Rattle.q3_profile.specs.declared.error.ProfileError.{ProfileError}
 use Rattle.q3_profile.specs.declared.error.ProfileError.TheVariants as errors
 use Rattle.q3_profile.specs.declared.profile.Profile.{Profile}
-use Rattle.q3_profile.specs.Document.{◌>>=◌, document_of, integer_at, array_at}
+use Rattle.q3_profile.specs.Document.{document_of, integer_at, array_at}
 use Rattle.q3_profile.specs.Mark.{mark_of}
 
 -- the longest file
@@ -48,10 +48,10 @@ table_error key table.Fields = errors.Fields key
 table_error key (table.Width i) = errors.Width key i
 
 -- the table of the widths under a key
-abbrev pub table_at : Key → Members → Result (List FieldKind) ProfileError
+abbrev pub table_at : Key → Members → Result Layout ProfileError
 table_at key document = do
   widths ← array_at as_integer key document
-  result_map_both (λ kinds. kinds) (table_error key) (table_of widths)
+  result_map_both (λ table. table) (table_error key) (table_of widths)
 
 -- the code of these texts
 abbrev pub code_of : List (List ℕ) → Result (List (List Bool)) ProfileError

@@ -5,10 +5,11 @@ use Rattle.std.specs.Option.{ok_or}
 use Rattle.toml.specs.Data.{Data, Items, Members, as_array}
 use Rattle.toml.specs.View.{view, items_view}
 use Rattle.toml.specs.declared.value.Value.{Value}
+use Rattle.q3_bits.specs.ResultBind.{◌>>=◌}
 use Rattle.q3_profile.specs.declared.error.Key.{Key}
 use Rattle.q3_profile.specs.declared.error.ProfileError.{ProfileError}
 use Rattle.q3_profile.specs.declared.error.ProfileError.TheVariants.{NoMemory, Kind}
-use Rattle.q3_profile.specs.Document.{◌>>=◌, value_at}
+use Rattle.q3_profile.specs.Document.{value_at}
 
 -- the data of a value that is lent
 abbrev pub seen : Result (Bor Value) ProfileError → Result Data ProfileError
