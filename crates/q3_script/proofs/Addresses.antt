@@ -5,7 +5,7 @@ use Rattle.std.specs.Fmt.{decimal}
 use Rattle.std.proofs.lemmas.Option.{same_Some}
 use Rattle.std.proofs.lemmas.List.Folds.{list_all-append}
 use Rattle.q3_io.specs.declared.address.Address.{Address}
-use Rattle.q3_script.specs.OptionBind.{◌>>=◌}
+use Rattle.q3_bits.specs.OptionBind.{◌>>=◌}
 use Rattle.q3_script.specs.Words.{cut}
 use Rattle.q3_script.specs.Numbers.{number_at, host_of, address_at}
 use Rattle.q3_script.specs.Grammar.{SpellsAddress}

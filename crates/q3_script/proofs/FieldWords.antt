@@ -9,7 +9,7 @@ use Rattle.std.proofs.lemmas.Fmt.{decimal_nonempty, digits_decimal}
 use Rattle.q3_player.specs.declared.state.PlayerState.{PlayerState}
 use Rattle.q3_script.specs.declared.cause.LineCause.{LineCause}
 use Rattle.q3_script.specs.declared.cause.LineCause.TheVariants as causes
-use Rattle.q3_script.specs.OptionBind.{◌>>=◌}
+use Rattle.q3_bits.specs.OptionBind.{◌>>=◌}
 use Rattle.q3_script.specs.Words.{cut, behind}
 use Rattle.q3_script.specs.Numbers.{is_digit, number_at}
 use Rattle.q3_script.specs.Fields.{field_at, Fields, fields_at, player_of, player_at}

@@ -3,7 +3,7 @@ use Rattle.std.proofs.Common.{◌≡◌, ℕ, ◌+◌, ◌<◌, true, false, Lis
 use Rattle.std.proofs.lemmas.List.{append-nil, drop_more, drop_all, length_push}
 use Rattle.q3_script.specs.declared.event.Event.{Event}
 use Rattle.q3_script.specs.declared.cause.LineCause.{LineCause}
-use Rattle.q3_script.specs.ResultBind.{◌>>=◌}
+use Rattle.q3_bits.specs.ResultBind.{◌>>=◌}
 use Rattle.q3_script.specs.Script.{BadLine, is_passed_over, event_at, events_from}
 
 -- the events before, and those of the lines that are left

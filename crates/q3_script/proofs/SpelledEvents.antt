@@ -13,15 +13,14 @@ use Rattle.std.proofs.lemmas.Int.{ints}
 use Rattle.std.proofs.lemmas.List.{length-map, length-set, length-replicate}
 use Rattle.std.proofs.lemmas.List.Elements.{All-set, All-map, All-replicate}
 use Rattle.std.proofs.lemmas.Slice.Eq.{bytes_eq-Decides}
-use Rattle.q3_player.specs.State.{AreWords, IsShort, AreShorts, IsState}
-use Rattle.q3_player.specs.Delta.{shorts_of}
+use Rattle.q3_player.specs.State.{AreWords, IsShort, AreShorts, IsState, shorts_of}
 use Rattle.q3_player.specs.declared.state.PlayerState.{PlayerState}
 use Rattle.q3_io.specs.declared.address.Address.{Address}
 use Rattle.q3_script.specs.declared.event.Event.{Event}
 use Rattle.q3_script.specs.declared.event.Event.TheVariants.{Client, Player, Time, Serve, Deliver, Show}
 use Rattle.q3_script.specs.declared.cause.LineCause.{LineCause}
 use Rattle.q3_script.specs.declared.cause.LineCause.TheVariants as causes
-use Rattle.q3_script.specs.ResultBind.{◌>>=◌}
+use Rattle.q3_bits.specs.ResultBind.{◌>>=◌, bind_ok}
 use Rattle.q3_script.specs.Numbers.{number_at, address_at}
 use Rattle.q3_script.specs.Fields.{with_fields, values_of, player_of, player_at}
 use Rattle.q3_script.specs.Lines.{last_datagram, number_word, client_word, client_line, player_line, time_line, serve_line, deliver_line, show_line, replay_lines, line_at}
@@ -40,11 +39,6 @@ refuse cause = Err cause
 -- answers that are the same have the same value
 pub ok_is : {A E : Type 0} (x y : A) → done {E = E} x ≡ done y → x ≡ y
 ok_is x y e = cc
-
--- the value of a step that wasn't refused
-pub bind_ok : {A B E : Type 0} (r : Result A E) (f : A → Result B E) (y : B) → (r >>= f) ≡ Ok y → (x : A) × (r ≡ Ok x) × (f x ≡ Ok y)
-bind_ok (Ok x) f y e = (x, refl, e)
-bind_ok (Err cause) f y e = absurd cc
 
 -- what a cause was not needed for
 ok_or-ok : {A : Type 0} (o : Option A) (cause : LineCause) (x : A) → ok_or o cause ≡ Ok x → o ≡ Some x

@@ -3,7 +3,7 @@ use Rattle.std.proofs.Common.{◌≡◌, ℕ, List, [], ◌∷◌, Ok, refl}
 use Rattle.std.specs.Option.{ok_or}
 use Rattle.q3_script.specs.declared.event.Event.TheVariants.{Client, Player, Time, Serve, Deliver, Show}
 use Rattle.q3_script.specs.declared.cause.LineCause.TheVariants.{Address, Count}
-use Rattle.q3_script.specs.ResultBind.{◌>>=◌}
+use Rattle.q3_bits.specs.ResultBind.{◌>>=◌}
 use Rattle.q3_script.specs.Words.{next_of, only_of}
 use Rattle.q3_script.specs.Numbers.{address_at}
 use Rattle.q3_script.specs.Fields.{player_at}

@@ -2,10 +2,10 @@
 use Rattle.std.specs.Prelude.{ℕ, ◌+◌, ◌-◌, ◌==◌, if◌then◌else◌, List, [], ◌∷◌, length, replicate, codes, slice_set, Option, Some, Result, Ok, Err}
 use Rattle.std.specs.Option.{option_map_or}
 use Rattle.q3_player.specs.declared.state.PlayerState.{PlayerState}
-use Rattle.q3_player.specs.Delta.{shorts_of}
+use Rattle.q3_player.specs.State.{shorts_of}
 use Rattle.q3_script.specs.declared.cause.LineCause.{LineCause}
 use Rattle.q3_script.specs.declared.cause.LineCause.TheVariants as causes
-use Rattle.q3_script.specs.OptionBind.{◌>>=◌}
+use Rattle.q3_bits.specs.OptionBind.{◌>>=◌}
 use Rattle.q3_script.specs.Words.{cut, behind}
 use Rattle.q3_script.specs.Numbers.{number_at}
 

@@ -1,5 +1,3 @@
-pub mod OptionBind
-pub mod ResultBind
 pub mod Words
 pub mod Numbers
 pub mod Fields

@@ -7,7 +7,7 @@ use Rattle.q3_script.specs.declared.event.Event.{Event}
 use Rattle.q3_script.specs.declared.event.Event.TheVariants.{Client, Player, Time, Serve, Deliver, Show}
 use Rattle.q3_script.specs.declared.cause.LineCause.{LineCause}
 use Rattle.q3_script.specs.declared.cause.LineCause.TheVariants as causes
-use Rattle.q3_script.specs.ResultBind.{◌>>=◌}
+use Rattle.q3_bits.specs.ResultBind.{◌>>=◌}
 use Rattle.q3_script.specs.Numbers.{number_at, address_at}
 use Rattle.q3_script.specs.Fields.{player_at}
 

@@ -2,7 +2,7 @@
 use Rattle.std.specs.Prelude.{ℕ, ◌+◌, ◌-◌, ◌*◌, ◌&&◌, ◌||◌, Bool, if◌then◌else◌, List, length, fold, nat_lt, nat_le, slice_index, Option, Some, None}
 use Rattle.std.specs.List.{list_all}
 use Rattle.q3_io.specs.declared.address.Address.{Address}
-use Rattle.q3_script.specs.OptionBind.{◌>>=◌}
+use Rattle.q3_bits.specs.OptionBind.{◌>>=◌}
 use Rattle.q3_script.specs.Words.{cut}
 
 abbrev pub is_digit : ℕ → Bool

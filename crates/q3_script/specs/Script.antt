@@ -10,7 +10,7 @@ use Rattle.q3_script.specs.declared.cause.ScriptKind.{ScriptKind}
 use Rattle.q3_script.specs.declared.cause.ScriptKind.TheVariants.{Replay}
 use Rattle.q3_script.specs.declared.cause.ScriptError.{ScriptError}
 use Rattle.q3_script.specs.declared.cause.ScriptError.TheVariants as errors
-use Rattle.q3_script.specs.ResultBind.{◌>>=◌}
+use Rattle.q3_bits.specs.ResultBind.{◌>>=◌}
 use Rattle.q3_script.specs.Words.{words_of}
 use Rattle.q3_script.specs.Lines.{line_at}
 
