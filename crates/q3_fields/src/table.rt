@@ -65,7 +65,8 @@ impl Table {
 
     /// The same table once more.
     pub fn copy(&self) -> Table
-        ensures { result ≡ self.now }
+        ensures copy { result ≡ self.now }
+        ensures is_table { IsTable self.now }
     {
         Table {
             count: self.count,

@@ -7,8 +7,9 @@ use Rattle.toml.specs.Data.{Members, as_integer, as_str}
 use Rattle.q3_bits.specs.CodeWords.{bits_of_text, code_fault}
 use Rattle.q3_fields.specs.declared.table.TableError.{TableError}
 use Rattle.q3_fields.specs.declared.table.TableError.TheVariants as table
-use Rattle.q3_fields.specs.Kinds.{Layout, table_of}
+use Rattle.q3_fields.specs.Kinds.{Layout, IsTable, table_of}
 use Rattle.q3_bits.specs.ResultBind.{◌>>=◌}
+use Rattle.q3_bits.specs.Words.{IsCode}
 use Rattle.q3_profile.specs.declared.error.Key.{Key}
 use Rattle.q3_profile.specs.declared.error.Key.TheVariants.{File, Protocol, ServerRing, ParseRing, Entity, Player, Code}
 use Rattle.q3_profile.specs.declared.error.ProfileError.{ProfileError}
@@ -75,7 +76,13 @@ checked bytes = do
   document ← if nat_lt longest_profile (length bytes) then Err (errors.Limit File) else ok_or (document_of bytes) errors.NotToml
   profile_at (mark_of bytes) document
 
--- a profile whose rings and protocol passed their checks; that its code is a code and its tables are tables they tell
+-- what every profile of the program's type is, as its code and its tables tell: a code, and tables
+pub record IsCodec (profile : Profile) : Type 0 where
+  pub code : IsCode profile.code
+  pub entity : IsTable profile.entity
+  pub player : IsTable profile.player
+
+-- a profile whose rings and protocol passed their checks
 pub record IsProfile (profile : Profile) : Type 0 where
   pub server_ring : is_server_ring profile.server_ring ≡ true
   pub parse_ring : is_parse_ring profile.parse_ring ≡ true

@@ -1,6 +1,7 @@
 //! The profile.
 
 ghost use Rattle.std.specs.Prelude.{◌≡◌, IfOk};
+ghost use Rattle.q3_profile.specs.Profile.{IsCodec};
 
 use q3_bits::{Code, NoMemory};
 use q3_fields::Table;
@@ -26,7 +27,8 @@ pub struct Profile {
 impl Profile {
     /// The same profile once more. `Err` is want of memory.
     pub fn copy(&self) -> Result<Profile, NoMemory>
-        ensures { IfOk result (λ copy. copy ≡ self.now) }
+        ensures copy { IfOk result (λ copy. copy ≡ self.now) }
+        ensures codec { IfOk result (λ _. IsCodec self.now) }
     {
         Ok(Profile {
             code: self.code.copy()?,

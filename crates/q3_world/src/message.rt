@@ -88,7 +88,11 @@ pub(crate) fn read_snapshot(
     if read_player(&mut r, &profile.player, &PlayerState::zero(), &mut player).is_err() {
         return Err(Illegible::Form);
     }
-    read_fixed(&mut r, profile.entity.number_bits(), u32::from(profile.entity.end()))?;
+    read_fixed(
+        &mut r,
+        profile.entity.number_bits(),
+        u32::from(profile.entity.end()),
+    )?;
     read_fixed(&mut r, 8, END)?;
     Ok(Snapshot {
         number,

@@ -32,11 +32,7 @@ pub(crate) fn print_answer<O: Sink>(
 
 /// Prints the lines of an answer.
 #[tactic(auto, unfolding(crate::specs::Report::lines_of))]
-fn print_lines<O: Sink>(
-    answer: &Answer,
-    lent: Option<&Snapshot>,
-    out: &mut O,
-) -> Result<(), Failed>
+fn print_lines<O: Sink>(answer: &Answer, lent: Option<&Snapshot>, out: &mut O) -> Result<(), Failed>
     ensures adds { Adds (O.written out.old) (O.written out.new) (lines_of answer.now (option_copied lent.entry)) result }
     ensures cause { HasCause (O.faults out.old) (O.faults out.new) result }
 {
