@@ -1,5 +1,7 @@
 pub mod Reading
+pub mod Loading
+pub mod Looking
+pub mod Adding
 pub mod Stepping
 pub mod Replaying
 pub mod Ending
-pub mod Looking

@@ -7,7 +7,6 @@ ghost use Rattle.q3_io.specs.Written.{Adds};
 ghost use Rattle.q3_io.specs.Print.{joined};
 ghost use Rattle.q3net.specs.Lines.{fault_line, fault_status, cause_word, code_text, profile_text};
 
-use crate::input::InputError;
 use q3_bits::{CodeError, NoMemory};
 use q3_io::{Failed, Piece, Sink, print_all};
 use q3_profile::{Key, ProfileError};
@@ -196,19 +195,6 @@ impl From<NoMemory> for Fault {
 
     fn from(_: NoMemory) -> Fault {
         Fault::NoMemory
-    }
-}
-
-impl From<InputError> for Fault {
-    ghost use Rattle.q3net.specs.Faults.{input_fault};
-
-    ghost from_gives = { λ e f. f ≡ input_fault e };
-
-    fn from(e: InputError) -> Fault {
-        match e {
-            InputError::NoMemory => Fault::NoMemory,
-            InputError::Fault => Fault::Read,
-        }
     }
 }
 
