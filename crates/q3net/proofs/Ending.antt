@@ -1,10 +1,12 @@
 -- How a run ends.
 use Rattle.std.proofs.Common.{◌≡◌, ℕ, ◌≤◌, List, [], ◌++◌, Option, Some, None, Result, Ok, Err, refl, sym, ap, subst, ◌∙◌, inl, inr, arith}
-use Rattle.std.specs.Prelude.{◌⊎◌, IsNone}
+use Rattle.std.specs.Prelude.{◌⊎◌, true, false, IsNone}
+use Rattle.std.specs.Result.{result_map_both}
 use Rattle.std.proofs.lemmas.Bool.{cases_lt}
 use Rattle.std.proofs.lemmas.List.{append-nil}
 use Rattle.q3_profile.specs.declared.profile.Profile.{Profile}
 use Rattle.q3_profile.specs.declared.error.ProfileError.{ProfileError}
+use Rattle.q3_profile.specs.Document.{◌>>=◌}
 use Rattle.q3_profile.specs.Profile.{checked}
 use Rattle.q3_script.specs.declared.event.Event.{Event}
 use Rattle.q3_script.specs.declared.cause.ScriptKind.TheVariants as kinds
@@ -16,9 +18,10 @@ use Rattle.q3net.specs.declared.fault.Fault.TheVariants as faults
 use Rattle.q3net.specs.Command.{Command, Help, Version, Replay, files_of}
 use Rattle.q3net.specs.Faults.{IsEarly, WriteCause}
 use Rattle.q3net.specs.Input.{Gives, names_given, LooksUpTold}
-use Rattle.q3net.specs.Lines.{fault_status, ending_status, ending_line}
-use Rattle.q3net.specs.Verdict.{IsVerdict, Verdict, settled, replayed}
-use Rattle.q3net.specs.Run.{AddsAll, AddsFront, Stops, Ends, Executes, PrintsAll, Took, Closes, Prints, Reports, MayStop, IsDecided, IsComplete, HasGiven}
+use Rattle.q3_world.specs.Report.{report}
+use Rattle.q3net.specs.Lines.{help_text, version_text, fault_status, ending_status, ending_line}
+use Rattle.q3net.specs.Verdict.{IsVerdict, Verdict, settled, events_in, replayed}
+use Rattle.q3net.specs.Run.{AddsAll, AddsFront, Stops, Ends, Executes, PrintsAll, Took, Closes, Prints, Reports, MayStop, IsEarlyStatus, IsDecided, IsComplete, HasGiven}
 use Rattle.q3net.proofs.Adding.{adds_none, adds_then, adds_early}
 
 -- ---- a command that reads nothing
@@ -132,11 +135,137 @@ decided command told old now status prints =
       | inr front ↦ (prints.0, prints.1, inr (inl front.0))
     ]
 
--- ---- usage
+-- ---- a faulty command line
 
 -- a replay's verdict isn't usage
-checked_two : (says : Result Profile ProfileError) (script : Option (List ℕ)) → ending_status (settled (by_profile says script)).ending ≡ 2 → ⊥
-checked_two says script two = ?
+refused_two : (says : Result (List ℕ) Fault) → (says ≡ Err faults.Usage → ⊥) → ending_status (settled says).ending ≡ 2 → ⊥
+refused_two (Ok text) not two = omega (arith, two)
+refused_two (Err faults.Usage) not two = not refl
+refused_two (Err other) not two = omega (arith, two)
 
-pub usage : (command : Option Command) (told : Option Told) → IsDecided command told 2 → IsNone command
-usage command told decided = ?
+says_not : (says : Result Profile ProfileError) (script : Result (List Event) Fault) → (script ≡ Err faults.Usage → ⊥)
+    → (result_map_both (λ (profile : Profile). profile) faults.Profile says >>= (λ by. script >>= (λ events. Ok (report by events)))) ≡ Err faults.Usage → ⊥
+says_not (Ok by) (Ok events) not is = cc
+says_not (Ok by) (Err e) not is = not (cc)
+says_not (Err d) script not is = cc
+
+events_not : (says : Result (List Event) BadLine) → result_map_both (λ (events : List Event). events) (λ (bad : BadLine). faults.Script bad.line bad.cause) says ≡ Err faults.Usage → ⊥
+events_not (Ok events) is = cc
+events_not (Err bad) is = cc
+
+script_not : (script : Option (List ℕ)) → events_in script ≡ Err faults.Usage → ⊥
+script_not None is = cc
+script_not (Some bytes) is = events_not (script_at kinds.Replay bytes) is
+
+replayed_not : (profile script : Option (List ℕ)) → replayed profile script ≡ Err faults.Usage → ⊥
+replayed_not None script is = cc
+replayed_not (Some bytes) script is = says_not (checked bytes) (events_in script) (script_not script) is
+
+-- an early end isn't usage, nor is that of a text
+not_early : (command : Option Command) (status : ℕ) → IsEarlyStatus command status → status ≡ 2 → ⊥
+not_early command status early two =
+    elim early [ inl four ↦ omega (arith, four, two) | inr others ↦ elim others.1 [ inl one ↦ omega (arith, one, two) | inr three ↦ omega (arith, three, two) ] ]
+
+text_not : (command : Option Command) (text : List ℕ) (status : ℕ) (verdict : Verdict) → verdict ≡ settled (Ok text)
+    → (status ≡ ending_status verdict.ending) ⊎ IsEarlyStatus command status → status ≡ 2 → ⊥
+text_not command text status verdict is decided two =
+    elim decided [
+      | inl so ↦ let zero_is : ending_status verdict.ending ≡ 0 = ap (λ (v : Verdict). ending_status v.ending) is in omega (arith, so, two, zero_is)
+      | inr early ↦ not_early command status early two
+    ]
+
+pub usage : (command : Option Command) (told : Option Told) (status : ℕ) → IsDecided command told status → status ≡ 2 → IsNone command
+usage None told status decided two = refl
+usage (Some Help) told status decided two = absurd (text_not (Some Help) help_text status decided.0 decided.1 decided.2 two)
+usage (Some Version) told status decided two = absurd (text_not (Some Version) version_text status decided.0 decided.1 decided.2 two)
+usage (Some (Replay profile script)) told status decided two =
+    let is = decided.1 in
+    absurd (elim decided.2 [
+      | inl so ↦ refused_two (replayed is.0 is.1) (replayed_not is.0 is.1) (ap (λ (v : Verdict). ending_status v.ending) (sym is.4) ∙ (sym so ∙ two))
+      | inr early ↦ not_early (Some (Replay profile script)) status early two
+    ])
+
+pub no_command : (command : Option Command) (told : Option Told) (status : ℕ) → IsDecided command told status → IsNone command → (status ≡ 2) ⊎ (status ≡ 4)
+no_command (Some command) told status decided is = absurd (let e : true ≡ false = is in cc)
+no_command None told status decided is =
+    elim decided.2 [
+      | inl so ↦ inl (so ∙ ap (λ (v : Verdict). ending_status v.ending) decided.1)
+      | inr early ↦ inr (elim early [ inl four ↦ four | inr other ↦ absurd other.0 ])
+    ]
+
+-- ---- faults
+
+rose_on : (a b c : ℕ) → a ≤ b → b ≤ c → Rose b c → Rose a c
+rose_on a b c le more rose =
+    elim rose [
+      | inl lt ↦ inl (omega arith)
+      | inr last ↦ elim (cases_lt a b) [ inl lt ↦ inl (omega arith) | inr ge ↦ inr (omega arith) ]
+    ]
+
+write_later : (before now : ℕ) (ended : Result (Unit {0}) Fault) → WriteCause before now ended → before ≤ now
+write_later before now (Ok x) cause = omega (arith, cause)
+write_later before now (Err faults.Write) cause = cause.0
+write_later before now (Err other) cause = omega (arith, cause)
+
+write_rose : (before now : ℕ) (ended : Result (Unit {0}) Fault) → ending_status ended ≡ 4 → WriteCause before now ended → Rose before now
+write_rose before now (Ok x) is cause = absurd (omega (arith, is))
+write_rose before now (Err faults.Write) is cause = cause.1
+write_rose before now (Err other) is cause = absurd (omega (arith, is))
+
+pub write_fault : (a b c : ℕ) (ended : Result (Unit {0}) Fault) (status : ℕ) → WriteCause a b ended
+    → ((status ≡ ending_status ended) × (c ≡ b)) ⊎ ((status ≡ 4) × (b ≤ c) × Rose b c) → status ≡ 4 → Rose a c
+write_fault a b c ended status cause closes is =
+    elim closes [
+      | inl same ↦ subst (λ (n : ℕ). Rose a n) (sym same.1) (write_rose a b ended (sym same.0 ∙ is) cause)
+      | inr rose ↦ rose_on a b c (write_later a b ended cause) rose.1 rose.2
+    ]
+
+-- ---- completeness
+
+pub complete : (command : Option Command) (told : Option Told) (status : ℕ) → IsDecided command told status → (status ≡ 3 → ⊥) → (status ≡ 4 → ⊥)
+    → IsComplete command told status
+complete command told status decided not_three not_four = (decided.0, decided.1, elim decided.2 [
+  | inl so ↦ inl so
+  | inr early ↦ elim early [
+    | inl four ↦ absurd (not_four four)
+    | inr others ↦ elim others.1 [ inl one ↦ inr one | inr three ↦ absurd (not_three three) ]
+  ]
+])
+
+-- ---- the names that were given
+
+-- the status of a command that something from outside ended early
+early_status : (ended : Result (Unit {0}) Fault) → IsEarly ended → (ending_status ended ≡ 1) ⊎ ((ending_status ended ≡ 3) ⊎ (ending_status ended ≡ 4))
+early_status ended early =
+    elim early [
+      | inl memory ↦ inl (ap ending_status memory)
+      | inr others ↦ elim others [ inl read ↦ inr (inl (ap ending_status read)) | inr write ↦ inr (inr (ap ending_status write)) ]
+    ]
+
+abbrev Outside : ℕ → Type 0
+Outside status = (status ≡ 1) ⊎ ((status ≡ 3) ⊎ (status ≡ 4))
+
+closed : (ended : Result (Unit {0}) Fault) (old now : Option (List ℕ)) (status : ℕ) → Closes ended old now status → (status ≡ ending_status ended) ⊎ (status ≡ 4)
+closed ended old now status closes =
+    elim closes [ inl failed ↦ inr failed.1 | inr line ↦ elim line.1 [ inl all ↦ inl all.0 | inr front ↦ inr front.0 ] ]
+
+ended_early : (ended : Result (Unit {0}) Fault) (old now : Option (List ℕ)) (status : ℕ) → Closes ended old now status → IsEarly ended → Outside status
+ended_early ended old now status closes early =
+    elim (closed ended old now status closes) [ inl so ↦ subst Outside (sym so) (early_status ended early) | inr four ↦ inr (inr four) ]
+
+pub has_given : (command : Option Command) (told now : Option Told) (old mid new : Option (List ℕ)) (ended : Result (Unit {0}) Fault) (status : ℕ)
+    → Executes command told old mid ended → Gives ended (names_given ended (files_of command)) told now → Closes ended mid new status
+    → HasGiven command told now status
+has_given command told now old mid new ended status executes gives closes = (executes.0, executes.1, elim gives [
+  | inl all ↦ elim executes.2 [
+    | inl ends ↦ elim ends.1 [
+      | inl so ↦ inl (subst (λ (d : Result (Unit {0}) Fault). LooksUpTold told now (names_given d (files_of command))) so.0 all)
+      | inr stopped ↦ inr (ended_early ended mid new status closes (elim (stop_is stopped.1 ends.0 executes.0.text stopped.3) [
+        | inl memory ↦ inl (stopped.2 ∙ ap Err memory)
+        | inr read ↦ inr (inl (stopped.2 ∙ ap Err read))
+      ]))
+    ]
+    | inr failed ↦ inr (ended_early ended mid new status closes (inr (inr failed.0)))
+  ]
+  | inr early ↦ inr (ended_early ended mid new status closes early.0)
+])

@@ -2,11 +2,21 @@ use Rattle.std.proofs.Common.{Some, refl}
 use Rattle.q3net.specs.Command.{Help, Version}
 use Rattle.q3net.specs.Lines.{help_text, version_text}
 use Rattle.q3net.proofs.Ending.{none_executes, text_executes}
-use Rattle.q3net.proofs.Looking.{gives_none}
 use Rattle.q3net.proofs.run.execute.Goals as goal
 
 pub returns-in-None-clause-executes : goal.returns-in-None-clause-executes
-returns-in-None-clause-executes g c = ?
+returns-in-None-clause-executes g c =
+    rw (← c.in-None.ensures) (none_executes (g.F.Files.told c.args.files.now) (g.O.Sink.written c.args.out.now))
 
 pub returns-in-Some-Help-clause-executes : goal.returns-in-Some-Help-clause-executes
-returns-in-Some-Help-clause-executes g c = ?
+unfolding help_text
+returns-in-Some-Help-clause-executes g c =
+    let e = rw c.in-Some-Help.field-0-is at c.in-Some-Help.ensures in
+    rw (← e) (text_executes (Some Help) (g.F.Files.told c.args.files.now) (g.O.Sink.written c.args.out.now) (g.O.Sink.written c.print.new.out) help_text c.print.result refl c.print.ensures.prints)
+
+pub returns-in-Some-Version-clause-executes : goal.returns-in-Some-Version-clause-executes
+unfolding version_text
+returns-in-Some-Version-clause-executes g c =
+    let e = rw c.in-Some-Version.field-0-is at c.in-Some-Version.ensures in
+    rw (← e) (text_executes (Some Version) (g.F.Files.told c.args.files.now) (g.O.Sink.written c.args.out.now) (g.O.Sink.written c.print-in-Some-Version.new.out) version_text c.print-in-Some-Version.result refl
+    c.print-in-Some-Version.ensures.prints)
