@@ -1,5 +1,5 @@
 -- What a file says, by a front of it.
-use Rattle.std.proofs.Common.{◌≡◌, ℕ, ◌<◌, List, [], ◌++◌, length, Option, Some, None, Result, Ok, Err, refl, sym, ap, ◌∙◌, inl, inr, arith}
+use Rattle.std.proofs.Common.{◌≡◌, ℕ, ◌<◌, List, ◌++◌, length, Option, Some, None, Result, Ok, Err, refl, sym, ap, ◌∙◌, inl, inr, arith}
 use Rattle.std.specs.Prelude.{◌⊎◌}
 use Rattle.std.specs.Result.{result_map_both}
 use Rattle.std.proofs.lemmas.List.{append-nil, length-append}
@@ -16,7 +16,7 @@ use Rattle.q3_script.specs.Script.{BadLine, Reads, script_at, longest_script}
 use Rattle.q3_io.specs.Told.{Told, contents_of}
 use Rattle.q3net.specs.declared.fault.Fault.{Fault}
 use Rattle.q3net.specs.declared.fault.Fault.TheVariants as faults
-use Rattle.q3net.specs.Faults.{Gets, profile_fault, script_fault}
+use Rattle.q3net.specs.Faults.{profile_fault, script_fault}
 use Rattle.q3net.specs.Input.{Holds, ReadsFile, ReadsFront}
 use Rattle.q3net.specs.Verdict.{GetsFrom, profile_in, events_in}
 

@@ -1,5 +1,5 @@
 -- Reading a file piece by piece.
-use Rattle.std.proofs.Common.{◌≡◌, ℕ, ◌+◌, ◌<◌, ◌≤◌, List, [], ◌∷◌, ◌++◌, length, take, drop, Option, Some, None, Result, Ok, Err, refl, sym, ap, subst, ◌∙◌, inl, inr, arith}
+use Rattle.std.proofs.Common.{◌≡◌, ℕ, ◌+◌, ◌<◌, ◌≤◌, List, [], ◌++◌, length, take, drop, Option, Some, None, Result, Ok, Err, refl, sym, ap, subst, ◌∙◌, inl, inr, arith}
 use Rattle.std.specs.Prelude.{◌⊎◌, true, false, IsSome, unwrap_or}
 use Rattle.std.proofs.lemmas.List.{take_all, take-append-drop, length-take, length-drop, length-append, take_at, append-nil}
 use Rattle.std.proofs.Math.Seq.{take-add, get_or-append_seam}

@@ -1,5 +1,5 @@
 -- How a replay ends.
-use Rattle.std.proofs.Common.{◌≡◌, ℕ, List, [], ◌∷◌, ◌++◌, length, Option, Some, None, Result, Ok, Err, refl, sym, ap, subst, ◌∙◌, inl, inr}
+use Rattle.std.proofs.Common.{◌≡◌, ℕ, List, [], ◌∷◌, length, Option, Some, None, Result, Ok, Err, refl, sym, ap, subst, ◌∙◌, inl, inr}
 use Rattle.std.specs.Prelude.{◌⊎◌}
 use Rattle.q3_profile.specs.declared.profile.Profile.{Profile}
 use Rattle.q3_profile.specs.Document.{◌>>=◌}
@@ -17,7 +17,7 @@ use Rattle.q3net.specs.Command.{Replay}
 use Rattle.q3net.specs.Faults.{Gets, step_fault}
 use Rattle.q3net.specs.Input.{Holds, LooksUpTold, Gives}
 use Rattle.q3net.specs.Verdict.{IsVerdict, settled, profile_in, events_in, replayed, GetsFrom}
-use Rattle.q3net.specs.Run.{AddsAll, AddsFront, AddsLines, Stops, Executes}
+use Rattle.q3net.specs.Run.{AddsLines, Stops, Executes}
 use Rattle.q3net.proofs.Adding.{adds_none}
 use Rattle.q3net.proofs.Loading.{held}
 use Rattle.q3net.proofs.Looking.{gave}

@@ -1,5 +1,5 @@
 -- The files that a run reads: what it reads of each, and which names it gives.
-use Rattle.std.specs.Prelude.{◌≡◌, ◌⊎◌, ℕ, ◌≤◌, List, [], ◌∷◌, ◌++◌, length, map, take, Option, Some, None, Result, Ok, Err}
+use Rattle.std.specs.Prelude.{◌≡◌, ◌⊎◌, ℕ, ◌≤◌, List, [], ◌++◌, length, map, take, Option, Some, None, Result, Ok, Err}
 use Rattle.std.specs.Global.{Vec}
 use Rattle.q3_io.specs.Told.{Told, Named, Lookup, contents_of, contents_at}
 use Rattle.q3net.specs.declared.fault.Fault.{Fault}

@@ -1,8 +1,7 @@
 use Rattle.std.specs.Prelude.{map}
 use Rattle.std.specs.String.{string_bytes}
-use Rattle.q3net.specs.Command.{command_of, files_of}
-use Rattle.q3net.proofs.Ending.{prints, reports, statuses, decided, usage, no_command, write_fault, complete, has_given}
-use Rattle.q3net.proofs.Looking.{touches}
+use Rattle.q3net.specs.Command.{command_of}
+use Rattle.q3net.proofs.Ending.{prints}
 use Rattle.q3net.proofs.run.run.Goals as goal
 
 pub returns-clause-prints : goal.returns-clause-prints
