@@ -95,9 +95,3 @@ unfolding script_as
 script_refused told name bytes script.NoMemory reads says = (Some reads.0, reads.1, inr (inl refl))
 script_refused told name bytes (script.Line line cause) reads says =
     (Some reads.0, reads.1, inl (ap script_as (sym says ∙ front_says longest_script (script_at kinds.Replay) long_script reads.0 bytes reads.2)))
-
-pub script_read : (told : Option Told) (name bytes : List ℕ) (events : List Event) → ReadsFile longest_script name told (Ok bytes)
-    → script_at kinds.Replay bytes ≡ Ok events → GetsFrom events_in told name (Ok events)
-unfolding script_as
-script_read told name bytes events reads says =
-    (Some reads.0, reads.1, inl (ap script_as (sym says ∙ front_says longest_script (script_at kinds.Replay) long_script reads.0 bytes reads.2)))

@@ -1,8 +1,8 @@
 -- Which names a run gives to the files.
-use Rattle.std.proofs.Common.{◌≡◌, ℕ, List, [], ◌∷◌, ◌++◌, map, drop, Option, Some, None, Result, Ok, Err, refl, sym, ap, subst, ◌∙◌, append_assoc, inl, inr}
+use Rattle.std.proofs.Common.{◌≡◌, ℕ, List, [], ◌∷◌, ◌++◌, map, Option, Some, None, Result, Ok, Err, refl, sym, ap, subst, ◌∙◌, append_assoc, inl, inr}
 use Rattle.std.specs.Prelude.{◌⊎◌}
 use Rattle.std.specs.Result.{result_map_both}
-use Rattle.std.proofs.lemmas.List.{append-nil, take-append-drop}
+use Rattle.std.proofs.lemmas.List.{append-nil}
 use Rattle.q3_profile.specs.declared.profile.Profile.{Profile}
 use Rattle.q3_profile.specs.declared.error.ProfileError.{ProfileError}
 use Rattle.q3_profile.specs.Profile.{checked}
@@ -15,7 +15,7 @@ use Rattle.q3net.specs.declared.fault.Fault.TheVariants as faults
 use Rattle.q3_world.specs.declared.world.StepError.{StepError}
 use Rattle.q3_world.specs.declared.world.StepError.TheVariants as step
 use Rattle.q3net.specs.Faults.{Gets, IsEarly, step_fault}
-use Rattle.q3net.specs.Input.{IsFront, looked_up, LooksUp, LooksUpTold, LooksUpFirst, names_given, Gives}
+use Rattle.q3net.specs.Input.{looked_up, LooksUp, LooksUpTold, LooksUpFirst, names_given, Gives}
 use Rattle.q3net.specs.Verdict.{profile_in, events_in}
 
 -- no name was given
@@ -47,28 +47,6 @@ first_then told mid now one others first second =
 first_more : (told now : Option Told) (names more : List (List ℕ)) → LooksUpFirst told now names → LooksUpFirst told now (names ++ more)
 first_more told now names more first =
     (first.0, (first.1.0 ++ more, sym (append_assoc first.0 first.1.0 more) ∙ ap (λ (z : List (List ℕ)). z ++ more) first.1.1), first.2)
-
-front_of : (told now : Option Told) (some names : List (List ℕ)) → IsFront some names → LooksUpFirst told now some → LooksUpFirst told now names
-front_of told now some names front first = subst (LooksUpFirst told now) front.1 (first_more told now some front.0 first)
-
--- whatever its end, a run gives the first of its names
-given_front : {A : Type 0} (ended : Result A Fault) (names : List (List ℕ)) → IsFront (names_given ended names) names
-given_front (Ok x) names = ([], append-nil names)
-given_front (Err (faults.Profile e)) names = (drop 1 names, take-append-drop 1 names)
-given_front (Err other) names = ([], append-nil names)
-
-pub touches : (ended : Result (Unit {0}) Fault) (names : List (List ℕ)) (told now : Option Told) → Gives ended (names_given ended names) told now
-    → LooksUpFirst told now names
-touches ended names told now gives =
-    elim gives [
-      | inl all ↦ (names_given ended names, given_front ended names, all)
-      | inr early ↦ front_of told now (names_given ended names) names (given_front ended names) early.1
-    ]
-
-pub gives_none : (ended : Result (Unit {0}) Fault) (told : Option Told) → Gives ended (names_given ended []) told told
-gives_none (Ok x) told = inl (looks_none told)
-gives_none (Err (faults.Profile e)) told = inl (looks_none told)
-gives_none (Err other) told = inl (looks_none told)
 
 -- ---- a replay
 

@@ -4,10 +4,8 @@ use Rattle.std.specs.Prelude.{◌⊎◌, true, false, IsSome, unwrap_or}
 use Rattle.std.proofs.lemmas.List.{take_all, take-append-drop, length-take, length-drop, length-append, take_at, append-nil}
 use Rattle.std.proofs.Math.Seq.{take-add, get_or-append_seam}
 use Rattle.q3_io.specs.Told.{Told, Lookup, LooksUp, Gives, ReadsAt, contents_of, contents_at, after_asked, after_given, after_named}
-use Rattle.q3_io.specs.declared.sink.Failed.{Failed}
 use Rattle.q3net.specs.Input.{ReadsFile, ReadsPieces, ReadsWhole}
 use Rattle.q3net.specs.declared.fault.Fault.{Fault}
-use Rattle.q3net.specs.declared.fault.Fault.TheVariants as faults
 
 -- what was read is the front of the file, and only what was asked for has changed
 abbrev pub HasRead : Option Told → Option Told → ℕ → List ℕ → Type 0
@@ -88,35 +86,6 @@ HasRead-long most (Some told) now file bytes long has = (
     λ le. absurd (omega arith),
   ),
 )
-
--- a fault, or want of memory
-pub HasRead-early : (most : ℕ) (start now : Option Told) (file : ℕ) (bytes : List ℕ) (e : Fault) → (e ≡ faults.NoMemory) ⊎ (e ≡ faults.Read)
-    → HasRead start now file bytes → ReadsPieces most file start now (Err e)
-HasRead-early most None now file bytes e early has = (has, bytes, early)
-HasRead-early most (Some told) now file bytes e early has = (has.0, has.1, early)
-
--- a read that failed
-HasRead-failed : (start now next : Option Told) (file : ℕ) (bytes before after : List ℕ) (d : Failed)
-    → HasRead start now file bytes → ReadsAt now next file (length bytes) before after (Err d) → HasRead start next file bytes
-HasRead-failed None None next file bytes before after d has reads = reads
-HasRead-failed None (Some now) next file bytes before after d has reads = absurd cc
-HasRead-failed (Some told) None next file bytes before after d has reads = absurd (let h = has.1 in cc)
-HasRead-failed (Some told) (Some now) next file bytes before after d has reads =
-    let is : now ≡ record told { asked = has.0 } = same_told now (record told { asked = has.0 }) has.1 in
-    elim reads [
-      | inl same ↦ (has.0, same ∙ ap (λ (t : Told). Some t) is, has.2)
-      | inr more ↦ (
-        (after_asked now file (length before)).asked,
-        more ∙ ap (λ (t : Told). Some (record t { asked = (after_asked now file (length before)).asked })) is,
-        has.2,
-      )
-    ]
-
-pub HasRead-fault : (most : ℕ) (start now next : Option Told) (file : ℕ) (bytes before after : List ℕ) (d : Failed)
-    → HasRead start now file bytes → ReadsAt now next file (length bytes) before after (Err d)
-    → ReadsPieces most file start next (Err faults.Read)
-HasRead-fault most start now next file bytes before after d has reads =
-    HasRead-early most start next file bytes faults.Read (inr refl) (HasRead-failed start now next file bytes before after d has reads)
 
 -- ---- a file by its name
 

@@ -12,7 +12,7 @@ use Rattle.q3_world.specs.World.{Whole, step, answers}
 use Rattle.q3_world.specs.StandsFor.{StandsFor}
 use Rattle.q3_world.specs.Report.{answer_text}
 use Rattle.q3net.specs.Run.{AddsAll, AddsFront, AddsLines}
-use Rattle.q3net.proofs.Adding.{adds_none, adds_then, adds_early, all_added, front_added}
+use Rattle.q3net.proofs.Adding.{adds_then, adds_early, all_added, front_added}
 
 -- the lines of these events' answers
 abbrev pub lines_of : Profile → Whole → List Event → List ℕ
@@ -34,9 +34,6 @@ HasStepped profile start now had written events k =
     (whole : Whole) → StandsFor profile start whole
     → (next : Whole) × StandsFor profile now next
     × (done : List ℕ) × AddsAll had written done × (done ++ lines_of profile next (drop k events) ≡ lines_of profile whole events)
-
-pub HasStepped-none : (profile : Profile) (start : Kept) (had : Option (List ℕ)) (events : List Event) → HasStepped profile start start had had events 0
-HasStepped-none profile start had events = λ whole stands. (whole, stands, [], adds_none had, refl)
 
 pub HasStepped-more : (profile : Profile) (start now after : Kept) (had written more : Option (List ℕ)) (events : List Event) (k : ℕ) (d : Event) → k < length events
     → HasStepped profile start now had written events k
