@@ -1,19 +1,22 @@
 -- Why no word and no field is read.
-use Rattle.std.proofs.Common.{◌≡◌, ◌↔◌, ℕ, zero, suc, ◌+◌, ◌-◌, ◌*◌, ◌/◌, ◌%◌, ◌^◌, ◌<◌, ◌≤◌, Bool, true, false, cond, eqb, List, [], ◌∷◌, ◌++◌, length, get_or, take, drop, min, Option, Some, None, refl, sym, ap, ◌∙◌, append_assoc, add-one, arith, inl, inr}
-use Rattle.std.specs.Option.{is_some}
-use Rattle.std.specs.Prelude.{option_and_then}
-use Rattle.std.proofs.lemmas.Bool.{cases_Bool, cases_lt, false≢true, eqb-true, eqb-false}
-use Rattle.std.proofs.lemmas.Option.{none-some, option_and_then_some}
+use Rattle.std.proofs.Common.{◌≡◌, ℕ, zero, suc, ◌+◌, ◌-◌, ◌*◌, ◌/◌, ◌%◌, ◌^◌, ◌<◌, ◌≤◌, Bool, true, false, cond, eqb, List, [], ◌∷◌, ◌++◌, length, get_or, take, drop, min, Option, Some, None, Result, Ok, Err, refl, sym, ap, ◌∙◌, append_assoc, arith, inl, inr}
+use Rattle.std.specs.Prelude.{nat_lt}
+use Rattle.std.specs.Option.{is_some, ok_or}
+use Rattle.std.proofs.lemmas.Bool.{cases_Bool, cases_lt, false≢true, eqb-true, eqb-false, ltb-true}
+use Rattle.std.proofs.lemmas.Option.{none-some}
 use Rattle.std.proofs.lemmas.List.{append_cancel_left, length-append, length-map, take_at, get_or-map, get_or_default, drop_at, drop_more, drop_all, take_all}
 use Rattle.std.proofs.lemmas.List.Folds.{list_any_at, Any-from_list_any}
 use Rattle.std.proofs.lemmas.Nat.{shr_high, one_shl}
+use Rattle.q3_bits.specs.ResultBind.{◌>>=◌, bind_err}
 use Rattle.q3_bits.specs.Bits.{low_bits, number_of}
+use Rattle.q3_bits.specs.Laws.{EndsCutShort}
+use Rattle.q3_bits.specs.declared.reader.ReadError.{ReadError}
 use Rattle.q3_bits.specs.declared.reader.ReadError.TheVariants.{End, NoWord}
 use Rattle.q3_bits.specs.declared.code.Word.{Word}
-use Rattle.q3_bits.specs.Words.{word_of, IsCode, plain_words, bytes_bits, field_bits, raw_at, behind, byte_from, bytes_at, field_at, begins_word, word_cause, cause_behind, bytes_cause, cause_of, IsCutShort}
+use Rattle.q3_bits.specs.Words.{word_of, IsCode, plain_words, bytes_bits, field_bits, raw_at, behind, byte_from, byte_at, bytes_at, field_at, begins_word, IsCutShort}
 use Rattle.q3_bits.specs.Table.{bits_of_word, words_of}
 use Rattle.q3_bits.proofs.Numbers.{length-low_bits, number_of-low_bits, low_bits-number_of, low_bits-mod, low_bits-add, low_bits-low, low_bits-number_of_more}
-use Rattle.q3_bits.proofs.CodeText.{bytes_at-zero, bytes_bits-suc, none_from, behind_some, behind-append, behind_none, byte_from_some, byte_again, same_word, begins_longer, raw_at_some, raw_at_enough, field_bits-is, plain_is_code, plain_ends}
+use Rattle.q3_bits.proofs.CodeText.{answer, bytes_at-zero, bytes_bits-suc, behind_some, behind-append, behind_none, byte_from_some, byte_again, byte_at-is, byte_at_ok, same_word, begins_longer, raw_at_some, field_bits-is, plain_is_code, plain_reads, plain_front}
 
 -- ---- bits that begin a word
 
@@ -62,32 +65,6 @@ begins_word-some words bits e =
     let rest = some_from (behind bits any.1) any.4 in
     (any.0, rest.0, any.2, get_or_default words any.0 [] any.1 any.2 ∙ any.3 ∙ behind_some bits any.1 rest.0 rest.1)
 
--- ---- bytes
-
--- how the causes go on
-bytes_cause-zero : (words : List (List Bool)) (bits : List Bool) → bytes_cause words 0 bits ≡ End
-unfolding bytes_cause
-bytes_cause-zero words bits = refl
-
-pub bytes_cause-suc : (words : List (List Bool)) (count : ℕ) (bits : List Bool) → bytes_cause words (suc count) bits ≡ cause_behind (byte_from 0 words bits) (word_cause words bits) (bytes_cause words count)
-unfolding bytes_cause
-bytes_cause-suc words count bits = refl
-
--- where bytes are read, no cause is left
-end_from_read : (words : List (List Bool)) (count : ℕ) (bits : List Bool) (found : ℕ × List Bool) → bytes_at words count bits ≡ Some found → bytes_cause words count bits ≡ End
-unfolding bytes_at
-end_from_read words zero bits found e = bytes_cause-zero words bits
-end_from_read words (suc count) bits found e =
-    option_and_then_some (λ first. option_and_then (λ others. Some (first.0 + 256 * others.0, others.1)) (bytes_at words count first.1)) (byte_from 0 words bits) found e
-    (λ first is-first e'. option_and_then_some (λ others. Some (first.0 + 256 * others.0, others.1)) (bytes_at words count first.1) found e' (λ others is-others _.
-    rw (bytes_cause-suc, is-first) (end_from_read words count first.1 others is-others)))
-
--- where a first byte is read and the bytes are not, a later one is not
-bytes_at_stuck : (words : List (List Bool)) (count : ℕ) (bits : List Bool) (first : ℕ × List Bool) → byte_from 0 words bits ≡ Some first → bytes_at words (suc count) bits ≡ None → bytes_at words count first.1 ≡ None
-unfolding bytes_at
-bytes_at_stuck words count bits first e none =
-    none_from (bytes_at words count first.1) (λ others is. none-some (first.0 + 256 * others.0, others.1) (sym none ∙ rw (e, is) refl))
-
 -- ---- bytes whose text is cut short
 
 -- the bits are the front of the words of some bytes
@@ -101,28 +78,38 @@ bytes_bits-byte words count byte high small =
     let rest : (byte + 256 * high) / 256 ≡ high = omega arith in
     rw (bytes_bits-suc, low, rest) refl
 
+-- a byte that isn't read: no word begins the bits, and the cause says whether they are a front of one
+byte_at_err : (words : List (List Bool)) (bits : List Bool) (e : ReadError) → byte_at words bits ≡ Err e → (byte_from 0 words bits ≡ None) × (cond (begins_word words bits) End NoWord ≡ e)
+byte_at_err words bits e is = go (byte_from 0 words bits) (sym (byte_at-is words bits) ∙ is)
+  where
+    go : (o : Option (ℕ × List Bool)) → ok_or o (cond (begins_word words bits) End NoWord) ≡ Err e → (o ≡ None) × (cond (begins_word words bits) End NoWord ≡ e)
+    go None is = (refl, cc)
+    go (Some x) is = absurd cc
+
 -- a cause of the end is no other
 end_true : (b : Bool) → cond b End NoWord ≡ End → b ≡ true
 end_true true e = refl
 end_true false e = absurd cc
 
--- where the cause is the end, the bits are a front
-cut_at : (words : List (List Bool)) (code : IsCode words) (count : ℕ) (bits : List Bool) (o : Option (ℕ × List Bool)) → byte_from 0 words bits ≡ o → bytes_at words (suc count) bits ≡ None → bytes_cause words (suc count) bits ≡ End
-    → ((rest : List Bool) → bytes_at words count rest ≡ None → bytes_cause words count rest ≡ End → IsCutBytes words count rest) → IsCutBytes words (suc count) bits
-cut_at words code count bits None e none cause later =
-    let here : word_cause words bits ≡ End = rw (bytes_cause-suc, e) at cause in
-    let word = begins_word-some words bits (end_true (begins_word words bits) here) in
-    let others = bytes_bits words count 0 in
-    (word.0 + 256 * 0, word.1 ++ others, sym (append_assoc bits word.1 others) ∙ ap (λ (x : List Bool). x ++ others) (sym word.3) ∙ sym (bytes_bits-byte words count word.0 0 (omega (arith, word.2, code.count))))
-cut_at words code count bits (Some first) e none cause later =
-    let word = byte_from_some words 0 bits first e in
-    let here : bytes_cause words count first.1 ≡ End = rw (bytes_cause-suc, e) at cause in
-    let rest = later first.1 (bytes_at_stuck words count bits first e none) here in
-    (word.0 + 256 * rest.0, rest.1, ap (λ (x : List Bool). x ++ rest.1) word.3 ∙ append_assoc (word_of words word.0) first.1 rest.1 ∙ ap (λ (x : List Bool). word_of words word.0 ++ x) rest.2 ∙ sym (bytes_bits-byte words count word.0 rest.0 (omega (arith, word.1, code.count))))
-
-cut_from_end : (words : List (List Bool)) (code : IsCode words) (count : ℕ) (bits : List Bool) → bytes_at words count bits ≡ None → bytes_cause words count bits ≡ End → IsCutBytes words count bits
-cut_from_end words code zero bits none e = absurd (none-some (0, bits) (sym none ∙ bytes_at-zero words bits))
-cut_from_end words code (suc count) bits none e = cut_at words code count bits (byte_from 0 words bits) refl none e (λ rest. cut_from_end words code count rest)
+-- where the bits end, they are a front
+pub cut_from_end : (words : List (List Bool)) (code : IsCode words) (count : ℕ) (bits : List Bool) → bytes_at words count bits ≡ Err End → IsCutBytes words count bits
+unfolding bytes_at
+cut_from_end words code zero bits e = absurd cc
+cut_from_end words code (suc count) bits e =
+    elim (bind_err (byte_at words bits) (λ first. bytes_at words count first.1 >>= λ others. answer (first.0 + 256 * others.0) others.1) End e) [
+      | inl none ↦
+          let word = begins_word-some words bits (end_true (begins_word words bits) (byte_at_err words bits End none).1) in
+          let others = bytes_bits words count 0 in
+          (word.0 + 256 * 0, word.1 ++ others, sym (append_assoc bits word.1 others) ∙ ap (λ (x : List Bool). x ++ others) (sym word.3) ∙ sym (bytes_bits-byte words count word.0 0 (omega (arith, word.2, code.count))))
+      | inr (first, is, later) ↦
+          elim (bind_err (bytes_at words count first.1) (λ others. answer (first.0 + 256 * others.0) others.1) End later) [
+            | inl stuck ↦
+                let word = byte_from_some words 0 bits first (byte_at_ok words bits first is) in
+                let rest = cut_from_end words code count first.1 stuck in
+                (word.0 + 256 * rest.0, rest.1, ap (λ (x : List Bool). x ++ rest.1) word.3 ∙ append_assoc (word_of words word.0) first.1 rest.1 ∙ ap (λ (x : List Bool). word_of words word.0 ++ x) rest.2 ∙ sym (bytes_bits-byte words count word.0 rest.0 (omega (arith, word.1, code.count))))
+            | inr (others, found, none) ↦ absurd cc
+          ]
+    ]
 
 -- the front of a byte's word and of what follows it, where no byte is read, is a front of the word
 front_of_word : (words : List (List Bool)) (code : IsCode words) (byte : ℕ) (bits more rest : List Bool) → byte_from 0 words bits ≡ None → byte < 256 → bits ++ more ≡ word_of words byte ++ rest → begins_word words bits ≡ true
@@ -136,31 +123,32 @@ front_of_word words code byte bits more rest e small whole =
           absurd (none-some (byte, front) (sym e ∙ ap (byte_from 0 words) (sym is) ∙ byte_again words code byte front small))
     ]
 
--- where the bits are a front, the cause is the end
-end_at : (words : List (List Bool)) (code : IsCode words) (count byte high : ℕ) (bits more : List Bool) (o : Option (ℕ × List Bool)) → byte_from 0 words bits ≡ o → byte < 256
-    → bits ++ more ≡ word_of words byte ++ bytes_bits words count high → ((rest : List Bool) → rest ++ more ≡ bytes_bits words count high → bytes_cause words count rest ≡ End) → bytes_cause words (suc count) bits ≡ End
-end_at words code count byte high bits more None e small whole later =
-    let begins = front_of_word words code byte bits more (bytes_bits words count high) e small whole in
-    rw (bytes_cause-suc, e, begins) refl
-end_at words code count byte high bits more (Some first) e small whole later =
-    let word = byte_from_some words 0 bits first e in
-    let behind_both : word_of words word.0 ++ (first.1 ++ more) ≡ word_of words byte ++ bytes_bits words count high = sym (append_assoc (word_of words word.0) first.1 more) ∙ ap (λ (x : List Bool). x ++ more) (sym word.3) ∙ whole in
-    let same : word.0 ≡ byte = same_word words code word.0 byte (first.1 ++ more) (bytes_bits words count high) (omega (arith, word.1, code.count)) small behind_both in
-    let rest : first.1 ++ more ≡ bytes_bits words count high = append_cancel_left (word_of words byte) (first.1 ++ more) (bytes_bits words count high) (rw same at behind_both) in
-    rw (bytes_cause-suc, e) (later first.1 rest)
-
-end_from_cut : (words : List (List Bool)) (code : IsCode words) (count value : ℕ) (bits more : List Bool) → bits ++ more ≡ bytes_bits words count value → bytes_cause words count bits ≡ End
-end_from_cut words code zero value bits more e = bytes_cause-zero words bits
-end_from_cut words code (suc count) value bits more e =
-    end_at words code count (value % 256) (value / 256) bits more (byte_from 0 words bits) refl (omega arith) (e ∙ bytes_bits-suc words count value) (λ rest. end_from_cut words code count (value / 256) rest more)
+-- where the bits are a front, they end
+pub end_from_cut : (words : List (List Bool)) (code : IsCode words) (count value : ℕ) (bits more : List Bool) (e : ReadError) → bits ++ more ≡ bytes_bits words count value → bytes_at words count bits ≡ Err e → e ≡ End
+unfolding bytes_at
+end_from_cut words code zero value bits more e cut is = absurd cc
+end_from_cut words code (suc count) value bits more e cut is =
+    let byte = value % 256 in
+    let others = bytes_bits words count (value / 256) in
+    let whole : bits ++ more ≡ word_of words byte ++ others = cut ∙ bytes_bits-suc words count value in
+    elim (bind_err (byte_at words bits) (λ first. bytes_at words count first.1 >>= λ others. answer (first.0 + 256 * others.0) others.1) e is) [
+      | inl none ↦
+          let cause = byte_at_err words bits e none in
+          let begins = front_of_word words code byte bits more others cause.0 (omega arith) whole in
+          sym (rw begins at cause.1)
+      | inr (first, read, later) ↦
+          elim (bind_err (bytes_at words count first.1) (λ others. answer (first.0 + 256 * others.0) others.1) e later) [
+            | inl stuck ↦
+                let word = byte_from_some words 0 bits first (byte_at_ok words bits first read) in
+                let behind_both : word_of words word.0 ++ (first.1 ++ more) ≡ word_of words byte ++ others = sym (append_assoc (word_of words word.0) first.1 more) ∙ ap (λ (x : List Bool). x ++ more) (sym word.3) ∙ whole in
+                let same : word.0 ≡ byte = same_word words code word.0 byte (first.1 ++ more) others (omega (arith, word.1, code.count)) (omega arith) behind_both in
+                let rest : first.1 ++ more ≡ others = append_cancel_left (word_of words byte) (first.1 ++ more) others (rw same at behind_both) in
+                end_from_cut words code count (value / 256) first.1 more e rest stuck
+            | inr (found, ok, none) ↦ absurd cc
+          ]
+    ]
 
 -- ---- fields
-
--- where no value is read but the raw bits are, a byte is not
-field_at_stuck : (words : List (List Bool)) (width : ℕ) (bits : List Bool) (raw : ℕ × List Bool) → raw_at (width % 8) bits ≡ Some raw → field_at words width bits ≡ None → bytes_at words (width / 8) raw.1 ≡ None
-unfolding field_at
-field_at_stuck words width bits raw e none =
-    none_from (bytes_at words (width / 8) raw.1) (λ bytes is. none-some (raw.0 + 2 ^ (width % 8) * bytes.0, bytes.1) (sym none ∙ rw (e, is) refl))
 
 -- fewer bits than are raw are a front
 few_raw : (words : List (List Bool)) (width : ℕ) (bits : List Bool) → length bits < width % 8 → IsCutShort words width bits
@@ -171,67 +159,81 @@ few_raw words width bits few =
     let raw : low_bits n value ≡ bits ++ low_bits (n - length bits) 0 = ap (λ (k : ℕ). low_bits k value) (omega arith) ∙ low_bits-number_of_more bits (n - length bits) in
     (value, low_bits (n - length bits) 0 ++ others, sym (append_assoc bits (low_bits (n - length bits) 0) others) ∙ ap (λ (x : List Bool). x ++ others) (sym raw) ∙ sym (field_bits-is words width value))
 
--- where the cause is the end, the bits are the front of a field's text
-field_cut : (words : List (List Bool)) (code : IsCode words) (width : ℕ) (bits : List Bool) (o : Option (ℕ × List Bool)) → raw_at (width % 8) bits ≡ o → field_at words width bits ≡ None → cause_of words width bits ≡ End → IsCutShort words width bits
-unfolding cause_of
-field_cut words code width bits None e none cause =
-    elim (cases_lt (length bits) (width % 8)) [
-      | inl few ↦ few_raw words width bits few
-      | inr enough ↦ absurd (none-some _ (sym e ∙ raw_at_enough (width % 8) bits enough))
+-- raw bits that aren't read are too few
+raw_at_err : (count : ℕ) (bits : List Bool) (e : ReadError) → raw_at count bits ≡ Err e → (length bits < count) × (e ≡ End)
+unfolding raw_at
+raw_at_err count bits e is = go (nat_lt (length bits) count) refl is
+  where
+    go : (b : Bool) → nat_lt (length bits) count ≡ b → (λ (r : Result (ℕ × List Bool) ReadError). r) (cond b (Err End) (Ok (number_of (take count bits), drop count bits))) ≡ Err e → (length bits < count) × (e ≡ End)
+    go true few is = (ltb-true _ _ few, cc)
+    go false few is = absurd cc
+
+-- how a field goes on behind its raw bits
+abbrev behind_raw : List (List Bool) → ℕ → ℕ × List Bool → Result (ℕ × List Bool) ReadError
+behind_raw words width raw = bytes_at words (width / 8) raw.1 >>= λ bytes. Ok (raw.0 + 2 ^ (width % 8) * bytes.0, bytes.1)
+
+-- where a field's bits end, they are the front of its text
+field_cut : (words : List (List Bool)) (code : IsCode words) (width : ℕ) (bits : List Bool) → field_at words width bits ≡ Err End → IsCutShort words width bits
+unfolding field_at
+field_cut words code width bits e =
+    elim (bind_err (raw_at (width % 8) bits) (behind_raw words width) End e) [
+      | inl none ↦ few_raw words width bits (raw_at_err (width % 8) bits End none).0
+      | inr (raw, is, later) ↦
+          elim (bind_err (bytes_at words (width / 8) raw.1) (λ bytes. answer (raw.0 + 2 ^ (width % 8) * bytes.0) bytes.1) End later) [
+            | inl stuck ↦
+                let n = width % 8 in
+                let cut = cut_from_end words code (width / 8) raw.1 stuck in
+                let front = raw_at_some n bits raw is in
+                let value = cut.0 * 2 ^ n + raw.0 in
+                let low : low_bits n value ≡ low_bits n raw.0 = low_bits-low cut.0 n raw.0 front.0 in
+                let high : value / 2 ^ n ≡ cut.0 = shr_high cut.0 n raw.0 front.0 in
+                (value, cut.1, ap (λ (x : List Bool). x ++ cut.1) front.1 ∙ append_assoc (low_bits n raw.0) raw.1 cut.1 ∙ ap (λ (x : List Bool). low_bits n raw.0 ++ x) cut.2 ∙ sym (field_bits-is words width value ∙ rw (low, high) refl))
+            | inr (bytes, found, none) ↦ absurd cc
+          ]
     ]
-field_cut words code width bits (Some raw) e none cause =
-    let n = width % 8 in
-    let here : bytes_cause words (width / 8) raw.1 ≡ End = rw e at cause in
-    let cut = cut_from_end words code (width / 8) raw.1 (field_at_stuck words width bits raw e none) here in
-    let front = raw_at_some n bits raw e in
-    let value = cut.0 * 2 ^ n + raw.0 in
-    let low : low_bits n value ≡ low_bits n raw.0 = low_bits-low cut.0 n raw.0 front.0 in
-    let high : value / 2 ^ n ≡ cut.0 = shr_high cut.0 n raw.0 front.0 in
-    (value, cut.1, ap (λ (x : List Bool). x ++ cut.1) front.1 ∙ append_assoc (low_bits n raw.0) raw.1 cut.1 ∙ ap (λ (x : List Bool). low_bits n raw.0 ++ x) cut.2 ∙ sym (field_bits-is words width value ∙ rw (low, high) refl))
 
--- where the bits are the front of a field's text, the cause is the end
-field_end : (words : List (List Bool)) (code : IsCode words) (width value : ℕ) (bits more : List Bool) (o : Option (ℕ × List Bool)) → raw_at (width % 8) bits ≡ o → bits ++ more ≡ field_bits words width value → cause_of words width bits ≡ End
-unfolding cause_of
-field_end words code width value bits more None e cut = rw e refl
-field_end words code width value bits more (Some raw) e cut =
-    let n = width % 8 in
-    let front = raw_at_some n bits raw e in
-    let others = bytes_bits words (width / 8) (value / 2 ^ n) in
-    let whole : low_bits n raw.0 ++ (raw.1 ++ more) ≡ low_bits n value ++ others = sym (append_assoc (low_bits n raw.0) raw.1 more) ∙ ap (λ (x : List Bool). x ++ more) (sym front.1) ∙ cut ∙ field_bits-is words width value in
-    let rest : raw.1 ++ more ≡ others = sym (drop_at (low_bits n raw.0) (raw.1 ++ more) n (length-low_bits n raw.0)) ∙ ap (drop n) whole ∙ drop_at (low_bits n value) others n (length-low_bits n value) in
-    rw e (end_from_cut words code (width / 8) (value / 2 ^ n) raw.1 more rest)
+-- where the bits are the front of a field's text, they end
+pub field_end : (words : List (List Bool)) (code : IsCode words) (width value : ℕ) (bits more : List Bool) (e : ReadError) → bits ++ more ≡ field_bits words width value → field_at words width bits ≡ Err e → e ≡ End
+unfolding field_at
+field_end words code width value bits more e cut is =
+    elim (bind_err (raw_at (width % 8) bits) (behind_raw words width) e is) [
+      | inl none ↦ (raw_at_err (width % 8) bits e none).1
+      | inr (raw, read, later) ↦
+          elim (bind_err (bytes_at words (width / 8) raw.1) (λ bytes. answer (raw.0 + 2 ^ (width % 8) * bytes.0) bytes.1) e later) [
+            | inl stuck ↦
+                let n = width % 8 in
+                let front = raw_at_some n bits raw read in
+                let others = bytes_bits words (width / 8) (value / 2 ^ n) in
+                let whole : low_bits n raw.0 ++ (raw.1 ++ more) ≡ low_bits n value ++ others = sym (append_assoc (low_bits n raw.0) raw.1 more) ∙ ap (λ (x : List Bool). x ++ more) (sym front.1) ∙ cut ∙ field_bits-is words width value in
+                let rest : raw.1 ++ more ≡ others = sym (drop_at (low_bits n raw.0) (raw.1 ++ more) n (length-low_bits n raw.0)) ∙ ap (drop n) whole ∙ drop_at (low_bits n value) others n (length-low_bits n value) in
+                end_from_cut words code (width / 8) (value / 2 ^ n) raw.1 more e rest stuck
+            | inr (bytes, found, none) ↦ absurd cc
+          ]
+    ]
 
--- where nothing is read, the cause is the end exactly where the bits are the front of a field's text
-pub cut_short_ends : (words : List (List Bool)) (width : ℕ) (bits : List Bool) → IsCode words → field_at words width bits ≡ None → (cause_of words width bits ≡ End) ↔ IsCutShort words width bits
-cut_short_ends words width bits code none = (
-  λ cause. field_cut words code width bits (raw_at (width % 8) bits) refl none cause,
-  λ cut. field_end words code width cut.0 bits cut.1 (raw_at (width % 8) bits) refl cut.2,
-)
-
--- where a field is read, no cause is left
-field_end_read : (words : List (List Bool)) (width : ℕ) (bits : List Bool) (found : ℕ × List Bool) → field_at words width bits ≡ Some found → cause_of words width bits ≡ End
-unfolding field_at cause_of
-field_end_read words width bits found e =
-    let part = 2 ^ (width % 8) in
-    option_and_then_some (λ raw. option_and_then (λ bytes. Some (raw.0 + part * bytes.0, bytes.1)) (bytes_at words (width / 8) raw.1)) (raw_at (width % 8) bits) found e
-    (λ raw is-raw e'. option_and_then_some (λ bytes. Some (raw.0 + part * bytes.0, bytes.1)) (bytes_at words (width / 8) raw.1) found e' (λ bytes is-bytes _.
-    rw is-raw (end_from_read words (width / 8) raw.1 bytes is-bytes)))
+-- where bits end they are cut short, and elsewhere they aren't
+pub ends_cut_short : (words : List (List Bool)) (width : ℕ) (bits : List Bool) → IsCode words → EndsCutShort words width bits
+ends_cut_short words width bits code = record {
+  end = λ e. field_cut words code width bits e;
+  no_word = λ e cut. (let same : NoWord ≡ End = field_end words code width cut.0 bits cut.1 NoWord cut.2 e in absurd cc);
+}
 
 -- by the plain code the cause is always the end
-plain_end : (width : ℕ) (bits : List Bool) (o : Option (ℕ × List Bool)) → field_at plain_words width bits ≡ o → cause_of plain_words width bits ≡ End
-plain_end width bits None e = (cut_short_ends plain_words width bits plain_is_code e).1 (plain_ends width bits e)
-plain_end width bits (Some found) e = field_end_read plain_words width bits found e
-
-pub plain_cause : (width : ℕ) (bits : List Bool) → cause_of plain_words width bits ≡ End
-plain_cause width bits = plain_end width bits (field_at plain_words width bits) refl
+pub plain_ends : (width : ℕ) (bits : List Bool) (e : ReadError) → field_at plain_words width bits ≡ Err e → e ≡ End
+plain_ends width bits e is =
+    elim (cases_lt (length bits) width) [
+      | inl few ↦ field_end plain_words plain_is_code width (number_of bits) bits (low_bits (width - length bits) 0) e (plain_front width bits (omega arith)) is
+      | inr enough ↦ absurd (let read = plain_reads width bits enough in cc)
+    ]
 
 -- ---- a table of words
 
 -- a word of the table begins with the bits that its number begins with
-pub starts_with-test : (word : Word) (count front : ℕ) (bits : List Bool) → word.length ≤ 24 → count ≤ word.length → count ≡ length bits → front ≡ number_of (take 24 bits)
+pub starts_with-test : (word : Word) (count front : ℕ) (bits : List Bool) → word.length ≤ 24 → count ≤ word.length → count ≡ min 25 (length bits) → front ≡ number_of (take 24 bits)
     → eqb (word.bits % (1 * 2 ^ count % 2 ^ 32)) front ≡ is_some (behind bits (bits_of_word word))
 starts_with-test word count front bits short within is spells =
-    let shift : 1 * 2 ^ count % 2 ^ 32 ≡ 2 ^ length bits = one_shl count 32 (omega arith) ∙ ap (λ (n : ℕ). 2 ^ n) is in
+    let long : count ≡ length bits = omega arith in
+    let shift : 1 * 2 ^ count % 2 ^ 32 ≡ 2 ^ length bits = one_shl count 32 (omega arith) ∙ ap (λ (n : ℕ). 2 ^ n) long in
     let whole : take 24 bits ≡ bits = take_all 24 bits (omega arith) in
     rw (shift, spells, whole) (behind-number word.length word.bits bits (omega arith))
 
@@ -257,22 +259,3 @@ begins_miss words i bits d lt miss = rw (words_from words i d lt, ← miss) refl
 pub begins_none : (words : List Word) (i : ℕ) (bits : List Bool) → length words ≤ i → begins_word (drop i (words_of words)) bits ≡ false
 unfolding begins_word
 begins_none words i bits past = rw (drop_all i (words_of words) (omega (arith, length-map words bits_of_word))) refl
-
--- ---- the loop over the bytes of a field
-
--- one byte more was read
-pub bytes_cause-more : (words : List (List Bool)) (count left : ℕ) (bits : List Bool) (found : ℕ × List Bool) → count ≡ left + 1 → byte_from 0 words bits ≡ Some found → bytes_cause words count bits ≡ bytes_cause words left found.1
-bytes_cause-more words count left bits found e first = rw (e, add-one, bytes_cause-suc, first) refl
-
--- no byte is there
-pub bytes_cause-stop : (words : List (List Bool)) (count : ℕ) (bits : List Bool) → 0 < count → byte_from 0 words bits ≡ None → bytes_cause words count bits ≡ word_cause words bits
-bytes_cause-stop words zero bits some e = absurd (omega arith)
-bytes_cause-stop words (suc count) bits some e = rw (bytes_cause-suc, e) refl
-
--- the first bits, 24 or all where fewer are left, are the first 24
-pub front_of_window : (count : ℕ) (bits : List Bool) → count ≡ min (length bits) 24 → number_of (take count bits) ≡ number_of (take 24 bits)
-front_of_window count bits e =
-    elim (cases_lt (length bits) 24) [
-      | inl few ↦ ap number_of (take_all count bits (omega arith) ∙ sym (take_all 24 bits (omega arith)))
-      | inr many ↦ let all : count ≡ 24 = omega arith in rw all refl
-    ]

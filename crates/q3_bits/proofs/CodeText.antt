@@ -1,20 +1,22 @@
 -- The laws of code words, bytes and fields.
-use Rattle.std.proofs.Common.{◌≡◌, ℕ, zero, suc, ◌+◌, ◌-◌, ◌*◌, ◌/◌, ◌%◌, ◌^◌, ◌<◌, ◌≤◌, Bool, true, false, cond, ltb, List, [], ◌∷◌, ◌++◌, length, get_or, take, drop, min, Option, Some, None, Ok, Err, refl, sym, ap, subst, ◌∙◌, add-one, append_assoc, arith, inl, inr}
-use Rattle.std.specs.Prelude.{option_and_then}
-use Rattle.std.proofs.lemmas.Bool.{cases_lt, ltb-false, le-ltb, lt-ltb}
-use Rattle.std.proofs.lemmas.Option.{none-some, some_pair_parts, option_and_then_some}
+use Rattle.std.proofs.Common.{◌≡◌, ℕ, zero, suc, ◌+◌, ◌-◌, ◌*◌, ◌/◌, ◌%◌, ◌^◌, ◌<◌, ◌≤◌, Bool, true, false, cond, ltb, List, [], ◌∷◌, ◌++◌, length, get_or, take, drop, min, Option, Some, None, Result, Ok, Err, refl, sym, ap, subst, ◌∙◌, add-one, append_assoc, arith, inl, inr}
+use Rattle.std.specs.Option.{ok_or, option_or, option_map}
+use Rattle.std.proofs.lemmas.Bool.{cases_lt, ltb-false, ltb-true, le-ltb, lt-ltb}
+use Rattle.std.proofs.lemmas.Option.{none-some, some_pair_parts}
 use Rattle.std.proofs.lemmas.Grind.{pow_more}
 use Rattle.std.proofs.lemmas.List.{length-append, length-map, take-append-drop, take_at, drop_at, drop_all, drop_more, take-take, append-nil, nil_from_length, get_or-map}
 use Rattle.std.proofs.lemmas.List.FromFn.{length-map-range_with_len, get_or-map-range_with_len}
 use Rattle.std.proofs.Math.Seq.{take-append-add}
 use Rattle.std.proofs.lemmas.Nat.{pow-add, shr_high, shr_below, shl_whole, mul-add-lt}
 use Rattle.std.proofs.Math.Nat.{mod-add-div, mod-eq_of_lt, pow-le-pow_right, pow-succ'}
+use Rattle.q3_bits.specs.ResultBind.{◌>>=◌, bind_ok}
 use Rattle.q3_bits.specs.Bits.{low_bits, number_of}
-use Rattle.q3_bits.specs.Words.{word_of, IsCode, plain_words, bytes_bits, field_bits, raw_at, behind, or_else, byte_from, bytes_at, field_at, or_cause, bytes_cause, cause_of, field_read, IsCutShort}
+use Rattle.q3_bits.specs.Words.{word_of, IsCode, plain_words, bytes_bits, field_bits, raw_at, behind, byte_from, begins_word, byte_at, bytes_at, field_at}
 use Rattle.q3_bits.specs.declared.reader.ReadError.{ReadError}
-use Rattle.q3_bits.specs.declared.reader.ReadError.TheVariants.{End}
+use Rattle.q3_bits.specs.declared.reader.ReadError.TheVariants.{End, NoWord}
 use Rattle.q3_bits.specs.declared.code.Word.{Word}
-use Rattle.q3_bits.specs.Table.{bits_of_word, words_of, IsWord}
+use Rattle.q3_bits.specs.declared.code.Entry.{Entry}
+use Rattle.q3_bits.specs.Table.{bits_of_word, words_of, no_word, IsWord, Leads}
 use Rattle.q3_bits.proofs.Numbers.{number_of-mod, length-low_bits, number_of-take_lt, number_of-low_bits, low_bits-number_of_take, low_bits-mod, low_bits-add, low_bits-zero, low_bits-low, low_bits-number_of_more}
 
 -- ---- how the definitions go on
@@ -25,12 +27,12 @@ unfolding byte_from
 byte_from-nil byte bits = refl
 
 -- the first word, or else a later one
-pub byte_from-cons : (byte : ℕ) (word : List Bool) (words : List (List Bool)) (bits : List Bool) → byte_from byte (word ∷ words) bits ≡ or_else (behind word bits) byte (byte_from (byte + 1) words bits)
+pub byte_from-cons : (byte : ℕ) (word : List Bool) (words : List (List Bool)) (bits : List Bool) → byte_from byte (word ∷ words) bits ≡ option_or (option_map (λ rest. (byte, rest)) (behind word bits)) (byte_from (byte + 1) words bits)
 unfolding byte_from
 byte_from-cons byte word words bits = refl
 
 -- no bytes are 0
-pub bytes_at-zero : (words : List (List Bool)) (bits : List Bool) → bytes_at words 0 bits ≡ Some (0, bits)
+pub bytes_at-zero : (words : List (List Bool)) (bits : List Bool) → bytes_at words 0 bits ≡ Ok (0, bits)
 unfolding bytes_at
 bytes_at-zero words bits = refl
 
@@ -43,6 +45,10 @@ bytes_bits-zero words value = refl
 pub bytes_bits-suc : (words : List (List Bool)) (count value : ℕ) → bytes_bits words (suc count) value ≡ word_of words (value % 256) ++ bytes_bits words count (value / 256)
 unfolding bytes_bits
 bytes_bits-suc words count value = refl
+
+-- the same of a lowest byte and of what is above it
+bytes_bits-parts : (words : List (List Bool)) (count value byte high : ℕ) → value % 256 ≡ byte → value / 256 ≡ high → bytes_bits words (suc count) value ≡ word_of words byte ++ bytes_bits words count high
+bytes_bits-parts words count value byte high low rest = rw (bytes_bits-suc, low, rest) refl
 
 -- ---- a word
 
@@ -108,7 +114,7 @@ HasWord words byte bits found = (k : ℕ) × (k < length words) × (found.0 ≡ 
 
 -- the first word or a later one
 HasWord-cons : (word : List Bool) (words : List (List Bool)) (byte : ℕ) (bits : List Bool) (found : ℕ × List Bool) (o : Option (List Bool)) → behind word bits ≡ o
-    → or_else o byte (byte_from (byte + 1) words bits) ≡ Some found → (byte_from (byte + 1) words bits ≡ Some found → HasWord words (byte + 1) bits found) → HasWord (word ∷ words) byte bits found
+    → option_or (option_map (λ rest. (byte, rest)) o) (byte_from (byte + 1) words bits) ≡ Some found → (byte_from (byte + 1) words bits ≡ Some found → HasWord words (byte + 1) bits found) → HasWord (word ∷ words) byte bits found
 HasWord-cons word words byte bits found (Some rest) b e later =
     let parts = some_pair_parts byte found.0 rest found.1 e in
     (0, omega arith, omega (arith, parts.0), behind_some word bits rest b ∙ ap (λ (x : List Bool). word ++ x) parts.1)
@@ -145,36 +151,50 @@ byte_again words code byte rest lt =
 
 -- ---- a table of words
 
--- what a window of the bits tells of a word
-record IsWindow (count window : ℕ) (left : List Bool) : Type 0 where
-  within : count ≡ min 24 (length left)
-  spells : window ≡ number_of (take count left)
-
 -- the front of a window spells what the front of the bits spells
-window_of_word : (count window : ℕ) (left : List Bool) (long : ℕ) → IsWindow count window left → long ≤ count → window % 2 ^ long ≡ number_of (take long left)
-window_of_word count window left long w short = rw (w.spells, number_of-mod, take-take) refl
+pub window_of_word : (window : ℕ) (left : List Bool) (long : ℕ) → window ≡ number_of (take 24 left) → long ≤ 24 → window % 2 ^ long ≡ number_of (take long left)
+window_of_word window left long spells short =
+    rw (spells, number_of-mod, take-take) refl
 
 -- the place of a word that begins the bits
-pub word_hit : (words : List Word) (i count window : ℕ) (left : List Bool) (d : Word) → i < length words → IsWord (get_or words i d) → count ≡ min 24 (length left) → window ≡ number_of (take count left)
+pub word_hit : (words : List Word) (i count window : ℕ) (left : List Bool) (d : Word) → i < length words → IsWord (get_or words i d) → count ≡ min 25 (length left) → window ≡ number_of (take 24 left)
     → (get_or words i d).length ≤ count → window % 2 ^ (get_or words i d).length ≡ (get_or words i d).bits
     → byte_from i (drop i (words_of words)) left ≡ Some (i, drop (get_or words i d).length left)
 word_hit words i count window left d lt is within spells short same =
     let word = get_or words i d in
-    let found : behind (bits_of_word word) left ≡ Some (drop word.length left) = behind-low_bits word.length word.bits left (omega arith) (sym (window_of_word count window left word.length (record { within = within; spells = spells }) short) ∙ same) in
+    let found : behind (bits_of_word word) left ≡ Some (drop word.length left) = behind-low_bits word.length word.bits left (omega arith) (sym (window_of_word window left word.length spells is.short) ∙ same) in
     let here : drop i (words_of words) ≡ bits_of_word word ∷ drop (i + 1) (words_of words) = drop_more (words_of words) i [] (omega (arith, length-map words bits_of_word)) ∙ rw (get_or-map bits_of_word words i d [] lt) refl in
     rw (here, byte_from-cons, found) refl
 
 -- one word on, where it doesn't begin them
-pub word_miss : (words : List Word) (i count window : ℕ) (left : List Bool) (d : Word) → i < length words → IsWord (get_or words i d) → count ≡ min 24 (length left) → window ≡ number_of (take count left)
+pub word_miss : (words : List Word) (i count window : ℕ) (left : List Bool) (d : Word) → i < length words → IsWord (get_or words i d) → count ≡ min 25 (length left) → window ≡ number_of (take 24 left)
     → ((get_or words i d).length ≤ count → window % 2 ^ (get_or words i d).length ≡ (get_or words i d).bits → ⊥)
     → byte_from i (drop i (words_of words)) left ≡ byte_from (i + 1) (drop (i + 1) (words_of words)) left
 word_miss words i count window left d lt is within spells never =
     let word = get_or words i d in
     let passed : behind (bits_of_word word) left ≡ None = behind-low_bits_none word.length word.bits left is.fits (λ enough same.
     let short : word.length ≤ count = omega (arith, is.short) in
-    never short (window_of_word count window left word.length (record { within = within; spells = spells }) short ∙ same)) in
+    never short (window_of_word window left word.length spells is.short ∙ same)) in
     let here : drop i (words_of words) ≡ bits_of_word word ∷ drop (i + 1) (words_of words) = drop_more (words_of words) i [] (omega (arith, length-map words bits_of_word)) ∙ rw (get_or-map bits_of_word words i d [] lt) refl in
     rw (here, byte_from-cons, passed) refl
+
+-- the one word that begins the bits is the first
+pub word_only : (words : List (List Bool)) (code : IsCode words) (byte : ℕ) (bits rest : List Bool) → byte < 256 → bits ≡ word_of words byte ++ rest → byte_from 0 words bits ≡ Some (byte, rest)
+word_only words code byte bits rest lt begins = ap (byte_from 0 words) begins ∙ byte_again words code byte rest lt
+
+-- an entry that says which word begins the bits says which byte is read
+pub entry_found : (words : List Word) (entry : Entry) (count window : ℕ) (left : List Bool) → IsCode (words_of words) → Leads words entry (window % 4096) → entry.length ≤ 12 → entry.length ≤ count
+    → count ≡ min 25 (length left) → window ≡ number_of (take 24 left) → byte_from 0 (words_of words) left ≡ Some (entry.byte, drop entry.length left)
+entry_found words entry count window left code leads short enough within spells =
+    let word = get_or words entry.byte no_word in
+    let few : length words ≡ 256 = sym (length-map words bits_of_word) ∙ code.count in
+    let front : number_of (take entry.length left) ≡ window % 4096 % 2 ^ entry.length =
+    sym (rw (window_of_word window left 12 spells (omega arith), number_of-mod, take-take) refl) in
+    let spelt : behind (low_bits entry.length word.bits) left ≡ Some (drop entry.length left) = behind-low_bits entry.length word.bits left (omega arith) (front ∙ leads.begins) in
+    let is : word_of (words_of words) entry.byte ≡ low_bits entry.length word.bits = get_or-map bits_of_word words entry.byte no_word [] leads.byte ∙ ap (λ (n : ℕ). low_bits n word.bits) leads.length in
+    let lt = leads.byte in
+    word_only (words_of words) code entry.byte left (drop entry.length left) (omega arith)
+    (behind_some (low_bits entry.length word.bits) left (drop entry.length left) spelt ∙ ap (λ (x : List Bool). x ++ drop entry.length left) (sym is))
 
 -- behind the last word
 pub word_end : (words : List Word) (i : ℕ) (left : List Bool) → length words ≤ i → byte_from i (drop i (words_of words)) left ≡ None
@@ -182,78 +202,104 @@ word_end words i left past = rw (drop_all i (words_of words) (omega (arith, leng
 
 -- ---- bytes
 
+-- a byte as it is defined
+pub byte_at-is : (words : List (List Bool)) (bits : List Bool) → byte_at words bits ≡ ok_or (byte_from 0 words bits) (cond (begins_word words bits) End NoWord)
+unfolding byte_at
+byte_at-is words bits = refl
+
+-- a value that was found
+ok_or_ok : (o : Option (ℕ × List Bool)) (cause : ReadError) (found : ℕ × List Bool) → ok_or o cause ≡ Ok found → o ≡ Some found
+ok_or_ok (Some x) cause found e = cc
+ok_or_ok None cause found e = absurd cc
+
+-- a byte that is read is the first whose word begins the bits
+pub byte_at_ok : (words : List (List Bool)) (bits : List Bool) (found : ℕ × List Bool) → byte_at words bits ≡ Ok found → byte_from 0 words bits ≡ Some found
+byte_at_ok words bits found e = ok_or_ok (byte_from 0 words bits) (cond (begins_word words bits) End NoWord) found (sym (byte_at-is words bits) ∙ e)
+
 -- what is read behind the low bytes of a number, as read with them
-abbrev pub onto : ℕ → ℕ → Option (ℕ × List Bool) → Option (ℕ × List Bool)
-onto number scale (Some found) = Some (number + scale * found.0, found.1)
-onto number scale None = None
+abbrev pub onto : ℕ → ℕ → Result (ℕ × List Bool) ReadError → Result (ℕ × List Bool) ReadError
+onto number scale (Ok found) = Ok (number + scale * found.0, found.1)
+onto number scale (Err e) = Err e
 
 -- nothing was read before
-pub onto_nothing : (o : Option (ℕ × List Bool)) → onto 0 1 o ≡ o
-onto_nothing (Some found) = let same : 0 + 1 * found.0 ≡ found.0 = omega arith in rw same refl
-onto_nothing None = refl
+pub onto_nothing : (r : Result (ℕ × List Bool) ReadError) → onto 0 1 r ≡ r
+onto_nothing (Ok found) = let same : 0 + 1 * found.0 ≡ found.0 = omega arith in rw same refl
+onto_nothing (Err e) = refl
 
 -- all bytes were read
-pub bytes_end : (words : List (List Bool)) (number scale : ℕ) (bits : List Bool) → onto number scale (bytes_at words 0 bits) ≡ Some (number, bits)
+pub bytes_end : (words : List (List Bool)) (number scale : ℕ) (bits : List Bool) → onto number scale (bytes_at words 0 bits) ≡ Ok (number, bits)
 bytes_end words number scale bits = let same : number + scale * 0 ≡ number = omega arith in rw (bytes_at-zero, same) refl
 
 -- one byte more was read
-pub bytes_more : (words : List (List Bool)) (count left number scale : ℕ) (bits : List Bool) (found : ℕ × List Bool) → count ≡ left + 1 → byte_from 0 words bits ≡ Some found
+pub bytes_more : (words : List (List Bool)) (count left number scale : ℕ) (bits : List Bool) (found : ℕ × List Bool) → count ≡ left + 1 → byte_at words bits ≡ Ok found
     → onto number scale (bytes_at words count bits) ≡ onto (number + scale * found.0) (256 * scale) (bytes_at words left found.1)
 unfolding bytes_at
 bytes_more words count left number scale bits found e first = rw (e, add-one, first) (under (bytes_at words left found.1))
   where
-    under : (o : Option (ℕ × List Bool)) → onto number scale (option_and_then (λ others. Some (found.0 + 256 * others.0, others.1)) o) ≡ onto (number + scale * found.0) (256 * scale) o
-    under (Some others) = let same : number + scale * (found.0 + 256 * others.0) ≡ number + scale * found.0 + 256 * scale * others.0 = grind arith in rw same refl
-    under None = refl
+    under : (r : Result (ℕ × List Bool) ReadError) → onto number scale (r >>= λ others. Ok (found.0 + 256 * others.0, others.1)) ≡ onto (number + scale * found.0) (256 * scale) r
+    under (Ok others) = let same : number + scale * (found.0 + 256 * others.0) ≡ number + scale * found.0 + 256 * scale * others.0 = grind arith in rw same refl
+    under (Err e) = refl
 
 -- no byte is there
-pub bytes_stop : (words : List (List Bool)) (count number scale : ℕ) (bits : List Bool) → 0 < count → byte_from 0 words bits ≡ None → onto number scale (bytes_at words count bits) ≡ None
+pub bytes_stop : (words : List (List Bool)) (count number scale : ℕ) (bits : List Bool) (e : ReadError) → 0 < count → byte_at words bits ≡ Err e → onto number scale (bytes_at words count bits) ≡ Err e
 unfolding bytes_at
-bytes_stop words zero number scale bits some e = absurd (omega arith)
-bytes_stop words (suc count) number scale bits some e = rw e refl
+bytes_stop words zero number scale bits e some is = absurd (omega arith)
+bytes_stop words (suc count) number scale bits e some is = rw is refl
+
+-- an answer of a reader
+abbrev pub answer : ℕ → List Bool → Result (ℕ × List Bool) ReadError
+answer x rest = Ok (x, rest)
+
+-- its parts
+pub answer_parts : (x x' : ℕ) (rest rest' : List Bool) → answer x rest ≡ answer x' rest' → (x ≡ x') × (rest ≡ rest')
+answer_parts x x' rest rest' e =
+    let whole : (λ (p : ℕ × List Bool). p) (x, rest) ≡ (x', rest') = cc in
+    (ap (λ (p : ℕ × List Bool). p.0) whole, ap (λ (p : ℕ × List Bool). p.1) whole)
 
 -- bytes that are read were put: their words stand at the front
-pub bytes_at_some : (words : List (List Bool)) (code : IsCode words) (count : ℕ) (bits : List Bool) (found : ℕ × List Bool) → bytes_at words count bits ≡ Some found
+pub bytes_at_some : (words : List (List Bool)) (code : IsCode words) (count : ℕ) (bits : List Bool) (found : ℕ × List Bool) → bytes_at words count bits ≡ Ok found
     → (found.0 < 256 ^ count) × (bits ≡ bytes_bits words count found.0 ++ found.1)
 unfolding bytes_at
 bytes_at_some words code zero bits found e =
-    let parts = some_pair_parts 0 found.0 bits found.1 e in
+    let parts = answer_parts 0 found.0 bits found.1 e in
     (omega arith, rw bytes_bits-zero parts.1)
 bytes_at_some words code (suc count) bits found e =
-    option_and_then_some (λ first. option_and_then (λ others. Some (first.0 + 256 * others.0, others.1)) (bytes_at words count first.1)) (byte_from 0 words bits) found e
-    (λ first is-first e'. option_and_then_some (λ others. Some (first.0 + 256 * others.0, others.1)) (bytes_at words count first.1) found e' (λ others is-others e''.
-    let parts = some_pair_parts (first.0 + 256 * others.0) found.0 others.1 found.1 e'' in
-    let word = byte_from_some words 0 bits first is-first in
-    let later = bytes_at_some words code count first.1 others is-others in
-    let byte : first.0 ≡ word.0 = omega (arith, word.2) in
+    let first = bind_ok (byte_at words bits) (λ first. bytes_at words count first.1 >>= λ others. Ok (first.0 + 256 * others.0, others.1)) found e in
+    let others = bind_ok (bytes_at words count first.0.1) (λ others. answer (first.0.0 + 256 * others.0) others.1) found first.2 in
+    let parts = answer_parts (first.0.0 + 256 * others.0.0) found.0 others.0.1 found.1 others.2 in
+    let word = byte_from_some words 0 bits first.0 (byte_at_ok words bits first.0 first.1) in
+    let later = bytes_at_some words code count first.0.1 others.0 others.1 in
+    let byte : first.0.0 ≡ word.0 = omega (arith, word.2) in
     let small : word.0 < 256 = omega (arith, word.1, code.count) in
     let low : found.0 % 256 ≡ word.0 = omega (arith, parts.0) in
-    let high : found.0 / 256 ≡ others.0 = omega (arith, parts.0) in (
+    let high : found.0 / 256 ≡ others.0.0 = omega (arith, parts.0) in (
       subst (λ (n : ℕ). found.0 < n) (sym (pow-succ' 256 count)) (omega (arith, later.0, parts.0)),
-      word.3 ∙ rw (bytes_bits-suc, low, high, append_assoc, ← parts.1, ← later.1) refl,
-    )))
+      word.3 ∙ ap (λ (x : List Bool). word_of words word.0 ++ x) later.1 ∙ sym (append_assoc (word_of words word.0) (bytes_bits words count others.0.0) others.0.1)
+          ∙ ap (λ (x : List Bool). x ++ others.0.1) (sym (bytes_bits-parts words count found.0 word.0 others.0.0 low high))
+          ∙ ap (λ (x : List Bool). bytes_bits words (suc count) found.0 ++ x) parts.1,
+    )
 
 -- bytes that are put are read again
-pub bytes_again : (words : List (List Bool)) (code : IsCode words) (count value : ℕ) (rest : List Bool) → value < 256 ^ count → bytes_at words count (bytes_bits words count value ++ rest) ≡ Some (value, rest)
+pub bytes_again : (words : List (List Bool)) (code : IsCode words) (count value : ℕ) (rest : List Bool) → value < 256 ^ count → bytes_at words count (bytes_bits words count value ++ rest) ≡ Ok (value, rest)
 unfolding bytes_at
 bytes_again words code zero value rest lt = let none : value ≡ 0 = omega arith in rw (bytes_bits-zero, none) refl
 bytes_again words code (suc count) value rest lt =
     let high : value / 256 < 256 ^ count = omega (arith, pow-succ' 256 count) in
     let whole : value % 256 + 256 * (value / 256) ≡ value = omega arith in
-    rw (bytes_bits-suc, append_assoc, byte_again words code (value % 256) (bytes_bits words count (value / 256) ++ rest) (omega arith), bytes_again words code count (value / 256) rest high, whole) refl
+    rw (bytes_bits-suc, append_assoc, byte_at-is, byte_again words code (value % 256) (bytes_bits words count (value / 256) ++ rest) (omega arith), bytes_again words code count (value / 256) rest high, whole) refl
 
 -- ---- raw bits
 
 -- a test that let pass
-guard_some : {A : Type 0} (b : Bool) (x y : A) → cond b None (Some x) ≡ Some y → (b ≡ false) × (x ≡ y)
-guard_some true x y e = absurd cc
-guard_some false x y e = (refl, cc)
+guard_ok : {A : Type 0} (b : Bool) (x y : A) → (λ (r : Result A ReadError). r) (cond b (Err End) (Ok x)) ≡ Ok y → (b ≡ false) × (x ≡ y)
+guard_ok true x y e = absurd cc
+guard_ok false x y e = (refl, cc)
 
 -- raw bits that are read are the low bits of their number
-pub raw_at_some : (count : ℕ) (bits : List Bool) (found : ℕ × List Bool) → raw_at count bits ≡ Some found → (found.0 < 2 ^ count) × (bits ≡ low_bits count found.0 ++ found.1)
+pub raw_at_some : (count : ℕ) (bits : List Bool) (found : ℕ × List Bool) → raw_at count bits ≡ Ok found → (found.0 < 2 ^ count) × (bits ≡ low_bits count found.0 ++ found.1)
 unfolding raw_at
 raw_at_some count bits found e =
-    let guarded = guard_some (ltb (length bits) count) (number_of (take count bits), drop count bits) found e in
+    let guarded = guard_ok (ltb (length bits) count) (number_of (take count bits), drop count bits) found e in
     let enough : count ≤ length bits = ltb-false _ _ guarded.0 in
     let number : number_of (take count bits) ≡ found.0 = ap (λ (p : ℕ × List Bool). p.0) guarded.1 in
     let rest : drop count bits ≡ found.1 = ap (λ (p : ℕ × List Bool). p.1) guarded.1 in
@@ -261,7 +307,7 @@ raw_at_some count bits found e =
     (rw (← number) (number_of-take_lt count bits enough), rw (spelt, ← rest) (sym (take-append-drop count bits)))
 
 -- the low bits of a number are read again as its remainder
-pub raw_again : (count value : ℕ) (rest : List Bool) → raw_at count (low_bits count value ++ rest) ≡ Some (value % 2 ^ count, rest)
+pub raw_again : (count value : ℕ) (rest : List Bool) → raw_at count (low_bits count value ++ rest) ≡ Ok (value % 2 ^ count, rest)
 unfolding raw_at
 raw_again count value rest =
     let long = length-low_bits count value in
@@ -269,12 +315,12 @@ raw_again count value rest =
     rw (enough, take_at (low_bits count value) rest count long, drop_at (low_bits count value) rest count long, number_of-low_bits) refl
 
 -- fewer bits than are asked for
-pub raw_at_few : (count : ℕ) (bits : List Bool) → length bits < count → raw_at count bits ≡ None
+pub raw_at_few : (count : ℕ) (bits : List Bool) → length bits < count → raw_at count bits ≡ Err End
 unfolding raw_at
 raw_at_few count bits few = rw (lt-ltb _ _ few) refl
 
 -- as many, or more
-pub raw_at_enough : (count : ℕ) (bits : List Bool) → count ≤ length bits → raw_at count bits ≡ Some (number_of (take count bits), drop count bits)
+pub raw_at_enough : (count : ℕ) (bits : List Bool) → count ≤ length bits → raw_at count bits ≡ Ok (number_of (take count bits), drop count bits)
 unfolding raw_at
 raw_at_enough count bits enough = rw (le-ltb _ _ enough) refl
 
@@ -302,61 +348,56 @@ pub field_bits-is : (words : List (List Bool)) (width value : ℕ) → field_bit
 unfolding field_bits
 field_bits-is words width value = refl
 
+-- the same of its raw bits and of what is above them
+field_bits-parts : (words : List (List Bool)) (width value raw high : ℕ) → low_bits (width % 8) value ≡ low_bits (width % 8) raw → value / 2 ^ (width % 8) ≡ high
+    → field_bits words width value ≡ low_bits (width % 8) raw ++ bytes_bits words (width / 8) high
+field_bits-parts words width value raw high low rest = rw (field_bits-is, low, rest) refl
+
 -- a field that is read was put: its value fits the width, and its text stands at the front
-pub field_at_some : (words : List (List Bool)) (code : IsCode words) (width : ℕ) (bits : List Bool) (found : ℕ × List Bool) → field_at words width bits ≡ Some found
+pub field_at_some : (words : List (List Bool)) (code : IsCode words) (width : ℕ) (bits : List Bool) (found : ℕ × List Bool) → field_at words width bits ≡ Ok found
     → (found.0 < 2 ^ width) × (bits ≡ field_bits words width found.0 ++ found.1)
 unfolding field_at
 field_at_some words code width bits found e =
     let part = 2 ^ (width % 8) in
-    option_and_then_some (λ raw. option_and_then (λ bytes. Some (raw.0 + part * bytes.0, bytes.1)) (bytes_at words (width / 8) raw.1)) (raw_at (width % 8) bits) found e
-    (λ raw is-raw e'. option_and_then_some (λ bytes. Some (raw.0 + part * bytes.0, bytes.1)) (bytes_at words (width / 8) raw.1) found e' (λ bytes is-bytes e''.
-    let parts = some_pair_parts (raw.0 + part * bytes.0) found.0 bytes.1 found.1 e'' in
-    let first = raw_at_some (width % 8) bits raw is-raw in
-    let later = bytes_at_some words code (width / 8) raw.1 bytes is-bytes in
-    let sum : found.0 ≡ bytes.0 * part + raw.0 = sym parts.0 ∙ grind arith in
-    let low : low_bits (width % 8) found.0 ≡ low_bits (width % 8) raw.0 = ap (low_bits (width % 8)) sum ∙ low_bits-low bytes.0 (width % 8) raw.0 first.0 in
-    let high : found.0 / part ≡ bytes.0 = ap (λ (n : ℕ). n / part) sum ∙ shr_high bytes.0 (width % 8) raw.0 first.0 in (
-      omega (arith, sum, pow_width width, mul-add-lt bytes.0 part raw.0 (256 ^ (width / 8)) later.0 first.0),
-      first.1 ∙ rw (field_bits-is, low, high, append_assoc, ← parts.1, ← later.1) refl,
-    )))
+    let raw = bind_ok (raw_at (width % 8) bits) (λ raw. bytes_at words (width / 8) raw.1 >>= λ bytes. Ok (raw.0 + part * bytes.0, bytes.1)) found e in
+    let bytes = bind_ok (bytes_at words (width / 8) raw.0.1) (λ bytes. answer (raw.0.0 + part * bytes.0) bytes.1) found raw.2 in
+    let parts = answer_parts (raw.0.0 + part * bytes.0.0) found.0 bytes.0.1 found.1 bytes.2 in
+    let first = raw_at_some (width % 8) bits raw.0 raw.1 in
+    let later = bytes_at_some words code (width / 8) raw.0.1 bytes.0 bytes.1 in
+    let sum : found.0 ≡ bytes.0.0 * part + raw.0.0 = sym parts.0 ∙ grind arith in
+    let low : low_bits (width % 8) found.0 ≡ low_bits (width % 8) raw.0.0 = ap (low_bits (width % 8)) sum ∙ low_bits-low bytes.0.0 (width % 8) raw.0.0 first.0 in
+    let high : found.0 / part ≡ bytes.0.0 = ap (λ (n : ℕ). n / part) sum ∙ shr_high bytes.0.0 (width % 8) raw.0.0 first.0 in (
+      omega (arith, sum, pow_width width, mul-add-lt bytes.0.0 part raw.0.0 (256 ^ (width / 8)) later.0 first.0),
+      first.1 ∙ ap (λ (x : List Bool). low_bits (width % 8) raw.0.0 ++ x) later.1
+          ∙ sym (append_assoc (low_bits (width % 8) raw.0.0) (bytes_bits words (width / 8) bytes.0.0) bytes.0.1)
+          ∙ ap (λ (x : List Bool). x ++ bytes.0.1) (sym (field_bits-parts words width found.0 raw.0.0 bytes.0.0 low high))
+          ∙ ap (λ (x : List Bool). field_bits words width found.0 ++ x) parts.1,
+    )
 
 -- a field that is put is read again
-pub field_again : (words : List (List Bool)) (code : IsCode words) (width value : ℕ) (rest : List Bool) → value < 2 ^ width → field_at words width (field_bits words width value ++ rest) ≡ Some (value, rest)
+pub field_again : (words : List (List Bool)) (code : IsCode words) (width value : ℕ) (rest : List Bool) → value < 2 ^ width → field_at words width (field_bits words width value ++ rest) ≡ Ok (value, rest)
 unfolding field_at
 field_again words code width value rest lt =
     let high : value / 2 ^ (width % 8) < 256 ^ (width / 8) = subst (λ (n : ℕ). value / 2 ^ (width % 8) < n) (pow_bytes (width / 8)) (shr_below value (8 * (width / 8)) (width % 8) (subst (λ (n : ℕ). value < 2 ^ n) (omega arith) lt)) in
     let whole : value % 2 ^ (width % 8) + 2 ^ (width % 8) * (value / 2 ^ (width % 8)) ≡ value = mod-add-div value (2 ^ (width % 8)) in
     rw (field_bits-is, append_assoc, raw_again, bytes_again words code (width / 8) (value / 2 ^ (width % 8)) rest high, whole) refl
 
--- an answer that is a value or a cause
-or_cause_ok : (o : Option (ℕ × List Bool)) (cause : ReadError) (found : ℕ × List Bool) → or_cause o cause ≡ Ok found → o ≡ Some found
-or_cause_ok (Some other) cause found e = cc
-or_cause_ok None cause found e = absurd cc
+-- the parts of a field that are read are its value
+pub field_found : (words : List (List Bool)) (width : ℕ) (bits : List Bool) (raw bytes : ℕ × List Bool) → raw_at (width % 8) bits ≡ Ok raw
+    → bytes_at words (width / 8) raw.1 ≡ Ok bytes → field_at words width bits ≡ Ok (raw.0 + 2 ^ (width % 8) * bytes.0, bytes.1)
+unfolding field_at
+field_found words width bits raw bytes is found = rw (is, found) refl
 
-or_cause_err : (o : Option (ℕ × List Bool)) (cause e : ReadError) → or_cause o cause ≡ Err e → (o ≡ None) × (cause ≡ e)
-or_cause_err (Some other) cause e is = absurd cc
-or_cause_err None cause e is = (refl, cc)
+-- where the raw bits aren't there, no field is
+pub field_no_raw : (words : List (List Bool)) (width : ℕ) (bits : List Bool) (e : ReadError) → raw_at (width % 8) bits ≡ Err e → field_at words width bits ≡ Err e
+unfolding field_at
+field_no_raw words width bits e is = rw is refl
 
--- no value is read where the raw bits are not there
-pub field_no_raw : (words : List (List Bool)) (width : ℕ) (bits : List Bool) → raw_at (width % 8) bits ≡ None → field_read words width bits ≡ Err End
-unfolding field_read field_at cause_of
-field_no_raw words width bits e = rw e refl
-
--- nor where one of the bytes is not
-pub field_no_bytes : (words : List (List Bool)) (width : ℕ) (bits : List Bool) (raw : ℕ × List Bool) (cause : ReadError) → raw_at (width % 8) bits ≡ Some raw
-    → or_cause (bytes_at words (width / 8) raw.1) (bytes_cause words (width / 8) raw.1) ≡ Err cause → field_read words width bits ≡ Err cause
-unfolding field_read field_at cause_of
-field_no_bytes words width bits raw cause e none =
-    let parts = or_cause_err (bytes_at words (width / 8) raw.1) (bytes_cause words (width / 8) raw.1) cause none in
-    rw (e, parts.0, parts.1) refl
-
--- elsewhere the value is their sum
-pub field_found : (words : List (List Bool)) (width : ℕ) (bits : List Bool) (raw bytes : ℕ × List Bool) → raw_at (width % 8) bits ≡ Some raw
-    → or_cause (bytes_at words (width / 8) raw.1) (bytes_cause words (width / 8) raw.1) ≡ Ok bytes → field_read words width bits ≡ Ok (raw.0 + 2 ^ (width % 8) * bytes.0, bytes.1)
-unfolding field_read field_at
-field_found words width bits raw bytes e found =
-    let is = or_cause_ok (bytes_at words (width / 8) raw.1) (bytes_cause words (width / 8) raw.1) bytes found in
-    rw (e, is) refl
+-- nor where one of the bytes isn't
+pub field_no_bytes : (words : List (List Bool)) (width : ℕ) (bits : List Bool) (raw : ℕ × List Bool) (e : ReadError) → raw_at (width % 8) bits ≡ Ok raw
+    → bytes_at words (width / 8) raw.1 ≡ Err e → field_at words width bits ≡ Err e
+unfolding field_at
+field_no_bytes words width bits raw e is none = rw (is, none) refl
 
 -- the bytes of a field shifted behind its raw bits
 pub field_shifted : (low high width : ℕ) → width ≤ 32 → low < 2 ^ (width % 8) → high < 256 ^ (width / 8)
@@ -405,23 +446,15 @@ plain_field width value =
     field_bits-is plain_words width value ∙ rw (plain_bytes, ← low_bits-add (width % 8) (8 * (width / 8)) value, whole) refl
 
 -- bits that are fewer than the width are the front of a field
-plain_front : (width : ℕ) (bits : List Bool) → length bits ≤ width → bits ++ low_bits (width - length bits) 0 ≡ field_bits plain_words width (number_of bits)
+pub plain_front : (width : ℕ) (bits : List Bool) → length bits ≤ width → bits ++ low_bits (width - length bits) 0 ≡ field_bits plain_words width (number_of bits)
 plain_front width bits few =
     let long : width ≡ length bits + (width - length bits) = omega arith in
     sym (plain_field width (number_of bits) ∙ ap (λ (n : ℕ). low_bits n (number_of bits)) long ∙ low_bits-number_of_more bits (width - length bits))
 
 -- by the plain code a field is read wherever its bits are there
-plain_reads : (width : ℕ) (bits : List Bool) → width ≤ length bits → field_at plain_words width bits ≡ Some (number_of (take width bits), drop width bits)
+pub plain_reads : (width : ℕ) (bits : List Bool) → width ≤ length bits → field_at plain_words width bits ≡ Ok (number_of (take width bits), drop width bits)
 plain_reads width bits enough =
     let front = take width bits in
     let text : field_bits plain_words width (number_of front) ≡ front = plain_field width (number_of front) ∙ low_bits-number_of_take width bits enough in
     let whole : field_bits plain_words width (number_of front) ++ drop width bits ≡ bits = rw text (take-append-drop width bits) in
     ap (field_at plain_words width) (sym whole) ∙ field_again plain_words plain_is_code width (number_of front) (drop width bits) (number_of-take_lt width bits enough)
-
--- and where nothing is read the bits have ended
-pub plain_ends : (width : ℕ) (bits : List Bool) → field_at plain_words width bits ≡ None → IsCutShort plain_words width bits
-plain_ends width bits e =
-    elim (cases_lt (length bits) width) [
-      | inl few ↦ (number_of bits, low_bits (width - length bits) 0, plain_front width bits (omega arith))
-      | inr enough ↦ absurd (none-some (number_of (take width bits), drop width bits) (sym e ∙ plain_reads width bits enough))
-    ]

@@ -1,4 +1,7 @@
 pub mod Numbers
+pub mod Texts
+pub mod ReadOver
+pub mod Windows
 pub mod CodeText
 pub mod Causes
 pub mod WordTexts

@@ -5,10 +5,9 @@ use Rattle.std.proofs.lemmas.Bool.Decides.{nat_tests}
 use Rattle.std.proofs.lemmas.List.{append-nil, length-append, length-take-le, length-drop, get_or-drop, get_or_append_left, get_or-append_right}
 use Rattle.std.proofs.lemmas.List.Concat.{flat_map-cons, flat_map-append}
 use Rattle.std.proofs.lemmas.Nat.{pow_pos, shr-shr, shr_high, mod_below, mod_low, mod-pow-add}
-use Rattle.std.proofs.Math.Nat.{div-eq_of_lt, pow-succ'}
+use Rattle.std.proofs.Math.Nat.{div-eq_of_lt, zero-div, pow-succ'}
 use Rattle.std.proofs.lemmas.Grind.{pow_more}
 use Rattle.q3_bits.specs.Bits.{bit, low_bits, number_of, bits_of}
-use Rattle.q3_bits.specs.Place.{bits_from}
 
 -- ---- how the definitions go on
 
@@ -67,34 +66,11 @@ pub length-bits_of : (bytes : List ℕ) → length (bits_of bytes) ≡ 8 * lengt
 length-bits_of [] = rw bits_of-nil refl
 length-bits_of (byte ∷ bytes) = rw bits_of-cons (omega (arith, length-append (low_bits 8 byte) (bits_of bytes), length-low_bits 8 byte, length-bits_of bytes))
 
--- as many as stand behind the place
-pub length-bits_from : (bytes : List ℕ) (place : ℕ) → length (bits_from bytes place) ≡ 8 * length bytes - place
-length-bits_from bytes place = omega (arith, length-drop place (bits_of bytes), length-bits_of bytes)
-
 -- ---- a bit by its place
 
 -- a half shifted is shifted once more
 halved : (value k : ℕ) → value / 2 / 2 ^ k ≡ value / 2 ^ suc k
 halved value k = shr-shr value 1 k ∙ ap (λ (j : ℕ). value / 2 ^ j) (omega arith)
-
--- the bit at a place of a number
-pub get_or-low_bits : (count value k : ℕ) → k < count → get_or (low_bits count value) k false ≡ eqb (value / 2 ^ k % 2) 1
-get_or-low_bits zero value k lt = absurd (omega arith)
-get_or-low_bits (suc count) value zero lt = rw low_bits-suc (ap (λ (n : ℕ). eqb (n % 2) 1) (omega arith))
-get_or-low_bits (suc count) value (suc k) lt = rw low_bits-suc (get_or-low_bits count (value / 2) k (omega arith) ∙ ap (λ (n : ℕ). eqb (n % 2) 1) (halved value k))
-
--- a byte's bits stand behind those of the bytes before it
-pub get_or-bits_of : (bytes : List ℕ) (place : ℕ) → place < 8 * length bytes → get_or (bits_of bytes) place false ≡ eqb (get_or bytes (place / 8) 0 / 2 ^ (place % 8) % 2) 1
-get_or-bits_of [] place lt = absurd (omega arith)
-get_or-bits_of (byte ∷ bytes) place lt =
-    elim (cases_lt place 8) [
-      | inl within ↦
-          rw (bits_of-cons, get_or_append_left (low_bits 8 byte) (bits_of bytes) false place (omega (arith, length-low_bits 8 byte)), get_or-low_bits 8 byte place within)
-          (let first : place / 8 ≡ 0 = omega arith in let same : place % 8 ≡ place = omega arith in rw (first, same) refl)
-      | inr past ↦
-          rw (bits_of-cons, get_or-append_right (low_bits 8 byte) (bits_of bytes) 8 place false (length-low_bits 8 byte) past, get_or-bits_of bytes (place - 8) (omega arith))
-          (let next : place / 8 ≡ suc ((place - 8) / 8) = omega arith in let same : (place - 8) % 8 ≡ place % 8 = omega arith in rw (next, same) refl)
-    ]
 
 -- ---- numbers and bits
 
@@ -190,9 +166,18 @@ number_of-take_more (b ∷ bits) (suc k) lt =
     let more : suc k + 1 ≡ suc (k + 1) = omega arith in
     rw (more, number_of-cons b (take (k + 1) bits), number_of-cons b (take k bits), number_of-take_more bits k (omega arith), pow-succ' 2 k) (grind arith)
 
--- the same behind a place
-pub number_of-take_more_from : (bits : List Bool) (place k : ℕ) → place + k < length bits → number_of (take (k + 1) (drop place bits)) ≡ number_of (take k (drop place bits)) + bit (get_or bits (place + k) false) * 2 ^ k
-number_of-take_more_from bits place k lt = rw (number_of-take_more (drop place bits) k (omega (arith, length-drop place bits)), get_or-drop) refl
+-- what is behind the first bits is spelled by the number shifted
+pub number_of-drop : (bits : List Bool) (n : ℕ) → number_of bits / 2 ^ n ≡ number_of (drop n bits)
+number_of-drop bits zero = let same : number_of bits / 2 ^ 0 ≡ number_of bits = omega arith in same
+number_of-drop [] (suc n) = rw number_of-nil (zero-div (2 ^ suc n))
+number_of-drop (b ∷ bits) (suc n) =
+    sym (halved (number_of (b ∷ bits)) n) ∙ rw (number_of-cons b bits, half_bit) (number_of-drop bits n)
+
+-- the bits of a number above the low ones are those of a higher part
+pub low_bits-join : (m n low high : ℕ) → low < 2 ^ m → low_bits (m + n) (low + high * 2 ^ m) ≡ low_bits m low ++ low_bits n high
+low_bits-join m n low high fits =
+    let turned : low + high * 2 ^ m ≡ high * 2 ^ m + low = omega arith in
+    rw (turned, low_bits-add m n (high * 2 ^ m + low), low_bits-low high m low fits, shr_high high m low fits) refl
 
 -- the number's remainder is what the first bits spell
 pub number_of-mod : (bits : List Bool) (n : ℕ) → number_of bits % 2 ^ n ≡ number_of (take n bits)

@@ -8,6 +8,11 @@ use Rattle.q3_bits.specs.Streams.{Writing}
 abbrev pub bits_within : List ℕ → ℕ → List Bool
 bits_within bytes count = bits_of (take (count / 8) bytes) ++ low_bits (count % 8) (slice_index bytes (count / 8))
 
+-- every bit behind so many is 0
+pub record IsClear (bytes : List ℕ) (count : ℕ) : Type 0 where
+  pub part : slice_index bytes (count / 8) < 2 ^ (count % 8)
+  pub behind : (k : ℕ) → count / 8 < k → slice_index bytes k ≡ 0
+
 abbrev pub writing_of : Inside → Writing
 writing_of w = record { words = w.code.now; bits = bits_within w.bytes w.count; room = w.room }
 
@@ -15,5 +20,4 @@ writing_of w = record { words = w.code.now; bits = bits_within w.bytes w.count; 
 pub record IsWritten (w : Inside) : Type 0 where
   pub room : w.room ≤ 16384
   pub within : w.count / 8 < w.room
-  pub part : slice_index w.bytes (w.count / 8) < 2 ^ (w.count % 8)
-  pub unused : (k : ℕ) → w.count / 8 < k → slice_index w.bytes k ≡ 0
+  pub clear : IsClear w.bytes w.count

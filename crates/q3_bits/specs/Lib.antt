@@ -1,9 +1,12 @@
+pub mod ResultBind
+pub mod OptionBind
 pub mod Bits
 pub mod Words
 pub mod CodeWords
 pub mod Table
 pub mod Streams
+pub mod InPlace
 pub mod Buffer
-pub mod Place
+pub mod Found
 pub mod Unread
 pub mod Laws

@@ -1,12 +1,23 @@
 -- What a reader has left of its bytes.
-use Rattle.std.specs.Prelude.{◌*◌, ◌^◌, ◌<◌, ◌≤◌, length}
+use Rattle.std.specs.Prelude.{ℕ, ◌*◌, ◌-◌, ◌≤◌, Bool, List, length, drop, Result, Ok, Err}
+use Rattle.q3_bits.specs.declared.rest.Rest.{Rest}
+use Rattle.q3_bits.specs.declared.reader.ReadError.{ReadError}
 use Rattle.q3_bits.specs.declared.reader.Reader.TheInside.{Inside}
-use Rattle.q3_bits.specs.Place.{bits_from}
+use Rattle.q3_bits.specs.Bits.{bits_of}
 use Rattle.q3_bits.specs.Streams.{Reading}
 
-abbrev pub reading_of : Inside → Reading
-reading_of r = record { words = r.code.now; left = bits_from r.bytes.now r.place; place = r.place }
+-- the bits from the next one on
+abbrev pub rest_bits : Rest → List Bool
+rest_bits rest = drop rest.bit (bits_of rest.bytes.now)
 
+-- a value and what is behind it, by its bits
+abbrev pub rested : Result (ℕ × Rest) ReadError → Result (ℕ × List Bool) ReadError
+rested (Ok found) = Ok (found.0, rest_bits found.1)
+rested (Err e) = Err e
+
+abbrev pub reading_of : Inside → Reading
+reading_of r = record { words = r.code.now; left = rest_bits r.rest; place = 8 * r.total - length (rest_bits r.rest) }
+
+-- there were at least as many bytes as are left
 pub record IsWithin (r : Inside) : Type 0 where
-  pub place : r.place ≤ 8 * length r.bytes.now
-  pub few : length r.bytes.now < 2 ^ 60
+  pub total : length r.rest.bytes.now ≤ r.total

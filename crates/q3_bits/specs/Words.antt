@@ -1,7 +1,8 @@
 -- Code words: each byte has a word of bits, and a field is written as raw bits and words.
-use Rattle.std.specs.Prelude.{◌≡◌, ℕ, zero, suc, ◌+◌, ◌*◌, ◌/◌, ◌%◌, ◌^◌, ◌<◌, if◌then◌else◌, Bool, true, false, List, [], ◌∷◌, ◌++◌, length, map, take, drop, slice_index_or, Option, Some, None, option_and_then, nat_lt, Result, Ok, Err}
+use Rattle.std.specs.Prelude.{◌≡◌, ℕ, zero, suc, ◌+◌, ◌*◌, ◌/◌, ◌%◌, ◌^◌, ◌<◌, if◌then◌else◌, Bool, true, false, List, [], ◌∷◌, ◌++◌, length, map, take, drop, slice_index_or, Option, Some, None, nat_lt, Result, Ok, Err}
 use Rattle.std.specs.List.{range_with_len, list_any}
-use Rattle.std.specs.Option.{is_some}
+use Rattle.std.specs.Option.{is_some, ok_or, option_or, option_map}
+use Rattle.q3_bits.specs.ResultBind.{◌>>=◌}
 use Rattle.q3_bits.specs.declared.reader.ReadError.{ReadError}
 use Rattle.q3_bits.specs.declared.reader.ReadError.TheVariants.{End, NoWord}
 use Rattle.q3_bits.specs.Bits.{low_bits, number_of}
@@ -28,13 +29,9 @@ bytes_bits words (suc count) value = word_of words (value % 256) ++ bytes_bits w
 unfoldable pub field_bits : List (List Bool) → ℕ → ℕ → List Bool
 field_bits words width value = low_bits (width % 8) value ++ bytes_bits words (width / 8) (value / 2 ^ (width % 8))
 
-infixl 10 ◌>>=◌
-abbrev ◌>>=◌ : {A B : Type 0} → Option A → (A → Option B) → Option B
-o >>= f = option_and_then f o
-
 -- so many raw bits from the front, as a number, and what is behind them
-unfoldable pub raw_at : ℕ → List Bool → Option (ℕ × List Bool)
-raw_at count bits = if nat_lt (length bits) count then None else Some (number_of (take count bits), drop count bits)
+unfoldable pub raw_at : ℕ → List Bool → Result (ℕ × List Bool) ReadError
+raw_at count bits = if nat_lt (length bits) count then Err End else Ok (number_of (take count bits), drop count bits)
 
 -- what is behind a word that begins the bits
 unfoldable pub behind : List Bool → List Bool → Option (List Bool)
@@ -44,60 +41,34 @@ behind (true ∷ word) (true ∷ bits) = behind word bits
 behind (false ∷ word) (false ∷ bits) = behind word bits
 behind (w ∷ word) (b ∷ bits) = None
 
-abbrev pub or_else : Option (List Bool) → ℕ → Option (ℕ × List Bool) → Option (ℕ × List Bool)
-or_else (Some rest) byte others = Some (byte, rest)
-or_else None byte others = others
-
 -- the first of these bytes whose word begins the bits, counted from `byte`, and what is behind the word
 unfoldable pub byte_from : ℕ → List (List Bool) → List Bool → Option (ℕ × List Bool)
 byte_from byte [] bits = None
-byte_from byte (word ∷ words) bits = or_else (behind word bits) byte (byte_from (byte + 1) words bits)
-
--- so many bytes by their words, least byte first
-unfoldable pub bytes_at : List (List Bool) → ℕ → List Bool → Option (ℕ × List Bool)
-bytes_at words zero bits = Some (0, bits)
-bytes_at words (suc count) bits = do
-  first ← byte_from 0 words bits
-  others ← bytes_at words count first.1
-  Some (first.0 + 256 * others.0, others.1)
-
--- the value of a field of so many bits at the front, and what is behind it
-unfoldable pub field_at : List (List Bool) → ℕ → List Bool → Option (ℕ × List Bool)
-field_at words width bits = do
-  raw ← raw_at (width % 8) bits
-  bytes ← bytes_at words (width / 8) raw.1
-  Some (raw.0 + 2 ^ (width % 8) * bytes.0, bytes.1)
-
--- the bits are the front of a field's text that goes on
-abbrev pub IsCutShort : List (List Bool) → ℕ → List Bool → Type 0
-IsCutShort words width bits = (value : ℕ) × (more : List Bool) × (bits ++ more ≡ field_bits words width value)
+byte_from byte (word ∷ words) bits = option_or (option_map (λ rest. (byte, rest)) (behind word bits)) (byte_from (byte + 1) words bits)
 
 -- whether the bits are a front of one of the words
 unfoldable pub begins_word : List (List Bool) → List Bool → Bool
 begins_word words bits = list_any (λ word. is_some (behind bits word)) words
 
--- why no word begins the bits: they end in a word, or they begin none
-abbrev pub word_cause : List (List Bool) → List Bool → ReadError
-word_cause words bits = if begins_word words bits then End else NoWord
+-- the byte whose word begins the bits; where none does, they end in a word or begin none
+unfoldable pub byte_at : List (List Bool) → List Bool → Result (ℕ × List Bool) ReadError
+byte_at words bits = ok_or (byte_from 0 words bits) (if begins_word words bits then End else NoWord)
 
--- the cause here where nothing was read, and else the cause behind what was
-abbrev pub cause_behind : Option (ℕ × List Bool) → ReadError → (List Bool → ReadError) → ReadError
-cause_behind None here later = here
-cause_behind (Some found) here later = later found.1
+-- so many bytes by their words, least byte first
+unfoldable pub bytes_at : List (List Bool) → ℕ → List Bool → Result (ℕ × List Bool) ReadError
+bytes_at words zero bits = Ok (0, bits)
+bytes_at words (suc count) bits = do
+  first ← byte_at words bits
+  others ← bytes_at words count first.1
+  Ok (first.0 + 256 * others.0, others.1)
 
--- why so many bytes can't be read: the cause at the first that can't
-unfoldable pub bytes_cause : List (List Bool) → ℕ → List Bool → ReadError
-bytes_cause words zero bits = End
-bytes_cause words (suc count) bits = cause_behind (byte_from 0 words bits) (word_cause words bits) (λ rest. bytes_cause words count rest)
+-- the value of a field of so many bits at the front, and what is behind it; or why there is none
+unfoldable pub field_at : List (List Bool) → ℕ → List Bool → Result (ℕ × List Bool) ReadError
+field_at words width bits = do
+  raw ← raw_at (width % 8) bits
+  bytes ← bytes_at words (width / 8) raw.1
+  Ok (raw.0 + 2 ^ (width % 8) * bytes.0, bytes.1)
 
--- why there is no value at the front: the raw bits have ended, or the first byte that can't be read says it
-unfoldable pub cause_of : List (List Bool) → ℕ → List Bool → ReadError
-cause_of words width bits = cause_behind (raw_at (width % 8) bits) End (bytes_cause words (width / 8))
-
-abbrev pub or_cause : Option (ℕ × List Bool) → ReadError → Result (ℕ × List Bool) ReadError
-or_cause (Some found) cause = Ok found
-or_cause None cause = Err cause
-
--- what a reader answers: the value and what is behind it, or why there is none
-unfoldable pub field_read : List (List Bool) → ℕ → List Bool → Result (ℕ × List Bool) ReadError
-field_read words width bits = or_cause (field_at words width bits) (cause_of words width bits)
+-- the bits are the front of a field's text that goes on
+abbrev pub IsCutShort : List (List Bool) → ℕ → List Bool → Type 0
+IsCutShort words width bits = (value : ℕ) × (more : List Bool) × (bits ++ more ≡ field_bits words width value)

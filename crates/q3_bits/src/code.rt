@@ -1,11 +1,12 @@
 //! Code words: the bits that stand for each byte of a message. Keeps the rule "code words".
 
-ghost use Rattle.std.specs.Prelude.{◌≡◌, ◌⊎◌, ◌≤◌, Bool, List, IfOk, IfErr, IfSome, MatchResult, Some, None, length, map, min, take};
+ghost use Rattle.std.specs.Prelude.{◌≡◌, ◌⊎◌, ◌<◌, ◌≤◌, ◌^◌, Bool, List, All, IfOk, IfErr, IfSome, MatchResult, Some, None, length, map, min, take};
 ghost use Rattle.std.specs.Option.{is_some};
 ghost use Rattle.q3_bits.specs.declared.words.CodeError.TheVariants as errors;
 ghost use Rattle.q3_bits.specs.Bits.{number_of};
 ghost use Rattle.q3_bits.specs.CodeWords.{texts_of, bits_of_text, code_fault};
-ghost use Rattle.q3_bits.specs.Table.{bits_of_word, IsWord};
+ghost use Rattle.q3_bits.specs.Table.{bits_of_word, IsWord, IsIndex, Leads};
+ghost use Rattle.q3_bits.specs.Found.{found_in};
 ghost use Rattle.q3_bits.specs.Words.{IsCode, plain_words, word_of, behind, byte_from, begins_word};
 
 use crate::words::{CodeError, first_clash, read_words};
@@ -17,42 +18,55 @@ pub type NoMemory = AllocError;
 
 /// The bits of a code word, least first, in the low `length` bits of a number.
 #[derive(Clone, Copy)]
-pub struct Word {
-    pub bits: u32,
-    pub length: u8,
+pub(crate) struct Word {
+    pub(crate) bits: u32,
+    pub(crate) length: u8,
 }
 
+/// A byte whose word begins some bits, and the word's length; 0 where that isn't said.
+#[derive(Clone, Copy)]
+pub(crate) struct Entry {
+    pub(crate) byte: u8,
+    pub(crate) length: u8,
+}
+
+/// Words up to this length are found by the next bits, so many.
+const INDEXED: u32 = 12;
+
+/// How many entries an index has: one for each 12 bits.
+const ENTRIES: usize = 4_096;
+
 impl Word {
-    /// Whether these bits begin the word: `count` of them, of which `front` is the number that the first 24 spell.
-    pub(crate) fn starts_with(self, front: u32, count: usize) -> bool
+    /// Whether these bits begin the word: `count` of them, 25 for more, of which `front` is the number that the first
+    /// 24 spell.
+    pub(crate) fn starts_with(self, front: u32, count: u32) -> bool
         requires { self.length ≤ 24 }
-        ensures { (bits : List Bool) → count ≡ length bits → front ≡ number_of (take 24 bits)
+        ensures { (bits : List Bool) → count ≡ min 25 (length bits) → front ≡ number_of (take 24 bits)
             → result ≡ is_some (behind bits (bits_of_word self)) }
     {
-        count <= usize::from(self.length) && self.bits % (1 << count) == front
+        count <= u32::from(self.length) && self.bits % (1 << count) == front
     }
 }
 
-/// A table of 256 code words, one for each byte. To a caller it is the list of the words.
+/// A table of 256 code words, one for each byte, of which none begins another. To a caller it is the list of the words.
 #[derive(Drop)]
 pub struct Code {
     words: Vec<Word>,
+    index: Vec<Entry>,
 }
 
 impl Model for Code {
     ghost use Rattle.std.specs.Prelude.{◌≡◌, Bool, List, length};
-    ghost use Rattle.q3_bits.specs.Table.{words_of, AreShort};
+    ghost use Rattle.q3_bits.specs.Table.{words_of, IsTable};
 
     ghost Value = { List (List Bool) };
 
     ghost view = { λ c. words_of c.words.items };
 
-    ghost invariant = { AreShort };
+    ghost invariant = { IsTable };
 }
 
 impl Code {
-    ghost use Rattle.q3_bits.specs.Place.{behind_length};
-
     /// The plain code: the word of a byte is its eight bits, least first.
     /// `Err` is want of memory.
     pub fn plain(alloc: Global) -> Result<Code, NoMemory>
@@ -63,7 +77,10 @@ impl Code {
         for bits in 0..256 {
             words.push(Word { bits, length: 8 })?;
         }
-        Ok(Code { words })
+        Ok(Code {
+            index: index_of(alloc, &words)?,
+            words,
+        })
     }
 
     /// The code whose words these texts spell, the word of a byte at its place: `0` or `1` for each bit, first bit first.
@@ -83,16 +100,21 @@ impl Code {
         if let Some((i, j)) = first_clash(&words) {
             return Err(CodeError::Clash(i, j));
         }
-        Ok(Code { words })
+        Ok(Code {
+            index: index_of(alloc, &words)?,
+            words,
+        })
     }
 
     /// The same code once more. `Err` is want of memory.
-    pub fn copy(&self, alloc: Global) -> Result<Code, NoMemory>
-        ensures { IfOk result (λ copy. copy ≡ self.now) }
+    pub fn copy(&self) -> Result<Code, NoMemory>
+        ensures copy { IfOk result (λ copy. copy ≡ self.now) }
+        ensures is_code { IsCode self.now }
     {
-        let mut words = Vec::with_capacity(alloc, 256)?;
-        words.extend_from_slice(&self.words)?;
-        Ok(Code { words })
+        Ok(Code {
+            words: self.words.clone()?,
+            index: self.index.clone()?,
+        })
     }
 
     /// The word of a byte.
@@ -103,9 +125,10 @@ impl Code {
         self.words[byte as usize]
     }
 
-    /// Whether these bits begin a word: `count` of them, of which `front` is the number that the first 24 spell.
-    pub(crate) fn begins_with(&self, front: u32, count: usize) -> bool
-        ensures { (bits : List Bool) → count ≡ length bits → front ≡ number_of (take 24 bits)
+    /// Whether these bits begin a word: `count` of them, 25 for more, of which `front` is the number that the first 24
+    /// spell.
+    pub(crate) fn begins_with(&self, front: u32, count: u32) -> bool
+        ensures { (bits : List Bool) → count ≡ min 25 (length bits) → front ≡ number_of (take 24 bits)
             → result ≡ begins_word self.now bits }
     {
         for word in self.words.iter() {
@@ -116,13 +139,25 @@ impl Code {
         false
     }
 
-    /// The first byte whose word begins the bits to be read, and the word's length.
-    /// `window` is the number that the next `count` of them spell: 24, or all where fewer are left.
+    /// The byte whose word begins the bits to be read, and the word's length: `count` bits are left, 25 for more, and
+    /// `window` is the number that the first 24 spell. Short words are found by the next 12 bits, others one by one.
     pub(crate) fn find(&self, window: u32, count: u32) -> Option<(u8, u8)>
-        requires { count ≤ 24 }
-        ensures found { (left : List Bool) → count ≡ min 24 (length left) → window ≡ number_of (take count left)
-            → behind_length left result ≡ byte_from 0 self.now left }
-        ensures short { IfSome result (λ found. found.1 ≤ count) }
+        ensures found { (left : List Bool) → count ≡ min 25 (length left) → window ≡ number_of (take 24 left)
+            → found_in left result ≡ byte_from 0 self.now left }
+        ensures short { IfSome result (λ found. (found.1 ≤ 24) × (found.1 ≤ count)) }
+    {
+        let entry = self.index[(window % (1 << INDEXED)) as usize];
+        if entry.length > 0 && u32::from(entry.length) <= count {
+            return Some((entry.byte, entry.length));
+        }
+        self.search(window, count)
+    }
+
+    /// The same, one word after the other.
+    fn search(&self, window: u32, count: u32) -> Option<(u8, u8)>
+        ensures found { (left : List Bool) → count ≡ min 25 (length left) → window ≡ number_of (take 24 left)
+            → found_in left result ≡ byte_from 0 self.now left }
+        ensures short { IfSome result (λ found. (found.1 ≤ 24) × (found.1 ≤ count)) }
     {
         for (byte, word) in self.words.iter().enumerate() {
             let length = u32::from(word.length);
@@ -132,4 +167,35 @@ impl Code {
         }
         None
     }
+}
+
+/// The index of these words.
+fn index_of(alloc: Global, words: &[Word]) -> Result<Vec<Entry>, NoMemory>
+    requires few { length words.now ≡ 256 }
+    requires words { All IsWord words.now }
+    ensures { IfOk result (λ index. IsIndex words.now index.items) }
+{
+    let mut entries = Vec::with_capacity(alloc, ENTRIES)?;
+    for k in 0..ENTRIES {
+        entries.push(entry_of(words, k as u32))?;
+    }
+    Ok(entries)
+}
+
+/// The first short word that begins these 12 bits.
+fn entry_of(words: &[Word], bits: u32) -> Entry
+    requires few { length words.now ≡ 256 }
+    requires words { All IsWord words.now }
+    ensures short { result.length ≤ 12 }
+    ensures leads { (result.length ≡ 0) ⊎ Leads words.now result bits }
+{
+    for (byte, word) in words.iter().enumerate() {
+        if u32::from(word.length) <= INDEXED && bits % (1 << word.length) == word.bits {
+            return Entry {
+                byte: byte as u8,
+                length: word.length,
+            };
+        }
+    }
+    Entry { byte: 0, length: 0 }
 }

@@ -1,8 +1,8 @@
-//! Laws of the code text, each the contract of a call that does nothing.
-//! A proof above cites a law by calling it.
+//! Laws of the code text, of texts one after the other, and of a message's bytes, each the contract of a call that does
+//! nothing. A proof above cites a law by calling it.
 
 ghost use Rattle.q3_bits.specs.Words.{IsCode, plain_words};
-ghost use Rattle.q3_bits.specs.Laws.{ReadWasPut, PutIsRead, EndsCutShort, PlainBitsEnd, PlainCauseIsEnd, MessageHoldsBits, MessageIsBytes};
+ghost use Rattle.q3_bits.specs.Laws.{ReadWasPut, PutIsRead, FieldsEndCutShort, PlainBitsEnd, TextsAreWritten, ListsAreRead, MessageHoldsBits, MessageIsBytes};
 
 /// The plain code has a word for each byte, and none begins another.
 pub fn plain_is_a_code()
@@ -19,10 +19,10 @@ pub fn put_is_read()
     ensures { PutIsRead }
 {}
 
-/// Where nothing is read, the bits have ended exactly where they are the front of a field's text;
-/// elsewhere they begin no word.
+/// Where a reader answers that the bits end, they are the front of a field's text; where it answers that they begin no
+/// word, they are none.
 pub fn ends_cut_short()
-    ensures { EndsCutShort }
+    ensures { FieldsEndCutShort }
 {}
 
 /// By the plain code nothing is read only where the bits end.
@@ -30,9 +30,14 @@ pub fn plain_bits_end()
     ensures { PlainBitsEnd }
 {}
 
-/// By the plain code no cause is another.
-pub fn plain_cause_is_end()
-    ensures { PlainCauseIsEnd }
+/// Texts that are written one after the other are written as one.
+pub fn texts_are_written()
+    ensures { TextsAreWritten }
+{}
+
+/// Values that are read one after the other over those of a list are read as one list.
+pub fn lists_are_read()
+    ensures { ListsAreRead }
 {}
 
 /// The bytes of a message hold its bits, and then zeros.

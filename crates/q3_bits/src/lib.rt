@@ -4,6 +4,7 @@
 pub mod code;
 pub mod laws;
 pub mod reader;
+mod rest;
 pub mod words;
 pub mod writer;
 
@@ -155,7 +156,7 @@ mod tests {
         let mut writer = Writer::new(&code, 64);
         assert_eq!(rt; writer.put(0x1fe03, 17), Ok(()));
         assert_eq!(rt; writer.put(0xff0f_1000, 32), Ok(()));
-        let copy = code.copy(rt.alloc())?;
+        let copy = code.copy()?;
         let mut reader = Reader::new(&copy, writer.bytes());
         assert_eq!(rt; reader.get(17), Ok(0x1fe03));
         assert_eq!(rt; reader.get(32), Ok(0xff0f_1000));

@@ -1,12 +1,13 @@
 //! A reader of bit messages. Keeps the rules "bit order of a field" and "code words".
 
-ghost use Rattle.std.specs.Prelude.{◌≡◌, ◌+◌, ◌-◌, ◌*◌, ◌/◌, ◌%◌, ◌^◌, ◌<◌, ◌≤◌, ℕ, true, false, length, take, drop, min, slice_index, slice_index_or, OnErr, Some, None, IfSome, IfOk};
-ghost use Rattle.q3_bits.specs.Bits.{bits_of, number_of};
-ghost use Rattle.q3_bits.specs.Words.{field_read, raw_at, bytes_at, byte_from, or_cause, word_cause, bytes_cause};
-ghost use Rattle.q3_bits.specs.Streams.{with_rest};
-ghost use Rattle.q3_bits.specs.Place.{bits_from, placed, placed_read};
+ghost use Rattle.std.specs.Prelude.{◌≡◌, ◌^◌, ◌<◌, ◌≤◌, length, IfOk, OnErr};
+ghost use Rattle.q3_bits.specs.Bits.{bits_of};
+ghost use Rattle.q3_bits.specs.Words.{raw_at, byte_at, bytes_at, field_at};
+ghost use Rattle.q3_bits.specs.Streams.{Reads};
+ghost use Rattle.q3_bits.specs.Unread.{rest_bits, rested};
 
 use crate::code::Code;
+use crate::rest::Rest;
 use std::marker::Model;
 
 /// Why no value could be read.
@@ -22,8 +23,8 @@ pub enum ReadError {
 #[derive(Drop)]
 pub struct Reader<'a> {
     code: &'a Code,
-    bytes: &'a [u8],
-    place: usize,
+    rest: Rest<'a>,
+    total: usize,
 }
 
 impl<'a> Model for Reader<'a> {
@@ -41,13 +42,12 @@ impl<'a> Model for Reader<'a> {
 impl<'a> Reader<'a> {
     /// Reads from the first bit of these bytes on, which may be any.
     pub fn new(code: &'a Code, bytes: &'a [u8]) -> Reader<'a>
-        requires { length bytes.now < 2 ^ 60 }
         ensures { result ≡ record { words = code.now; left = bits_of bytes.now; place = 0 } }
     {
         Reader {
             code,
-            bytes,
-            place: 0,
+            rest: Rest::new(bytes),
+            total: bytes.len(),
         }
     }
 
@@ -57,119 +57,67 @@ impl<'a> Reader<'a> {
     pub fn get(&mut self, width: u32) -> Result<u32, ReadError>
         requires some { 1 ≤ width }
         requires most { width ≤ 32 }
-        ensures value { with_rest self.new.left result ≡ field_read self.old.words width self.old.left }
+        ensures reads { Reads self.old self.new (field_at self.old.words width self.old.left) result }
         ensures fits { IfOk result (λ value. value < 2 ^ width) }
-        ensures place { self.new.place + length self.new.left ≡ self.old.place + length self.old.left }
-        ensures words { self.new.words ≡ self.old.words }
         ensures err { OnErr result (self.new ≡ self.old) }
     {
         let raw = width % 8;
-        let Some((low, place)) = raw_from(self.bytes, self.place, raw) else {
-            return Err(ReadError::End);
-        };
-        let (high, place) = bytes_from(self.code, self.bytes, place, width / 8)?;
-        self.place = place;
+        let (low, rest) = raw_from(self.rest, raw)?;
+        let (high, rest) = bytes_from(self.code, rest, width / 8)?;
+        self.rest = rest;
         Ok(low + (high << raw))
     }
 
     /// How many bits were read.
     pub fn place(&self) -> usize
+        requires { self.now.place < 2 ^ 64 }
         ensures { result ≡ self.now.place }
     {
-        self.place
+        8 * (self.total - self.rest.bytes.len()) + self.rest.bit as usize
     }
 }
 
-/// The bit at a place.
-fn bit_at(bytes: &[u8], place: usize) -> bool
-    requires { place < 8 * length bytes.now }
-    ensures { result ≡ slice_index_or (bits_of bytes.now) place false }
+/// So many raw bits as a number, and what is behind them.
+fn raw_from(rest: Rest, count: u32) -> Result<(u32, Rest), ReadError>
+    requires { count ≤ 24 }
+    ensures bits { rested result ≡ raw_at count (rest_bits rest.entry) }
+    ensures bytes { IfOk result (λ found. length found.1.bytes.now ≤ length rest.entry.bytes.now) }
+    ensures fits { IfOk result (λ found. found.0 < 2 ^ count) }
 {
-    (bytes[place / 8] >> (place % 8)) % 2 == 1
-}
-
-/// The next `count` bits as a number, or fewer where fewer are there.
-fn window(bytes: &[u8], place: usize, count: u32) -> u32
-    requires few { count ≤ 24 }
-    requires within { place + count ≤ 8 * length bytes.now }
-    requires small { length bytes.now < 2 ^ 60 }
-    ensures bits { result ≡ number_of (take count (bits_from bytes.now place)) }
-    ensures fits { result < 2 ^ count }
-{
-    let mut number = 0;
-    for k in 0..count {
-        if bit_at(bytes, place + k as usize) {
-            number += 1 << k;
-        }
+    if rest.count() < count {
+        return Err(ReadError::End);
     }
-    number
+    Ok((rest.window() % (1 << count), rest.skip(count)))
 }
 
-/// So many raw bits as a number, and the place behind them.
-fn raw_from(bytes: &[u8], place: usize, count: u32) -> Option<(u32, usize)>
-    requires few { count ≤ 24 }
-    requires within { place ≤ 8 * length bytes.now }
-    requires small { length bytes.now < 2 ^ 60 }
-    ensures bits { placed bytes.now result ≡ raw_at count (bits_from bytes.now place) }
-    ensures within { IfSome result (λ found. found.1 ≤ 8 * length bytes.now) }
-    ensures fits { IfSome result (λ found. found.0 < 2 ^ count) }
+/// The byte whose word comes next, and what is behind the word.
+fn byte_from<'a>(code: &Code, rest: Rest<'a>) -> Result<(u8, Rest<'a>), ReadError>
+    ensures byte { rested result ≡ byte_at code.now (rest_bits rest.entry) }
+    ensures bytes { IfOk result (λ found. length found.1.bytes.now ≤ length rest.entry.bytes.now) }
+    ensures small { IfOk result (λ found. found.0 < 256) }
 {
-    if 8 * bytes.len() - place < count as usize {
-        return None;
+    let window = rest.window();
+    let count = rest.count();
+    match code.find(window, count) {
+        Some((byte, length)) => Ok((byte, rest.skip(u32::from(length)))),
+        None if code.begins_with(window, count) => Err(ReadError::End),
+        None => Err(ReadError::NoWord),
     }
-    Some((window(bytes, place, count), place + count as usize))
 }
 
-/// The byte whose word begins at a place, and the place behind the word.
-fn byte_at(code: &Code, bytes: &[u8], place: usize) -> Option<(u8, usize)>
-    requires within { place ≤ 8 * length bytes.now }
-    requires small { length bytes.now < 2 ^ 60 }
-    ensures byte { placed bytes.now result ≡ byte_from 0 code.now (bits_from bytes.now place) }
-    ensures within { IfSome result (λ found. found.1 ≤ 8 * length bytes.now) }
-    ensures small { IfSome result (λ found. found.0 < 256) }
-{
-    let count = (8 * bytes.len() - place).min(24) as u32;
-    let (byte, length) = code.find(window(bytes, place, count), count)?;
-    Some((byte, place + usize::from(length)))
-}
-
-/// Why no word begins at a place: the bits end in a word, or they begin none.
-fn cause_at(code: &Code, bytes: &[u8], place: usize) -> ReadError
-    requires within { place ≤ 8 * length bytes.now }
-    requires small { length bytes.now < 2 ^ 60 }
-    ensures { result ≡ word_cause code.now (bits_from bytes.now place) }
-{
-    let left = 8 * bytes.len() - place;
-    let front = window(bytes, place, left.min(24) as u32);
-    if code.begins_with(front, left) {
-        return ReadError::End;
-    }
-    ReadError::NoWord
-}
-
-/// So many bytes by their words, least byte first, and the place behind them.
-fn bytes_from(
-    code: &Code,
-    bytes: &[u8],
-    place: usize,
-    count: u32,
-) -> Result<(u32, usize), ReadError>
+/// So many bytes by their words, least byte first, and what is behind them.
+fn bytes_from<'a>(code: &Code, rest: Rest<'a>, count: u32) -> Result<(u32, Rest<'a>), ReadError>
     requires few { count ≤ 4 }
-    requires within { place ≤ 8 * length bytes.now }
-    requires small { length bytes.now < 2 ^ 60 }
-    ensures bytes { placed_read bytes.now result
-        ≡ or_cause (bytes_at code.now count (bits_from bytes.now place)) (bytes_cause code.now count (bits_from bytes.now place)) }
-    ensures within { IfOk result (λ found. found.1 ≤ 8 * length bytes.now) }
+    ensures bytes_at { rested result ≡ bytes_at code.now count (rest_bits rest.entry) }
+    ensures bytes { IfOk result (λ found. length found.1.bytes.now ≤ length rest.entry.bytes.now) }
     ensures fits { IfOk result (λ found. found.0 < 256 ^ count) }
 {
     let mut number = 0;
-    let mut end = place;
+    let mut left = rest;
     for k in 0..count {
-        let Some((byte, behind)) = byte_at(code, bytes, end) else {
-            return Err(cause_at(code, bytes, end));
-        };
+        let (byte, behind) = byte_from(code, left)?;
         number += u32::from(byte) << (8 * k);
-        end = behind;
+        left = behind;
     }
-    Ok((number, end))
+    Ok((number, left))
 }

@@ -128,7 +128,7 @@ fn clash_with(words: &[Word], i: usize) -> Option<usize>
 {
     let word = words[i];
     for j in 0..words.len() {
-        if i != j && words[j].starts_with(word.bits, usize::from(word.length)) {
+        if i != j && words[j].starts_with(word.bits, u32::from(word.length)) {
             return Some(j);
         }
     }

@@ -1,8 +1,10 @@
 //! A writer of bit messages. Keeps the rules "bit order of a field" and "padding and the longest message".
 
-ghost use Rattle.std.specs.Prelude.{◌≡◌, ◌+◌, ◌-◌, ◌*◌, ◌/◌, ◌%◌, ◌^◌, ◌<◌, ◌≤◌, ◌↔◌, ◌++◌, ℕ, [], ◌∷◌, length, take, IsTrue, IsErr, OnOk, OnErr, slice_index, EachIndex, All};
+ghost use Rattle.std.specs.Prelude.{◌≡◌, ◌+◌, ◌*◌, ◌/◌, ◌%◌, ◌^◌, ◌<◌, ◌≤◌, ◌↔◌, ◌++◌, ℕ, [], length, take, IsTrue, OnErr, slice_index, All};
 ghost use Rattle.q3_bits.specs.Bits.{low_bits, message_bytes, message_length};
 ghost use Rattle.q3_bits.specs.Words.{field_bits, bytes_bits};
+ghost use Rattle.q3_bits.specs.Streams.{Writes};
+ghost use Rattle.q3_bits.specs.Buffer.{bits_within, IsClear};
 
 use crate::code::Code;
 use std::marker::Model;
@@ -33,6 +35,7 @@ impl<'a> Model for Writer<'a> {
 }
 
 /// So many zeros.
+#[inline(always)]
 fn zeros<const N: usize>() -> [u8; N]
     ensures { (k : ℕ) → slice_index result k ≡ 0 }
 {
@@ -69,18 +72,22 @@ impl<'a> Writer<'a> {
     pub fn put(&mut self, value: u32, width: u32) -> Result<(), Overflow>
         requires some { 1 ≤ width }
         requires most { width ≤ 32 }
-        ensures overflow { IsErr result ↔
-            (self.old.room < message_length (length self.old.bits + length (field_bits self.old.words width value))) }
-        ensures ok { OnOk result (self.new
-            ≡ record self.old { bits = self.old.bits ++ field_bits self.old.words width value }) }
+        ensures writes { Writes self.old self.new (field_bits self.old.words width value) result }
         ensures err { OnErr result (self.new ≡ self.old) }
     {
         let raw = width % 8;
-        if !self.has_room(raw + self.words_length(value >> raw, width / 8)) {
+        let words = value >> raw;
+        let first = (width / 8).min(2);
+        let low = gather(self.code, words, first);
+        let high = gather(self.code, words >> 16, width / 8 - first);
+        if !self.has_room(raw + low.count + high.count) {
             return Err(Overflow);
         }
-        self.push_bits(value, raw);
-        self.push_words(value >> raw, width / 8);
+        self.push(
+            u64::from(value % (1 << raw)) + (low.bits << raw),
+            raw + low.count,
+        );
+        self.push(high.bits, high.count);
         Ok(())
     }
 
@@ -107,54 +114,61 @@ impl<'a> Writer<'a> {
         (self.count + count as usize) / 8 < self.room
     }
 
-    /// How many bits the words of a value's bytes take.
-    fn words_length(&self, value: u32, count: u32) -> u32
-        requires { count ≤ 4 }
-        ensures length { result ≡ length (bytes_bits self.now.words count value) }
-        ensures short { result ≤ 24 * count }
-    {
-        let mut length = 0;
-        let mut rest = value;
-        for _ in 0..count {
-            length += u32::from(self.code.word((rest % 256) as u8).length);
-            rest /= 256;
-        }
-        length
-    }
-
-    /// Writes the words of a value's bytes, least byte first.
-    fn push_words(&mut self, value: u32, count: u32)
-        requires few { count ≤ 4 }
-        requires room { message_length (length self.old.bits + length (bytes_bits self.old.words count value)) ≤ self.old.room }
-        ensures { self.new ≡ record self.old { bits = self.old.bits ++ bytes_bits self.old.words count value } }
-    {
-        let mut rest = value;
-        for _ in 0..count {
-            let word = self.code.word((rest % 256) as u8);
-            self.push_bits(word.bits, u32::from(word.length));
-            rest /= 256;
-        }
-    }
-
-    /// Writes the low bits of a value, raw.
-    fn push_bits(&mut self, value: u32, count: u32)
-        requires few { count ≤ 32 }
+    /// Writes bits, so many, given as the number that they spell.
+    fn push(&mut self, bits: u64, count: u32)
+        requires few { count ≤ 56 }
+        requires fits { bits < 2 ^ count }
         requires room { message_length (length self.old.bits + count) ≤ self.old.room }
-        ensures { self.new ≡ record self.old { bits = self.old.bits ++ low_bits count value } }
+        ensures { self.new ≡ record self.old { bits = self.old.bits ++ low_bits count bits } }
     {
-        let mut rest = value;
-        for _ in 0..count {
-            self.push_bit(rest % 2 == 1);
-            rest /= 2;
-        }
+        store(&mut self.bytes, self.count, bits, count);
+        self.count += count as usize;
     }
+}
 
-    /// Writes one bit.
-    fn push_bit(&mut self, bit: bool)
-        requires { message_length (length self.old.bits + 1) ≤ self.old.room }
-        ensures { self.new ≡ record self.old { bits = self.old.bits ++ bit ∷ [] } }
-    {
-        self.bytes[self.count / 8] |= u8::from(bit) << (self.count % 8);
-        self.count += 1;
+/// Bits, so many, given as the number that they spell.
+#[derive(Clone, Copy)]
+struct Gathered {
+    bits: u64,
+    count: u32,
+}
+
+/// The words of a value's bytes, least byte first.
+fn gather(code: &Code, value: u32, count: u32) -> Gathered
+    requires { count ≤ 2 }
+    ensures words { low_bits result.count result.bits ≡ bytes_bits code.now count value }
+    ensures fits { result.bits < 2 ^ result.count }
+    ensures few { result.count ≤ 24 * count }
+{
+    let mut bits = 0;
+    let mut length = 0;
+    let mut rest = value;
+    for _ in 0..count {
+        let word = code.word((rest % 256) as u8);
+        bits += u64::from(word.bits) << length;
+        length += u32::from(word.length);
+        rest /= 256;
     }
+    Gathered {
+        bits,
+        count: length,
+    }
+}
+
+/// Writes bits behind those that lie in the bytes, `place` of them.
+fn store(bytes: &mut [u8; 16_384], place: usize, bits: u64, count: u32)
+    requires few { count ≤ 56 }
+    requires fits { bits < 2 ^ count }
+    requires within { (place + count) / 8 < 16384 }
+    requires clear { IsClear bytes.old place }
+    ensures bits { bits_within bytes.new (place + count) ≡ bits_within bytes.old place ++ low_bits count bits }
+    ensures clear { IsClear bytes.new (place + count) }
+{
+    let end = place + count as usize;
+    let mut rest = u64::from(bytes[place / 8]) + (bits << (place % 8));
+    for k in place / 8..end / 8 {
+        bytes[k] = (rest % 256) as u8;
+        rest /= 256;
+    }
+    bytes[end / 8] = rest as u8;
 }

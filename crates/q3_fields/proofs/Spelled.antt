@@ -3,14 +3,15 @@ use Rattle.std.proofs.Common.{◌≡◌, ℕ, ◌^◌, ◌≤◌, ◌<◌, ◌%�
 use Rattle.std.proofs.lemmas.Bool.{cases_Bool, eqb-true, eqb-false, ne_eqb}
 use Rattle.std.proofs.lemmas.Nat.{mod_below, pow_pos}
 use Rattle.std.proofs.Math.Pow.{pow_mono}
-use Rattle.q3_bits.specs.Words.{IsCode, field_bits, field_at, field_read, or_cause, cause_of}
+use Rattle.q3_bits.specs.ResultBind.{◌>>=◌, bind_ok}
+use Rattle.q3_bits.specs.Words.{IsCode, field_bits, field_at}
 use Rattle.q3_bits.specs.Laws.{ReadWasPut, PutIsRead}
 use Rattle.q3_bits.specs.declared.reader.ReadError.{ReadError}
 use Rattle.q3_fields.specs.declared.kind.Kind.{Kind}
 use Rattle.q3_fields.specs.declared.kind.Kind.TheVariants.{Float, Unsigned, Signed}
 use Rattle.q3_fields.specs.Kinds.{IsKind, norm}
 use Rattle.q3_fields.specs.Floats.{pattern, small_float}
-use Rattle.q3_fields.specs.Texts.{biased, unbiased, float_bits, player_field, entity_field, ◌>>=◌, float_at, integer_at, player_field_at, entity_field_at}
+use Rattle.q3_fields.specs.Texts.{biased, unbiased, float_bits, player_field, entity_field, float_at, integer_at, player_field_at, entity_field_at}
 use Rattle.q3_fields.specs.Spelling.{SpellsFloat, SpellsInteger}
 use Rattle.q3_fields.specs.Laws.{IsSmall, PlayerFieldIsSpelled, EntityFieldIsSpelled, PlayerReadIsSpelled, EntityReadIsSpelled, PlayerSpelledIsRead, EntitySpelledIsRead}
 use Rattle.q3_fields.proofs.FieldBits.{field_bits-cut}
@@ -23,40 +24,21 @@ use Rattle.q3_fields.proofs.Normal.{norm-below, norm-twice, norm-zero, norm-floa
 abbrev answer : ℕ → List Bool → Result (ℕ × List Bool) ReadError
 answer x rest = Ok (x, rest)
 
--- the value of a step that did not fail
-bind_ok : (r : Result (ℕ × List Bool) ReadError) (f : ℕ × List Bool → Result (ℕ × List Bool) ReadError) (y : ℕ × List Bool) → (r >>= f) ≡ Ok y
-    → (x : ℕ × List Bool) × (r ≡ Ok x) × (f x ≡ Ok y)
-bind_ok (Ok x) f y e = (x, refl, e)
-bind_ok (Err d) f y e = absurd cc
-
 -- the parts of an answer
 answer_parts : (x x' : ℕ) (rest rest' : List Bool) → answer x rest ≡ answer x' rest' → (x ≡ x') × (rest ≡ rest')
 answer_parts x x' rest rest' e =
     let whole : (λ (p : ℕ × List Bool). p) (x, rest) ≡ (x', rest') = cc in
     (ap (λ (p : ℕ × List Bool). p.0) whole, ap (λ (p : ℕ × List Bool). p.1) whole)
 
--- a value that was found
-or_cause_ok : (o : Option (ℕ × List Bool)) (cause : ReadError) (found : ℕ × List Bool) → or_cause o cause ≡ Ok found → o ≡ Some found
-or_cause_ok (Some x) cause found e = cc
-or_cause_ok None cause found e = absurd cc
-
 -- bits that are read were put
-bits_were_put : ReadWasPut → (words : List (List Bool)) → IsCode words → (width : ℕ) (bits : List Bool) (found : ℕ × List Bool) → field_read words width bits ≡ Ok found
+bits_were_put : ReadWasPut → (words : List (List Bool)) → IsCode words → (width : ℕ) (bits : List Bool) (found : ℕ × List Bool) → field_at words width bits ≡ Ok found
     → (found.0 < 2 ^ width) × (bits ≡ field_bits words width found.0 ++ found.1)
-unfolding field_read
-bits_were_put law words code width bits found e =
-    law words width found.0 bits found.1 code (or_cause_ok (field_at words width bits) (cause_of words width bits) found e)
+bits_were_put law words code width bits found e = law words width found.0 bits found.1 code e
 
 -- they are the text of the value, and the rest
 bits_were : (words : List (List Bool)) (width : ℕ) (bits : List Bool) (found : ℕ × List Bool) (value : ℕ) (rest : List Bool) → bits ≡ field_bits words width found.0 ++ found.1
     → found.0 ≡ value → found.1 ≡ rest → bits ≡ field_bits words width value ++ rest
 bits_were words width bits found value rest put is left = rw (← is, ← left) put
-
--- bits that are put are read
-bits_are_read : PutIsRead → (words : List (List Bool)) → IsCode words → (width value : ℕ) (rest : List Bool) → value < 2 ^ width
-    → field_read words width (field_bits words width value ++ rest) ≡ Ok (value, rest)
-unfolding field_read
-bits_are_read law words code width value rest fits = rw (law words width value rest code fits) refl
 
 -- a text behind a mark, and what is behind both
 behind_mark : (bits mark text left rest : List Bool) → bits ≡ mark ++ left → left ≡ text ++ rest → bits ≡ mark ++ text ++ rest
@@ -120,17 +102,17 @@ WasSpelled Spells kind word bits rest = (word < 4294967296) × (norm kind word �
 -- how a float goes on behind its first bit
 abbrev float_behind : List (List Bool) → ℕ × List Bool → Result (ℕ × List Bool) ReadError
 float_behind words full =
-    field_read words (cond (eqb full.0 0) 13 32) full.1 >>= λ value. Ok (cond (eqb full.0 0) (pattern (unbiased value.0)) (norm Float value.0), value.1)
+    field_at words (cond (eqb full.0 0) 13 32) full.1 >>= λ value. Ok (cond (eqb full.0 0) (pattern (unbiased value.0)) (norm Float value.0), value.1)
 
 float_was_spelled : ReadWasPut → (words : List (List Bool)) (word : ℕ) (bits rest : List Bool) → IsCode words → float_at words bits ≡ Ok (word, rest)
     → WasSpelled (λ kind. SpellsFloat words) Float word bits rest
 unfolding float_at
 float_was_spelled law words word bits rest code e =
-    let full = bind_ok (field_read words 1 bits) (float_behind words) (word, rest) e in
+    let full = bind_ok (field_at words 1 bits) (float_behind words) (word, rest) e in
     let mark = bits_were_put law words code 1 bits full.0 full.1 in
     elim (cases_Bool (eqb full.0.0 0)) [
       | inl short ↦
-          let value = bind_ok (field_read words 13 full.0.1) (λ value. Ok (pattern (unbiased value.0), value.1)) (word, rest) (rw short at full.2) in
+          let value = bind_ok (field_at words 13 full.0.1) (λ value. Ok (pattern (unbiased value.0), value.1)) (word, rest) (rw short at full.2) in
           let parts = answer_parts (pattern (unbiased value.0.0)) word value.0.1 rest value.2 in
           let put = bits_were_put law words code 13 full.0.1 value.0 value.1 in
           let small : IsSmall (unbiased value.0.0) = unbiased-small value.0.0 put.0 in
@@ -143,7 +125,7 @@ float_was_spelled law words word bits rest code e =
             inl (value.0.0, put.0, sym parts.0, refl),
           )
       | inr long ↦
-          let value = bind_ok (field_read words 32 full.0.1) (λ value. Ok (norm Float value.0, value.1)) (word, rest) (rw long at full.2) in
+          let value = bind_ok (field_at words 32 full.0.1) (λ value. Ok (norm Float value.0, value.1)) (word, rest) (rw long at full.2) in
           let parts = answer_parts (norm Float value.0.0) word value.0.1 rest value.2 in
           let put = bits_were_put law words code 32 full.0.1 value.0 value.1 in
           let left : full.0.1 ≡ field_bits words 32 value.0.0 ++ rest = bits_were words 32 full.0.1 value.0 value.0.0 rest put.1 refl parts.1 in
@@ -160,7 +142,7 @@ float_was_spelled law words word bits rest code e =
 integer_was_spelled : ReadWasPut → (words : List (List Bool)) (kind : Kind) (width word : ℕ) (bits rest : List Bool) → IsCode words → IsKind kind → width ≤ 32
     → integer_at words kind width bits ≡ Ok (word, rest) → WasSpelled (λ kind. SpellsInteger words kind width) kind word bits rest
 integer_was_spelled law words kind width word bits rest code allowed few e =
-    let value = bind_ok (field_read words width bits) (λ value. Ok (norm kind value.0, value.1)) (word, rest) e in
+    let value = bind_ok (field_at words width bits) (λ value. Ok (norm kind value.0, value.1)) (word, rest) e in
     let parts = answer_parts (norm kind value.0.0) word value.0.1 rest value.2 in
     let put = bits_were_put law words code width bits value.0 value.1 in
     let most : 2 ^ width ≤ 2 ^ 32 = pow_mono few in (
@@ -186,7 +168,7 @@ player_read_spelled law words (Signed width) word bits rest code allowed e = int
 pub entity_read_spelled : ReadWasPut → PlayerReadIsSpelled → EntityReadIsSpelled
 unfolding entity_field_at
 entity_read_spelled law player words kind word bits rest code allowed e =
-    let mark = bind_ok (field_read words 1 bits) (λ mark. cond (eqb mark.0 0) (Ok (0, mark.1)) (player_field_at words kind mark.1)) (word, rest) e in
+    let mark = bind_ok (field_at words 1 bits) (λ mark. cond (eqb mark.0 0) (Ok (0, mark.1)) (player_field_at words kind mark.1)) (word, rest) e in
     let put = bits_were_put law words code 1 bits mark.0 mark.1 in
     elim (cases_Bool (eqb mark.0.0 0)) [
       | inl none ↦
@@ -214,13 +196,13 @@ float_is_read : PutIsRead → (words : List (List Bool)) (word : ℕ) (text rest
     → float_at words (text ++ rest) ≡ Ok (word, rest)
 unfolding float_at
 float_is_read law words word text rest code (inl (value, fits, is, whole)) =
-    rw (whole, append_assoc, bits_are_read law words code 1 0 (field_bits words 13 value ++ rest) (omega arith), bits_are_read law words code 13 value rest fits, is) refl
+    rw (whole, append_assoc, law words 1 0 (field_bits words 13 value ++ rest) code (omega arith), law words 13 value rest code fits, is) refl
 float_is_read law words word text rest code (inr (value, fits, is, whole)) =
-    rw (whole, append_assoc, bits_are_read law words code 1 1 (field_bits words 32 value ++ rest) (omega arith), bits_are_read law words code 32 value rest fits, is) refl
+    rw (whole, append_assoc, law words 1 1 (field_bits words 32 value ++ rest) code (omega arith), law words 32 value rest code fits, is) refl
 
 integer_is_read : PutIsRead → (words : List (List Bool)) (kind : Kind) (width word : ℕ) (text rest : List Bool) → IsCode words → SpellsInteger words kind width word text
     → integer_at words kind width (text ++ rest) ≡ Ok (word, rest)
-integer_is_read law words kind width word text rest code (value, fits, is, whole) = rw (whole, bits_are_read law words code width value rest fits, is) refl
+integer_is_read law words kind width word text rest code (value, fits, is, whole) = rw (whole, law words width value rest code fits, is) refl
 
 pub player_spelled_read : PutIsRead → PlayerSpelledIsRead
 unfolding player_field_at
@@ -231,6 +213,6 @@ player_spelled_read law words (Signed width) word text rest code allowed s = int
 pub entity_spelled_read : PutIsRead → PlayerSpelledIsRead → EntitySpelledIsRead
 unfolding entity_field_at
 entity_spelled_read law player words kind word text rest code allowed (inl (is, whole)) =
-    rw (whole, bits_are_read law words code 1 0 rest (omega arith), is) refl
+    rw (whole, law words 1 0 rest code (omega arith), is) refl
 entity_spelled_read law player words kind word text rest code allowed (inr (field, spelled, whole)) =
-    rw (whole, append_assoc, bits_are_read law words code 1 1 (field ++ rest) (omega arith)) (player words kind word field rest code allowed spelled)
+    rw (whole, append_assoc, law words 1 1 (field ++ rest) code (omega arith)) (player words kind word field rest code allowed spelled)

@@ -1,5 +1,7 @@
 -- Kinds of fields, tables of them, and the normal form of a field's word.
 use Rattle.std.specs.Prelude.{◌≡◌, ◌⊎◌, ℕ, ◌+◌, ◌-◌, ◌^◌, ◌%◌, ◌≤◌, ◌==◌, ◌&&◌, ◌||◌, nat_lt, nat_le, if◌then◌else◌, List, [], ◌∷◌, length, All, ℤ, pos, negsuc, Option, Some, None, Result, Ok, Err}
+use Rattle.std.specs.Option.{ok_or}
+use Rattle.q3_bits.specs.ResultBind.{◌>>=◌}
 use Rattle.q3_fields.specs.declared.kind.Kind.{Kind}
 use Rattle.q3_fields.specs.declared.kind.Kind.TheVariants.{Float, Unsigned, Signed}
 use Rattle.q3_fields.specs.declared.table.TableError.{TableError}
@@ -20,40 +22,39 @@ IsKind Float = Unit {0}
 IsKind (Unsigned width) = (1 ≤ width) × (width ≤ 32)
 IsKind (Signed width) = (width ≡ 8) ⊎ ((width ≡ 16) ⊎ (width ≡ 24))
 
-infixl 10 ◌>>=◌
-abbrev pub ◌>>=◌ : {A B : Type 0} → Result A TableError → (A → Result B TableError) → Result B TableError
-(Ok x) >>= f = f x
-(Err e) >>= f = Err e
-
--- the kind of the width at a place
-abbrev pub kind_at : ℕ → ℤ → Result Kind TableError
-kind_at i width = or_error (kind_of width)
-  where
-    or_error : Option Kind → Result Kind TableError
-    or_error (Some kind) = Ok kind
-    or_error None = Err (Width i)
-
 -- the kinds of these widths, counted from i, or the first width that isn't allowed
 unfoldable pub kinds_from : ℕ → List ℤ → Result (List Kind) TableError
 kinds_from i [] = Ok []
 kinds_from i (width ∷ widths) = do
-  kind ← kind_at i width
+  kind ← ok_or (kind_of width) (Width i)
   kinds ← kinds_from (i + 1) widths
   Ok (kind ∷ kinds)
 
--- the table of 1 to 64 widths
-unfoldable pub table_of : List ℤ → Result (List Kind) TableError
-table_of widths = if nat_le 1 (length widths) && nat_le (length widths) 64 then kinds_from 0 widths else Err Fields
+-- a table: the kinds of its fields, and how many bits a number of an entity has
+pub record Layout : Type 0 where
+  pub kinds : List Kind
+  pub number_bits : ℕ
 
--- the kinds of a table's fields
-pub record IsTable (table : List Kind) : Type 0 where
-  pub some : 1 ≤ length table
-  pub few : length table ≤ 64
-  pub each : All IsKind table
+-- the table of 1 to 64 widths; entity numbers have 10 bits
+unfoldable pub table_of : List ℤ → Result Layout TableError
+table_of widths = do
+  kinds ← if nat_le 1 (length widths) && nat_le (length widths) 64 then kinds_from 0 widths else Err Fields
+  Ok (record { kinds = kinds; number_bits = 10 })
 
--- the end mark of the entity numbers
-abbrev pub end_mark : List Kind → ℕ
-end_mark table = 1023
+-- 1 to 64 fields of allowed kinds
+pub record AreKinds (kinds : List Kind) : Type 0 where
+  pub some : 1 ≤ length kinds
+  pub few : length kinds ≤ 64
+  pub each : All IsKind kinds
+
+-- a table has such fields, and numbers of 1 to 16 bits
+pub record IsTable (table : Layout) : Type 0 where
+  pub kinds : AreKinds table.kinds
+  pub number_bits : (1 ≤ table.number_bits) × (table.number_bits ≤ 16)
+
+-- the end mark of the entity numbers: all bits 1
+abbrev pub end_mark : Layout → ℕ
+end_mark table = 2 ^ table.number_bits - 1
 
 -- a word cut to so many bits, with the last of them as its sign
 abbrev pub sign_extended : ℕ → ℕ → ℕ

@@ -1,15 +1,14 @@
 -- How a table lies in its array.
 use Rattle.std.specs.Prelude.{◌≡◌, List, length, take}
-use Rattle.q3_fields.specs.declared.kind.Kind.{Kind}
 use Rattle.q3_fields.specs.declared.table.Table.TheInside.{Inside}
-use Rattle.q3_fields.specs.Kinds.{IsTable}
+use Rattle.q3_fields.specs.Kinds.{Layout, IsTable}
 
 -- the first kinds, so many
-abbrev pub kinds_within : Inside → List Kind
-kinds_within t = take t.count t.kinds
+abbrev pub layout_of : Inside → Layout
+layout_of t = record { kinds = take t.count t.kinds; number_bits = t.number_bits }
 
 -- they are a table, and there is a place for each
 pub record IsFilled (t : Inside) : Type 0 where
   pub places : length t.kinds ≡ 64
   pub count : t.count ≡ length (take t.count t.kinds)
-  pub table : IsTable (take t.count t.kinds)
+  pub table : IsTable (layout_of t)

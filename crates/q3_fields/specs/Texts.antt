@@ -1,6 +1,7 @@
 -- The text of a changed field, and what a reader answers.
-use Rattle.std.specs.Prelude.{ℕ, ◌==◌, if◌then◌else◌, Bool, List, ◌++◌, ℤ, pos, ◌-ℤ◌, ◌+ℤ◌, nat_abs, Option, Some, None, Result, Ok, Err}
-use Rattle.q3_bits.specs.Words.{field_bits, field_read}
+use Rattle.std.specs.Prelude.{ℕ, ◌==◌, if◌then◌else◌, Bool, List, ◌++◌, ℤ, pos, ◌-ℤ◌, ◌+ℤ◌, nat_abs, Option, Some, None, Result, Ok}
+use Rattle.q3_bits.specs.ResultBind.{◌>>=◌}
+use Rattle.q3_bits.specs.Words.{field_bits, field_at}
 use Rattle.q3_bits.specs.declared.reader.ReadError.{ReadError}
 use Rattle.q3_fields.specs.declared.kind.Kind.{Kind}
 use Rattle.q3_fields.specs.declared.kind.Kind.TheVariants.{Float, Unsigned, Signed}
@@ -30,22 +31,17 @@ unfoldable pub entity_field : List (List Bool) → Kind → ℕ → List Bool
 entity_field words kind word =
     if norm kind word == 0 then field_bits words 1 0 else field_bits words 1 1 ++ player_field words kind word
 
-infixl 10 ◌>>=◌
-abbrev pub ◌>>=◌ : {A B : Type 0} → Result A ReadError → (A → Result B ReadError) → Result B ReadError
-(Ok x) >>= f = f x
-(Err e) >>= f = Err e
-
 -- a float that is read, in normal form: 13 bits behind bit 0, and 32 behind bit 1
 unfoldable pub float_at : List (List Bool) → List Bool → Result (ℕ × List Bool) ReadError
 float_at words bits = do
-  full ← field_read words 1 bits
-  value ← field_read words (if full.0 == 0 then 13 else 32) full.1
+  full ← field_at words 1 bits
+  value ← field_at words (if full.0 == 0 then 13 else 32) full.1
   Ok (if full.0 == 0 then pattern (unbiased value.0) else norm Float value.0, value.1)
 
 -- an integer that is read, in normal form
 abbrev pub integer_at : List (List Bool) → Kind → ℕ → List Bool → Result (ℕ × List Bool) ReadError
 integer_at words kind width bits = do
-  value ← field_read words width bits
+  value ← field_at words width bits
   Ok (norm kind value.0, value.1)
 
 -- the field of a player delta at the front of the bits, in normal form, and what is behind it
@@ -57,5 +53,5 @@ player_field_at words (Signed width) bits = integer_at words (Signed width) widt
 -- the same of an entity delta
 unfoldable pub entity_field_at : List (List Bool) → Kind → List Bool → Result (ℕ × List Bool) ReadError
 entity_field_at words kind bits = do
-  mark ← field_read words 1 bits
+  mark ← field_at words 1 bits
   if mark.0 == 0 then Ok (0, mark.1) else player_field_at words kind mark.1

@@ -94,6 +94,7 @@ mod tests {
         assert_eq!(rt; table.kind(1), Some(Kind::Unsigned(8)));
         assert_eq!(rt; table.kind(2), Some(Kind::Signed(16)));
         assert_eq!(rt; table.kind(3), None);
+        assert_eq!(rt; table.number_bits(), 10);
         assert_eq!(rt; table.end(), 1023);
         Ok(())
     }

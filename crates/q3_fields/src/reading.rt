@@ -2,8 +2,8 @@
 //! field, the engine's `MSG_ReadDeltaEntity` and `MSG_ReadDeltaPlayerstate`. That a float in full comes back in normal
 //! form is this project's own.
 
-ghost use Rattle.std.specs.Prelude.{◌≡◌, ◌+◌, ◌<◌, ◌≤◌, ◌^◌, length, IfOk};
-ghost use Rattle.q3_bits.specs.Streams.{with_rest};
+ghost use Rattle.std.specs.Prelude.{◌≤◌};
+ghost use Rattle.q3_bits.specs.Streams.{Reads};
 ghost use Rattle.q3_fields.specs.Kinds.{IsKind};
 ghost use Rattle.q3_fields.specs.Texts.{float_at, integer_at, player_field_at, entity_field_at};
 
@@ -16,9 +16,7 @@ use q3_bits::{ReadError, Reader};
 #[tactic(auto, unfolding(crate::specs::Texts::player_field_at))]
 pub fn read_player_field(r: &mut Reader, kind: Kind) -> Result<u32, ReadError>
     requires { IsKind kind }
-    ensures value { with_rest r.new.left result ≡ player_field_at r.old.words kind r.old.left }
-    ensures words { r.new.words ≡ r.old.words }
-    ensures place { r.new.place + length r.new.left ≡ r.old.place + length r.old.left }
+    ensures { Reads r.old r.new (player_field_at r.old.words kind r.old.left) result }
 {
     match kind {
         Kind::Float => read_float(r),
@@ -32,9 +30,7 @@ pub fn read_player_field(r: &mut Reader, kind: Kind) -> Result<u32, ReadError>
 #[tactic(auto, unfolding(crate::specs::Texts::entity_field_at))]
 pub fn read_entity_field(r: &mut Reader, kind: Kind) -> Result<u32, ReadError>
     requires { IsKind kind }
-    ensures value { with_rest r.new.left result ≡ entity_field_at r.old.words kind r.old.left }
-    ensures words { r.new.words ≡ r.old.words }
-    ensures place { r.new.place + length r.new.left ≡ r.old.place + length r.old.left }
+    ensures { Reads r.old r.new (entity_field_at r.old.words kind r.old.left) result }
 {
     if r.get(1)? == 0 {
         return Ok(0);
@@ -45,9 +41,7 @@ pub fn read_entity_field(r: &mut Reader, kind: Kind) -> Result<u32, ReadError>
 /// Reads a float: 13 bits behind bit 0, and its pattern behind bit 1.
 #[tactic(auto, unfolding(crate::specs::Texts::float_at))]
 fn read_float(r: &mut Reader) -> Result<u32, ReadError>
-    ensures value { with_rest r.new.left result ≡ float_at r.old.words r.old.left }
-    ensures words { r.new.words ≡ r.old.words }
-    ensures place { r.new.place + length r.new.left ≡ r.old.place + length r.old.left }
+    ensures { Reads r.old r.new (float_at r.old.words r.old.left) result }
 {
     if r.get(1)? == 0 {
         return Ok(pattern_of(unbiased(r.get(13)?)));
@@ -60,9 +54,7 @@ fn read_integer(r: &mut Reader, kind: Kind, width: u8) -> Result<u32, ReadError>
     requires kind { IsKind kind }
     requires some { 1 ≤ width }
     requires most { width ≤ 32 }
-    ensures value { with_rest r.new.left result ≡ integer_at r.old.words kind width r.old.left }
-    ensures words { r.new.words ≡ r.old.words }
-    ensures place { r.new.place + length r.new.left ≡ r.old.place + length r.old.left }
+    ensures { Reads r.old r.new (integer_at r.old.words kind width r.old.left) result }
 {
     Ok(norm(kind, r.get(u32::from(width))?))
 }

@@ -15,21 +15,25 @@ pub enum TableError {
     Width(usize),
 }
 
-/// The kinds of 1 to 64 fields, in order. To a caller it is the list of the kinds.
+/// How many bits a number of an entity has in this protocol.
+const NUMBER_BITS: u32 = 10;
+
+/// The kinds of 1 to 64 fields, in order. To a caller it is a record of the kinds and of how many bits a number of an
+/// entity has.
 #[derive(Drop)]
 pub struct Table {
     count: usize,
     kinds: [Kind; 64],
+    number_bits: u32,
 }
 
 impl Model for Table {
-    ghost use Rattle.std.specs.Prelude.{List};
-    ghost use Rattle.q3_fields.specs.declared.kind.Kind.{Kind};
-    ghost use Rattle.q3_fields.specs.Rows.{kinds_within, IsFilled};
+    ghost use Rattle.q3_fields.specs.Kinds.{Layout};
+    ghost use Rattle.q3_fields.specs.Rows.{layout_of, IsFilled};
 
-    ghost Value = { List Kind };
+    ghost Value = { Layout };
 
-    ghost view = { kinds_within };
+    ghost view = { layout_of };
 
     ghost invariant = { IsFilled };
 }
@@ -55,6 +59,7 @@ impl Table {
         Ok(Table {
             count: widths.len(),
             kinds,
+            number_bits: NUMBER_BITS,
         })
     }
 
@@ -65,12 +70,13 @@ impl Table {
         Table {
             count: self.count,
             kinds: self.kinds,
+            number_bits: self.number_bits,
         }
     }
 
     /// The kind of field `i`, or `None` at or above the count.
     pub fn kind(&self, i: usize) -> Option<Kind>
-        ensures kind { result ≡ slice_get self.now i }
+        ensures kind { result ≡ slice_get self.now.kinds i }
         ensures allowed { IfSome result IsKind }
     {
         if i >= self.count {
@@ -81,17 +87,26 @@ impl Table {
 
     /// How many fields the table has: 1 to 64.
     pub fn count(&self) -> usize
-        ensures count { result ≡ length self.now }
+        ensures count { result ≡ length self.now.kinds }
         ensures is_table { IsTable self.now }
     {
         self.count
+    }
+
+    /// How many bits a number of an entity has in a message: 1 to 16.
+    pub fn number_bits(&self) -> u32
+        ensures bits { result ≡ self.now.number_bits }
+        ensures some { 1 ≤ result }
+        ensures most { result ≤ 16 }
+    {
+        self.number_bits
     }
 
     /// The end mark of an entity list. The numbers of entities are below it.
     pub fn end(&self) -> u16
         ensures { result ≡ end_mark self.now }
     {
-        1023
+        ((1u32 << self.number_bits) - 1) as u16
     }
 }
 

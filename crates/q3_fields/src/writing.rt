@@ -1,26 +1,22 @@
 //! Writes a changed field. Keeps the rules "entity delta" and "player delta" for one field, the engine's
 //! `MSG_WriteDeltaEntity` and `MSG_WriteDeltaPlayerstate`.
 
-ghost use Rattle.std.specs.Prelude.{◌≡◌, ◌+◌, ◌<◌, ◌≤◌, ◌++◌, ◌↔◌, length, IsErr, OnOk};
-ghost use Rattle.q3_bits.specs.Bits.{message_length};
-ghost use Rattle.q3_bits.specs.Streams.{Extends};
+ghost use Rattle.std.specs.Prelude.{◌≡◌, option_map};
+ghost use Rattle.q3_bits.specs.Streams.{Writes};
 ghost use Rattle.q3_fields.specs.Kinds.{IsKind};
 ghost use Rattle.q3_fields.specs.Floats.{small_float};
-ghost use Rattle.q3_fields.specs.Texts.{float_bits, player_field, entity_field};
+ghost use Rattle.q3_fields.specs.Texts.{biased, float_bits, player_field, entity_field};
 
 use crate::float::{biased, small_of};
 use crate::kind::{Kind, norm};
-use q3_bits::{Overflow, Writer};
+use q3_bits::{Overflow, Writer, laws};
 
 /// Writes a changed field of a player delta.
 /// `Overflow` comes exactly where the text doesn't fit the writer's room; a front of it was then written.
 #[tactic(auto, unfolding(crate::specs::Texts::player_field))]
 pub fn write_player_field(w: &mut Writer, kind: Kind, word: u32) -> Result<(), Overflow>
     requires { IsKind kind }
-    ensures overflow { IsErr result ↔
-        (w.old.room < message_length (length w.old.bits + length (player_field w.old.words kind word))) }
-    ensures ok { OnOk result (w.new ≡ record w.old { bits = w.old.bits ++ player_field w.old.words kind word }) }
-    ensures front { Extends w.old w.new (player_field w.old.words kind word) }
+    ensures { Writes w.old w.new (player_field w.old.words kind word) result }
 {
     match kind {
         Kind::Float => write_float(w, word),
@@ -34,11 +30,9 @@ pub fn write_player_field(w: &mut Writer, kind: Kind, word: u32) -> Result<(), O
 #[tactic(auto, unfolding(crate::specs::Texts::entity_field))]
 pub fn write_entity_field(w: &mut Writer, kind: Kind, word: u32) -> Result<(), Overflow>
     requires { IsKind kind }
-    ensures overflow { IsErr result ↔
-        (w.old.room < message_length (length w.old.bits + length (entity_field w.old.words kind word))) }
-    ensures ok { OnOk result (w.new ≡ record w.old { bits = w.old.bits ++ entity_field w.old.words kind word }) }
-    ensures front { Extends w.old w.new (entity_field w.old.words kind word) }
+    ensures { Writes w.old w.new (entity_field w.old.words kind word) result }
 {
+    laws::texts_are_written();
     if norm(kind, word) == 0 {
         return w.put(0, 1);
     }
@@ -48,16 +42,23 @@ pub fn write_entity_field(w: &mut Writer, kind: Kind, word: u32) -> Result<(), O
 
 /// Writes a float: bit 0 and 13 bits where it is small, else bit 1 and its pattern.
 fn write_float(w: &mut Writer, word: u32) -> Result<(), Overflow>
-    ensures overflow { IsErr result ↔
-        (w.old.room < message_length (length w.old.bits + length (float_bits w.old.words word (small_float word)))) }
-    ensures ok { OnOk result (w.new
-        ≡ record w.old { bits = w.old.bits ++ float_bits w.old.words word (small_float word) }) }
-    ensures front { Extends w.old w.new (float_bits w.old.words word (small_float word)) }
+    ensures { Writes w.old w.new (float_bits w.old.words word (small_float word)) result }
 {
-    let Some(k) = small_of(word) else {
+    laws::texts_are_written();
+    let Some(carried) = carried_in_13(word) else {
         w.put(1, 1)?;
         return w.put(word, 32);
     };
     w.put(0, 1)?;
-    w.put(biased(k), 13)
+    w.put(carried, 13)
+}
+
+/// The 13 bits that carry a small float.
+fn carried_in_13(word: u32) -> Option<u32>
+    ensures { result ≡ option_map biased (small_float word) }
+{
+    match small_of(word) {
+        None => None,
+        Some(k) => Some(biased(k)),
+    }
 }

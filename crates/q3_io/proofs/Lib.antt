@@ -1,4 +1,5 @@
 pub mod ToldPlaces
 pub mod ToldStored
 pub mod ToldHeld
-pub mod Buffered
+pub mod Sinks
+pub mod Words

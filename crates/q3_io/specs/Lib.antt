@@ -1,5 +1,7 @@
 pub mod Faults
 pub mod Written
+pub mod Line
+pub mod Laws
 pub mod Told
 pub mod MemoryCalls
 pub mod MemorySink

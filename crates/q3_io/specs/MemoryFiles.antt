@@ -1,7 +1,6 @@
 -- Files in memory: what each call answers, and what stands after it.
-use Rattle.std.specs.Prelude.{ℕ, ◌+◌, ◌-◌, Bool, not, ◌&&◌, nat_le, nat_lt, if◌then◌else◌, List, [], ◌++◌, length, slice_index, is_some}
-use Rattle.q3_io.specs.Faults.{last_count}
-use Rattle.q3_io.specs.Told.{Told, Lookup, Create, contents_of, name_of, contents_at, after_named, after_given, after_asked, after_written}
+use Rattle.std.specs.Prelude.{ℕ, ◌-◌, Bool, not, ◌&&◌, nat_le, nat_lt, if◌then◌else◌, List, [], ◌++◌, length, is_some}
+use Rattle.q3_io.specs.Told.{Told, Lookup, Create, contents_of, name_of, contents_at, after_named, after_given, can_ask, after_asked, after_written}
 use Rattle.q3_io.specs.MemoryCalls.{MadeCalls, one_more, next_fails, after_call}
 use Rattle.q3_io.specs.MemoryStore.{StoreState, has_room, after_put}
 
@@ -41,13 +40,16 @@ after_lookup state name =
 abbrev pub after_size : FilesState → FilesState
 after_size state = if not (next_fails state.calls) then record state { calls = after_call state.calls } else after_fault state
 
--- bytes are read exactly where the count of all that were asked for fits
+-- bytes are read exactly where the call isn't one of those that fail, and the count of all that were asked for fits
 abbrev pub reads : FilesState → ℕ → ℕ → Bool
-reads state file count = not (next_fails state.calls) && nat_le (slice_index state.told.asked file + count) last_count
+reads state file count = not (next_fails state.calls) && can_ask state.told.asked file count
 
+-- what was asked for counts also where the call fails
 abbrev pub after_read : FilesState → ℕ → ℕ → FilesState
 after_read state file count =
-    if reads state file count then record state { told = after_asked state.told file count; calls = after_call state.calls } else after_fault state
+    if reads state file count
+    then record state { told = after_asked state.told file count; calls = after_call state.calls }
+    else after_fault (record state { told = after_asked state.told file count })
 
 -- a file is created exactly where there is room for it, for its name once more, and for a number
 abbrev pub creates : FilesState → List ℕ → Bool

@@ -1,7 +1,8 @@
 -- What is told of files, and what each call changes.
-use Rattle.std.specs.Prelude.{◌≡◌, ◌⊎◌, ℕ, ◌+◌, ◌<◌, ◌≤◌, if◌then◌else◌, List, [], ◌∷◌, ◌++◌, length, take, drop, slice_index, slice_index_or, slice_set, Option, Some, None, unwrap_or, IsSome, Result, Ok, Err}
+use Rattle.std.specs.Prelude.{◌≡◌, ◌⊎◌, ℕ, ◌+◌, ◌<◌, ◌≤◌, Bool, nat_le, IsTrue, if◌then◌else◌, List, [], ◌∷◌, ◌++◌, length, take, drop, slice_index, slice_index_or, slice_set, Option, Some, None, unwrap_or, IsSome, Result, Ok, Err}
 use Rattle.std.specs.Str.{bytes_eq}
 use Rattle.q3_io.specs.declared.sink.Failed.{Failed}
+use Rattle.q3_io.specs.Faults.{last_count}
 use Rattle.q3_io.specs.Written.{Added}
 
 pub record File : Type 0 where
@@ -17,7 +18,7 @@ pub record Named : Type 0 where
   pub name : List ℕ
   pub call : Call
 
--- the files; for each number its name and how many bytes `read_at` was asked for; and the names that were given
+-- the files; for each number its name and how many bytes `read_at` was asked for, also where it failed; and the names that were given
 pub record Told : Type 0 where
   pub files : List File
   pub numbers : List (List ℕ)
@@ -49,8 +50,15 @@ after_named told name call = record told { named = told.named ++ record { name =
 abbrev pub after_given : Told → List ℕ → Told
 after_given told name = record told { numbers = told.numbers ++ name ∷ []; asked = told.asked ++ 0 ∷ [] }
 
+-- a number's count of bytes that were asked for rises, as far as 64 bits count
+abbrev pub can_ask : List ℕ → ℕ → ℕ → Bool
+can_ask asked file count = nat_le (slice_index asked file + count) last_count
+
+abbrev pub with_asked : List ℕ → ℕ → ℕ → List ℕ
+with_asked asked file count = if can_ask asked file count then slice_set asked file (slice_index asked file + count) else asked
+
 abbrev pub after_asked : Told → ℕ → ℕ → Told
-after_asked told file count = record told { asked = slice_set told.asked file (slice_index told.asked file + count) }
+after_asked told file count = record told { asked = with_asked told.asked file count }
 
 abbrev pub after_written : Told → List ℕ → List ℕ → Told
 after_written told name contents = record told { files = with_contents told.files name contents }
@@ -86,7 +94,8 @@ abbrev pub ReadsAt : Option Told → Option Told → ℕ → ℕ → List ℕ �
 ReadsAt None now file at before after result = now ≡ None
 ReadsAt (Some told) now file at before after (Ok count) =
     (now ≡ Some (after_asked told file (length before))) × Gives (contents_at told file) at count before after
-ReadsAt (Some told) now file at before after (Err e) = (now ≡ Some told) ⊎ (now ≡ Some (after_asked told file (length before)))
+    × IsTrue (can_ask told.asked file (length before))
+ReadsAt (Some told) now file at before after (Err e) = now ≡ Some (after_asked told file (length before))
 
 abbrev pub Creates : Option Told → Option Told → List ℕ → Result ℕ Failed → Type 0
 Creates None now name result = now ≡ None

@@ -1,6 +1,6 @@
 //! Files by name.
 
-ghost use Rattle.std.specs.Prelude.{◌≡◌, ◌<◌, ◌≤◌, ℕ, Option, length, IfOk};
+ghost use Rattle.std.specs.Prelude.{◌≡◌, ◌<◌, ◌≤◌, ℕ, Option, Some, length, IfOk};
 ghost use Rattle.q3_io.specs.Faults.{HasCause};
 ghost use Rattle.q3_io.specs.Told.{Told, IsGiven, LooksUp, Measures, ReadsAt, Creates, Appends};
 
@@ -59,4 +59,7 @@ pub trait Files {
         ensures told { Appends (told self.old) (told self.new) file bytes.now result }
         ensures cause { HasCause (write_faults self.old) (write_faults self.new) result }
         ensures others { faults self.new ≡ faults self.old };
+
+    /// Where it is told what the numbers stand for, those given are told.
+    ghost numbered: { (files : Self) (t : Told) → told files ≡ Some t → length t.numbers ≡ given files };
 }

@@ -5,6 +5,8 @@
 pub mod address;
 pub mod files;
 pub mod host;
+pub mod laws;
+pub mod line;
 pub mod memory;
 pub mod print;
 pub mod sink;
@@ -14,6 +16,7 @@ mod tests;
 pub use address::Address;
 pub use files::Files;
 pub use host::{HostFiles, HostSink};
+pub use line::Line;
 pub use memory::{MemFiles, MemSink, NoMemory, NullSink};
-pub use print::{Piece, print_all, print_number, print_text};
+pub use print::{Piece, print_all, print_indexed, print_number, print_text};
 pub use sink::{Failed, Sink};

@@ -111,37 +111,26 @@ fn numbers_are_printed(rt: HostRuntime) -> Result<(), Fail> {
 }
 
 #[test]
-fn texts_are_printed_in_quotes(rt: HostRuntime) -> Result<(), Fail> {
-    let mut sink = MemSink::new(rt.alloc(), 64, &[3])
-        .ok()
-        .ok_or("there is memory")?;
-    assert_eq!(rt; print_text(b"", &mut sink), Ok(()));
-    assert_eq!(rt;
-        print_text(b"a \"~\\\n\t\x00\x1f\x7f\xe4\xff", &mut sink),
-        Ok(())
+fn pieces_are_printed(rt: HostRuntime) -> Result<(), Fail> {
+    let mut out = Line::new(
+        MemSink::new(rt.alloc(), 64, &[2])
+            .ok()
+            .ok_or("there is memory")?,
     );
-    let spelled = b"\"\"\"a \\\"~\\\\\\n\\x09\\x00\\x1f\\x7f\\xe4\\xff\"";
-    assert_eq!(rt; sink.bytes(), spelled.as_slice());
-    assert_eq!(rt; print_text(b"lost", &mut sink), Err(Failed));
-    assert_eq!(rt; sink.bytes(), spelled.as_slice());
-    Ok(())
-}
-
-#[test]
-fn a_line_is_one_write(rt: HostRuntime) -> Result<(), Fail> {
-    let mut sink = MemSink::new(rt.alloc(), 64, &[2])
-        .ok()
-        .ok_or("there is memory")?;
     let line = [
         Piece::Text(b"say "),
         Piece::Number(15),
-        Piece::Text(b" "),
-        Piece::Quoted(b"a\n"),
-        Piece::Text(b"\n"),
+        Piece::Quoted(b"a \"~\\\n\t\x00\x1f\x7f\xe4\xff"),
     ];
-    assert_eq!(rt; print_all(&line, &mut sink), Ok(()));
-    assert_eq!(rt; sink.bytes(), b"say 15 \"a\\n\"\n".as_slice());
-    assert_eq!(rt; print_all(&line, &mut sink), Err(Failed));
+    assert_eq!(rt; print_all(&line, &mut out), Ok(()));
+    assert_eq!(rt; print_text(b"", &mut out), Ok(()));
+    assert_eq!(rt; out.flush(), Ok(()));
+    let spelled = b"say 15\"a \\\"~\\\\\\n\\x09\\x00\\x1f\\x7f\\xe4\\xff\"\"\"";
+    assert_eq!(rt; out.sink().bytes(), spelled.as_slice());
+    assert_eq!(rt; print_text(b"lost", &mut out), Ok(()));
+    assert_eq!(rt; out.flush(), Err(Failed));
+    assert_eq!(rt; out.flush(), Ok(()));
+    assert_eq!(rt; out.sink().bytes(), spelled.as_slice());
     Ok(())
 }
 
@@ -150,20 +139,33 @@ fn words_stand_behind_their_letter(rt: HostRuntime) -> Result<(), Fail> {
     let mut sink = MemSink::new(rt.alloc(), 64, &[])
         .ok()
         .ok_or("there is memory")?;
-    let line = [
-        Piece::Words {
-            letter: b"",
-            words: &[7, 0, 4_294_967_295],
-        },
-        Piece::Signed {
-            letter: b"s",
-            values: &[0, -1, -32_768, 5],
-        },
-    ];
-    assert_eq!(rt; print_all(&line, &mut sink), Ok(()));
     assert_eq!(rt;
-        sink.bytes(),
-        b" 0:7 2:4294967295 s1:4294967295 s2:4294934528 s3:5".as_slice()
+        print_indexed(b"", &[7, 0, 4_294_967_295], &mut sink),
+        Ok(())
     );
+    assert_eq!(rt; print_indexed(b"s", &[0, 0, 0, 5], &mut sink), Ok(()));
+    assert_eq!(rt; sink.bytes(), b" 0:7 2:4294967295 s3:5".as_slice());
+    Ok(())
+}
+
+#[test]
+fn a_line_is_one_write(rt: HostRuntime) -> Result<(), Fail> {
+    let sink = MemSink::new(rt.alloc(), 4_096, &[3])
+        .ok()
+        .ok_or("there is memory")?;
+    let mut out = Line::new(sink);
+    assert_eq!(rt; print_number(15, &mut out), Ok(()));
+    assert_eq!(rt; out.write_all(&[b'a'; 1_022]), Ok(()));
+    assert_eq!(rt; out.sink().bytes().len(), 0);
+    assert_eq!(rt; out.flush(), Ok(()));
+    assert_eq!(rt; out.sink().bytes().len(), 1_024);
+    assert_eq!(rt; out.flush(), Ok(()));
+    assert_eq!(rt; out.write_all(b"b"), Ok(()));
+    assert_eq!(rt; out.write_all(&[b'c'; 1_024]), Ok(()));
+    assert_eq!(rt; out.sink().bytes().len(), 1_025);
+    assert_eq!(rt; out.write_all(b"d"), Err(Failed));
+    assert_eq!(rt; out.write_all(&[b'e'; 1_025]), Ok(()));
+    assert_eq!(rt; out.sink().bytes().len(), 2_050);
+    assert_eq!(rt; out.flush(), Ok(()));
     Ok(())
 }

@@ -1,14 +1,8 @@
--- The four arrays of a player: what changed in one is a finite map from places to values, by rising place.
+-- The arrays of a player: what changed in one is a finite map from places to values, by rising place.
 use Rattle.std.specs.Prelude.{ℕ, ◌+◌, ◌^◌, ◌<◌, ◌≤◌, ◌==◌, if◌then◌else◌, List, [], ◌∷◌, slice_set}
 use Rattle.q3_fields.specs.declared.kind.Kind.{Kind}
-use Rattle.q3_fields.specs.declared.kind.Kind.TheVariants.{Unsigned, Signed}
-
--- what an array holds: three of them signed values of 16 bits, the powerups words of 32
-abbrev pub signed_places : Kind
-signed_places = Signed 16
-
-abbrev pub powerup_places : Kind
-powerup_places = Unsigned 32
+use Rattle.q3_player.specs.declared.state.PlayerState.{PlayerState}
+use Rattle.q3_player.specs.State.{array_kinds, arrays_of}
 
 -- a place that changed, and its value
 abbrev pub Change : Type 0
@@ -23,6 +17,14 @@ changes_from place from to = []
 -- what changed from one array to another
 abbrev pub changes : List ℕ → List ℕ → List Change
 changes from to = changes_from 0 from to
+
+-- what changed in each array, with the kind of its values
+unfoldable pub arrays_changed : List Kind → List (List ℕ) → List (List ℕ) → List (Kind × List Change)
+arrays_changed (kind ∷ kinds) (x ∷ from) (y ∷ to) = (kind, changes x y) ∷ arrays_changed kinds from to
+arrays_changed kinds from to = []
+
+abbrev pub player_changes : PlayerState → PlayerState → List (Kind × List Change)
+player_changes from to = arrays_changed array_kinds (arrays_of from) (arrays_of to)
 
 -- the mask of the places: a bit for each
 unfoldable pub mask_of : List Change → ℕ

@@ -2,7 +2,7 @@
 use Rattle.std.specs.Prelude.{◌≡◌, ◌≤◌, ℕ, Bool, List, ◌++◌, length, drop, Ok}
 use Rattle.q3_bits.specs.Words.{IsCode}
 use Rattle.q3_fields.specs.declared.kind.Kind.{Kind}
-use Rattle.q3_fields.specs.Kinds.{IsTable}
+use Rattle.q3_fields.specs.Kinds.{AreKinds}
 use Rattle.q3_player.specs.declared.state.PlayerState.{PlayerState}
 use Rattle.q3_player.specs.State.{zero_player, normal_player, IsState, IsNormal}
 use Rattle.q3_player.specs.Delta.{last_changed, player_delta, player_at}
@@ -10,7 +10,7 @@ use Rattle.q3_player.specs.Spelling.{SpellsPlayer}
 
 -- the normal form of a state is a state, in normal form
 abbrev pub NormalIsNormal : Type 0
-NormalIsNormal = (table : List Kind) (player : PlayerState) → IsTable table → IsState player
+NormalIsNormal = (table : List Kind) (player : PlayerState) → AreKinds table → IsState player
     → IsState (normal_player table player) × IsNormal table (normal_player table player)
 
 -- the count is the least number from which on the words agree
@@ -21,26 +21,26 @@ LastChangedIsLeast = (from to : List ℕ) → length from ≡ length to
 
 -- what is written against a normal state spells the normal form of the other
 abbrev pub WrittenIsSpelled : Type 0
-WrittenIsSpelled = (words : List (List Bool)) (table : List Kind) (from to : PlayerState) → IsCode words → IsTable table
+WrittenIsSpelled = (words : List (List Bool)) (table : List Kind) (from to : PlayerState) → IsCode words → AreKinds table
     → IsState from → IsNormal table from → IsState to → SpellsPlayer words table from (normal_player table to) (player_delta words table from to)
 
 -- what is read was spelled so, and is a state, in normal form where the other is
 abbrev pub ReadIsSpelled : Type 0
-ReadIsSpelled = (words : List (List Bool)) (table : List Kind) (from to : PlayerState) (bits rest : List Bool) → IsCode words → IsTable table
+ReadIsSpelled = (words : List (List Bool)) (table : List Kind) (from to : PlayerState) (bits rest : List Bool) → IsCode words → AreKinds table
     → IsState from → player_at words table from bits ≡ Ok (to, rest)
     → IsState to × (IsNormal table from → IsNormal table to) × (text : List Bool) × (bits ≡ text ++ rest) × SpellsPlayer words table from to text
 
 -- what is spelled so is read, with whatever follows it: so where a reader refuses, no front of the bits is spelled so
 abbrev pub SpelledIsRead : Type 0
-SpelledIsRead = (words : List (List Bool)) (table : List Kind) (from to : PlayerState) (text rest : List Bool) → IsCode words → IsTable table
+SpelledIsRead = (words : List (List Bool)) (table : List Kind) (from to : PlayerState) (text rest : List Bool) → IsCode words → AreKinds table
     → IsState from → IsState to → SpellsPlayer words table from to text → player_at words table from (text ++ rest) ≡ Ok (to, rest)
 
 -- what is written against a normal state is read back as the normal form of the other, with whatever follows it
 abbrev pub WrittenIsRead : Type 0
-WrittenIsRead = (words : List (List Bool)) (table : List Kind) (from to : PlayerState) (rest : List Bool) → IsCode words → IsTable table
+WrittenIsRead = (words : List (List Bool)) (table : List Kind) (from to : PlayerState) (rest : List Bool) → IsCode words → AreKinds table
     → IsState from → IsNormal table from → IsState to
     → player_at words table from (player_delta words table from to ++ rest) ≡ Ok (normal_player table to, rest)
 
 -- the zero state is a state, in the normal form of every table
 abbrev pub ZeroIsNormal : Type 0
-ZeroIsNormal = (table : List Kind) → IsTable table → IsState zero_player × IsNormal table zero_player
+ZeroIsNormal = (table : List Kind) → AreKinds table → IsState zero_player × IsNormal table zero_player

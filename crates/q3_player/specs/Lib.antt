@@ -1,7 +1,6 @@
 pub mod State
 pub mod Arrays
 pub mod Delta
-pub mod Steps
 pub mod Spelling
 pub mod Laws
 pub mod Report

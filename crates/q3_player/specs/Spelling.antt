@@ -5,8 +5,8 @@ use Rattle.q3_bits.specs.Words.{field_bits}
 use Rattle.q3_fields.specs.declared.kind.Kind.{Kind}
 use Rattle.q3_fields.specs.Spelling.{SpellsPlayerField}
 use Rattle.q3_player.specs.declared.state.PlayerState.{PlayerState}
-use Rattle.q3_player.specs.State.{patterns_of}
-use Rattle.q3_player.specs.Arrays.{Change, mask_of, with_changes, AreRising, signed_places, powerup_places}
+use Rattle.q3_player.specs.State.{array_kinds, arrays_of}
+use Rattle.q3_player.specs.Arrays.{Change, mask_of, with_changes, AreRising}
 
 -- a field that is as it was, or one that is marked as changed, whatever it was
 abbrev pub SpellsField : List (List Bool) → Kind → ℕ → ℕ → List Bool → Type 0
@@ -34,30 +34,18 @@ SpellsArray words kind from to text =
     ⊎ ((changed : List Change) × (values : List Bool) × AreRising 0 changed × (to ≡ with_changes from changed) × SpellsValues words kind changed values
     × (text ≡ field_bits words 1 1 ++ field_bits words 16 (mask_of changed) ++ values))
 
--- the four arrays, one after the other
-pub record SpellsArrays (words : List (List Bool)) (from to : PlayerState) (text : List Bool) : Type 0 where
-  pub stats : List Bool
-  pub persistant : List Bool
-  pub ammo : List Bool
-  pub powerups : List Bool
-  pub of_stats : SpellsArray words signed_places (patterns_of from.stats) (patterns_of to.stats) stats
-  pub of_persistant : SpellsArray words signed_places (patterns_of from.persistant) (patterns_of to.persistant) persistant
-  pub of_ammo : SpellsArray words signed_places (patterns_of from.ammo) (patterns_of to.ammo) ammo
-  pub of_powerups : SpellsArray words powerup_places from.powerups to.powerups powerups
-  pub whole : text ≡ stats ++ persistant ++ ammo ++ powerups
+-- the arrays of these kinds, one after the other
+abbrev pub SpellsArrays : List (List Bool) → List Kind → List (List ℕ) → List (List ℕ) → List Bool → Type 0
+SpellsArrays words (kind ∷ kinds) (x ∷ from) to text =
+    (y : List ℕ) × (others : List (List ℕ)) × (first : List Bool) × (rest : List Bool) × (to ≡ y ∷ others) × (text ≡ first ++ rest)
+    × SpellsArray words kind x y first × SpellsArrays words kinds from others rest
+SpellsArrays words kinds from to text = (to ≡ from) × (text ≡ [])
 
--- two states with the same arrays
-pub record SameArrays (one other : PlayerState) : Type 0 where
-  pub stats : one.stats ≡ other.stats
-  pub persistant : one.persistant ≡ other.persistant
-  pub ammo : one.ammo ≡ other.ammo
-  pub powerups : one.powerups ≡ other.powerups
-
--- all four unmarked and as they were, or marked and spelled
-abbrev pub SpellsMarked : List (List Bool) → PlayerState → PlayerState → List Bool → Type 0
+-- all unmarked and as they were, or marked and spelled
+abbrev pub SpellsMarked : List (List Bool) → List (List ℕ) → List (List ℕ) → List Bool → Type 0
 SpellsMarked words from to text =
-    (SameArrays from to × (text ≡ field_bits words 1 0))
-    ⊎ ((arrays : List Bool) × SpellsArrays words from to arrays × (text ≡ field_bits words 1 1 ++ arrays))
+    ((to ≡ from) × (text ≡ field_bits words 1 0))
+    ⊎ ((arrays : List Bool) × SpellsArrays words array_kinds from to arrays × (text ≡ field_bits words 1 1 ++ arrays))
 
 -- the text spells the state `to` against the state `from`
 pub record SpellsPlayer (words : List (List Bool)) (table : List Kind) (from to : PlayerState) (text : List Bool) : Type 0 where
@@ -66,5 +54,5 @@ pub record SpellsPlayer (words : List (List Bool)) (table : List Kind) (from to 
   pub arrays : List Bool
   pub in_table : count ≤ length table
   pub of_fields : SpellsFields words (take count table) from.words to.words fields
-  pub of_arrays : SpellsMarked words from to arrays
+  pub of_arrays : SpellsMarked words (arrays_of from) (arrays_of to) arrays
   pub whole : text ≡ field_bits words 8 count ++ fields ++ arrays

@@ -1,7 +1,8 @@
 -- Player states: what the program's type holds, the zero state, and the normal form that a state is kept in.
-use Rattle.std.specs.Prelude.{◌≡◌, ℕ, ◌^◌, ◌<◌, List, [], ◌∷◌, length, map, replicate, All, ℤ, pos, neg_ℤ, ◌≤ℤ◌}
-use Rattle.std.specs.Int.{w32, cast_unsigned}
+use Rattle.std.specs.Prelude.{◌≡◌, ℕ, ◌%◌, ◌^◌, ◌<◌, List, [], ◌∷◌, length, map, replicate, All, ℤ, pos, neg_ℤ, ◌≤ℤ◌}
+use Rattle.std.specs.Int.{w16, w32, cast_unsigned, cast_signed}
 use Rattle.q3_fields.specs.declared.kind.Kind.{Kind}
+use Rattle.q3_fields.specs.declared.kind.Kind.TheVariants.{Unsigned, Signed}
 use Rattle.q3_fields.specs.Kinds.{norm}
 use Rattle.q3_player.specs.declared.state.PlayerState.{PlayerState}
 
@@ -39,6 +40,24 @@ zero_player = record {
 -- signed values as words of 32 bits
 abbrev pub patterns_of : List ℤ → List ℕ
 patterns_of values = map (cast_unsigned w32) values
+
+-- the signed values that words of their patterns are
+abbrev pub shorts_of : List ℕ → List ℤ
+shorts_of words = map (λ word. cast_signed w16 (word % 2 ^ 16)) words
+
+-- what the arrays hold, in the order of the delta: three of them signed values of 16 bits, the powerups words of 32
+abbrev pub array_kinds : List Kind
+array_kinds = Signed 16 ∷ Signed 16 ∷ Signed 16 ∷ Unsigned 32 ∷ []
+
+-- the arrays, as words of 32 bits
+abbrev pub arrays_of : PlayerState → List (List ℕ)
+arrays_of player = patterns_of player.stats ∷ patterns_of player.persistant ∷ patterns_of player.ammo ∷ player.powerups ∷ []
+
+-- the state with these arrays
+abbrev pub with_arrays : PlayerState → List (List ℕ) → PlayerState
+with_arrays player (stats ∷ persistant ∷ ammo ∷ powerups ∷ []) =
+    record player { stats = shorts_of stats; persistant = shorts_of persistant; ammo = shorts_of ammo; powerups = powerups }
+with_arrays player arrays = player
 
 -- each word in the normal form of its field, and 0 behind the table's fields
 unfoldable pub normal_words : List Kind → List ℕ → List ℕ

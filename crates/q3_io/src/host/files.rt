@@ -191,6 +191,8 @@ impl<R: std::rt::Files> Files for HostFiles<R> {
 
     ghost told = { λ s. None };
 
+    ghost numbered = { λ s t is. absurd Prim.cc };
+
     fn lookup(&mut self, name: &str) -> Result<usize, Failed>
         ensures given { IsGiven self.old.given self.new.given result }
         ensures told { LooksUp None None name.now result }

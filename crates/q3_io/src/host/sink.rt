@@ -32,4 +32,8 @@ impl<R: Print> Sink for HostSink<R> {
         }
         Ok(())
     }
+
+    fn flush(&mut self) -> Result<(), Failed> {
+        Ok(())
+    }
 }

@@ -88,6 +88,8 @@ impl Files for MemFiles {
 
     ghost told = { λ m. Some m.told };
 
+    ghost numbered = { λ m t is. Prim.cc };
+
     fn lookup(&mut self, name: &str) -> Result<usize, Failed>
         ensures given { IsGiven (length self.old.told.numbers) (length self.new.told.numbers) result }
         ensures told { LooksUp (Some self.old.told) (Some self.new.told) name.now result }
@@ -138,7 +140,8 @@ impl Files for MemFiles {
         ensures exact { IfOk result (λ count. count ≡ read_count (contents_at self.old.told file) at into.old) }
     {
         let fails = self.calls.next_fails();
-        if fails || !self.numbers.ask(file, into.len()) {
+        let counted = self.numbers.ask(file, into.len());
+        if fails || !counted {
             self.faults = self.faults.saturating_add(1);
             return Err(Failed);
         }

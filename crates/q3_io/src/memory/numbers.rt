@@ -1,7 +1,7 @@
 //! The numbers that files in memory are known by.
 
-ghost use Rattle.std.specs.Prelude.{◌≡◌, ◌+◌, ◌-◌, ◌≤◌, ◌<◌, [], ◌∷◌, ◌++◌, length, nat_le, slice_index, slice_index_or, slice_set, if◌then◌else◌, IfOk};
-ghost use Rattle.q3_io.specs.Faults.{last_count};
+ghost use Rattle.std.specs.Prelude.{◌≡◌, ◌+◌, ◌-◌, ◌≤◌, ◌<◌, [], ◌∷◌, ◌++◌, length, slice_index_or, IfOk};
+ghost use Rattle.q3_io.specs.Told.{can_ask, with_asked};
 ghost use Rattle.q3_io.specs.MemoryNumbers.{call_of};
 
 use crate::memory::NoMemory;
@@ -98,8 +98,8 @@ impl Numbers {
     /// Counts the bytes that are asked for, as far as 64 bits count.
     pub fn ask(&mut self, file: usize, count: usize) -> bool
         requires { file < length self.old.numbers }
-        ensures fits { result ≡ nat_le (slice_index self.old.asked file + count) last_count }
-        ensures asked { self.new.asked ≡ (if nat_le (slice_index self.old.asked file + count) last_count then slice_set self.old.asked file (slice_index self.old.asked file + count) else self.old.asked) }
+        ensures fits { result ≡ can_ask self.old.asked file count }
+        ensures asked { self.new.asked ≡ with_asked self.old.asked file count }
         ensures numbers { self.new.numbers ≡ self.old.numbers }
         ensures named { self.new.named ≡ self.old.named }
         ensures left { self.new.spare ≡ self.old.spare }

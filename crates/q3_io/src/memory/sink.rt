@@ -2,7 +2,7 @@
 
 ghost use Rattle.std.specs.Prelude.{◌≡◌, [], Some, None, IfOk, is_ok, true};
 ghost use Rattle.q3_io.specs.Faults.{HasCause};
-ghost use Rattle.q3_io.specs.Written.{Adds};
+ghost use Rattle.q3_io.specs.Written.{Adds, NothingWaits, all_sent};
 ghost use Rattle.q3_io.specs.MemorySink.{takes, after_write};
 
 use crate::memory::NoMemory;
@@ -55,11 +55,11 @@ impl MemSink {
 impl Sink for MemSink {
     ghost faults = { λ s. s.faults };
 
-    ghost written = { λ s. Some s.written };
+    ghost written = { λ s. Some (all_sent s.written) };
 
     /// Nothing is written by a call that fails, or whose bytes are more than the room that is left.
     fn write_all(&mut self, bytes: &[u8]) -> Result<(), Failed>
-        ensures adds { Adds (Some self.old.written) (Some self.new.written) bytes.now result }
+        ensures adds { Adds (Some (all_sent self.old.written)) (Some (all_sent self.new.written)) bytes.now result }
         ensures cause { HasCause self.old.faults self.new.faults result }
         ensures whole { self.new ≡ after_write self.old bytes.now }
         ensures takes { is_ok result ≡ takes self.old bytes.now }
@@ -72,6 +72,16 @@ impl Sink for MemSink {
         if self.written.extend_from_slice(bytes).is_err() {
             return Err(Failed);
         }
+        Ok(())
+    }
+
+    fn flush(&mut self) -> Result<(), Failed>
+        ensures adds { Adds (Some (all_sent self.old.written)) (Some (all_sent self.new.written)) [] result }
+        ensures flushed { NothingWaits (Some (all_sent self.new.written)) }
+        ensures cause { HasCause self.old.faults self.new.faults result }
+        ensures whole { self.new ≡ self.old }
+        ensures ok { is_ok result ≡ true }
+    {
         Ok(())
     }
 }
@@ -87,6 +97,15 @@ impl Sink for NullSink {
 
     fn write_all(&mut self, bytes: &[u8]) -> Result<(), Failed>
         ensures adds { Adds None None bytes.now result }
+        ensures cause { HasCause 0 0 result }
+        ensures ok { is_ok result ≡ true }
+    {
+        Ok(())
+    }
+
+    fn flush(&mut self) -> Result<(), Failed>
+        ensures adds { Adds None None [] result }
+        ensures flushed { NothingWaits None }
         ensures cause { HasCause 0 0 result }
         ensures ok { is_ok result ≡ true }
     {

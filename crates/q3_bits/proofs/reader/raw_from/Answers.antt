@@ -1,14 +1,12 @@
-use Rattle.std.proofs.Common.{sym, refl, arith}
-use Rattle.std.proofs.lemmas.List.{drop-drop}
-use Rattle.q3_bits.specs.Place.{bits_from}
-use Rattle.q3_bits.proofs.Numbers.{length-bits_from}
-use Rattle.q3_bits.proofs.CodeText.{raw_at_few, raw_at_enough}
+use Rattle.std.proofs.Common.{refl, sym, arith}
+use Rattle.std.proofs.lemmas.Nat.{one_shl}
+use Rattle.q3_bits.specs.Unread.{rest_bits}
+use Rattle.q3_bits.proofs.CodeText.{raw_at_few, raw_at_enough, window_of_word}
 use Rattle.q3_bits.proofs.reader.raw_from.Goals as goal
 
-pub returns-then-bytes-place-clause-bits : goal.returns-then-bytes-place-clause-bits
-returns-then-bytes-place-clause-bits c =
-    sym (raw_at_few c.args.count (bits_from c.args.bytes.now c.args.place) (omega (arith, length-bits_from c.args.bytes.now c.args.place)))
+pub returns-then-count-clause-bits : goal.returns-then-count-clause-bits
+returns-then-count-clause-bits c = sym (raw_at_few c.args.count (rest_bits c.args.rest) (omega arith))
 
 pub returns-clause-bits : goal.returns-clause-bits
 returns-clause-bits c =
-    rw (raw_at_enough c.args.count (bits_from c.args.bytes.now c.args.place) (omega (arith, length-bits_from c.args.bytes.now c.args.place)), c.window.ensures.bits, drop-drop) refl
+    rw (raw_at_enough c.args.count (rest_bits c.args.rest) (omega arith), one_shl c.args.count 32 (omega arith), window_of_word c.window.result (rest_bits c.args.rest) c.args.count c.window.ensures.bits c.requires, c.skip.ensures.bits) refl

@@ -1,42 +1,24 @@
-use Rattle.std.proofs.Common.{◌≡◌, ◌∙◌, ◌≤◌, ◌%◌, ◌*◌, ◌^◌, ℕ, Bool, List, get_or, sym, ap, subst, arith}
-use Rattle.std.specs.List.{All}
-use Rattle.std.proofs.lemmas.Nat.{one_shl}
+use Rattle.std.proofs.Common.{◌≡◌, ◌≤◌, ◌<◌, ◌%◌, ◌⊎◌, ◌∙◌, ℕ, List, Bool, length, get_or, sym, ap, subst, arith, inl, inr}
+use Rattle.std.proofs.lemmas.List.{get_or_default}
 use Rattle.q3_bits.specs.declared.code.Word.{Word}
+use Rattle.q3_bits.specs.declared.code.Entry.{Entry}
 use Rattle.q3_bits.specs.Words.{byte_from}
-use Rattle.q3_bits.specs.Table.{words_of, IsWord}
-use Rattle.q3_bits.proofs.CodeText.{word_hit, word_miss, word_end}
+use Rattle.q3_bits.specs.Table.{Leads, no_entry}
+use Rattle.q3_bits.proofs.CodeText.{entry_found}
 use Rattle.q3_bits.proofs.code.Code.find.Goals as goal
-use Rattle.q3_bits.proofs.code.Code.find.Goals.{else-length-count-via-then-length-count+else-window-length, else-length-count-via-else-length-count}
 
-pub returns-then-window-length-clause-found : goal.returns-then-window-length-clause-found
-returns-then-window-length-clause-found c = λ left within spells.
-    let words = c.deref-word-items.result.now in
-    let none : Word = record { bits = 0; length = 0 } in
-    let is = subst (λ (ws : List Word). All IsWord ws) (sym c.deref-word-items.ensures.value) c.self.invariant.each c.loop-byte.byte none c.loop-byte-test.true in
-    let view : words_of words ≡ c.args.self.now = ap words_of c.deref-word-items.ensures.value ∙ c.self.view_is in
-    let long = (get_or words c.loop-byte.byte none).length in
-    let short : long ≤ c.args.count = omega (arith, c.if-length-count.true, c.from-length.ensures) in
-    let shift : (1 * 2 ^ c.from-length.result) % 2 ^ 32 ≡ 2 ^ long = one_shl c.from-length.result 32 (omega (arith, is.short, c.from-length.ensures)) ∙ ap (λ (n : ℕ). 2 ^ n) c.from-length.ensures in
-    let same = rw shift at c.if-window-length.true in
-    sym (word_hit words c.loop-byte.byte c.args.count c.args.window left none c.loop-byte-test.true is within spells short same)
-    ∙ c.loop-byte.invariant left within spells ∙ ap (λ (ws : List (List Bool)). byte_from 0 ws left) view
+-- an entry with a length says which word begins the bits
+leads_of : (words : List Word) (entry : Entry) (bits : ℕ) → 0 < entry.length → (entry.length ≡ 0) ⊎ Leads words entry bits → Leads words entry bits
+leads_of words entry bits some (inl none) = absurd (omega arith)
+leads_of words entry bits some (inr leads) = leads
 
-pub loop-byte-preserved : goal.loop-byte-preserved
-loop-byte-preserved c = λ left within spells.
-    let words = c.deref-word-items.result.now in
-    let none : Word = record { bits = 0; length = 0 } in
-    let is = subst (λ (ws : List Word). All IsWord ws) (sym c.deref-word-items.ensures.value) c.self.invariant.each c.loop-byte.byte none c.loop-byte-test.true in
-    let long = (get_or words c.loop-byte.byte none).length in
-    let shift : (1 * 2 ^ c.from-length.result) % 2 ^ 32 ≡ 2 ^ long = one_shl c.from-length.result 32 (omega (arith, is.short, c.from-length.ensures)) ∙ ap (λ (n : ℕ). 2 ^ n) c.from-length.ensures in
-    let passed = word_miss words c.loop-byte.byte c.args.count c.args.window left none c.loop-byte-test.true is within spells
-    (λ short same. elim c.else-length-count.branch [
-      | else-length-count-via-then-length-count+else-window-length w ↦ w.if-window-length.false (rw shift same)
-      | else-length-count-via-else-length-count w ↦ omega (arith, w.if-length-count.false, c.from-length.ensures)
-    ]) in
-    sym passed ∙ c.loop-byte.invariant left within spells
-
-pub returns-clause-found : goal.returns-clause-found
-returns-clause-found c = λ left within spells.
-    let words = c.deref-word-items.result.now in
-    let view : words_of words ≡ c.args.self.now = ap words_of c.deref-word-items.ensures.value ∙ c.self.view_is in
-    sym (word_end words c.loop-byte.byte left c.loop-byte-test.false) ∙ c.loop-byte.invariant left within spells ∙ ap (λ (ws : List (List Bool)). byte_from 0 ws left) view
+pub returns-then-from-count-clause-found : goal.returns-then-from-count-clause-found
+returns-then-from-count-clause-found c = λ left within spells.
+    let i = c.self.inside in
+    let h = c.self.invariant in
+    let k = c.args.window % 4096 in
+    let entry = c.index-entry.result.now in
+    let is : get_or i.index.items k no_entry ≡ entry = get_or_default i.index.items k no_entry entry (omega (arith, h.index.count)) ∙ sym c.index-entry.ensures in
+    let said = subst (λ (e : Entry). (e.length ≤ 12) × ((e.length ≡ 0) ⊎ Leads i.words.items e k)) is (h.index.each k (omega arith)) in
+    sym (entry_found i.words.items entry c.args.count c.args.window left h.is_code (leads_of i.words.items entry k c.if-entry-gt0.true said.1) said.0 (omega (arith, c.if-from-count.true, c.from.ensures)) within spells)
+    ∙ ap (λ (ws : List (List Bool)). byte_from 0 ws left) c.self.view_is

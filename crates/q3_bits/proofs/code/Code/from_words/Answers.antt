@@ -1,10 +1,11 @@
-use Rattle.std.proofs.Common.{◌≡◌, ◌∙◌, ◌⊎◌, List, Some, None, ℕ, length, map, inl, inr, sym, ap}
+use Rattle.std.proofs.Common.{◌≡◌, ◌∙◌, ◌⊎◌, List, Some, None, ℕ, length, map, inl, inr, sym, ap, subst}
 use Rattle.std.proofs.lemmas.List.{length-map}
 use Rattle.std.proofs.lemmas.Result.{err_from_is_err_and}
 use Rattle.q3_bits.specs.declared.words.CodeError.{CodeError}
 use Rattle.q3_bits.specs.declared.words.CodeError.TheVariants as errors
 use Rattle.q3_bits.specs.CodeWords.{texts_of, bits_of_text, code_fault, words_fault, first_clash}
-use Rattle.q3_bits.specs.Table.{words_of}
+use Rattle.q3_bits.specs.declared.code.Word.{Word}
+use Rattle.q3_bits.specs.Table.{words_of, IsIndex}
 use Rattle.q3_bits.proofs.WordTexts.{code_from_no_clash, code_fault-count, code_fault-word, code_fault-clash, code_fault-none, only_memory, length-texts_of}
 use Rattle.q3_bits.proofs.code.Code.from_words.Goals as goal
 
@@ -58,3 +59,10 @@ returns-clause-is_code c =
     let none : first_clash (words_of c.in_ok-words.words.items) ≡ None = ap first_clash (ap words_of (sym c.deref.ensures.value)) ∙ sym c.in_default.ensures in
     let count : length (words_of c.in_ok-words.words.items) ≡ 256 = ap length words ∙ length-map texts bits_of_text ∙ length-texts_of c.args.words.now ∙ c.if-words-ne256.false in
     code_from_no_clash (words_of c.in_ok-words.words.items) count none
+
+pub invariant_of-result : goal.invariant_of-result
+invariant_of-result c = record {
+  each = c.in_ok-words.ensures.each;
+  is_code = returns-clause-is_code c;
+  index = subst (λ (ws : List Word). IsIndex ws c.in_ok-index_of.field-0.items) c.deref-2.ensures.value c.in_ok-index_of.ensures;
+}

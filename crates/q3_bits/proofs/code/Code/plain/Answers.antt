@@ -1,4 +1,4 @@
-use Rattle.std.proofs.Common.{◌≡◌, ◌∙◌, ◌+◌, ◌++◌, [], ◌∷◌, List, Bool, map, ℕ, ap, refl, sym, subst, arith}
+use Rattle.std.proofs.Common.{◌≡◌, ◌∙◌, ◌+◌, ◌++◌, [], ◌∷◌, List, Bool, map, ℕ, ap, refl, sym, subst, rules, arith}
 use Rattle.std.proofs.lemmas.List.{map_push, length_push}
 use Rattle.std.proofs.lemmas.List.Elements.{All-nil, All-push}
 use Rattle.std.proofs.lemmas.List.FromFn.{map-range_with_len_more}
@@ -26,11 +26,6 @@ loop-bits-preserved c =
       words = map_push bits_of_word items word ∙ ap (λ (ws : List (List Bool)). ws ++ low_bits 8 c.loop-bits.bits ∷ []) h.words ∙ sym (map-range_with_len_more (low_bits 8) 0 c.loop-bits.bits c.loop-bits.bits (omega arith));
     })
 
-pub invariant_of-result : goal.invariant_of-result
-invariant_of-result c =
-    let h = c.loop-bits.invariant in
-    record { count = omega (arith, h.count); each = h.each }
-
 -- the words are the plain ones
 is_plain : (words : List Word) (count : ℕ) → words_of words ≡ map (low_bits 8) (range_with_len 0 count) → count ≡ 256 → words_of words ≡ plain_words
 unfolding plain_words
@@ -42,3 +37,10 @@ returns-clause-words c = is_plain c.loop-bits.words.items c.loop-bits.bits c.loo
 pub returns-clause-is_code : goal.returns-clause-is_code
 returns-clause-is_code c =
     subst IsCode (sym (is_plain c.loop-bits.words.items c.loop-bits.bits c.loop-bits.invariant.words (omega arith))) plain_is_code
+
+pub invariant_of-result : goal.invariant_of-result
+invariant_of-result c = record {
+  each = c.loop-bits.invariant.each;
+  is_code = returns-clause-is_code c;
+  index = search rules;
+}

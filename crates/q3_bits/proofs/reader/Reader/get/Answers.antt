@@ -1,36 +1,44 @@
-use Rattle.std.proofs.Common.{sym, arith}
+use Rattle.std.proofs.Common.{◌≡◌, ◌+◌, ◌*◌, ◌-◌, length, refl, sym, arith}
 use Rattle.std.proofs.lemmas.Result.{err_from_is_err_and}
-use Rattle.q3_bits.specs.Place.{bits_from}
-use Rattle.q3_bits.proofs.Numbers.{length-bits_from}
+use Rattle.q3_bits.specs.Unread.{rest_bits}
+use Rattle.q3_bits.proofs.Windows.{length-rest}
 use Rattle.q3_bits.proofs.CodeText.{field_no_raw, field_no_bytes, field_found, field_shifted}
 use Rattle.q3_bits.proofs.reader.Reader.get.Goals as goal
 
-pub returns-in_default-clause-value : goal.returns-in_default-clause-value
-returns-in_default-clause-value c =
-    rw (← c.self.view_is) (sym (field_no_raw c.self.inside.code.now c.args.width (bits_from c.self.inside.bytes.now c.self.inside.place) (sym c.in_default.ensures.bits)))
-
-pub returns-in_err-high-clause-value : goal.returns-in_err-high-clause-value
-returns-in_err-high-clause-value c =
+pub returns-in_err-low-clause-reads : goal.returns-in_err-low-clause-reads
+returns-in_err-low-clause-reads c =
     let p = err_from_is_err_and c.from_residual.result c.from_residual.ensures.1 in
-    rw (p.1, p.2, ← c.self.view_is) (sym (field_no_bytes c.self.inside.code.now c.args.width (bits_from c.self.inside.bytes.now c.self.inside.place) (c.in-Some.low, bits_from c.self.inside.bytes.now c.in-Some.place) c.in_err-high.field-0.0 (sym c.in-Some.ensures.bits) (sym c.in_err-high.ensures.bytes)))
+    rw (← c.self.view_is) (record {
+      value = rw (p.1, p.2) (sym (field_no_raw c.self.inside.code.now c.args.width (rest_bits c.self.inside.rest) c.in_err-low.field-0.0 (sym c.in_err-low.ensures.bits)));
+      words = refl;
+      place = refl;
+    })
+
+pub returns-in_err-high-clause-reads : goal.returns-in_err-high-clause-reads
+returns-in_err-high-clause-reads c =
+    let p = err_from_is_err_and c.from_residual-in_err-high.result c.from_residual-in_err-high.ensures.1 in
+    rw (← c.self.view_is) (record {
+      value = rw (p.1, p.2) (sym (field_no_bytes c.self.inside.code.now c.args.width (rest_bits c.self.inside.rest) (c.in_ok-low.low, rest_bits c.in_ok-low.rest) c.in_err-high.field-0.0 (sym c.in_ok-low.ensures.bits) (sym c.in_err-high.ensures.bytes_at)));
+      words = refl;
+      place = refl;
+    })
 
 pub overflow_add-result : goal.overflow_add-result
 overflow_add-result c =
-    let fits = field_shifted c.in-Some.low c.in_ok-high.high c.args.width c.requires.most c.in-Some.ensures.fits c.in_ok-high.ensures.fits in
+    let fits = field_shifted c.in_ok-low.low c.in_ok-high.high c.args.width c.requires.most c.in_ok-low.ensures.fits c.in_ok-high.ensures.fits in
     omega (arith, fits.1, fits.2)
 
-pub returns-clause-value : goal.returns-clause-value
-returns-clause-value c =
-    let fits = field_shifted c.in-Some.low c.in_ok-high.high c.args.width c.requires.most c.in-Some.ensures.fits c.in_ok-high.ensures.fits in
-    rw (← c.self.view_is, fits.0) (sym (field_found c.self.inside.code.now c.args.width (bits_from c.self.inside.bytes.now c.self.inside.place)
-    (c.in-Some.low, bits_from c.self.inside.bytes.now c.in-Some.place) (c.in_ok-high.high, bits_from c.self.inside.bytes.now c.in_ok-high.place)
-    (sym c.in-Some.ensures.bits) (sym c.in_ok-high.ensures.bytes)))
+pub returns-clause-reads : goal.returns-clause-reads
+returns-clause-reads c =
+    let fits = field_shifted c.in_ok-low.low c.in_ok-high.high c.args.width c.requires.most c.in_ok-low.ensures.fits c.in_ok-high.ensures.fits in
+    let start = c.self.inside.rest in
+    let end = c.in_ok-high.rest in
+    rw (← c.self.view_is) (record {
+      value = rw fits.0 (sym (field_found c.self.inside.code.now c.args.width (rest_bits start) (c.in_ok-low.low, rest_bits c.in_ok-low.rest) (c.in_ok-high.high, rest_bits end) (sym c.in_ok-low.ensures.bits) (sym c.in_ok-high.ensures.bytes_at)));
+      words = refl;
+      place = omega (arith, length-rest start.bytes.now start.bit, length-rest end.bytes.now end.bit, start.within, end.within, c.self.invariant.total, c.in_ok-low.ensures.bytes, c.in_ok-high.ensures.bytes);
+    })
 
 pub returns-clause-fits : goal.returns-clause-fits
 returns-clause-fits c =
-    (field_shifted c.in-Some.low c.in_ok-high.high c.args.width c.requires.most c.in-Some.ensures.fits c.in_ok-high.ensures.fits).1
-
-pub returns-clause-place : goal.returns-clause-place
-returns-clause-place c =
-    let bytes = c.self.inside.bytes.now in
-    rw (← c.self.view_is) (omega (arith, length-bits_from bytes c.in_ok-high.place, length-bits_from bytes c.self.inside.place, c.in_ok-high.ensures.within, c.self.invariant.place))
+    (field_shifted c.in_ok-low.low c.in_ok-high.high c.args.width c.requires.most c.in_ok-low.ensures.fits c.in_ok-high.ensures.fits).1

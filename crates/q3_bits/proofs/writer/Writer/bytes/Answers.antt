@@ -8,5 +8,5 @@ pub returns-clause-message : goal.returns-clause-message
 returns-clause-message c =
     let w = c.self.inside in
     c.front.ensures.front
-    ∙ sym (message_bytes-within w.bytes w.count c.front.ensures.bytes (omega (arith, c.self.invariant.room, c.self.invariant.within)) c.self.invariant.part)
+    ∙ sym (message_bytes-within w.bytes w.count c.front.ensures.bytes (omega (arith, c.self.invariant.room, c.self.invariant.within)) c.self.invariant.clear.part)
     ∙ ap (λ (s : Writing). message_bytes s.bits) c.self.view_is

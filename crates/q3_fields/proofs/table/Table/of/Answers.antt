@@ -1,4 +1,4 @@
-use Rattle.std.proofs.Common.{◌≡◌, ◌≤◌, length, take, get_or, ℤ, pos, w64, SFits, Ok, sym, ap, ◌∙◌, rules, arith}
+use Rattle.std.proofs.Common.{◌≡◌, ◌≤◌, length, take, get_or, ℤ, pos, w64, SFits, Ok, refl, sym, ap, ◌∙◌, rules, arith}
 use Rattle.std.proofs.lemmas.Int.{to_z-of_z}
 use Rattle.std.proofs.lemmas.Bool.{eqb-false}
 use Rattle.q3_fields.proofs.KindsRead.{HasKinds-more, HasKinds-ends, HasKinds-all, table_of-some}
@@ -9,8 +9,8 @@ returns-in_default-clause-exact c =
     let width : ℤ = get_or c.args.widths.now c.loop-i.i (pos 0) in
     let fits : SFits w64 width = search rules in
     let none = sym c.kind_of.ensures.kind ∙ c.in_default.is in
-    sym (table_of-some c.args.widths.now (omega arith) (omega arith)
-    ∙ HasKinds-ends c.args.widths.now c.loop-i.i c.loop-i.kinds c.loop-i.invariant c.loop-i-test.true (simp to_z-of_z at none))
+    let ends = HasKinds-ends c.args.widths.now c.loop-i.i c.loop-i.kinds c.loop-i.invariant c.loop-i-test.true (simp to_z-of_z at none) in
+    rw (table_of-some c.args.widths.now (omega arith) (omega arith), ends) refl
 
 pub loop-i-preserved : goal.loop-i-preserved
 loop-i-preserved c =
@@ -23,6 +23,5 @@ pub returns-clause-exact : goal.returns-clause-exact
 returns-clause-exact c =
     let some : 1 ≤ length c.args.widths.now = omega (arith, eqb-false (length c.args.widths.now) 0 (sym c.if-is_empty.ensures)) in
     let at : c.loop-i.i ≡ length c.args.widths.now = omega arith in
-    sym (table_of-some c.args.widths.now some (omega arith)
-    ∙ HasKinds-all c.args.widths.now c.loop-i.i c.loop-i.kinds c.loop-i.invariant c.loop-i-test.false
-    ∙ ap (λ k. Ok (take k c.loop-i.kinds)) at)
+    let all = HasKinds-all c.args.widths.now c.loop-i.i c.loop-i.kinds c.loop-i.invariant c.loop-i-test.false in
+    rw (table_of-some c.args.widths.now some (omega arith), all, at) refl

@@ -1,0 +1,6 @@
+-- One step after another, where each may find nothing: `x ← step` of a `do` is this.
+use Rattle.std.specs.Prelude.{Option, option_and_then}
+
+infixl 10 ◌>>=◌
+abbrev pub ◌>>=◌ : {A B : Type 0} → Option A → (A → Option B) → Option B
+o >>= f = option_and_then f o

@@ -1,0 +1,160 @@
+//! A line buffer: a sink that hands on what is written to it in few writes.
+
+ghost use Rattle.std.specs.Prelude.{◌≡◌, ◌↔◌, ◌+◌, ◌≤◌, [], ◌++◌, length, if◌then◌else◌, IsTrue};
+ghost use Rattle.q3_io.specs.Faults.{HasCause};
+ghost use Rattle.q3_io.specs.Written.{Adds, NothingWaits};
+ghost use Rattle.q3_io.specs.Line.{held_behind};
+
+use crate::sink::{Failed, Sink};
+use std::marker::Model;
+
+/// For so many bytes there is room.
+const ROOM: usize = 1_024;
+
+/// A sink that holds bytes back, at most 1,024, and hands them on to another in one write: at a flush, or before bytes
+/// that don't fit behind them. More than 1,024 bytes at once go straight on, in a write of their own.
+/// After `Failed` it holds nothing. What it holds when it is dropped is lost.
+#[derive(Drop)]
+pub struct Line<O> {
+    sink: O,
+    held: Held,
+}
+
+impl<O> Model for Line<O> {
+    ghost use Rattle.q3_io.specs.Line.{LineState};
+
+    ghost Value = { LineState O };
+
+    ghost view = { λ l. record { sink = l.sink; held = l.held } };
+}
+
+impl<O: Sink> Line<O> {
+    /// A line buffer in front of this sink, which holds nothing yet.
+    pub fn new(sink: O) -> Line<O>
+        ensures { result ≡ record { sink = sink; held = [] } }
+    {
+        Line {
+            sink,
+            held: Held::new(),
+        }
+    }
+
+    /// The sink that bytes are handed on to.
+    pub fn sink(&self) -> &O
+        ensures { result.now ≡ self.now.sink }
+    {
+        &self.sink
+    }
+
+    /// Holds the bytes behind the others, where they fit.
+    fn hold(&mut self, bytes: &[u8]) -> bool
+        ensures { self.new ≡ (if result then record self.old { held = self.old.held ++ bytes.now } else self.old) }
+    {
+        self.held.keep(bytes)
+    }
+
+    /// Hands on the bytes that are held, in one write if there are any.
+    fn hand_on(&mut self) -> Result<(), Failed>
+        ensures adds { Adds (O.written self.old.sink) (O.written self.new.sink) self.old.held result }
+        ensures cause { HasCause (O.faults self.old.sink) (O.faults self.new.sink) result }
+        ensures held { self.new.held ≡ [] }
+    {
+        if self.held.is_empty() {
+            return Ok(());
+        }
+        let written = self.held.write(&mut self.sink);
+        self.held.clear();
+        written
+    }
+
+    /// Hands these bytes on, in a write of their own.
+    fn pass_on(&mut self, bytes: &[u8]) -> Result<(), Failed>
+        ensures adds { Adds (O.written self.old.sink) (O.written self.new.sink) bytes.now result }
+        ensures cause { HasCause (O.faults self.old.sink) (O.faults self.new.sink) result }
+        ensures held { self.new.held ≡ self.old.held }
+    {
+        self.sink.write_all(bytes)
+    }
+}
+
+impl<O: Sink> Sink for Line<O> {
+    ghost faults = { λ l. O.faults l.sink };
+
+    ghost written = { λ l. held_behind (O.written l.sink) l.held };
+
+    fn write_all(&mut self, bytes: &[u8]) -> Result<(), Failed> {
+        if self.hold(bytes) {
+            return Ok(());
+        }
+        self.hand_on()?;
+        if self.hold(bytes) {
+            return Ok(());
+        }
+        self.pass_on(bytes)
+    }
+
+    fn flush(&mut self) -> Result<(), Failed> {
+        self.hand_on()?;
+        self.sink.flush()
+    }
+}
+
+/// Bytes that are held back.
+#[derive(Drop)]
+struct Held {
+    bytes: [u8; 1_024],
+    length: usize,
+}
+
+impl Model for Held {
+    ghost use Rattle.std.specs.Prelude.{◌≤◌, ℕ, List, take};
+
+    ghost Value = { List ℕ };
+
+    ghost view = { λ h. take h.length h.bytes };
+
+    ghost invariant = { λ h. h.length ≤ 1024 };
+}
+
+impl Held {
+    fn new() -> Held
+        ensures { result ≡ [] }
+    {
+        Held {
+            bytes: [0; ROOM],
+            length: 0,
+        }
+    }
+
+    fn is_empty(&self) -> bool
+        ensures { IsTrue result ↔ (self.now ≡ []) }
+    {
+        self.length == 0
+    }
+
+    /// Holds the bytes behind the others, where they fit.
+    fn keep(&mut self, bytes: &[u8]) -> bool
+        ensures fits { IsTrue result ↔ (length self.old + length bytes.now ≤ 1024) }
+        ensures held { self.new ≡ (if result then self.old ++ bytes.now else self.old) }
+    {
+        if bytes.len() > ROOM - self.length {
+            return false;
+        }
+        self.bytes[self.length..self.length + bytes.len()].copy_from_slice(bytes);
+        self.length += bytes.len();
+        true
+    }
+
+    fn clear(&mut self)
+        ensures { self.new ≡ [] }
+    {
+        self.length = 0;
+    }
+
+    fn write<O: Sink>(&self, out: &mut O) -> Result<(), Failed>
+        ensures adds { Adds (O.written out.old) (O.written out.new) self.now result }
+        ensures cause { HasCause (O.faults out.old) (O.faults out.new) result }
+    {
+        out.write_all(&self.bytes[..self.length])
+    }
+}
