@@ -1,12 +1,16 @@
-"""What the scripts beside this file share: profiles, and the time of the built program on a schedule."""
+"""What the scripts beside this file share: profiles, and the time and the instructions of the built program on a schedule."""
 import os
 import pathlib
+import re
+import shutil
 import subprocess
 import sys
 import time
 
 RUNS = 5
-PROGRAM = pathlib.Path(__file__).resolve().parent.parent / 'crates/q3net/out/q3net'
+TOP = pathlib.Path(__file__).resolve().parent.parent
+PROGRAM = TOP / 'crates/q3net/out/q3net'
+REAL = (TOP / 'profiles/quake3.toml').read_text()
 
 
 def program():
@@ -29,23 +33,43 @@ def profile(words, player):
             f'entity = [0, 8, -16]\nplayer = {player}\ncode = [{code}]\n')
 
 
-def run(program, folder):
-    with open(folder / 'report', 'wb') as out:
+def write(folder, profile, lines):
+    (folder / 'profile').write_text(profile)
+    (folder / 'script').write_text('\n'.join(lines) + '\n')
+
+
+def run(before, program, folder):
+    """Replays the script of the folder, under the words `before`: the seconds, the peak memory in KB, and what
+    standard error took."""
+    with open(folder / 'report', 'wb') as out, open(folder / 'told', 'w+b') as told:
         start = time.perf_counter()
-        process = subprocess.Popen([program, 'replay', folder / 'profile', folder / 'script'],
-                                   stdin=subprocess.DEVNULL, stdout=out)
+        process = subprocess.Popen([*before, program, 'replay', folder / 'profile', folder / 'script'],
+                                   stdin=subprocess.DEVNULL, stdout=out, stderr=told)
         _, status, usage = os.wait4(process.pid, 0)
         seconds = time.perf_counter() - start
+        told.seek(0)
+        text = told.read().decode()
     process.returncode = os.waitstatus_to_exitcode(status)
     if process.returncode != 0:
-        sys.exit(f'{program}: status {process.returncode}')
-    return seconds, usage.ru_maxrss
+        sys.exit(f'{program}: status {process.returncode}\n{text}')
+    return seconds, usage.ru_maxrss, text
 
 
 def best(program, folder, profile, lines):
     """Replays these lines by a profile: the least time of the runs in seconds, the report's bytes, and the
     peak memory in KB."""
-    (folder / 'profile').write_text(profile)
-    (folder / 'script').write_text('\n'.join(lines) + '\n')
-    runs = [run(program, folder) for _ in range(RUNS)]
-    return min(seconds for seconds, _ in runs), (folder / 'report').stat().st_size, max(peak for _, peak in runs)
+    write(folder, profile, lines)
+    runs = [run([], program, folder) for _ in range(RUNS)]
+    return min(seconds for seconds, _, _ in runs), (folder / 'report').stat().st_size, max(peak for _, peak, _ in runs)
+
+
+def counts_instructions():
+    """Whether the tool that counts instructions is installed."""
+    return shutil.which('valgrind') is not None
+
+
+def instructions(program, folder, profile, lines):
+    """How many instructions the replay of these lines takes."""
+    write(folder, profile, lines)
+    _, _, told = run(['valgrind', '--tool=callgrind', '--callgrind-out-file=/dev/null'], program, folder)
+    return int(re.search(r'Collected : (\d+)', told).group(1))

@@ -1,5 +1,6 @@
 pub mod ToldPlaces
-pub mod ToldStored
 pub mod ToldHeld
 pub mod Sinks
 pub mod Words
+pub mod Texts
+pub mod Numbered

@@ -1,21 +1,13 @@
 -- The file of a name stands at the first place that has the name.
-use Rattle.std.proofs.Common.{◌≡◌, ℕ, ◌<◌, ◌≤◌, Bool, List, [], ◌∷◌, ◌++◌, map, length, slice_index_or, slice_set, Option, Some, None, MatchOption, IsSome, unwrap_or, refl, subst, arith}
+use Rattle.std.proofs.Common.{◌≡◌, ℕ, ◌<◌, ◌≤◌, List, [], ◌∷◌, ◌++◌, length, slice_index_or, slice_set, Option, Some, None, MatchOption, IsSome, unwrap_or, zero, suc, refl, ap, subst, arith}
 use Rattle.std.proofs.lemmas.Slice.Eq.{bytes_eq-Decides}
-use Rattle.std.proofs.lemmas.List.{length-map}
 use Rattle.std.specs.Str.{bytes_eq}
 use Rattle.std.specs.List.{position, position_or_len}
 use Rattle.q3_io.specs.Told.{File, contents_of, with_contents}
-use Rattle.q3_io.specs.MemoryStore.{no_file}
-use Rattle.q3_io.specs.MemoryStored.{file_of, StandsAt}
-use Rattle.q3_io.specs.declared.memory.store.Stored.{Stored}
+use Rattle.q3_io.specs.FileStore.{no_file, files_of, StandsAt}
 
 abbrev pub place_of : List ℕ → List File → ℕ
 place_of name files = position_or_len (λ file. bytes_eq file.name name) files
-
--- the first that passes, seen through a function
-pub position-map : {X Y : Type 0} (f : X → Y) (p : Y → Bool) (xs : List X) → position_or_len p (map f xs) ≡ position_or_len (λ x. p (f x)) xs
-position-map f p [] = refl
-position-map f p (x ∷ xs) = grind (arith, position-map f p xs)
 
 -- what is held is what stands at the first place
 held-place : (files : List File) (name : List ℕ) (d : File) → place_of name files < length files → contents_of files name ≡ Some (slice_index_or files (place_of name files) d).contents
@@ -49,16 +41,56 @@ stands files name h = record {
   put = λ bytes. put-place files name no_file bytes h;
 }
 
-place_of-stored : (stored : List Stored) (name : List ℕ) → place_of name (map file_of stored) ≡ position_or_len (λ one. bytes_eq one.name.bytes name) stored
-place_of-stored stored name = position-map file_of (λ file. bytes_eq file.name name) stored
+-- the files are as many as their names, and stand at the places of these
+pub length_files_of : (names texts : List (List ℕ)) → length texts ≡ length names → length (files_of names texts) ≡ length names
+unfolding files_of
+length_files_of [] texts e = refl
+length_files_of (name ∷ names) [] e = absurd (omega arith)
+length_files_of (name ∷ names) (text ∷ texts) e = ap suc (length_files_of names texts (omega arith))
+
+place_of_files : (names texts : List (List ℕ)) (name : List ℕ) → length texts ≡ length names → place_of name (files_of names texts) ≡ position_or_len (λ one. bytes_eq one name) names
+unfolding files_of
+place_of_files [] texts name e = refl
+place_of_files (one ∷ names) [] name e = absurd (omega arith)
+place_of_files (one ∷ names) (text ∷ texts) name e = grind (arith, place_of_files names texts name (omega arith))
 
 -- the first place that has the name, or none
-pub found : (stored : List Stored) (name : List ℕ) (place : Option ℕ) → place ≡ position (λ one. bytes_eq one.name.bytes name) stored → MatchOption place (contents_of (map file_of stored) name ≡ None) (StandsAt (map file_of stored) name)
-found stored name None is =
-    missing (map file_of stored) name (grind (arith, place_of-stored stored name, length-map stored file_of))
-found stored name (Some place) is =
-    let at : (place_of name (map file_of stored) < length (map file_of stored)) × (place_of name (map file_of stored) ≡ place) = grind (arith, place_of-stored stored name, length-map stored file_of) in
-    subst (StandsAt (map file_of stored) name) at.1 (stands (map file_of stored) name at.0)
+pub found : (names texts : List (List ℕ)) (name : List ℕ) (place : Option ℕ) → length texts ≡ length names → place ≡ position (λ one. bytes_eq one name) names
+    → MatchOption place (contents_of (files_of names texts) name ≡ None) (StandsAt (files_of names texts) name)
+found names texts name None e is =
+    missing (files_of names texts) name (grind (arith, place_of_files names texts name e, length_files_of names texts e))
+found names texts name (Some place) e is =
+    let at : (place_of name (files_of names texts) < length (files_of names texts)) × (place_of name (files_of names texts) ≡ place) = grind (arith, place_of_files names texts name e, length_files_of names texts e) in
+    subst (StandsAt (files_of names texts) name) at.1 (stands (files_of names texts) name at.0)
+
+-- what the file at a place holds
+pub contents_files_of : (names texts : List (List ℕ)) (place : ℕ) → length texts ≡ length names → place < length names
+    → (slice_index_or (files_of names texts) place no_file).contents ≡ slice_index_or texts place []
+unfolding files_of
+contents_files_of [] texts place e within = absurd (omega arith)
+contents_files_of (name ∷ names) [] place e within = absurd (omega arith)
+contents_files_of (name ∷ names) (text ∷ texts) zero e within = refl
+contents_files_of (name ∷ names) (text ∷ texts) (suc place) e within = contents_files_of names texts place (omega arith) (omega arith)
+
+-- other contents at a place
+pub set_files_of : (names texts : List (List ℕ)) (place : ℕ) (text : List ℕ) → length texts ≡ length names → place < length names
+    → files_of names (slice_set texts place text) ≡ slice_set (files_of names texts) place (record (slice_index_or (files_of names texts) place no_file) { contents = text })
+unfolding files_of
+set_files_of [] texts place text e within = absurd (omega arith)
+set_files_of (name ∷ names) [] place text e within = absurd (omega arith)
+set_files_of (name ∷ names) (one ∷ texts) zero text e within = refl
+set_files_of (name ∷ names) (one ∷ texts) (suc place) text e within =
+    ap (λ (files : List File). record { name = name; contents = one } ∷ files) (set_files_of names texts place text (omega arith) (omega arith))
+
+-- one more file
+pub push_files_of : (names texts : List (List ℕ)) (name text : List ℕ) → length texts ≡ length names
+    → files_of (names ++ name ∷ []) (texts ++ text ∷ []) ≡ files_of names texts ++ record { name = name; contents = text } ∷ []
+unfolding files_of
+push_files_of [] [] name text e = refl
+push_files_of [] (one ∷ texts) name text e = absurd (omega arith)
+push_files_of (other ∷ names) [] name text e = absurd (omega arith)
+push_files_of (other ∷ names) (one ∷ texts) name text e =
+    ap (λ (files : List File). record { name = other; contents = one } ∷ files) (push_files_of names texts name text (omega arith))
 
 -- a file that is there is there after a write
 pub has_put : (files : List File) (name bytes other : List ℕ) → IsSome (contents_of files other) → IsSome (contents_of (with_contents files name bytes) other)

@@ -5,10 +5,9 @@ pub mod Laws
 pub mod Told
 pub mod MemoryCalls
 pub mod MemorySink
-pub mod MemoryStore
-pub mod MemoryStored
-pub mod MemoryNumbers
-pub mod MemoryNumbered
+pub mod Texts
+pub mod FileStore
+pub mod FileNumbers
 pub mod MemoryFiles
 pub mod HostCounts
 pub mod Quoted

@@ -2,7 +2,8 @@
 use Rattle.std.specs.Prelude.{ℕ, ◌-◌, Bool, not, ◌&&◌, nat_le, nat_lt, if◌then◌else◌, List, [], ◌++◌, length, is_some}
 use Rattle.q3_io.specs.Told.{Told, Lookup, Create, contents_of, name_of, contents_at, after_named, after_given, can_ask, after_asked, after_written}
 use Rattle.q3_io.specs.MemoryCalls.{MadeCalls, one_more, next_fails, after_call}
-use Rattle.q3_io.specs.MemoryStore.{StoreState, has_room, after_put}
+use Rattle.q3_io.specs.FileStore.{StoreState, has_room, after_put}
+use Rattle.q3_io.specs.FileNumbers.{NumbersState}
 
 -- what is told, the room that is left in bytes, files and numbers, the calls, and the counts of faults
 pub record FilesState : Type 0 where
@@ -13,6 +14,30 @@ pub record FilesState : Type 0 where
   pub calls : MadeCalls
   pub faults : ℕ
   pub write_faults : ℕ
+
+-- what stands where the files, their numbers and the calls are these
+abbrev pub files_state : StoreState → NumbersState → MadeCalls → ℕ → ℕ → FilesState
+files_state store numbers calls faults write_faults = record {
+  told = record { files = store.files; numbers = numbers.numbers; asked = numbers.asked; named = numbers.named };
+  room = store.room;
+  files = store.spare;
+  numbers = numbers.spare;
+  calls = calls;
+  faults = faults;
+  write_faults = write_faults;
+}
+
+-- no files yet, with room for so many, for so many bytes and for so many numbers
+abbrev pub no_files : ℕ → ℕ → ℕ → List ℕ → FilesState
+no_files files room numbers fails = record {
+  told = record { files = []; numbers = []; asked = []; named = [] };
+  room = room;
+  files = files;
+  numbers = numbers;
+  calls = record { made = 0; fails = fails };
+  faults = 0;
+  write_faults = 0;
+}
 
 -- the files, and the room for more
 abbrev pub store_of : FilesState → StoreState
@@ -33,7 +58,12 @@ finds state name =
 abbrev pub after_lookup : FilesState → List ℕ → FilesState
 after_lookup state name =
     if finds state name
-    then record state { told = after_given (after_named state.told name Lookup) name; room = state.room - length name; numbers = state.numbers - 1; calls = after_call state.calls }
+    then record state {
+      told = after_given (after_named state.told name Lookup) name;
+      room = state.room - length name;
+      numbers = state.numbers - 1;
+      calls = after_call state.calls;
+    }
     else after_fault state
 
 -- a size is told exactly where the call isn't one of those that fail
@@ -76,7 +106,11 @@ appends state bytes = not (next_fails state.calls) && nat_le (length bytes) stat
 abbrev pub after_append : FilesState → ℕ → List ℕ → FilesState
 after_append state file bytes =
     if appends state bytes
-    then record state { told = after_written state.told (name_of state.told file) (contents_at state.told file ++ bytes); room = state.room - length bytes; calls = after_call state.calls }
+    then record state {
+      told = after_written state.told (name_of state.told file) (contents_at state.told file ++ bytes);
+      room = state.room - length bytes;
+      calls = after_call state.calls;
+    }
     else after_write_fault state
 
 -- a file is put there before a run exactly where there is room for it
@@ -86,5 +120,9 @@ stores state name bytes = has_room (store_of state) name (length bytes)
 abbrev pub after_store : FilesState → List ℕ → List ℕ → FilesState
 after_store state name bytes =
     if stores state name bytes
-    then record state { told = after_written state.told name bytes; room = (after_put (store_of state) name bytes (length bytes)).room; files = (after_put (store_of state) name bytes (length bytes)).spare }
+    then record state {
+      told = after_written state.told name bytes;
+      room = (after_put (store_of state) name bytes (length bytes)).room;
+      files = (after_put (store_of state) name bytes (length bytes)).spare;
+    }
     else state

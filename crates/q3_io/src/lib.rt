@@ -1,5 +1,5 @@
 //! The outside: files and a sink for bytes, as traits whose contracts say what each call changes, their memory
-//! and host implementations, addresses, and texts that are put together from pieces.
+//! and host implementations, a line buffer in front of a sink, addresses, and texts that are put together from pieces.
 #![tactic(auto)]
 
 pub mod address;

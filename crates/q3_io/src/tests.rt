@@ -18,16 +18,10 @@ fn a_failing_write_keeps_the_first(rt: HostRuntime) -> Result<(), Fail> {
 }
 
 #[test]
-fn a_null_sink_takes_all(rt: HostRuntime) {
-    let mut sink = NullSink;
-    assert_eq!(rt; sink.write_all(b"any bytes"), Ok(()));
-    assert_eq!(rt; sink.write_all(b""), Ok(()));
-}
-
-#[test]
-fn standard_output_takes_bytes(rt: HostRuntime) {
-    let mut sink = HostSink::new(&rt);
-    assert_eq!(rt; sink.write_all(b""), Ok(()));
+fn standard_output_and_a_null_sink_take_all(rt: HostRuntime) {
+    assert_eq!(rt; HostSink::new(&rt).write_all(b""), Ok(()));
+    assert_eq!(rt; NullSink.write_all(b"any bytes"), Ok(()));
+    assert_eq!(rt; NullSink.flush(), Ok(()));
 }
 
 #[test]
@@ -76,37 +70,40 @@ fn files_of_the_system_are_written_and_read(rt: HostRuntime) -> Result<(), Fail>
         .ok()
         .ok_or("there is memory")?;
     assert_eq!(rt; files.create("written"), Ok(0));
-    assert_eq!(rt; files.append(0, b"one "), Ok(()));
-    assert_eq!(rt; files.append(0, b"two"), Ok(()));
-    assert_eq!(rt; files.lookup("none"), Err(Failed));
-    assert_eq!(rt; files.lookup("."), Err(Failed));
-    assert_eq!(rt; files.lookup("written"), Ok(1));
-    assert_eq!(rt; files.size(1), Ok(7));
+    assert_eq!(rt; files.append(0, b"first"), Ok(()));
+    assert_eq!(rt; files.create("written"), Ok(1));
+    assert_eq!(rt; files.append(1, b"one "), Ok(()));
+    assert_eq!(rt; files.append(1, b"two "), Ok(()));
+    assert_eq!(rt; files.append(1, b"three"), Ok(()));
     let mut into = [0u8; 4];
-    assert_eq!(rt; files.read_at(1, 4, &mut into), Ok(3));
-    assert_eq!(rt; into, *b"two\0");
-    assert_eq!(rt; files.read_at(1, 7, &mut into), Ok(0));
-    assert_eq!(rt; files.read_at(1, 0, &mut into), Ok(4));
+    assert_eq!(rt; files.read_at(1, 0, &mut into), Err(Failed));
+    assert_eq!(rt; files.append(1, b"!"), Ok(()));
+    assert_eq!(rt; files.lookup("written"), Ok(2));
+    assert_eq!(rt; files.size(2), Ok(14));
+    for _ in 0..2 {
+        assert_eq!(rt; files.read_at(2, 8, &mut into), Ok(4));
+        assert_eq!(rt; into, *b"thre");
+    }
+    assert_eq!(rt; files.read_at(2, 12, &mut into), Ok(2));
+    assert_eq!(rt; into, *b"e!re");
+    assert_eq!(rt; files.read_at(2, 14, &mut into), Ok(0));
+    assert_eq!(rt; files.read_at(2, 0, &mut into), Ok(4));
     assert_eq!(rt; into, *b"one ");
     Ok(())
 }
 
 #[test]
-fn numbers_are_printed(rt: HostRuntime) -> Result<(), Fail> {
-    let mut sink = MemSink::new(rt.alloc(), 96, &[])
+fn faults_of_the_system_are_told(rt: HostRuntime) -> Result<(), Fail> {
+    let mut files = HostFiles::new(rt.alloc(), &rt)
         .ok()
         .ok_or("there is memory")?;
-    assert_eq!(rt; print_number(0, &mut sink), Ok(()));
-    assert_eq!(rt; print_number(-27_960, &mut sink), Ok(()));
-    assert_eq!(rt; print_number(i128::MIN, &mut sink), Ok(()));
-    assert_eq!(rt; sink.write_all(b" "), Ok(()));
-    assert_eq!(rt; print_number(i128::MAX, &mut sink), Ok(()));
-    assert_eq!(rt;
-        sink.bytes(),
-        b"0-27960-170141183460469231731687303715884105728 170141183460469231731687303715884105727".as_slice()
-    );
-    assert_eq!(rt; print_number(-10, &mut sink), Ok(()));
-    assert_eq!(rt; print_number(1_000_000, &mut sink), Err(Failed));
+    assert_eq!(rt; files.lookup("none"), Err(Failed));
+    assert_eq!(rt; files.lookup("."), Err(Failed));
+    assert_eq!(rt; files.create("."), Err(Failed));
+    assert_eq!(rt; files.create("/dev/full"), Ok(0));
+    assert_eq!(rt; files.append(0, b"lost"), Err(Failed));
+    assert_eq!(rt; files.lookup("/proc/self/mem"), Ok(1));
+    assert_eq!(rt; files.read_at(1, 0, &mut [0; 4]), Err(Failed));
     Ok(())
 }
 
@@ -135,16 +132,21 @@ fn pieces_are_printed(rt: HostRuntime) -> Result<(), Fail> {
 }
 
 #[test]
-fn words_stand_behind_their_letter(rt: HostRuntime) -> Result<(), Fail> {
-    let mut sink = MemSink::new(rt.alloc(), 64, &[])
+fn numbers_and_words_are_printed(rt: HostRuntime) -> Result<(), Fail> {
+    let mut sink = MemSink::new(rt.alloc(), 128, &[])
         .ok()
         .ok_or("there is memory")?;
+    assert_eq!(rt; print_number(0, &mut sink), Ok(()));
+    assert_eq!(rt; print_number(i128::MIN, &mut sink), Ok(()));
     assert_eq!(rt;
         print_indexed(b"", &[7, 0, 4_294_967_295], &mut sink),
         Ok(())
     );
     assert_eq!(rt; print_indexed(b"s", &[0, 0, 0, 5], &mut sink), Ok(()));
-    assert_eq!(rt; sink.bytes(), b" 0:7 2:4294967295 s3:5".as_slice());
+    assert_eq!(rt;
+        sink.bytes(),
+        b"0-170141183460469231731687303715884105728 0:7 2:4294967295 s3:5".as_slice()
+    );
     Ok(())
 }
 

@@ -1,10 +1,12 @@
 -- The spellings of an array: what is written is one of them, and a reader takes each of them and no other text.
 use Rattle.std.proofs.Common.{◌≡◌, ◌≢◌, ◌⊎◌, ℕ, suc, ◌/◌, ◌%◌, ◌^◌, ◌<◌, Bool, true, false, cond, eqb, List, [], ◌∷◌, ◌++◌, length, Result, Ok, refl, sym, ap, subst, ◌∙◌, append_assoc, arith, inl, inr}
+use Rattle.std.proofs.Math.Dec.{eqb-suc-zero}
 use Rattle.std.proofs.Math.Nat.{pow-suc}
 use Rattle.std.proofs.lemmas.Bool.{cases_Bool, eqb-true, eqb-false, eq-eqb, ne_eqb}
 use Rattle.std.proofs.lemmas.List.Elements.{All-cons, All-head, All-tail}
 use Rattle.std.specs.List.{All}
-use Rattle.q3_bits.specs.Words.{IsCode, field_bits, field_read}
+use Rattle.q3_bits.specs.ResultBind.{◌>>=◌, bind_ok}
+use Rattle.q3_bits.specs.Words.{IsCode, field_bits, field_at}
 use Rattle.q3_bits.specs.Laws.{ReadWasPut, PutIsRead}
 use Rattle.q3_bits.specs.declared.reader.ReadError.{ReadError}
 use Rattle.q3_fields.specs.declared.kind.Kind.{Kind}
@@ -12,11 +14,10 @@ use Rattle.q3_fields.specs.Kinds.{IsKind}
 use Rattle.q3_fields.specs.Texts.{player_field_at}
 use Rattle.q3_fields.specs.Laws.{PlayerFieldIsSpelled, PlayerReadIsSpelled, PlayerSpelledIsRead}
 use Rattle.q3_player.specs.Arrays.{Change, changes, mask_of, with_changes, AreRising}
-use Rattle.q3_player.specs.Delta.{◌>>=◌, array_text, places_after, array_after}
+use Rattle.q3_player.specs.Delta.{values_text, array_text, place_after, places_after, array_after}
 use Rattle.q3_player.specs.Spelling.{SpellsValues, SpellsArray}
-use Rattle.q3_player.specs.Steps.{values_text, place_after}
-use Rattle.q3_player.proofs.Results.{bind_ok, answer_parts}
-use Rattle.q3_player.proofs.BitsSpelled.{bits_were_put, bits_were, bits_are_read}
+use Rattle.q3_player.proofs.Results.{answer_parts}
+use Rattle.q3_player.proofs.BitsSpelled.{bits_were_put, bits_were}
 use Rattle.q3_player.proofs.Kept.{IsKept}
 use Rattle.q3_player.proofs.Maps.{Rises, rises-from, rises-to, rises-weaker, up, mask_of-up, with_changes-up, rises-up, splits, mask-below, mask-one_up, mask-one_up_and_first, changes-rise, with_changes-changes, values-up, values-down, values-spelled}
 use Rattle.q3_player.proofs.PlacesRead.{places_after_none}
@@ -104,7 +105,7 @@ places_were_spelled law words code kind allowed mask (x ∷ from) bits found bel
 -- places that are spelled so are read
 pub places_are_read : PlayerSpelledIsRead → (words : List (List Bool)) → IsCode words → (kind : Kind) → IsKind kind → (from : List ℕ) (changed : List Change) (text rest : List Bool)
     → Rises (length from) 0 changed → SpellsValues words kind changed text → places_after words kind (mask_of changed) from (text ++ rest) ≡ Ok (with_changes from changed, rest)
-unfolding places_after mask_of with_changes
+unfolding places_after place_after mask_of with_changes
 places_are_read law words code kind allowed [] [] text rest rises spells = rw spells refl
 places_are_read law words code kind allowed [] (change ∷ others) text rest rises spells = absurd (omega (arith, rises.1))
 places_are_read law words code kind allowed (x ∷ from) changed text rest rises spells =
@@ -139,17 +140,17 @@ places_are_read law words code kind allowed (x ∷ from) changed text rest rises
 -- a map of what changed, written
 map_is_spelled : PlayerFieldIsSpelled → (words : List (List Bool)) (kind : Kind) → IsKind kind → (from to : List ℕ) → All (IsKept kind) to
     → (changed : List Change) → changed ≡ changes from to → AreRising 0 changed → with_changes from changed ≡ to → SpellsArray words kind from to (array_text words kind changed)
-unfolding array_text with_changes values_text
+unfolding array_text with_changes
 map_is_spelled law words kind allowed from to kept [] is rising over = inl (sym over, refl)
 map_is_spelled law words kind allowed from to kept (change ∷ others) is rising over =
-    inr (
+    rw (eqb-suc-zero (length others)) (inr (
       change ∷ others,
       values_text words kind (change ∷ others),
       rising,
       sym over,
       subst (λ (xs : List Change). SpellsValues words kind xs (values_text words kind xs)) (sym is) (values-spelled law words kind allowed 0 from to kept),
       refl,
-    )
+    ))
 
 -- an array that is written against another spells what it holds
 pub array_is_spelled : PlayerFieldIsSpelled → (words : List (List Bool)) (kind : Kind) → IsKind kind → (from to : List ℕ) → length from ≡ 16 → length to ≡ 16 → All (IsKept kind) to
@@ -168,14 +169,14 @@ pub record ReadArray (words : List (List Bool)) (kind : Kind) (from : List ℕ) 
 
 -- the mask behind a mark
 abbrev mask_at : List (List Bool) → ℕ × List Bool → Result (ℕ × List Bool) ReadError
-mask_at words mark = cond (eqb mark.0 0) (Ok (0, mark.1)) (field_read words 16 mark.1)
+mask_at words mark = cond (eqb mark.0 0) (Ok (0, mark.1)) (field_at words 16 mark.1)
 
 abbrev places_at : List (List Bool) → Kind → List ℕ → ℕ × List Bool → Result (List ℕ × List Bool) ReadError
 places_at words kind from mask = places_after words kind mask.0 from mask.1
 
 -- no mask, or one of 16 bits
 mask_parts : (words : List (List Bool)) (mark mask : ℕ × List Bool) → mask_at words mark ≡ Ok mask
-    → ((mark.0 ≡ 0) × (mask.0 ≡ 0) × (mask.1 ≡ mark.1)) ⊎ ((mark.0 ≢ 0) × (field_read words 16 mark.1 ≡ Ok mask))
+    → ((mark.0 ≡ 0) × (mask.0 ≡ 0) × (mask.1 ≡ mark.1)) ⊎ ((mark.0 ≢ 0) × (field_at words 16 mark.1 ≡ Ok mask))
 mask_parts words mark mask e =
     elim (cases_Bool (eqb mark.0 0)) [
       | inl none ↦
@@ -189,7 +190,7 @@ pub array_was_spelled : ReadWasPut → PlayerReadIsSpelled → (words : List (Li
     → length from ≡ 16 → All (IsKept kind) from → array_after words kind from bits ≡ Ok found → ReadArray words kind from bits found
 unfolding array_after
 array_was_spelled put law words code kind allowed from bits found long kept e =
-    let mark = bind_ok (field_read words 1 bits) (λ mark. mask_at words mark >>= places_at words kind from) found e in
+    let mark = bind_ok (field_at words 1 bits) (λ mark. mask_at words mark >>= places_at words kind from) found e in
     let mask = bind_ok (mask_at words mark.0) (places_at words kind from) found mark.2 in
     elim (mask_parts words mark.0 mask.0 mask.1) [
       | inl none ↦
@@ -233,7 +234,7 @@ pub array_is_read : PutIsRead → PlayerSpelledIsRead → (words : List (List Bo
     → length from ≡ 16 → SpellsArray words kind from to text → array_after words kind from (text ++ rest) ≡ Ok (to, rest)
 unfolding array_after
 array_is_read put law words code kind allowed from to text rest long (inl none) =
-    rw (none.1, none.0, bits_are_read put words code 1 0 rest (omega arith), places_after_none words kind from rest) refl
+    rw (none.1, none.0, put words 1 0 rest code (omega arith), places_after_none words kind from rest) refl
 array_is_read put law words code kind allowed from to text rest long (inr some) =
     let changed = some.0 in
     let values = some.1 in
@@ -242,7 +243,7 @@ array_is_read put law words code kind allowed from to text rest long (inr some) 
     let regrouped : text ++ rest ≡ field_bits words 1 1 ++ (field_bits words 16 (mask_of changed) ++ (values ++ rest)) = rw some.5 (simp append_assoc) in
     rw (
       regrouped,
-      bits_are_read put words code 1 1 (field_bits words 16 (mask_of changed) ++ (values ++ rest)) (omega arith),
-      bits_are_read put words code 16 (mask_of changed) (values ++ rest) below,
+      put words 1 1 (field_bits words 16 (mask_of changed) ++ (values ++ rest)) code (omega arith),
+      put words 16 (mask_of changed) (values ++ rest) code below,
       places_are_read law words code kind allowed from changed values rest rises some.4,
     ) (ap (λ (ys : List ℕ). Ok (ys, rest)) (sym some.3))

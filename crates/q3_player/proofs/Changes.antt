@@ -1,5 +1,6 @@
 -- What changed from one array to another, as loops find and write it.
 use Rattle.std.proofs.Common.{◌≡◌, ◌≢◌, ℕ, ◌+◌, ◌^◌, ◌≤◌, ◌<◌, Bool, cond, eqb, List, [], ◌∷◌, ◌++◌, length, take, drop, get_or, refl, sym, ap, ◌∙◌, add-one, arith, inl, inr}
+use Rattle.std.proofs.Math.Dec.{eqb-suc-zero}
 use Rattle.std.proofs.lemmas.Bool.{cases_Bool, eq-eqb, ne_eqb}
 use Rattle.std.proofs.lemmas.List.{append-nil, take_more, drop_more, drop_all, length-take-le}
 use Rattle.std.proofs.lemmas.List.Concat.{flat_map-cons}
@@ -9,8 +10,7 @@ use Rattle.q3_bits.specs.Words.{field_bits}
 use Rattle.q3_fields.specs.declared.kind.Kind.{Kind}
 use Rattle.q3_fields.specs.Texts.{player_field}
 use Rattle.q3_player.specs.Arrays.{Change, changes_from, changes, mask_of}
-use Rattle.q3_player.specs.Delta.{array_text}
-use Rattle.q3_player.specs.Steps.{place_text, values_text, changed_text}
+use Rattle.q3_player.specs.Delta.{place_text, values_text, array_text}
 
 -- a place more at the end
 changes_from-push : (place : ℕ) (from to : List ℕ) (x y : ℕ) → length from ≡ length to
@@ -70,10 +70,11 @@ unfolding array_text
 array_text_none words kind changed none = rw (mask_of-none changed none) refl
 
 -- an array that changed
-pub array_text_some : (words : List (List Bool)) (kind : Kind) (changed : List Change) → mask_of changed ≢ 0 → array_text words kind changed ≡ changed_text words kind changed
-unfolding array_text mask_of values_text
+pub array_text_some : (words : List (List Bool)) (kind : Kind) (changed : List Change) → mask_of changed ≢ 0
+    → array_text words kind changed ≡ field_bits words 1 1 ++ field_bits words 16 (mask_of changed) ++ values_text words kind changed
+unfolding array_text mask_of
 array_text_some words kind [] some = absurd (some refl)
-array_text_some words kind (change ∷ others) some = refl
+array_text_some words kind (change ∷ others) some = rw (eqb-suc-zero (length others)) refl
 
 -- what is left of the values, one place on
 pub values_text-next : (words same : List (List Bool)) (kind : Kind) (k : ℕ) (from to : List ℕ) → same ≡ words → k < length from → k < length to

@@ -4,7 +4,8 @@ use Rattle.std.proofs.lemmas.Bool.{cases_Bool, eqb-true, eqb-false, and_parts}
 use Rattle.std.proofs.lemmas.List.{length-take}
 use Rattle.std.proofs.lemmas.List.Elements.{All-cons, All-head, All-tail}
 use Rattle.std.specs.List.{All}
-use Rattle.q3_bits.specs.Words.{IsCode, field_bits, field_read}
+use Rattle.q3_bits.specs.ResultBind.{◌>>=◌, bind_ok}
+use Rattle.q3_bits.specs.Words.{IsCode, field_bits, field_at}
 use Rattle.q3_bits.specs.Laws.{ReadWasPut, PutIsRead}
 use Rattle.q3_bits.specs.declared.reader.ReadError.{ReadError}
 use Rattle.q3_fields.specs.declared.kind.Kind.{Kind}
@@ -12,11 +13,11 @@ use Rattle.q3_fields.specs.Kinds.{IsKind, norm}
 use Rattle.q3_fields.specs.Texts.{player_field, player_field_at}
 use Rattle.q3_fields.specs.Laws.{PlayerFieldIsSpelled, PlayerReadIsSpelled, PlayerSpelledIsRead}
 use Rattle.q3_player.specs.State.{normal_words}
-use Rattle.q3_player.specs.Delta.{last_changed, field_text, fields_text, ◌>>=◌, field_after, fields_after}
+use Rattle.q3_player.specs.Delta.{last_changed, field_text, fields_text, field_after, fields_after}
 use Rattle.q3_player.specs.Spelling.{SpellsField, SpellsFields}
 use Rattle.q3_player.proofs.LastChanged.{last_changed-agrees}
-use Rattle.q3_player.proofs.Results.{bind_ok, answer_parts}
-use Rattle.q3_player.proofs.BitsSpelled.{bits_were_put, bits_were, bits_are_read}
+use Rattle.q3_player.proofs.Results.{answer_parts}
+use Rattle.q3_player.proofs.BitsSpelled.{bits_were_put, bits_were}
 
 -- ---- a field
 
@@ -46,7 +47,7 @@ field_was_spelled : ReadWasPut → PlayerReadIsSpelled → (words : List (List B
     → field_after words kind from bits ≡ Ok found → ReadField words kind from bits found
 unfolding field_after
 field_was_spelled put law words code kind allowed from bits found e =
-    let mark = bind_ok (field_read words 1 bits) (marked_at words kind from) found e in
+    let mark = bind_ok (field_at words 1 bits) (marked_at words kind from) found e in
     elim (marked_parts words kind from mark.0 found mark.2) [
       | inl none ↦ record {
         text = field_bits words 1 0;
@@ -73,9 +74,9 @@ field_is_read : PutIsRead → PlayerSpelledIsRead → (words : List (List Bool))
     → SpellsField words kind from to text → field_after words kind from (text ++ rest) ≡ Ok (to, rest)
 unfolding field_after
 field_is_read put law words code kind allowed from to text rest (inl as_it_was) =
-    rw (as_it_was.1, as_it_was.0, bits_are_read put words code 1 0 rest (omega arith)) refl
+    rw (as_it_was.1, as_it_was.0, put words 1 0 rest code (omega arith)) refl
 field_is_read put law words code kind allowed from to text rest (inr changed) =
-    rw (changed.2, append_assoc, bits_are_read put words code 1 1 (changed.0 ++ rest) (omega arith), law words kind to changed.0 rest code allowed changed.1) refl
+    rw (changed.2, append_assoc, put words 1 1 (changed.0 ++ rest) code (omega arith), law words kind to changed.0 rest code allowed changed.1) refl
 
 -- a field that is written spells the normal form of the word
 field_is_spelled : PlayerFieldIsSpelled → (words : List (List Bool)) (kind : Kind) → IsKind kind → (from to : ℕ) → to < 2 ^ 32 → norm kind from ≡ from

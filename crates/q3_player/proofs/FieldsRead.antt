@@ -5,7 +5,7 @@ use Rattle.q3_bits.specs.declared.reader.ReadError.{ReadError}
 use Rattle.q3_fields.specs.declared.kind.Kind.{Kind}
 use Rattle.q3_player.specs.Delta.{field_after, fields_after}
 use Rattle.q3_player.proofs.FieldTexts.{kinds-next, kinds-end}
-use Rattle.q3_player.proofs.ReadOver.{with_first}
+use Rattle.q3_bits.specs.InPlace.{with_first}
 
 -- one field more
 pub fields_after-next : (words same : List (List Bool)) (table : List Kind) (count k : ℕ) (kind : Kind) (from : List ℕ) (x y : ℕ) (bits next : List Bool) → same ≡ words

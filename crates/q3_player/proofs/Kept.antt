@@ -9,9 +9,8 @@ use Rattle.std.specs.List.{All}
 use Rattle.std.specs.Int.{cast_unsigned, cast_signed}
 use Rattle.q3_fields.specs.declared.kind.Kind.{Kind}
 use Rattle.q3_fields.specs.Kinds.{norm}
-use Rattle.q3_player.specs.State.{IsShort, AreShorts, patterns_of}
-use Rattle.q3_player.specs.Arrays.{signed_places, powerup_places}
-use Rattle.q3_player.specs.Delta.{shorts_of}
+use Rattle.q3_fields.specs.declared.kind.Kind.TheVariants.{Unsigned, Signed}
+use Rattle.q3_player.specs.State.{IsShort, AreShorts, patterns_of, shorts_of}
 use lib.IntN.{ℤ, pos, negsuc}
 use mir.Syntax.{w16, w32}
 
@@ -21,12 +20,12 @@ pub record IsKept (kind : Kind) (word : ℕ) : Type 0 where
   pub normal : norm kind word ≡ word
 
 -- a word of the powerups
-pub powerup-kept : (word : ℕ) → word < 2 ^ 32 → IsKept powerup_places word
+pub powerup-kept : (word : ℕ) → word < 2 ^ 32 → IsKept (Unsigned 32) word
 unfolding norm
 powerup-kept word fits = record { fits = fits; normal = mod-eq_of_lt fits }
 
 -- a signed value
-pub short-kept : (z : ℤ) → IsShort z → IsKept signed_places (cast_unsigned w32 z)
+pub short-kept : (z : ℤ) → IsShort z → IsKept (Signed 16) (cast_unsigned w32 z)
 unfolding norm
 short-kept (pos n) short =
     let few : n < 2 ^ 15 = omega (arith, ints) in
@@ -42,7 +41,7 @@ short-of word =
     (grind (arith, ints), grind (arith, ints))
 
 -- which is the word where that is normal
-pub short-kept_back : (word : ℕ) → IsKept signed_places word → cast_unsigned w32 (cast_signed w16 (word % 2 ^ 16)) ≡ word
+pub short-kept_back : (word : ℕ) → IsKept (Signed 16) word → cast_unsigned w32 (cast_signed w16 (word % 2 ^ 16)) ≡ word
 unfolding norm
 short-kept_back word kept =
     let normal = kept.normal in
@@ -59,12 +58,12 @@ short-back (negsuc n) short =
 
 -- ---- lists of them
 
-pub patterns-kept : (values : List ℤ) → All IsShort values → All (IsKept signed_places) (patterns_of values)
+pub patterns-kept : (values : List ℤ) → All IsShort values → All (IsKept (Signed 16)) (patterns_of values)
 patterns-kept values short =
-    All-map (IsKept signed_places) (cast_unsigned w32) values (All-weaker IsShort (λ z. IsKept signed_places (cast_unsigned w32 z)) short-kept values short)
+    All-map (IsKept (Signed 16)) (cast_unsigned w32) values (All-weaker IsShort (λ z. IsKept (Signed 16) (cast_unsigned w32 z)) short-kept values short)
 
-pub powerups-kept : (words : List ℕ) → All (λ word. word < 2 ^ 32) words → All (IsKept powerup_places) words
-powerups-kept words fits = All-weaker (λ word. word < 2 ^ 32) (IsKept powerup_places) powerup-kept words fits
+pub powerups-kept : (words : List ℕ) → All (λ word. word < 2 ^ 32) words → All (IsKept (Unsigned 32)) words
+powerups-kept words fits = All-weaker (λ word. word < 2 ^ 32) (IsKept (Unsigned 32)) powerup-kept words fits
 
 pub kept-fits : (kind : Kind) (words : List ℕ) → All (IsKept kind) words → All (λ word. word < 2 ^ 32) words
 kept-fits kind words kept = All-weaker (IsKept kind) (λ word. word < 2 ^ 32) (λ word k. k.fits) words kept
@@ -73,10 +72,10 @@ pub shorts-back : (values : List ℤ) → All IsShort values → shorts_of (patt
 shorts-back [] short = refl
 shorts-back (z ∷ values) short = rw (short-back z (All-head IsShort z values short), shorts-back values (All-tail IsShort z values short)) refl
 
-pub patterns-back : (words : List ℕ) → All (IsKept signed_places) words → patterns_of (shorts_of words) ≡ words
+pub patterns-back : (words : List ℕ) → All (IsKept (Signed 16)) words → patterns_of (shorts_of words) ≡ words
 patterns-back [] kept = refl
 patterns-back (word ∷ words) kept =
-    rw (short-kept_back word (All-head (IsKept signed_places) word words kept), patterns-back words (All-tail (IsKept signed_places) word words kept)) refl
+    rw (short-kept_back word (All-head (IsKept (Signed 16)) word words kept), patterns-back words (All-tail (IsKept (Signed 16)) word words kept)) refl
 
 -- the values of any words are short
 all-short : (words : List ℕ) → All IsShort (shorts_of words)

@@ -1,10 +1,8 @@
 pub mod LastChanged
-pub mod Written
 pub mod FieldTexts
 pub mod Changes
 pub mod Normal
-pub mod Shorts
-pub mod ReadOver
+pub mod Same
 pub mod FieldsRead
 pub mod PlacesRead
 pub mod Results

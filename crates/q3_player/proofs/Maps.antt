@@ -12,7 +12,7 @@ use Rattle.q3_fields.specs.Spelling.{SpellsPlayerField}
 use Rattle.q3_fields.specs.Laws.{PlayerFieldIsSpelled}
 use Rattle.q3_player.specs.Arrays.{Change, changes_from, mask_of, with_changes, AreRising}
 use Rattle.q3_player.specs.Spelling.{SpellsValues}
-use Rattle.q3_player.specs.Steps.{values_text}
+use Rattle.q3_player.specs.Delta.{values_text}
 use Rattle.q3_player.proofs.Changes.{twice}
 use Rattle.q3_player.proofs.Kept.{IsKept}
 

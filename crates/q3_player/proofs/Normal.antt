@@ -8,7 +8,7 @@ use Rattle.std.specs.List.{All}
 use Rattle.q3_fields.specs.declared.kind.Kind.{Kind}
 use Rattle.q3_fields.specs.declared.kind.Kind.TheVariants.{Float, Unsigned, Signed}
 use lib.IntN.{pos}
-use Rattle.q3_fields.specs.Kinds.{IsKind, IsTable, norm}
+use Rattle.q3_fields.specs.Kinds.{IsKind, AreKinds, norm}
 use Rattle.q3_fields.specs.Laws.{NormIsNormal}
 use Rattle.q3_player.specs.declared.state.PlayerState.{PlayerState}
 use Rattle.q3_player.specs.State.{IsState, IsNormal, AreWords, AreShorts, IsShort, zero_player, normal_player, normal_words}
@@ -69,7 +69,7 @@ length-normal_words (kind ∷ table) [] = refl
 length-normal_words (kind ∷ table) (word ∷ words) = ap suc (length-normal_words table words)
 
 -- the normal form of a state is a state, in normal form
-pub normal_player-normal : NormIsNormal → (table : List Kind) (player : PlayerState) → IsTable table → IsState player → IsState (normal_player table player) × IsNormal table (normal_player table player)
+pub normal_player-normal : NormIsNormal → (table : List Kind) (player : PlayerState) → AreKinds table → IsState player → IsState (normal_player table player) × IsNormal table (normal_player table player)
 normal_player-normal law table player is_table state = (
   record {
     words = record {
@@ -108,7 +108,7 @@ zeros-words count = record { count = length-replicate count 0; each = All-replic
 zeros-shorts : AreShorts (replicate 16 (pos 0))
 zeros-shorts = record { count = length-replicate 16 (pos 0); each = All-replicate IsShort 16 (pos 0) (omega (arith, ints), omega (arith, ints)) }
 
-pub zero_player-normal : (table : List Kind) → IsTable table → IsState zero_player × IsNormal table zero_player
+pub zero_player-normal : (table : List Kind) → AreKinds table → IsState zero_player × IsNormal table zero_player
 unfolding zero_player
 zero_player-normal table is_table = (
   record { words = zeros-words 64; stats = zeros-shorts; persistant = zeros-shorts; ammo = zeros-shorts; powerups = zeros-words 16 },

@@ -4,9 +4,8 @@ use Rattle.std.proofs.lemmas.List.{drop_more, drop_all}
 use Rattle.std.proofs.lemmas.Nat.{shr-shr}
 use Rattle.q3_bits.specs.declared.reader.ReadError.{ReadError}
 use Rattle.q3_fields.specs.declared.kind.Kind.{Kind}
-use Rattle.q3_player.specs.Delta.{places_after}
-use Rattle.q3_player.specs.Steps.{place_after}
-use Rattle.q3_player.proofs.ReadOver.{with_first}
+use Rattle.q3_bits.specs.InPlace.{with_first}
+use Rattle.q3_player.specs.Delta.{place_after, places_after}
 
 -- one place more
 pub places_after-next : (words same : List (List Bool)) (kind : Kind) (mask k : ℕ) (from : List ℕ) (x y : ℕ) (bits next : List Bool) → same ≡ words
@@ -36,6 +35,6 @@ places_after-end words kind mask k from bits past = rw (drop_all k from past) re
 
 -- a mask of no places
 pub places_after_none : (words : List (List Bool)) (kind : Kind) (from : List ℕ) (bits : List Bool) → places_after words kind 0 from bits ≡ Ok (from, bits)
-unfolding places_after
+unfolding places_after place_after
 places_after_none words kind [] bits = refl
 places_after_none words kind (x ∷ from) bits = rw (places_after_none words kind from bits) refl

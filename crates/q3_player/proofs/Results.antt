@@ -1,15 +1,10 @@
 -- Steps that did not fail.
 use Rattle.std.proofs.Common.{◌≡◌, Bool, true, false, cond, List, Result, Ok, Err, refl, ap}
 use Rattle.q3_bits.specs.declared.reader.ReadError.{ReadError}
-use Rattle.q3_player.specs.Delta.{◌>>=◌, bits_error}
-
--- the value of a step that did not fail
-pub bind_ok : {A B E : Type 0} (r : Result A E) (f : A → Result B E) (y : B) → (r >>= f) ≡ Ok y → (x : A) × (r ≡ Ok x) × (f x ≡ Ok y)
-bind_ok (Ok x) f y e = (x, refl, e)
-bind_ok (Err d) f y e = absurd cc
+use Rattle.q3_player.specs.Delta.{bits_read}
 
 -- a read of bits that did not fail
-pub bits_ok : {A : Type 0} (r : Result A ReadError) (x : A) → bits_error r ≡ Ok x → r ≡ Ok x
+pub bits_ok : {A : Type 0} (r : Result A ReadError) (x : A) → bits_read r ≡ Ok x → r ≡ Ok x
 bits_ok (Ok y) x e = cc
 bits_ok (Err d) x e = absurd cc
 

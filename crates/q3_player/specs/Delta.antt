@@ -1,16 +1,17 @@
 -- The player delta: the one text that is written, and what a reader answers.
-use Rattle.std.specs.Prelude.{ℕ, ◌+◌, ◌/◌, ◌%◌, ◌==◌, ◌&&◌, Bool, if◌then◌else◌, List, [], ◌∷◌, ◌++◌, length, take, nat_lt, Result, Ok, Err}
+use Rattle.std.specs.Prelude.{ℕ, ◌+◌, ◌/◌, ◌%◌, ◌==◌, ◌&&◌, Bool, if◌then◌else◌, List, [], ◌∷◌, ◌++◌, length, take, nat_lt, ℤ, Result, Ok, Err}
 use Rattle.std.specs.List.{flat_map, list_all}
 use Rattle.std.specs.Result.{result_map_both}
 use Rattle.q3_bits.specs.ResultBind.{◌>>=◌}
 use Rattle.q3_bits.specs.Words.{field_bits, field_at}
 use Rattle.q3_bits.specs.declared.reader.ReadError.{ReadError}
 use Rattle.q3_fields.specs.declared.kind.Kind.{Kind}
+use Rattle.q3_fields.specs.declared.kind.Kind.TheVariants.{Signed}
 use Rattle.q3_fields.specs.Texts.{player_field, player_field_at}
 use Rattle.q3_player.specs.declared.state.PlayerState.{PlayerState}
 use Rattle.q3_player.specs.declared.reading.PlayerError.{PlayerError}
 use Rattle.q3_player.specs.declared.reading.PlayerError.TheVariants.{Bits, Count}
-use Rattle.q3_player.specs.State.{array_kinds, arrays_of, with_arrays}
+use Rattle.q3_player.specs.State.{patterns_of, shorts_of, array_kinds, arrays_of, with_arrays}
 use Rattle.q3_player.specs.Arrays.{Change, mask_of, player_changes}
 
 -- one more than the index of the last word that differs, or 0: the least number from which on all words agree
@@ -35,6 +36,10 @@ fields_text words kinds from to = []
 -- whether nothing changed
 abbrev pub is_empty : List Change → Bool
 is_empty changed = length changed == 0
+
+-- the value of a place: nothing where it is as it was
+abbrev pub place_text : List (List Bool) → Kind → ℕ → ℕ → List Bool
+place_text words kind from to = if from == to then [] else player_field words kind to
 
 -- the values of the places that changed
 unfoldable pub values_text : List (List Bool) → Kind → List Change → List Bool
@@ -92,6 +97,12 @@ array_after words kind from bits = do
   mask ← if mark.0 == 0 then Ok (0, mark.1) else field_at words 16 mark.1
   places_after words kind mask.0 from mask.1
 
+-- an array of signed values that is read
+unfoldable pub shorts_after : List (List Bool) → List ℤ → List Bool → Result (List ℤ × List Bool) ReadError
+shorts_after words from bits = do
+  read ← array_after words (Signed 16) (patterns_of from) bits
+  Ok (shorts_of read.0, read.1)
+
 -- the arrays of these kinds that are read, over others
 unfoldable pub arrays_after : List (List Bool) → List Kind → List (List ℕ) → List Bool → Result (List (List ℕ) × List Bool) ReadError
 arrays_after words (kind ∷ kinds) (x ∷ from) bits = do
@@ -100,11 +111,17 @@ arrays_after words (kind ∷ kinds) (x ∷ from) bits = do
   Ok (first.0 ∷ others.0, others.1)
 arrays_after words kinds from bits = Ok (from, bits)
 
+-- a state with the arrays that are read over its own
+unfoldable pub each_after : List (List Bool) → PlayerState → List Bool → Result (PlayerState × List Bool) ReadError
+each_after words from bits = do
+  arrays ← arrays_after words array_kinds (arrays_of from) bits
+  Ok (with_arrays from arrays.0, arrays.1)
+
 -- a mark, and behind a mark of change the arrays
-unfoldable pub marked_after : List (List Bool) → List (List ℕ) → List Bool → Result (List (List ℕ) × List Bool) ReadError
+unfoldable pub marked_after : List (List Bool) → PlayerState → List Bool → Result (PlayerState × List Bool) ReadError
 marked_after words from bits = do
   mark ← field_at words 1 bits
-  if mark.0 == 0 then Ok (from, mark.1) else arrays_after words array_kinds from mark.1
+  if mark.0 == 0 then Ok (from, mark.1) else each_after words from mark.1
 
 -- a fault of bits
 abbrev pub bits_read : {A : Type 0} → Result A ReadError → Result A PlayerError
@@ -115,5 +132,4 @@ unfoldable pub player_at : List (List Bool) → List Kind → PlayerState → Li
 player_at words table from bits = do
   count ← bits_read (field_at words 8 bits)
   fields ← if nat_lt (length table) count.0 then Err (Count count.0) else bits_read (fields_after words (take count.0 table) from.words count.1)
-  arrays ← bits_read (marked_after words (arrays_of from) fields.1)
-  Ok (with_arrays (record from { words = fields.0 }) arrays.0, arrays.1)
+  bits_read (marked_after words (record from { words = fields.0 }) fields.1)

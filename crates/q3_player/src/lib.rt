@@ -33,7 +33,8 @@ mod tests {
         let mut back = from;
         let mut reader = Reader::new(&code, &[0x02, 0x1e, 0x00, 0x00]);
         assert_eq!(rt; read_player(&mut reader, &table, &from, &mut back), Ok(()));
-        assert_eq!(rt; reader.place(), 27);
+        assert_eq!(rt; reader.get(5), Ok(0));
+        assert_eq!(rt; reader.get(1), Err(ReadError::End));
         assert_eq!(rt; back, to.normal(&table));
         assert_eq!(rt; back.words[1], 7);
         Ok(())
@@ -54,7 +55,8 @@ mod tests {
         let mut back = from;
         let mut reader = Reader::new(&code, &message);
         assert_eq!(rt; read_player(&mut reader, &table, &from, &mut back), Ok(()));
-        assert_eq!(rt; reader.place(), 60);
+        assert_eq!(rt; reader.get(4), Ok(0));
+        assert_eq!(rt; reader.get(1), Err(ReadError::End));
         assert_eq!(rt; back, to);
         Ok(())
     }

@@ -1,14 +1,13 @@
 //! Reads the player delta, in every spelling that is accepted.
 
-ghost use Rattle.std.specs.Prelude.{◌≡◌, ◌+◌, ◌≤◌, length, take, MatchResult, Ok, Err};
-ghost use Rattle.q3_bits.specs.Streams.{with_rest};
+ghost use Rattle.std.specs.Prelude.{◌≡◌, ◌≤◌, length, take};
+ghost use Rattle.q3_bits.specs.Streams.{Reads, holding};
 ghost use Rattle.q3_fields.specs.Kinds.{IsKind};
 ghost use Rattle.q3_player.specs.declared.reading.PlayerError.TheVariants.{Bits};
-ghost use Rattle.q3_player.specs.Delta.{field_after, fields_after, places_after, array_after, arrays_after, player_at};
-ghost use Rattle.q3_player.specs.Steps.{place_after, shorts_after};
+ghost use Rattle.q3_player.specs.Delta.{field_after, fields_after, place_after, places_after, array_after, shorts_after, each_after, marked_after, player_at};
 
 use crate::state::{PlayerState, kind_at, patterns, shorts};
-use q3_bits::{ReadError, Reader};
+use q3_bits::{ReadError, Reader, laws};
 use q3_fields::{Kind, Table, read_player_field};
 
 /// Why no player could be read: the first fault in reading order.
@@ -36,11 +35,7 @@ pub fn read_player(
     from: &PlayerState,
     into: &mut PlayerState,
 ) -> Result<(), PlayerError>
-    ensures reads { MatchResult result
-        (λ _. player_at r.old.words table.now from.now r.old.left ≡ Ok (into.new, r.new.left))
-        (λ e. player_at r.old.words table.now from.now r.old.left ≡ Err e) }
-    ensures words { r.new.words ≡ r.old.words }
-    ensures place { r.new.place + length r.new.left ≡ r.old.place + length r.old.left }
+    ensures { Reads r.old r.new (player_at r.old.words table.now.kinds from.now r.old.left) (holding into.new result) }
 {
     let count = r.get(8)? as usize;
     if count > table.count() {
@@ -48,9 +43,6 @@ pub fn read_player(
     }
     *into = *from;
     read_fields(r, table, count, &mut into.words)?;
-    if r.get(1)? == 0 {
-        return Ok(());
-    }
     read_arrays(r, into)?;
     Ok(())
 }
@@ -62,14 +54,11 @@ fn read_fields(
     count: usize,
     words: &mut [u32; 64],
 ) -> Result<(), ReadError>
-    requires in_table { count ≤ length table.now }
+    requires in_table { count ≤ length table.now.kinds }
     requires few { count ≤ 64 }
-    ensures reads { MatchResult result
-        (λ _. fields_after r.old.words (take count table.now) words.old r.old.left ≡ Ok (words.new, r.new.left))
-        (λ e. fields_after r.old.words (take count table.now) words.old r.old.left ≡ Err e) }
-    ensures words { r.new.words ≡ r.old.words }
-    ensures place { r.new.place + length r.new.left ≡ r.old.place + length r.old.left }
+    ensures { Reads r.old r.new (fields_after r.old.words (take count table.now.kinds) words.old r.old.left) (holding words.new result) }
 {
+    laws::lists_are_read();
     for k in 0..count {
         words[k] = read_field(r, kind_at(table, k), words[k])?;
     }
@@ -80,9 +69,7 @@ fn read_fields(
 #[tactic(auto, unfolding(crate::specs::Delta::field_after))]
 fn read_field(r: &mut Reader, kind: Kind, from: u32) -> Result<u32, ReadError>
     requires { IsKind kind }
-    ensures reads { with_rest r.new.left result ≡ field_after r.old.words kind from r.old.left }
-    ensures words { r.new.words ≡ r.old.words }
-    ensures place { r.new.place + length r.new.left ≡ r.old.place + length r.old.left }
+    ensures { Reads r.old r.new (field_after r.old.words kind from r.old.left) result }
 {
     if r.get(1)? == 0 {
         return Ok(from);
@@ -90,13 +77,20 @@ fn read_field(r: &mut Reader, kind: Kind, from: u32) -> Result<u32, ReadError>
     read_player_field(r, kind)
 }
 
-/// Reads the four arrays over those that stand there.
+/// Reads a mark for all arrays, and behind a mark of change each of them.
+#[tactic(auto, unfolding(crate::specs::Delta::marked_after))]
 fn read_arrays(r: &mut Reader, into: &mut PlayerState) -> Result<(), ReadError>
-    ensures reads { MatchResult result
-        (λ _. arrays_after r.old.words into.old r.old.left ≡ Ok (into.new, r.new.left))
-        (λ e. arrays_after r.old.words into.old r.old.left ≡ Err e) }
-    ensures words { r.new.words ≡ r.old.words }
-    ensures place { r.new.place + length r.new.left ≡ r.old.place + length r.old.left }
+    ensures { Reads r.old r.new (marked_after r.old.words into.old r.old.left) (holding into.new result) }
+{
+    if r.get(1)? == 0 {
+        return Ok(());
+    }
+    read_each(r, into)
+}
+
+/// Reads each array over the one that stands there.
+fn read_each(r: &mut Reader, into: &mut PlayerState) -> Result<(), ReadError>
+    ensures { Reads r.old r.new (each_after r.old.words into.old r.old.left) (holding into.new result) }
 {
     read_shorts(r, &mut into.stats)?;
     read_shorts(r, &mut into.persistant)?;
@@ -105,13 +99,9 @@ fn read_arrays(r: &mut Reader, into: &mut PlayerState) -> Result<(), ReadError>
 }
 
 /// Reads an array of signed values over those that stand there.
-#[tactic(auto, unfolding(crate::specs::Steps::shorts_after))]
+#[tactic(auto, unfolding(crate::specs::Delta::shorts_after))]
 fn read_shorts(r: &mut Reader, values: &mut [i16; 16]) -> Result<(), ReadError>
-    ensures reads { MatchResult result
-        (λ _. shorts_after r.old.words values.old r.old.left ≡ Ok (values.new, r.new.left))
-        (λ e. shorts_after r.old.words values.old r.old.left ≡ Err e) }
-    ensures words { r.new.words ≡ r.old.words }
-    ensures place { r.new.place + length r.new.left ≡ r.old.place + length r.old.left }
+    ensures { Reads r.old r.new (shorts_after r.old.words values.old r.old.left) (holding values.new result) }
 {
     let mut words = patterns(values);
     read_array(r, Kind::Signed(16), &mut words)?;
@@ -123,11 +113,7 @@ fn read_shorts(r: &mut Reader, values: &mut [i16; 16]) -> Result<(), ReadError>
 #[tactic(auto, using(crate::proofs::PlacesRead::places_after_none), unfolding(crate::specs::Delta::array_after))]
 fn read_array(r: &mut Reader, kind: Kind, values: &mut [u32; 16]) -> Result<(), ReadError>
     requires { IsKind kind }
-    ensures reads { MatchResult result
-        (λ _. array_after r.old.words kind values.old r.old.left ≡ Ok (values.new, r.new.left))
-        (λ e. array_after r.old.words kind values.old r.old.left ≡ Err e) }
-    ensures words { r.new.words ≡ r.old.words }
-    ensures place { r.new.place + length r.new.left ≡ r.old.place + length r.old.left }
+    ensures { Reads r.old r.new (array_after r.old.words kind values.old r.old.left) (holding values.new result) }
 {
     if r.get(1)? == 0 {
         return Ok(());
@@ -144,12 +130,9 @@ fn read_values(
     values: &mut [u32; 16],
 ) -> Result<(), ReadError>
     requires { IsKind kind }
-    ensures reads { MatchResult result
-        (λ _. places_after r.old.words kind mask values.old r.old.left ≡ Ok (values.new, r.new.left))
-        (λ e. places_after r.old.words kind mask values.old r.old.left ≡ Err e) }
-    ensures words { r.new.words ≡ r.old.words }
-    ensures place { r.new.place + length r.new.left ≡ r.old.place + length r.old.left }
+    ensures { Reads r.old r.new (places_after r.old.words kind mask values.old r.old.left) (holding values.new result) }
 {
+    laws::lists_are_read();
     for k in 0..16 {
         values[k] = read_place(r, kind, mask >> k, values[k])?;
     }
@@ -157,12 +140,10 @@ fn read_values(
 }
 
 /// Reads the value of a place whose bit, the mask's next, is 1.
-#[tactic(auto, unfolding(crate::specs::Steps::place_after))]
+#[tactic(auto, unfolding(crate::specs::Delta::place_after))]
 fn read_place(r: &mut Reader, kind: Kind, mask: u32, from: u32) -> Result<u32, ReadError>
     requires { IsKind kind }
-    ensures reads { with_rest r.new.left result ≡ place_after r.old.words kind mask from r.old.left }
-    ensures words { r.new.words ≡ r.old.words }
-    ensures place { r.new.place + length r.new.left ≡ r.old.place + length r.old.left }
+    ensures { Reads r.old r.new (place_after r.old.words kind mask from r.old.left) result }
 {
     if mask % 2 == 1 {
         return read_player_field(r, kind);

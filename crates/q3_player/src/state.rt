@@ -1,9 +1,8 @@
 //! The state of a player. Keeps the rule "normal form".
 
-ghost use Rattle.std.specs.Prelude.{◌≡◌, ◌<◌, ◌^◌, length, replicate, slice_get, Some, All};
+ghost use Rattle.std.specs.Prelude.{◌≡◌, ◌<◌, length, replicate, slice_get, Some};
 ghost use Rattle.q3_fields.specs.Kinds.{IsKind};
-ghost use Rattle.q3_player.specs.State.{AreShorts, patterns_of};
-ghost use Rattle.q3_player.specs.Delta.{shorts_of};
+ghost use Rattle.q3_player.specs.State.{patterns_of, shorts_of};
 
 use q3_fields::{Kind, Table, norm};
 
@@ -19,7 +18,7 @@ pub struct PlayerState {
 }
 
 impl PlayerState {
-    ghost use Rattle.q3_player.specs.State.{zero_player, normal_player, IsState};
+    ghost use Rattle.q3_player.specs.State.{zero_player, normal_player};
 
     /// The state with nothing in it.
     #[tactic(auto, unfolding(crate::specs::State::zero_player))]
@@ -37,38 +36,13 @@ impl PlayerState {
 
     /// The normal form: each word in that of its field, and the words behind the table's fields 0.
     pub fn normal(&self, table: &Table) -> PlayerState
-        ensures { result ≡ normal_player table.now self.now }
+        ensures { result ≡ normal_player table.now.kinds self.now }
     {
         let mut words = zeros();
         for k in 0..table.count() {
             words[k] = norm(kind_at(table, k), self.words[k]);
         }
         PlayerState { words, ..*self }
-    }
-
-    /// Every state has words of 32 bits and signed values of 16. This changes nothing.
-    pub fn is_state(&self)
-        ensures { IsState self.now }
-    {
-        are_words(&self.words);
-        are_shorts(&self.stats);
-        are_shorts(&self.persistant);
-        are_shorts(&self.ammo);
-        are_words(&self.powerups);
-    }
-}
-
-/// Words have 32 bits. This does nothing.
-fn are_words(words: &[u32])
-    ensures { All (λ word. word < 2 ^ 32) words.now }
-{}
-
-/// The signed values of an array have 16 bits, as each of them tells that is read. This changes nothing.
-pub(crate) fn are_shorts(values: &[i16; 16])
-    ensures { AreShorts values.now }
-{
-    for k in 0..16 {
-        let _value = values[k];
     }
 }
 
@@ -81,8 +55,8 @@ fn zeros<const N: usize>() -> [u32; N]
 
 /// The kind of a field that the table has.
 pub(crate) fn kind_at(table: &Table, k: usize) -> Kind
-    requires { k < length table.now }
-    ensures kind { slice_get table.now k ≡ Some result }
+    requires { k < length table.now.kinds }
+    ensures kind { slice_get table.now.kinds k ≡ Some result }
     ensures allowed { IsKind result }
 {
     table.kind(k).unwrap()

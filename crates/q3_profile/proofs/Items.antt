@@ -1,12 +1,14 @@
 -- The items of an array, one after another.
 use Rattle.std.proofs.Common.{◌≡◌, ℕ, ◌+◌, ◌<◌, ◌≤◌, List, [], ◌∷◌, ◌++◌, length, get_or, drop, Option, Some, None, Result, Ok, Err, option_map, refl, sym, ap, ◌∙◌, append_assoc, append-nil}
 use Rattle.std.proofs.lemmas.List.{drop_more, drop_all}
+use Rattle.std.specs.Option.{ok_or}
 use Rattle.toml.specs.Data.{Data, Items, Members, item, as_array}
 use Rattle.toml.specs.View.{view, items_view}
 use Rattle.toml.specs.declared.value.Value.{Value}
+use Rattle.q3_bits.specs.ResultBind.{◌>>=◌}
 use Rattle.q3_profile.specs.declared.error.Key.{Key}
 use Rattle.q3_profile.specs.declared.error.ProfileError.TheVariants.{Kind}
-use Rattle.q3_profile.specs.Document.{◌>>=◌, or_error, value_at, items_as, array_at}
+use Rattle.q3_profile.specs.Document.{value_at, items_as, array_at}
 use Rattle.q3_profile.specs.Seen.{items_at}
 
 -- the items so far and those that are left are all items
@@ -66,8 +68,8 @@ in_turn (Err e) f g = refl
 
 -- the array under a key, from its items
 pub array_at-items : {A : Type 0} (type : Data → Option A) (key : Key) (document : Members) (items : Items) (found : Option (List A))
-    → Ok items ≡ items_at key document → items_as type items ≡ found → array_at type key document ≡ or_error found (Kind key)
+    → Ok items ≡ items_at key document → items_as type items ≡ found → array_at type key document ≡ ok_or found (Kind key)
 unfolding array_at
 array_at-items type key document items found h e =
-    in_turn (value_at key document) (λ value. or_error (as_array value) (Kind key)) (λ items. or_error (items_as type items) (Kind key))
+    in_turn (value_at key document) (λ value. ok_or (as_array value) (Kind key)) (λ items. ok_or (items_as type items) (Kind key))
     ∙ (rw (← h, e) refl)

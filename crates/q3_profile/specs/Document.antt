@@ -1,8 +1,10 @@
 -- The profile's file as a document: what stands under a key.
-use Rattle.std.specs.Prelude.{ℕ, if◌then◌else◌, List, [], ◌∷◌, codes, ℤ, Option, Some, None, Result, Ok, Err}
+use Rattle.std.specs.Prelude.{ℕ, if◌then◌else◌, List, [], ◌∷◌, codes, ℤ, Option, Some, None, Result}
+use Rattle.std.specs.Option.{ok_or}
 use Rattle.std.specs.Str.{is_utf8}
 use Rattle.toml.specs.Data.{Data, Items, no_items, item, Members, get_member, as_integer, as_array}
 use Rattle.toml.specs.Parse.{parse_document}
+use Rattle.q3_bits.specs.ResultBind.{◌>>=◌}
 use Rattle.q3_profile.specs.declared.error.Key.{Key}
 use Rattle.q3_profile.specs.declared.error.Key.TheVariants as keys
 use Rattle.q3_profile.specs.declared.error.ProfileError.{ProfileError}
@@ -22,15 +24,6 @@ key_name keys.Entity = codes "entity"
 key_name keys.Player = codes "player"
 key_name keys.Code = codes "code"
 
-infixl 10 ◌>>=◌
-abbrev pub ◌>>=◌ : {A B E : Type 0} → Result A E → (A → Result B E) → Result B E
-(Ok x) >>= f = f x
-(Err e) >>= f = Err e
-
-abbrev pub or_error : {A E : Type 0} → Option A → E → Result A E
-or_error (Some x) e = Ok x
-or_error None e = Err e
-
 -- each item, where all are of the type
 unfoldable pub items_as : {A : Type 0} → (Data → Option A) → Items → Option (List A)
 items_as type no_items = Some []
@@ -42,17 +35,17 @@ items_as type (item one others) = both (type one) (items_as type others)
 
 -- what stands under a key
 abbrev pub value_at : Key → Members → Result Data ProfileError
-value_at key document = or_error (get_member (key_name key) document) (Missing key)
+value_at key document = ok_or (get_member (key_name key) document) (Missing key)
 
 -- the integer under a key
 unfoldable pub integer_at : Key → Members → Result ℤ ProfileError
 integer_at key document = do
   value ← value_at key document
-  or_error (as_integer value) (Kind key)
+  ok_or (as_integer value) (Kind key)
 
 -- the array under a key, whose items are all integers, or all texts
 unfoldable pub array_at : {A : Type 0} → (Data → Option A) → Key → Members → Result (List A) ProfileError
 array_at type key document = do
   value ← value_at key document
-  items ← or_error (as_array value) (Kind key)
-  or_error (items_as type items) (Kind key)
+  items ← ok_or (as_array value) (Kind key)
+  ok_or (items_as type items) (Kind key)

@@ -2,3 +2,4 @@ pub mod Document
 pub mod Mark
 pub mod Profile
 pub mod Seen
+pub mod Laws

@@ -1,20 +1,20 @@
 -- The profile that a file's bytes spell, or the first rule that they break.
-use Rattle.std.specs.Prelude.{◌≡◌, ℕ, ◌^◌, ◌≤◌, ◌==◌, ◌&&◌, if◌then◌else◌, Bool, true, List, length, map, nat_lt, nat_le, ℤ, pos, negsuc, Option, Some, None, Result, Ok, Err}
-use Rattle.std.specs.List.{range_with_len, list_any}
+use Rattle.std.specs.Prelude.{◌≡◌, ℕ, ◌==◌, ◌&&◌, if◌then◌else◌, Bool, true, List, length, map, nat_lt, nat_le, ℤ, pos, negsuc, Result, Ok, Err}
+use Rattle.std.specs.Int.{is_power_of_two}
+use Rattle.std.specs.Option.{ok_or, option_map_or}
+use Rattle.std.specs.Result.{result_map_both}
 use Rattle.toml.specs.Data.{Members, as_integer, as_str}
-use Rattle.q3_bits.specs.Words.{IsCode}
 use Rattle.q3_bits.specs.CodeWords.{bits_of_text, code_fault}
-use Rattle.q3_bits.specs.declared.words.CodeError.{CodeError}
-use Rattle.q3_fields.specs.declared.kind.Kind.{Kind as FieldKind}
 use Rattle.q3_fields.specs.declared.table.TableError.{TableError}
 use Rattle.q3_fields.specs.declared.table.TableError.TheVariants as table
-use Rattle.q3_fields.specs.Kinds.{IsTable, table_of}
+use Rattle.q3_fields.specs.Kinds.{Layout, table_of}
+use Rattle.q3_bits.specs.ResultBind.{◌>>=◌}
 use Rattle.q3_profile.specs.declared.error.Key.{Key}
 use Rattle.q3_profile.specs.declared.error.Key.TheVariants.{File, Protocol, ServerRing, ParseRing, Entity, Player, Code}
 use Rattle.q3_profile.specs.declared.error.ProfileError.{ProfileError}
 use Rattle.q3_profile.specs.declared.error.ProfileError.TheVariants as errors
 use Rattle.q3_profile.specs.declared.profile.Profile.{Profile}
-use Rattle.q3_profile.specs.Document.{◌>>=◌, or_error, document_of, integer_at, array_at}
+use Rattle.q3_profile.specs.Document.{document_of, integer_at, array_at}
 use Rattle.q3_profile.specs.Mark.{mark_of}
 
 -- the longest file
@@ -30,36 +30,32 @@ is_server_ring n = nat_le 256 n && nat_le n 262144
 
 -- a power of two from 512 to 65,536
 abbrev pub is_parse_ring : ℕ → Bool
-is_parse_ring n = list_any (λ e. n == 2 ^ e) (range_with_len 9 8)
+is_parse_ring n = nat_le 512 n && nat_le n 65536 && is_power_of_two n
 
--- the number under a key, where it meets the key's rule
+-- a number that meets the rule of its key
+abbrev pub ruled : Key → (ℕ → Bool) → ℤ → Result ℕ ProfileError
+ruled key rule (pos n) = if rule n then Ok n else Err (errors.Limit key)
+ruled key rule (negsuc n) = Err (errors.Limit key)
+
+-- the number under a key
 abbrev pub number_at : Key → (ℕ → Bool) → Members → Result ℕ ProfileError
 number_at key rule document = do
   number ← integer_at key document
-  ruled number
-  where
-    ruled : ℤ → Result ℕ ProfileError
-    ruled (pos n) = if rule n then Ok n else Err (errors.Limit key)
-    ruled (negsuc n) = Err (errors.Limit key)
+  ruled key rule number
 
-abbrev pub table_error : {A : Type 0} → Key → Result A TableError → Result A ProfileError
-table_error key (Ok x) = Ok x
-table_error key (Err table.Fields) = Err (errors.Fields key)
-table_error key (Err (table.Width i)) = Err (errors.Width key i)
+abbrev pub table_error : Key → TableError → ProfileError
+table_error key table.Fields = errors.Fields key
+table_error key (table.Width i) = errors.Width key i
 
 -- the table of the widths under a key
-abbrev pub table_at : Key → Members → Result (List FieldKind) ProfileError
+abbrev pub table_at : Key → Members → Result Layout ProfileError
 table_at key document = do
   widths ← array_at as_integer key document
-  table_error key (table_of widths)
+  result_map_both (λ table. table) (table_error key) (table_of widths)
 
 -- the code of these texts
 abbrev pub code_of : List (List ℕ) → Result (List (List Bool)) ProfileError
-code_of texts = unless (code_fault texts)
-  where
-    unless : Option CodeError → Result (List (List Bool)) ProfileError
-    unless None = Ok (map bits_of_text texts)
-    unless (Some e) = Err (errors.Code e)
+code_of texts = option_map_or (λ e. Err (errors.Code e)) (code_fault texts) (Ok (map bits_of_text texts))
 
 -- the keys in their order, each with its rule
 unfoldable pub profile_at : ℕ → Members → Result Profile ProfileError
@@ -76,14 +72,11 @@ profile_at mark document = do
 -- the profile of a file's bytes, or the first rule that fails: the length, the document, and then the keys
 unfoldable pub checked : List ℕ → Result Profile ProfileError
 checked bytes = do
-  document ← if nat_lt longest_profile (length bytes) then Err (errors.Limit File) else or_error (document_of bytes) errors.NotToml
+  document ← if nat_lt longest_profile (length bytes) then Err (errors.Limit File) else ok_or (document_of bytes) errors.NotToml
   profile_at (mark_of bytes) document
 
--- a profile that passed its check
+-- a profile whose rings and protocol passed their checks; that its code is a code and its tables are tables they tell
 pub record IsProfile (profile : Profile) : Type 0 where
-  pub code : IsCode profile.code
-  pub entity : IsTable profile.entity
-  pub player : IsTable profile.player
-  pub server_ring : (256 ≤ profile.server_ring) × (profile.server_ring ≤ 262144)
+  pub server_ring : is_server_ring profile.server_ring ≡ true
   pub parse_ring : is_parse_ring profile.parse_ring ≡ true
   pub protocol : profile.protocol ≡ 68

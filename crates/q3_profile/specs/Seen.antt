@@ -1,13 +1,15 @@
 -- What the private functions answer, beside the definitions.
 use Rattle.std.specs.Prelude.{◌≡◌, ◌⊎◌, List, Result, Ok, Err, MatchResult}
 use Rattle.std.specs.Borrow.{Bor}
+use Rattle.std.specs.Option.{ok_or}
 use Rattle.toml.specs.Data.{Data, Items, Members, as_array}
 use Rattle.toml.specs.View.{view, items_view}
 use Rattle.toml.specs.declared.value.Value.{Value}
+use Rattle.q3_bits.specs.ResultBind.{◌>>=◌}
 use Rattle.q3_profile.specs.declared.error.Key.{Key}
 use Rattle.q3_profile.specs.declared.error.ProfileError.{ProfileError}
 use Rattle.q3_profile.specs.declared.error.ProfileError.TheVariants.{NoMemory, Kind}
-use Rattle.q3_profile.specs.Document.{◌>>=◌, or_error, value_at}
+use Rattle.q3_profile.specs.Document.{value_at}
 
 -- the data of a value that is lent
 abbrev pub seen : Result (Bor Value) ProfileError → Result Data ProfileError
@@ -22,7 +24,7 @@ Gives of result whole = MatchResult result (λ x. whole ≡ Ok (of x)) (λ e. (e
 abbrev pub items_at : Key → Members → Result Items ProfileError
 items_at key document = do
   value ← value_at key document
-  or_error (as_array value) (Kind key)
+  ok_or (as_array value) (Kind key)
 
 abbrev pub seen_items : Result (Bor (List Value)) ProfileError → Result Items ProfileError
 seen_items (Ok values) = Ok (items_view values.now)

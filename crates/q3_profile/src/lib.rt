@@ -3,6 +3,7 @@
 
 mod document;
 pub mod error;
+pub mod laws;
 mod mark;
 mod numbers;
 pub mod profile;
@@ -66,7 +67,7 @@ mod tests {
         let Ok(first) = read else {
             return Ok(());
         };
-        let profile = first.copy(rt.alloc())?;
+        let profile = first.copy()?;
         assert_eq!(rt; profile.protocol, 68);
         assert_eq!(rt; profile.server_ring, 262_144);
         assert_eq!(rt; profile.parse_ring, 65_536);

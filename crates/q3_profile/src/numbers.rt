@@ -39,9 +39,9 @@ pub(crate) fn server_ring_at(document: &Table) -> Result<u32, ProfileError>
 pub(crate) fn parse_ring_at(document: &Table) -> Result<u32, ProfileError>
     ensures { result ≡ number_at keys.ParseRing is_parse_ring (table_view document.now) }
 {
-    let number = integer_at(document, Key::ParseRing)?;
-    match number {
-        512 | 1024 | 2048 | 4096 | 8192 | 16_384 | 32_768 | 65_536 => Ok(number as u32),
-        _ => Err(ProfileError::Limit(Key::ParseRing)),
+    let number = number_at(document, Key::ParseRing, 512, 65_536)?;
+    if !number.is_power_of_two() {
+        return Err(ProfileError::Limit(Key::ParseRing));
     }
+    Ok(number)
 }

@@ -4,7 +4,6 @@ ghost use Rattle.std.specs.Prelude.{◌≡◌, IfOk};
 
 use q3_bits::{Code, NoMemory};
 use q3_fields::Table;
-use std::alloc::Global;
 
 /// Code words, field tables and sizes that both ends share.
 #[derive(Drop)]
@@ -26,11 +25,11 @@ pub struct Profile {
 
 impl Profile {
     /// The same profile once more. `Err` is want of memory.
-    pub fn copy(&self, alloc: Global) -> Result<Profile, NoMemory>
+    pub fn copy(&self) -> Result<Profile, NoMemory>
         ensures { IfOk result (λ copy. copy ≡ self.now) }
     {
         Ok(Profile {
-            code: self.code.copy(alloc)?,
+            code: self.code.copy()?,
             entity: self.entity.copy(),
             player: self.player.copy(),
             server_ring: self.server_ring,

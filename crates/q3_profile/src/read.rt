@@ -1,15 +1,14 @@
 //! Reads a profile's file. The file and its rules are this project's own.
 
-ghost use Rattle.std.specs.Prelude.{◌≡◌, ◌⊎◌, IfOk, MatchResult};
+ghost use Rattle.std.specs.Prelude.{◌≡◌, ◌⊎◌, IfOk, IfErr, MatchResult};
 ghost use Rattle.toml.specs.Data.{as_integer, as_str};
 ghost use Rattle.toml.specs.View.{table_view};
-ghost use Rattle.q3_bits.specs.Words.{IsCode};
 ghost use Rattle.q3_bits.specs.CodeWords.{texts_of};
-ghost use Rattle.q3_fields.specs.Kinds.{IsTable};
 ghost use Rattle.q3_profile.specs.declared.error.Key.TheVariants as keys;
 ghost use Rattle.q3_profile.specs.declared.error.ProfileError.TheVariants as errors;
 ghost use Rattle.q3_profile.specs.Document.{array_at};
-ghost use Rattle.q3_profile.specs.Profile.{checked, profile_at, table_at, table_error, code_of, IsProfile};
+ghost use Rattle.q3_profile.specs.Profile.{checked, profile_at, table_at, code_of, IsProfile};
+ghost use Rattle.q3_profile.specs.Laws.{NamesRule};
 ghost use Rattle.q3_profile.specs.Seen.{Gives};
 
 use crate::document::{document, integers_at, texts_at};
@@ -32,6 +31,7 @@ const LONGEST: usize = 1_048_576;
 pub fn read_profile(alloc: Global, bytes: &[u8]) -> Result<Profile, ProfileError>
     ensures exact { MatchResult result (λ profile. checked bytes.now ≡ Ok profile)
         (λ e. (e ≡ errors.NoMemory) ⊎ (checked bytes.now ≡ Err e)) }
+    ensures rule { IfErr result (λ e. (e ≡ errors.NoMemory) ⊎ NamesRule e) }
     ensures is_profile { IfOk result IsProfile }
 {
     if bytes.len() > LONGEST {
@@ -68,7 +68,6 @@ fn profile_at(alloc: Global, document: &toml::Table, mark: u64) -> Result<Profil
 /// The table of the widths under a key.
 fn table_at(alloc: Global, document: &toml::Table, key: Key) -> Result<Table, ProfileError>
     ensures exact { Gives (λ table. table) result (table_at key (table_view document.now)) }
-    ensures is_table { IfOk result IsTable }
 {
     let widths = integers_at(alloc, document, key)?;
     match Table::of(&widths) {
@@ -81,7 +80,6 @@ fn table_at(alloc: Global, document: &toml::Table, key: Key) -> Result<Table, Pr
 /// The code of these texts.
 fn code_of(alloc: Global, texts: &[&str]) -> Result<Code, ProfileError>
     ensures exact { Gives (λ code. code) result (code_of (texts_of texts.now)) }
-    ensures is_code { IfOk result IsCode }
 {
     match Code::from_words(alloc, texts) {
         Ok(code) => Ok(code),

@@ -1,18 +1,16 @@
 -- Addresses against their grammar.
-use Rattle.std.proofs.Common.{◌≡◌, ℕ, true, false, eqb, List, ◌∷◌, ◌++◌, Option, Some, None, refl, sym, ap, subst, ◌∙◌, arith, append_assoc}
+use Rattle.std.proofs.Common.{◌≡◌, ℕ, ◌^◌, ◌<◌, ◌≤◌, true, false, eqb, List, ◌∷◌, ◌++◌, Option, Some, None, refl, sym, ap, subst, ◌∙◌, arith, append_assoc}
 use Rattle.std.specs.Prelude.{not, codes}
 use Rattle.std.specs.Fmt.{decimal}
-use Rattle.std.specs.Option.{option_and_then}
 use Rattle.std.proofs.lemmas.Option.{same_Some}
 use Rattle.std.proofs.lemmas.List.Folds.{list_all-append}
 use Rattle.q3_io.specs.declared.address.Address.{Address}
-use Rattle.q3_script.specs.Numbers.{number_at, cut, host_of, address_at}
+use Rattle.q3_bits.specs.OptionBind.{◌>>=◌}
+use Rattle.q3_script.specs.Words.{cut}
+use Rattle.q3_script.specs.Numbers.{number_at, host_of, address_at}
 use Rattle.q3_script.specs.Grammar.{SpellsAddress}
-use Rattle.q3_script.proofs.Spelled.{number_at-spelled, number_at-again, lacks, lacks-decimal, cut-spelled, cut-again}
-
-infixl 10 ◌>>=◌
-abbrev ◌>>=◌ : {A B : Type 0} → Option A → (A → Option B) → Option B
-o >>= f = option_and_then f o
+use Rattle.q3_script.proofs.Cuts.{lacks, cut-spelled, cut-again}
+use Rattle.q3_script.proofs.Numerals.{number_at-spelled, number_at-again, lacks-decimal}
 
 -- the value of a step that found something
 pub bind_some : {A B : Type 0} (o : Option A) (f : A → Option B) (y : B) → (o >>= f) ≡ Some y → (x : A) × (o ≡ Some x) × (f x ≡ Some y)
@@ -121,8 +119,14 @@ parts_of word address e =
       whole = port.2;
     }
 
--- and those parts spell it
-spelled_from : (word : List ℕ) (address : Address) (p : Parts word address) → SpellsAddress word (address_of p.a p.b p.c p.d p.port)
+-- what was read as an address
+pub record WasAddress (word : List ℕ) (address : Address) : Type 0 where
+  pub spelled : SpellsAddress word address
+  pub least : 1 ≤ address.port
+  pub most : address.port < 2 ^ 16
+
+-- those parts spell it
+spelled_from : (word : List ℕ) (address : Address) (p : Parts word address) → WasAddress word (address_of p.a p.b p.c p.d p.port)
 spelled_from word address p =
     let a_is = number_at-spelled 0 255 p.first.0 p.a (omega arith) p.a_read in
     let b_is = number_at-spelled 0 255 p.second.0 p.b (omega arith) p.b_read in
@@ -130,28 +134,31 @@ spelled_from word address p =
     let d_is = number_at-spelled 0 255 p.third.1 p.d (omega arith) p.d_read in
     let port_is = number_at-spelled 1 65535 p.ends.1 p.port (omega arith) p.port_read in
     record {
-      a = p.a;
-      b = p.b;
-      c = p.c;
-      d = p.d;
-      bytes = (omega arith, omega arith, omega arith, omega arith);
-      host = refl;
-      port = (omega arith, omega arith);
-      whole = joined word p.ends p.first p.second p.third (decimal p.a) (decimal p.b) (decimal p.c) (decimal p.d) (decimal p.port)
-          (cut-spelled 58 word p.ends p.at_colon) (cut-spelled 46 p.ends.0 p.first p.at_first) (cut-spelled 46 p.first.1 p.second p.at_second) (cut-spelled 46 p.second.1 p.third p.at_third)
-          a_is.2 b_is.2 c_is.2 d_is.2 port_is.2;
+      spelled = record {
+        a = p.a;
+        b = p.b;
+        c = p.c;
+        d = p.d;
+        bytes = (omega arith, omega arith, omega arith, omega arith);
+        host = refl;
+        whole = joined word p.ends p.first p.second p.third (decimal p.a) (decimal p.b) (decimal p.c) (decimal p.d) (decimal p.port)
+            (cut-spelled 58 word p.ends p.at_colon) (cut-spelled 46 p.ends.0 p.first p.at_first) (cut-spelled 46 p.first.1 p.second p.at_second) (cut-spelled 46 p.second.1 p.third p.at_third)
+            a_is.2 b_is.2 c_is.2 d_is.2 port_is.2;
+      };
+      least = omega arith;
+      most = omega arith;
     }
 
 -- what is read as an address was spelled so
-pub address_at-spelled : (word : List ℕ) (address : Address) → address_at word ≡ Some address → SpellsAddress word address
+pub address_at-spelled : (word : List ℕ) (address : Address) → address_at word ≡ Some address → WasAddress word address
 address_at-spelled word address e =
     let p = parts_of word address e in
-    subst (λ (x : Address). SpellsAddress word x) (same_Some (address_of p.a p.b p.c p.d p.port) address p.whole) (spelled_from word address p)
+    subst (λ (x : Address). WasAddress word x) (same_Some (address_of p.a p.b p.c p.d p.port) address p.whole) (spelled_from word address p)
 
 -- and what is spelled so is read
-pub address_at-again : (word : List ℕ) (address : Address) → SpellsAddress word address → address_at word ≡ Some address
+pub address_at-again : (word : List ℕ) (address : Address) → SpellsAddress word address → 1 ≤ address.port → address.port < 2 ^ 16 → address_at word ≡ Some address
 unfolding address_at
-address_at-again word address spelled =
+address_at-again word address spelled least most =
     let a = decimal spelled.a in
     let b = decimal spelled.b in
     let c = decimal spelled.c in

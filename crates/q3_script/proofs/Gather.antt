@@ -1,21 +1,15 @@
 -- The events of lines, gathered one after the other.
 use Rattle.std.proofs.Common.{◌≡◌, ℕ, ◌+◌, ◌<◌, true, false, List, [], ◌∷◌, ◌++◌, length, get_or, drop, Result, Ok, Err, refl, sym, ap, ◌∙◌, append_assoc, arith}
-use Rattle.std.specs.Prelude.{if◌then◌else◌, nat_le}
 use Rattle.std.proofs.lemmas.List.{append-nil, drop_more, drop_all, length_push}
 use Rattle.q3_script.specs.declared.event.Event.{Event}
 use Rattle.q3_script.specs.declared.cause.LineCause.{LineCause}
-use Rattle.q3_script.specs.declared.cause.LineCause.TheVariants.{Many}
-use Rattle.q3_script.specs.Lines.{◌>>=◌, words_of, line_at}
-use Rattle.q3_script.specs.Script.{BadLine, most_events, is_passed_over, events_from}
+use Rattle.q3_bits.specs.ResultBind.{◌>>=◌}
+use Rattle.q3_script.specs.Script.{BadLine, is_passed_over, event_at, events_from}
 
 -- the events before, and those of the lines that are left
 abbrev pub with_front : List Event → Result (List Event) BadLine → Result (List Event) BadLine
 with_front front (Ok events) = Ok (front ++ events)
 with_front front (Err bad) = Err bad
-
--- the event of a line behind so many others
-abbrev pub event_of : ℕ → List ℕ → Result Event LineCause
-event_of before line = if nat_le most_events before then Err Many else line_at (words_of line)
 
 -- an event, and a cause, as the answer for a line
 abbrev done : Event → Result Event LineCause
@@ -50,7 +44,7 @@ regroup front event (Ok events) = ap (λ (x : List Event). Ok x) (simp append_as
 regroup front event (Err bad) = refl
 
 -- a line that spells an event
-pub adds : {lines : List (List ℕ)} {n : ℕ} {front : List Event} {total : Result (List Event) BadLine} {line : List ℕ} {event : Event} → Reached lines n front total → Next lines n line → is_passed_over line ≡ false → done event ≡ event_of (length front) line → Reached lines (n + 1) (front ++ event ∷ []) total
+pub adds : {lines : List (List ℕ)} {n : ℕ} {front : List Event} {total : Result (List Event) BadLine} {line : List ℕ} {event : Event} → Reached lines n front total → Next lines n line → is_passed_over line ≡ false → done event ≡ event_at (length front) line → Reached lines (n + 1) (front ++ event ∷ []) total
 unfolding events_from
 adds {lines} {n} {front} {total} {line} {event} reached next over spells =
     let one : events_from (n + 1) (length front) (drop n lines) ≡ (events_from (n + 1 + 1) (length front + 1) (drop (n + 1) lines) >>= λ events. Ok (event ∷ events)) = rw (rest_of next, over, ← spells) refl in
@@ -58,7 +52,7 @@ adds {lines} {n} {front} {total} {line} {event} reached next over spells =
     record { told = rw length_push more }
 
 -- a line that is refused
-pub refuses : {lines : List (List ℕ)} {n : ℕ} {front : List Event} {total : Result (List Event) BadLine} {line : List ℕ} {cause : LineCause} → Reached lines n front total → Next lines n line → is_passed_over line ≡ false → refuse cause ≡ event_of (length front) line → total ≡ Err (record { line = n + 1; cause = cause })
+pub refuses : {lines : List (List ℕ)} {n : ℕ} {front : List Event} {total : Result (List Event) BadLine} {line : List ℕ} {cause : LineCause} → Reached lines n front total → Next lines n line → is_passed_over line ≡ false → refuse cause ≡ event_at (length front) line → total ≡ Err (record { line = n + 1; cause = cause })
 unfolding events_from
 refuses {lines} {n} {front} {total} {line} {cause} reached next over refused =
     let one : events_from (n + 1) (length front) (drop n lines) ≡ Err (record { line = n + 1; cause = cause }) = rw (rest_of next, over, ← refused) refl in

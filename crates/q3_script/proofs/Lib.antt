@@ -1,12 +1,12 @@
 pub mod Decimals
 pub mod Cuts
 pub mod Spaces
-pub mod Rising
 pub mod Gather
-pub mod Spelled
+pub mod Numerals
 pub mod Addresses
-pub mod Places
-pub mod Parts
+pub mod FieldWords
+pub mod Rising
+pub mod Steps
 pub mod SpelledEvents
 pub mod SpelledScripts
-pub mod Steps
+pub mod PlayerParts

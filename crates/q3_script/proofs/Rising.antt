@@ -1,50 +1,44 @@
--- Fields by rising index, one after the other.
-use Rattle.std.proofs.Common.{◌≡◌, ℕ, ◌+◌, ◌<◌, ◌≤◌, true, false, ltb, List, [], ◌∷◌, set, Option, Some, None, Result, Ok, Err, refl, sym, ◌∙◌}
-use Rattle.std.proofs.lemmas.Bool.{lt-ltb, le-ltb}
-use Rattle.q3_script.specs.declared.cause.LineCause.{LineCause}
-use Rattle.q3_script.specs.declared.cause.LineCause.TheVariants.{Fields}
-use Rattle.q3_script.specs.Numbers.{pair_at}
-use Rattle.q3_script.specs.Lines.{fields_at}
+-- The leading fields of a letter, taken one after the other.
+use Rattle.std.proofs.Common.{◌≡◌, ℕ, ◌+◌, List, [], ◌∷◌, set, Option, Some, None}
 use Rattle.q3_script.specs.Words.{next_of}
+use Rattle.q3_script.specs.Fields.{field_at, Fields, fields_at, with_fields}
 use Rattle.q3_script.proofs.Spaces.{some_next, none_next, next_of_some, next_of_none}
 
--- no field, and a field, as the answer for a word
-abbrev no_pair : Option (ℕ × ℕ)
-no_pair = None
+abbrev no_field : Option (ℕ × ℕ)
+no_field = None
 
-abbrev some_pair : ℕ × ℕ → Option (ℕ × ℕ)
-some_pair field = Some field
+abbrev some_field : ℕ × ℕ → Option (ℕ × ℕ)
+some_field field = Some field
 
--- a word that is no field is refused
-pub fields_at_none : (least : ℕ) (values : List ℕ) (word : List ℕ) (others left : List (List ℕ)) (total : Result (List ℕ) LineCause) → some_next (word, others) ≡ next_of left → no_pair ≡ pair_at word → fields_at least values left ≡ total → Err Fields ≡ total
+-- the fields that are left, put over the values so far, are all fields put over the first values; and what is left behind them is the same
+pub record Reached (letter : List ℕ) (limit least : ℕ) (values : List ℕ) (left : List (List ℕ)) (start : List ℕ) (total : Fields) : Type 0 where
+  pub put : with_fields values (fields_at letter limit least left).fields ≡ with_fields start total.fields
+  pub behind : (fields_at letter limit least left).left ≡ total.left
+
+-- and these are all
+pub record Ended (values : List ℕ) (left : List (List ℕ)) (start : List ℕ) (total : Fields) : Type 0 where
+  pub put : values ≡ with_fields start total.fields
+  pub behind : left ≡ total.left
+
+-- with no word left they end
+pub ends : {letter : List ℕ} {limit least : ℕ} {values : List ℕ} {left : List (List ℕ)} {start : List ℕ} {total : Fields} → Reached letter limit least values left start total → none_next ≡ next_of left → Ended values left start total
 unfolding fields_at
-fields_at_none least values word others left total next none told =
-    let e : left ≡ word ∷ others = next_of_some word others left next in
-    let refused : fields_at least values left ≡ Err Fields = rw (e, ← none) refl in
-    sym refused ∙ told
-
--- and so is one whose index doesn't rise
-pub fields_at_low : (least : ℕ) (values : List ℕ) (word : List ℕ) (others left : List (List ℕ)) (index value : ℕ) (total : Result (List ℕ) LineCause) → some_next (word, others) ≡ next_of left → some_pair (index, value) ≡ pair_at word → index < least → fields_at least values left ≡ total → Err Fields ≡ total
-unfolding fields_at
-fields_at_low least values word others left index value total next some low told =
-    let e : left ≡ word ∷ others = next_of_some word others left next in
-    let test : ltb index least ≡ true = lt-ltb _ _ low in
-    let refused : fields_at least values left ≡ Err Fields = rw (e, ← some, test) refl in
-    sym refused ∙ told
-
--- the others are put over the words with this one
-pub fields_at_more : (least : ℕ) (values : List ℕ) (word : List ℕ) (others left : List (List ℕ)) (index value : ℕ) (total : Result (List ℕ) LineCause) → some_next (word, others) ≡ next_of left → some_pair (index, value) ≡ pair_at word → least ≤ index → fields_at least values left ≡ total → fields_at (index + 1) (set values index value) others ≡ total
-unfolding fields_at
-fields_at_more least values word others left index value total next some rises told =
-    let e : left ≡ word ∷ others = next_of_some word others left next in
-    let test : ltb index least ≡ false = le-ltb _ _ rises in
-    let goes_on : fields_at least values left ≡ fields_at (index + 1) (set values index value) others = rw (e, ← some, test) refl in
-    sym goes_on ∙ told
-
--- with no word left the words stay
-pub fields_at_end : (least : ℕ) (values : List ℕ) (left : List (List ℕ)) (total : Result (List ℕ) LineCause) → none_next ≡ next_of left → fields_at least values left ≡ total → Ok values ≡ total
-unfolding fields_at
-fields_at_end least values left total none told =
+ends {left} reached none =
     let e : left ≡ [] = next_of_none left none in
-    let done : fields_at least values left ≡ Ok values = rw e refl in
-    sym done ∙ told
+    record { put = rw e at reached.put; behind = rw e (rw e at reached.behind) }
+
+-- and so they do at a word that is none
+pub stops : {letter : List ℕ} {limit least : ℕ} {values : List ℕ} {left : List (List ℕ)} {start : List ℕ} {total : Fields} → Reached letter limit least values left start total
+    → (word : List ℕ) (others : List (List ℕ)) → some_next (word, others) ≡ next_of left → no_field ≡ field_at letter limit least word → Ended values left start total
+unfolding fields_at
+stops {left} reached word others next none =
+    let e : left ≡ word ∷ others = next_of_some word others left next in
+    record { put = rw (e, ← none) at reached.put; behind = rw e (rw (e, ← none) at reached.behind) }
+
+-- with a field they go on behind it
+pub goes_on : {letter : List ℕ} {limit least : ℕ} {values : List ℕ} {left : List (List ℕ)} {start : List ℕ} {total : Fields} → Reached letter limit least values left start total
+    → (word : List ℕ) (others : List (List ℕ)) (index value : ℕ) → some_next (word, others) ≡ next_of left → some_field (index, value) ≡ field_at letter limit least word → Reached letter limit (index + 1) (set values index value) others start total
+unfolding fields_at
+goes_on {left} reached word others index value next some =
+    let e : left ≡ word ∷ others = next_of_some word others left next in
+    record { put = rw (e, ← some) at reached.put; behind = rw (e, ← some) at reached.behind }

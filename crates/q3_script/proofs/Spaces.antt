@@ -4,8 +4,7 @@ use Rattle.std.specs.List.{position, position_or_len}
 use Rattle.std.proofs.lemmas.Bool.{cases_Bool, ltb-false}
 use Rattle.std.proofs.lemmas.Option.{same_Some}
 use Rattle.std.proofs.lemmas.List.{take_all, drop_all}
-use Rattle.q3_script.specs.Lines.{words_of}
-use Rattle.q3_script.specs.Words.{words_left, next_of, only_of}
+use Rattle.q3_script.specs.Words.{words_of, words_left, next_of, only_of}
 
 -- the byte between two words
 abbrev is_space : ℕ → Bool
@@ -19,7 +18,7 @@ abbrev none_place : Option ℕ
 none_place = None
 
 -- the first word ends at the first space, or at the end
-words_at_space : (text : List ℕ) → words_of text ≡ take (position_or_len is_space text) text ∷ words_left (drop (position_or_len is_space text) text)
+pub words_at_space : (text : List ℕ) → words_of text ≡ take (position_or_len is_space text) text ∷ words_left (drop (position_or_len is_space text) text)
 words_at_space [] = refl
 words_at_space (x ∷ text) =
     elim (cases_Bool (eqb x 32)) [

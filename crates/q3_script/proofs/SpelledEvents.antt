@@ -1,23 +1,33 @@
 -- The words of a line against the grammar of events: what is read was spelled so, and what is spelled so is read.
-use Rattle.std.proofs.Common.{◌≡◌, ℕ, ◌+◌, ◌^◌, ◌<◌, ◌≤◌, Bool, true, false, cond, ltb, List, [], ◌∷◌, map, set, replicate, Option, Some, None, Result, Ok, Err, inl, inr, refl, sym, ap, subst, ◌∙◌, arith}
-use Rattle.std.specs.Prelude.{codes, if◌then◌else◌}
+use Rattle.std.proofs.Common.{◌≡◌, ℕ, ◌+◌, ◌^◌, ◌%◌, ◌<◌, ◌≤◌, Bool, true, false, cond, List, [], ◌∷◌, length, set, replicate, slice_index_or, Option, Some, None, Result, Ok, Err, inl, inr, refl, sym, ap, subst, ◌∙◌, arith}
+use Rattle.std.specs.Prelude.{codes, All}
 use Rattle.std.specs.Fmt.{decimal}
+use Rattle.std.specs.Map.{lookup}
+use Rattle.std.specs.Option.{ok_or, option_map_or}
 use Rattle.std.specs.Str.{bytes_eq}
-use Rattle.std.proofs.lemmas.Bool.{cases_Bool, ltb-false, le-ltb}
+use Rattle.std.specs.Int.{w16, cast_signed}
+use mir.Val.{SFits}
+use Rattle.std.proofs.Math.Facts.{sfits_to_z}
+use Rattle.std.proofs.lemmas.Bool.{cases_Bool}
+use Rattle.std.proofs.lemmas.Int.{ints}
+use Rattle.std.proofs.lemmas.List.{length-map, length-set, length-replicate}
+use Rattle.std.proofs.lemmas.List.Elements.{All-set, All-map, All-replicate}
 use Rattle.std.proofs.lemmas.Slice.Eq.{bytes_eq-Decides}
+use Rattle.q3_player.specs.State.{AreWords, IsShort, AreShorts, IsState, shorts_of}
 use Rattle.q3_player.specs.declared.state.PlayerState.{PlayerState}
 use Rattle.q3_io.specs.declared.address.Address.{Address}
 use Rattle.q3_script.specs.declared.event.Event.{Event}
-use Rattle.q3_script.specs.declared.event.Event.TheVariants.{Client, Time, Player, Serve, Deliver, Show}
+use Rattle.q3_script.specs.declared.event.Event.TheVariants.{Client, Player, Time, Serve, Deliver, Show}
 use Rattle.q3_script.specs.declared.cause.LineCause.{LineCause}
 use Rattle.q3_script.specs.declared.cause.LineCause.TheVariants as causes
-use Rattle.q3_script.specs.Numbers.{number_at, address_at, pair_at}
-use Rattle.q3_script.specs.Lines.{◌>>=◌, or_cause, number_word, client_word, fields_at, player_of, client_line, time_line, player_line, serve_line, deliver_line, show_line, line_at}
-use Rattle.q3_script.specs.Grammar.{AreFields, with_fields, SpellsPlayer, SpellsEvent}
-use Rattle.q3_script.proofs.Spelled.{number_at-spelled, number_at-again}
+use Rattle.q3_bits.specs.ResultBind.{◌>>=◌, bind_ok}
+use Rattle.q3_script.specs.Numbers.{number_at, address_at}
+use Rattle.q3_script.specs.Fields.{with_fields, values_of, player_of, player_at}
+use Rattle.q3_script.specs.Lines.{last_datagram, number_word, client_word, client_line, player_line, time_line, serve_line, deliver_line, show_line, replay_lines, line_at}
+use Rattle.q3_script.specs.Grammar.{AreFields, SpellsPlayer, SpellsEvent}
+use Rattle.q3_script.proofs.Numerals.{number_at-spelled, number_at-again}
 use Rattle.q3_script.proofs.Addresses.{address_at-spelled, address_at-again}
-use Rattle.q3_script.proofs.Places.{place_text, pair_at-spelled, pair_at-again}
-use Rattle.q3_script.proofs.Parts.{Parts, pairs_of, parts_of, pairs_rise, words_are, player_is}
+use Rattle.q3_script.proofs.FieldWords.{player_at-spelled, player_at-again}
 
 -- an answer, and a refusal
 abbrev pub done : {A E : Type 0} → A → Result A E
@@ -30,15 +40,10 @@ refuse cause = Err cause
 pub ok_is : {A E : Type 0} (x y : A) → done {E = E} x ≡ done y → x ≡ y
 ok_is x y e = cc
 
--- the value of a step that wasn't refused
-pub bind_ok : {A B E : Type 0} (r : Result A E) (f : A → Result B E) (y : B) → (r >>= f) ≡ Ok y → (x : A) × (r ≡ Ok x) × (f x ≡ Ok y)
-bind_ok (Ok x) f y e = (x, refl, e)
-bind_ok (Err cause) f y e = absurd cc
-
 -- what a cause was not needed for
-or_cause-ok : {A : Type 0} (o : Option A) (cause : LineCause) (x : A) → or_cause o cause ≡ Ok x → o ≡ Some x
-or_cause-ok (Some y) cause x e = ap (λ z. Some z) (ok_is y x e)
-or_cause-ok None cause x e = absurd cc
+ok_or-ok : {A : Type 0} (o : Option A) (cause : LineCause) (x : A) → ok_or o cause ≡ Ok x → o ≡ Some x
+ok_or-ok (Some y) cause x e = ap (λ z. Some z) (ok_is y x e)
+ok_or-ok None cause x e = absurd cc
 
 -- a test that didn't refuse
 pub guard_ok : {A : Type 0} (b : Bool) (cause : LineCause) (r : Result A LineCause) (y : A) → cond b (Err cause) r ≡ Ok y → (b ≡ false) × (r ≡ Ok y)
@@ -47,91 +52,55 @@ guard_ok false cause r y e = (refl, e)
 
 -- a word that is read as a number was spelled so
 number_word-spelled : (low high : ℕ) (word : List ℕ) (n : ℕ) → high < 2 ^ 64 → number_word low high word ≡ Ok n → (low ≤ n) × (n ≤ high) × (word ≡ decimal n)
-number_word-spelled low high word n small e = number_at-spelled low high word n small (or_cause-ok (number_at low high word) causes.Number n e)
+number_word-spelled low high word n small e = number_at-spelled low high word n small (ok_or-ok (number_at low high word) causes.Number n e)
 
 -- and what is spelled so is read
 number_word-again : (low high n : ℕ) → high < 2 ^ 64 → low ≤ n → n ≤ high → number_word low high (decimal n) ≡ Ok n
 number_word-again low high n small lower upper = rw (number_at-again low high n small lower upper) refl
 
--- ---- values by place
+-- ---- players
 
--- the values that were put over others
-record WereFields (least : ℕ) (values : List ℕ) (words : List (List ℕ)) (result : List ℕ) : Type 0 where
-  pairs : List (ℕ × ℕ)
-  fields : AreFields 128 least pairs
-  whole : words ≡ map place_text pairs
-  is : result ≡ with_fields values pairs
+-- fields put over values keep their number
+length-with_fields : (values : List ℕ) (fields : List (ℕ × ℕ)) → length (with_fields values fields) ≡ length values
+length-with_fields values [] = refl
+length-with_fields values (field ∷ fields) = length-with_fields (set values field.0 field.1) fields ∙ length-set values field.0 field.1
 
--- values that are read were spelled so
-fields_at-spelled : (least : ℕ) (values : List ℕ) (words : List (List ℕ)) (result : List ℕ) → fields_at least values words ≡ Ok result → WereFields least values words result
-unfolding fields_at
-fields_at-spelled least values [] result e = record { pairs = []; fields = tt; whole = refl; is = sym (ok_is values result e) }
-fields_at-spelled least values (word ∷ others) result e =
-    let field = bind_ok (or_cause (pair_at word) causes.Fields) (λ field. if ltb field.0 least then Err causes.Fields else fields_at (field.0 + 1) (set values field.0 field.1) others) result e in
-    let pair = field.0 in
-    let test = guard_ok (ltb pair.0 least) causes.Fields (fields_at (pair.0 + 1) (set values pair.0 pair.1) others) result field.2 in
-    let is = pair_at-spelled word pair (or_cause-ok (pair_at word) causes.Fields pair field.1) in
-    let rest = fields_at-spelled (pair.0 + 1) (set values pair.0 pair.1) others result test.1 in
-    let rises : least ≤ pair.0 = ltb-false pair.0 least test.0 in
-    record {
-      pairs = pair ∷ rest.pairs;
-      fields = (rises, is.place, is.small, rest.fields);
-      whole = ap (λ (w : List ℕ). w ∷ others) is.whole ∙ ap (λ (ws : List (List ℕ)). place_text pair ∷ ws) rest.whole;
-      is = rest.is;
-    }
+-- fields put over words of 32 bits are such words
+with_fields-each : (limit least : ℕ) (values : List ℕ) (pairs : List (ℕ × ℕ)) → AreFields limit least pairs → All (λ word. word < 2 ^ 32) values → All (λ word. word < 2 ^ 32) (with_fields values pairs)
+with_fields-each limit least values [] are each = each
+with_fields-each limit least values (pair ∷ pairs) are each = with_fields-each limit (pair.0 + 1) (set values pair.0 pair.1) pairs are.3 (All-set (λ word. word < 2 ^ 32) values pair.0 pair.1 are.2 each)
 
--- and what is spelled so is read
-fields_at-again : (least : ℕ) (values : List ℕ) (pairs : List (ℕ × ℕ)) → AreFields 128 least pairs → fields_at least values (map place_text pairs) ≡ Ok (with_fields values pairs)
-unfolding fields_at
-fields_at-again least values [] fields = refl
-fields_at-again least values (pair ∷ pairs) fields =
-    let rises : ltb pair.0 least ≡ false = le-ltb pair.0 least fields.0 in
-    rw (pair_at-again pair fields.1 fields.2, rises) (fields_at-again (pair.0 + 1) (set values pair.0 pair.1) pairs fields.3)
-
--- the values of a player's line are spelled by its five parts
-player-spelled : (words : List (List ℕ)) (values : List ℕ) → fields_at 0 (replicate 128 0) words ≡ Ok values → SpellsPlayer words (player_of values)
-player-spelled words values e =
-    let were = fields_at-spelled 0 (replicate 128 0) words values e in
-    let has = parts_of were.pairs were.fields in
-    let p = has.parts in
-    record {
-      fields = p.fields;
-      stats = p.stats;
-      persistant = p.persistant;
-      ammo = p.ammo;
-      powerups = p.powerups;
-      are_fields = p.are_fields;
-      are_stats = p.are_stats;
-      are_persistant = p.are_persistant;
-      are_ammo = p.are_ammo;
-      are_powerups = p.are_powerups;
-      whole = were.whole ∙ ap (map place_text) has.whole ∙ words_are p;
-      state = ap player_of (were.is ∙ ap (with_fields (replicate 128 0)) has.whole) ∙ player_is p;
-    }
-
--- the parts of a player that is spelled
-abbrev parts_from : {words : List (List ℕ)} {player : PlayerState} → SpellsPlayer words player → Parts
-parts_from spelled = record {
-  fields = spelled.fields;
-  stats = spelled.stats;
-  persistant = spelled.persistant;
-  ammo = spelled.ammo;
-  powerups = spelled.powerups;
-  are_fields = spelled.are_fields;
-  are_stats = spelled.are_stats;
-  are_persistant = spelled.are_persistant;
-  are_ammo = spelled.are_ammo;
-  are_powerups = spelled.are_powerups;
+-- so many zeros, with fields put over them
+words_are : (count : ℕ) (pairs : List (ℕ × ℕ)) → AreFields count 0 pairs → AreWords count (with_fields (replicate count 0) pairs)
+words_are count pairs are = record {
+  count = length-with_fields (replicate count 0) pairs ∙ length-replicate count 0;
+  each = with_fields-each count 0 (replicate count 0) pairs are (All-replicate (λ word. word < 2 ^ 32) count 0 (omega arith));
 }
 
--- and they are read
-player-again : (words : List (List ℕ)) (player : PlayerState) → SpellsPlayer words player → (values : List ℕ) × (fields_at 0 (replicate 128 0) words ≡ Ok values) × (player_of values ≡ player)
-player-again words player spelled =
-    let p = parts_from spelled in (
-      with_fields (replicate 128 0) (pairs_of p),
-      ap (fields_at 0 (replicate 128 0)) (spelled.whole ∙ sym (words_are p)) ∙ fields_at-again 0 (replicate 128 0) (pairs_of p) (pairs_rise p),
-      player_is p ∙ sym spelled.state,
-    )
+-- a word as a signed value of 16 bits
+short_is : (word : ℕ) → IsShort (cast_signed w16 (word % 2 ^ 16))
+short_is word =
+    let fits : SFits w16 (cast_signed w16 (word % 2 ^ 16)) = sfits_to_z (omega arith) in
+    (omega (arith, ints), omega (arith, ints))
+
+-- sixteen words, as signed values
+shorts_are : (words : List ℕ) → length words ≡ 16 → AreShorts (shorts_of words)
+shorts_are words size = record {
+  count = length-map words (λ word. cast_signed w16 (word % 2 ^ 16)) ∙ size;
+  each = All-map IsShort (λ word. cast_signed w16 (word % 2 ^ 16)) words (λ k d l. short_is (slice_index_or words k d));
+}
+
+-- a player that is spelled is a state as the program's type holds it
+is_state : (words : List (List ℕ)) (player : PlayerState) → SpellsPlayer words player → IsState player
+is_state words player spelled =
+    let state : IsState (player_of spelled.fields spelled.stats spelled.persistant spelled.ammo spelled.powerups) = record {
+      words = words_are 64 spelled.fields spelled.are_fields;
+      stats = shorts_are (values_of 16 spelled.stats) (length-with_fields (replicate 16 0) spelled.stats);
+      persistant = shorts_are (values_of 16 spelled.persistant) (length-with_fields (replicate 16 0) spelled.persistant);
+      ammo = shorts_are (values_of 16 spelled.ammo) (length-with_fields (replicate 16 0) spelled.ammo);
+      powerups = words_are 16 spelled.powerups spelled.are_powerups;
+    } in
+    subst IsState (sym spelled.state) state
 
 -- ---- lines
 
@@ -143,7 +112,11 @@ client_from c challenge qport dup last c' challenge' qport' dup' address c_read 
     let challenge_is = number_word-spelled 0 4294967295 challenge challenge' (omega arith) challenge_read in
     let qport_is = number_word-spelled 0 65535 qport qport' (omega arith) qport_read in
     let dup_is = number_word-spelled 0 5 dup dup' (omega arith) dup_read in
-    (omega arith, omega arith, omega arith, omega arith, last, address_at-spelled last address address_read, rw (c_is.2, challenge_is.2, qport_is.2, dup_is.2) refl)
+    let address_is = address_at-spelled last address address_read in
+    record {
+      event_of_replay = (omega arith, omega arith, omega arith, omega arith, address_is.least, address_is.most);
+      whole = (last, address_is.spelled, rw (c_is.2, challenge_is.2, qport_is.2, dup_is.2) refl);
+    }
 
 -- what is read of each line was spelled so
 client_line-spelled : (words : List (List ℕ)) (event : Event) → client_line words ≡ Ok event → SpellsEvent (codes "client" ∷ words) event
@@ -154,14 +127,25 @@ client_line-spelled (c ∷ challenge ∷ []) event e = absurd cc
 client_line-spelled (c ∷ challenge ∷ qport ∷ []) event e = absurd cc
 client_line-spelled (c ∷ challenge ∷ qport ∷ dup ∷ []) event e = absurd cc
 client_line-spelled (c ∷ challenge ∷ qport ∷ dup ∷ last ∷ []) event e =
-    let c' = bind_ok (client_word c) (λ c'. number_word 0 4294967295 challenge >>= λ challenge'. number_word 0 65535 qport >>= λ qport'. number_word 0 5 dup >>= λ dup'. or_cause (address_at last) causes.Address >>= λ address. Ok (Client c' challenge' qport' dup' address)) event e in
-    let challenge' = bind_ok (number_word 0 4294967295 challenge) (λ challenge'. number_word 0 65535 qport >>= λ qport'. number_word 0 5 dup >>= λ dup'. or_cause (address_at last) causes.Address >>= λ address. Ok (Client c'.0 challenge' qport' dup' address)) event c'.2 in
-    let qport' = bind_ok (number_word 0 65535 qport) (λ qport'. number_word 0 5 dup >>= λ dup'. or_cause (address_at last) causes.Address >>= λ address. Ok (Client c'.0 challenge'.0 qport' dup' address)) event challenge'.2 in
-    let dup' = bind_ok (number_word 0 5 dup) (λ dup'. or_cause (address_at last) causes.Address >>= λ address. Ok (Client c'.0 challenge'.0 qport'.0 dup' address)) event qport'.2 in
-    let address = bind_ok (or_cause (address_at last) causes.Address) (λ address. Ok (Client c'.0 challenge'.0 qport'.0 dup'.0 address)) event dup'.2 in
+    let c' = bind_ok (client_word c) (λ c'. number_word 0 4294967295 challenge >>= λ challenge'. number_word 0 65535 qport >>= λ qport'. number_word 0 5 dup >>= λ dup'. ok_or (address_at last) causes.Address >>= λ address. Ok (Client c' challenge' qport' dup' address)) event e in
+    let challenge' = bind_ok (number_word 0 4294967295 challenge) (λ challenge'. number_word 0 65535 qport >>= λ qport'. number_word 0 5 dup >>= λ dup'. ok_or (address_at last) causes.Address >>= λ address. Ok (Client c'.0 challenge' qport' dup' address)) event c'.2 in
+    let qport' = bind_ok (number_word 0 65535 qport) (λ qport'. number_word 0 5 dup >>= λ dup'. ok_or (address_at last) causes.Address >>= λ address. Ok (Client c'.0 challenge'.0 qport' dup' address)) event challenge'.2 in
+    let dup' = bind_ok (number_word 0 5 dup) (λ dup'. ok_or (address_at last) causes.Address >>= λ address. Ok (Client c'.0 challenge'.0 qport'.0 dup' address)) event qport'.2 in
+    let address = bind_ok (ok_or (address_at last) causes.Address) (λ address. Ok (Client c'.0 challenge'.0 qport'.0 dup'.0 address)) event dup'.2 in
     subst (λ (x : Event). SpellsEvent (codes "client" ∷ c ∷ challenge ∷ qport ∷ dup ∷ last ∷ []) x) (ok_is (Client c'.0 challenge'.0 qport'.0 dup'.0 address.0) event address.2)
-    (client_from c challenge qport dup last c'.0 challenge'.0 qport'.0 dup'.0 address.0 c'.1 challenge'.1 qport'.1 dup'.1 (or_cause-ok (address_at last) causes.Address address.0 address.1))
+    (client_from c challenge qport dup last c'.0 challenge'.0 qport'.0 dup'.0 address.0 c'.1 challenge'.1 qport'.1 dup'.1 (ok_or-ok (address_at last) causes.Address address.0 address.1))
 client_line-spelled (c ∷ challenge ∷ qport ∷ dup ∷ address ∷ other ∷ others) event e = absurd cc
+
+player_line-spelled : (words : List (List ℕ)) (event : Event) → player_line words ≡ Ok event → SpellsEvent (codes "player" ∷ words) event
+unfolding player_line
+player_line-spelled [] event e = absurd cc
+player_line-spelled (word ∷ words) event e =
+    let c = bind_ok (client_word word) (λ c. player_at words >>= λ player. Ok (Player c player)) event e in
+    let player = bind_ok (player_at words) (λ player. Ok (Player c.0 player)) event c.2 in
+    let is = number_word-spelled 0 0 word c.0 (omega arith) c.1 in
+    let spelled = player_at-spelled words player.0 player.1 in
+    subst (λ (x : Event). SpellsEvent (codes "player" ∷ word ∷ words) x) (ok_is (Player c.0 player.0) event player.2)
+    (record { event_of_replay = (omega arith, is_state words player.0 spelled); whole = (words, spelled, ap (λ (w : List ℕ). codes "player" ∷ w ∷ words) is.2) })
 
 time_line-spelled : (words : List (List ℕ)) (event : Event) → time_line words ≡ Ok event → SpellsEvent (codes "time" ∷ words) event
 unfolding time_line
@@ -169,18 +153,8 @@ time_line-spelled [] event e = absurd cc
 time_line-spelled (word ∷ []) event e =
     let time = bind_ok (number_word 0 4294967295 word) (λ time. Ok (Time time)) event e in
     let is = number_word-spelled 0 4294967295 word time.0 (omega arith) time.1 in
-    subst (λ (x : Event). SpellsEvent (codes "time" ∷ word ∷ []) x) (ok_is (Time time.0) event time.2) (omega arith, ap (λ (w : List ℕ). codes "time" ∷ w ∷ []) is.2)
+    subst (λ (x : Event). SpellsEvent (codes "time" ∷ word ∷ []) x) (ok_is (Time time.0) event time.2) (record { event_of_replay = omega arith; whole = ap (λ (w : List ℕ). codes "time" ∷ w ∷ []) is.2 })
 time_line-spelled (word ∷ other ∷ others) event e = absurd cc
-
-player_line-spelled : (words : List (List ℕ)) (event : Event) → player_line words ≡ Ok event → SpellsEvent (codes "player" ∷ words) event
-unfolding player_line
-player_line-spelled [] event e = absurd cc
-player_line-spelled (word ∷ words) event e =
-    let c = bind_ok (client_word word) (λ c. fields_at 0 (replicate 128 0) words >>= λ values. Ok (Player c (player_of values))) event e in
-    let values = bind_ok (fields_at 0 (replicate 128 0) words) (λ values. Ok (Player c.0 (player_of values))) event c.2 in
-    let is = number_word-spelled 0 0 word c.0 (omega arith) c.1 in
-    subst (λ (x : Event). SpellsEvent (codes "player" ∷ word ∷ words) x) (ok_is (Player c.0 (player_of values.0)) event values.2)
-    (omega arith, words, player-spelled words values.0 values.1, ap (λ (w : List ℕ). codes "player" ∷ w ∷ words) is.2)
 
 serve_line-spelled : (words : List (List ℕ)) (event : Event) → serve_line words ≡ Ok event → SpellsEvent (codes "serve" ∷ words) event
 unfolding serve_line
@@ -188,16 +162,16 @@ serve_line-spelled [] event e = absurd cc
 serve_line-spelled (word ∷ []) event e =
     let c = bind_ok (client_word word) (λ c. Ok (Serve c)) event e in
     let is = number_word-spelled 0 0 word c.0 (omega arith) c.1 in
-    subst (λ (x : Event). SpellsEvent (codes "serve" ∷ word ∷ []) x) (ok_is (Serve c.0) event c.2) (omega arith, ap (λ (w : List ℕ). codes "serve" ∷ w ∷ []) is.2)
+    subst (λ (x : Event). SpellsEvent (codes "serve" ∷ word ∷ []) x) (ok_is (Serve c.0) event c.2) (record { event_of_replay = omega arith; whole = ap (λ (w : List ℕ). codes "serve" ∷ w ∷ []) is.2 })
 serve_line-spelled (word ∷ other ∷ others) event e = absurd cc
 
 deliver_line-spelled : (words : List (List ℕ)) (event : Event) → deliver_line words ≡ Ok event → SpellsEvent (codes "deliver" ∷ words) event
 unfolding deliver_line
 deliver_line-spelled [] event e = absurd cc
 deliver_line-spelled (word ∷ []) event e =
-    let datagram = bind_ok (number_word 1 65536 word) (λ datagram. Ok (Deliver datagram)) event e in
-    let is = number_word-spelled 1 65536 word datagram.0 (omega arith) datagram.1 in
-    subst (λ (x : Event). SpellsEvent (codes "deliver" ∷ word ∷ []) x) (ok_is (Deliver datagram.0) event datagram.2) (is.0, is.1, ap (λ (w : List ℕ). codes "deliver" ∷ w ∷ []) is.2)
+    let datagram = bind_ok (number_word 1 last_datagram word) (λ datagram. Ok (Deliver datagram)) event e in
+    let is = number_word-spelled 1 last_datagram word datagram.0 (omega arith) datagram.1 in
+    subst (λ (x : Event). SpellsEvent (codes "deliver" ∷ word ∷ []) x) (ok_is (Deliver datagram.0) event datagram.2) (record { event_of_replay = (is.0, is.1); whole = ap (λ (w : List ℕ). codes "deliver" ∷ w ∷ []) is.2 })
 deliver_line-spelled (word ∷ other ∷ others) event e = absurd cc
 
 show_line-spelled : (words : List (List ℕ)) (event : Event) → show_line words ≡ Ok event → SpellsEvent (codes "show" ∷ words) event
@@ -206,53 +180,55 @@ show_line-spelled [] event e = absurd cc
 show_line-spelled (word ∷ []) event e =
     let c = bind_ok (client_word word) (λ c. Ok (Show c)) event e in
     let is = number_word-spelled 0 0 word c.0 (omega arith) c.1 in
-    subst (λ (x : Event). SpellsEvent (codes "show" ∷ word ∷ []) x) (ok_is (Show c.0) event c.2) (omega arith, ap (λ (w : List ℕ). codes "show" ∷ w ∷ []) is.2)
+    subst (λ (x : Event). SpellsEvent (codes "show" ∷ word ∷ []) x) (ok_is (Show c.0) event c.2) (record { event_of_replay = omega arith; whole = ap (λ (w : List ℕ). codes "show" ∷ w ∷ []) is.2 })
 show_line-spelled (word ∷ other ∷ others) event e = absurd cc
 
 -- a word that passed the test is that word
-word_is : (word text : List ℕ) (others : List (List ℕ)) (event : Event) → bytes_eq word text ≡ true → SpellsEvent (text ∷ others) event → SpellsEvent (word ∷ others) event
-word_is word text others event same spelled = subst (λ (w : List ℕ). SpellsEvent (w ∷ others) event) (sym ((bytes_eq-Decides word text).0 same)) spelled
+word_is : (word text : List ℕ) (others : List (List ℕ)) (event : Event) → bytes_eq text word ≡ true → SpellsEvent (text ∷ others) event → SpellsEvent (word ∷ others) event
+word_is word text others event same spelled = subst (λ (w : List ℕ). SpellsEvent (w ∷ others) event) ((bytes_eq-Decides text word).0 same) spelled
+
+-- a line of a table, whose entries each read what is spelled so
+abbrev Reader : Type 0
+Reader = List (List ℕ) → Result Event LineCause
+
+abbrev EachIsSpelled : List (List ℕ × Reader) → Type 0
+EachIsSpelled [] = Unit {0}
+EachIsSpelled (line ∷ lines) = ((others : List (List ℕ)) (event : Event) → line.1 others ≡ Ok event → SpellsEvent (line.0 ∷ others) event) × EachIsSpelled lines
+
+abbrev read_by : Option Reader → Reader
+read_by line others = option_map_or (λ line. line others) line (Err causes.Word)
+
+found : (lines : List (List ℕ × Reader)) (word : List ℕ) (others : List (List ℕ)) (event : Event) → EachIsSpelled lines → read_by (lookup (λ text. bytes_eq text word) lines) others ≡ Ok event → SpellsEvent (word ∷ others) event
+found [] word others event each e = let none : refuse causes.Word ≡ done event = e in absurd cc
+found (line ∷ lines) word others event each e =
+    elim (cases_Bool (bytes_eq line.0 word)) [
+      | inl same ↦ word_is word line.0 others event same (each.0 others event (rw same at e))
+      | inr other ↦ found lines word others event each.1 (rw other at e)
+    ]
 
 -- what is read of a line was spelled so
 pub line_at-spelled : (words : List (List ℕ)) (event : Event) → line_at words ≡ Ok event → SpellsEvent words event
 unfolding line_at
 line_at-spelled [] event e = absurd cc
 line_at-spelled (word ∷ others) event e =
-    elim (cases_Bool (bytes_eq word (codes "client"))) [
-      | inl is ↦ word_is word (codes "client") others event is (client_line-spelled others event (rw is at e))
-      | inr no_client ↦ elim (cases_Bool (bytes_eq word (codes "time"))) [
-        | inl is ↦ word_is word (codes "time") others event is (time_line-spelled others event (rw (no_client, is) at e))
-        | inr no_time ↦ elim (cases_Bool (bytes_eq word (codes "player"))) [
-          | inl is ↦ word_is word (codes "player") others event is (player_line-spelled others event (rw (no_client, no_time, is) at e))
-          | inr no_player ↦ elim (cases_Bool (bytes_eq word (codes "serve"))) [
-            | inl is ↦ word_is word (codes "serve") others event is (serve_line-spelled others event (rw (no_client, no_time, no_player, is) at e))
-            | inr no_serve ↦ elim (cases_Bool (bytes_eq word (codes "deliver"))) [
-              | inl is ↦ word_is word (codes "deliver") others event is (deliver_line-spelled others event (rw (no_client, no_time, no_player, no_serve, is) at e))
-              | inr no_deliver ↦ elim (cases_Bool (bytes_eq word (codes "show"))) [
-                | inl is ↦ word_is word (codes "show") others event is (show_line-spelled others event (rw (no_client, no_time, no_player, no_serve, no_deliver, is) at e))
-                | inr no_show ↦ let none : refuse causes.Word ≡ done event = rw (no_client, no_time, no_player, no_serve, no_deliver, no_show) at e in absurd cc
-              ]
-            ]
-          ]
-        ]
-      ]
-    ]
+    found replay_lines word others event (client_line-spelled, (player_line-spelled, (time_line-spelled, (serve_line-spelled, (deliver_line-spelled, (show_line-spelled, tt)))))) e
 
 -- and what is spelled so is read
 pub line_at-again : (words : List (List ℕ)) (event : Event) → SpellsEvent words event → line_at words ≡ Ok event
-unfolding line_at client_line time_line player_line serve_line deliver_line show_line
+unfolding line_at client_line player_line time_line serve_line deliver_line show_line
 line_at-again words (Client c challenge qport dup address) spelled =
-    ap line_at spelled.6 ∙ rw (
+    let is = spelled.event_of_replay in
+    ap line_at spelled.whole.2 ∙ rw (
       number_word-again 0 0 c (omega arith) (omega arith) (omega arith),
       number_word-again 0 4294967295 challenge (omega arith) (omega arith) (omega arith),
       number_word-again 0 65535 qport (omega arith) (omega arith) (omega arith),
-      number_word-again 0 5 dup (omega arith) (omega arith) spelled.3,
-      address_at-again spelled.4 address spelled.5,
+      number_word-again 0 5 dup (omega arith) (omega arith) is.3,
+      address_at-again spelled.whole.0 address spelled.whole.1 is.4 is.5,
     ) refl
-line_at-again words (Time time) spelled = ap line_at spelled.1 ∙ rw (number_word-again 0 4294967295 time (omega arith) (omega arith) (omega arith)) refl
 line_at-again words (Player c player) spelled =
-    let read = player-again spelled.1 player spelled.2 in
-    ap line_at spelled.3 ∙ rw (number_word-again 0 0 c (omega arith) (omega arith) (omega arith), read.1) (ap (λ (p : PlayerState). Ok (Player c p)) read.2)
-line_at-again words (Serve c) spelled = ap line_at spelled.1 ∙ rw (number_word-again 0 0 c (omega arith) (omega arith) (omega arith)) refl
-line_at-again words (Deliver datagram) spelled = ap line_at spelled.2 ∙ rw (number_word-again 1 65536 datagram (omega arith) spelled.0 spelled.1) refl
-line_at-again words (Show c) spelled = ap line_at spelled.1 ∙ rw (number_word-again 0 0 c (omega arith) (omega arith) (omega arith)) refl
+    let is = spelled.event_of_replay in
+    ap line_at spelled.whole.2 ∙ rw (number_word-again 0 0 c (omega arith) (omega arith) (omega arith), player_at-again spelled.whole.0 player spelled.whole.1) refl
+line_at-again words (Time time) spelled = let is = spelled.event_of_replay in ap line_at spelled.whole ∙ rw (number_word-again 0 4294967295 time (omega arith) (omega arith) (omega arith)) refl
+line_at-again words (Serve c) spelled = let is = spelled.event_of_replay in ap line_at spelled.whole ∙ rw (number_word-again 0 0 c (omega arith) (omega arith) (omega arith)) refl
+line_at-again words (Deliver datagram) spelled = let is = spelled.event_of_replay in ap line_at spelled.whole ∙ rw (number_word-again 1 last_datagram datagram (omega arith) is.0 is.1) refl
+line_at-again words (Show c) spelled = let is = spelled.event_of_replay in ap line_at spelled.whole ∙ rw (number_word-again 0 0 c (omega arith) (omega arith) (omega arith)) refl

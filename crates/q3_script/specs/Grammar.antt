@@ -1,14 +1,25 @@
 -- The grammar of a script: which words spell which event, and which lines which events.
-use Rattle.std.specs.Prelude.{◌≡◌, ℕ, ◌+◌, ◌^◌, ◌<◌, ◌≤◌, Bool, true, false, List, [], ◌∷◌, ◌++◌, length, map, replicate, codes, decimal, slice_set}
+use Rattle.std.specs.Prelude.{◌≡◌, ℕ, ◌+◌, ◌^◌, ◌<◌, ◌≤◌, Bool, true, false, List, [], ◌∷◌, ◌++◌, length, map, codes, decimal}
 use Rattle.q3_player.specs.State.{IsState}
-use Rattle.q3_player.specs.Delta.{shorts_of}
 use Rattle.q3_player.specs.declared.state.PlayerState.{PlayerState}
 use Rattle.q3_io.specs.declared.address.Address.{Address}
 use Rattle.q3_script.specs.declared.event.Event.{Event}
-use Rattle.q3_script.specs.declared.event.Event.TheVariants.{Client, Time, Player, Serve, Deliver, Show}
+use Rattle.q3_script.specs.declared.event.Event.TheVariants.{Client, Player, Time, Serve, Deliver, Show}
+use Rattle.q3_script.specs.Words.{words_of}
 use Rattle.q3_script.specs.Numbers.{host_of}
-use Rattle.q3_script.specs.Lines.{words_of}
+use Rattle.q3_script.specs.Fields.{player_of}
+use Rattle.q3_script.specs.Lines.{last_datagram}
 use Rattle.q3_script.specs.Script.{is_passed_over, lines_of, longest_script, most_events}
+
+-- an event that a replay's script may have: the one client has the number 0
+abbrev pub IsReplayEvent : Event → Type 0
+IsReplayEvent (Client c challenge qport dup address) =
+    (c ≡ 0) × (challenge < 2 ^ 32) × (qport < 2 ^ 16) × (dup ≤ 5) × (1 ≤ address.port) × (address.port < 2 ^ 16)
+IsReplayEvent (Player c player) = (c ≡ 0) × IsState player
+IsReplayEvent (Time time) = time < 2 ^ 32
+IsReplayEvent (Serve c) = c ≡ 0
+IsReplayEvent (Deliver datagram) = (1 ≤ datagram) × (datagram ≤ last_datagram)
+IsReplayEvent (Show c) = c ≡ 0
 
 -- an address: four numbers with dots between them, a colon and a port
 pub record SpellsAddress (word : List ℕ) (address : Address) : Type 0 where
@@ -18,24 +29,18 @@ pub record SpellsAddress (word : List ℕ) (address : Address) : Type 0 where
   pub d : ℕ
   pub bytes : (a < 256) × (b < 256) × (c < 256) × (d < 256)
   pub host : address.host ≡ host_of a b c d
-  pub port : (1 ≤ address.port) × (address.port < 65536)
   pub whole : word ≡ decimal a ++ codes "." ++ decimal b ++ codes "." ++ decimal c ++ codes "." ++ decimal d ++ codes ":" ++ decimal address.port
 
--- the word of an index and a value: of a field without a letter, of an array behind its letter
-abbrev pub pair_text : List ℕ → ℕ × ℕ → List ℕ
-pair_text letter pair = letter ++ decimal pair.0 ++ codes ":" ++ decimal pair.1
+-- the word of a field: an index and a value, behind the letter of its array
+abbrev pub field_text : List ℕ → ℕ × ℕ → List ℕ
+field_text letter field = letter ++ decimal field.0 ++ codes ":" ++ decimal field.1
 
--- the indexes rise, from least on, and stay below a limit; the words have 32 bits
+-- the indexes rise, from least on, and stay below a limit; the values have 32 bits
 abbrev pub AreFields : ℕ → ℕ → List (ℕ × ℕ) → Type 0
 AreFields limit least [] = Unit {0}
-AreFields limit least (pair ∷ pairs) = (least ≤ pair.0) × (pair.0 < limit) × (pair.1 < 2 ^ 32) × AreFields limit (pair.0 + 1) pairs
+AreFields limit least (field ∷ fields) = (least ≤ field.0) × (field.0 < limit) × (field.1 < 2 ^ 32) × AreFields limit (field.0 + 1) fields
 
--- these fields put over the words
-abbrev pub with_fields : List ℕ → List (ℕ × ℕ) → List ℕ
-with_fields values [] = values
-with_fields values (pair ∷ pairs) = with_fields (slice_set values pair.0 pair.1) pairs
-
--- a player: fields, and behind them the values of each array; all others are 0
+-- a player: fields, and behind them those of each array
 pub record SpellsPlayer (words : List (List ℕ)) (player : PlayerState) : Type 0 where
   pub fields : List (ℕ × ℕ)
   pub stats : List (ℕ × ℕ)
@@ -49,32 +54,27 @@ pub record SpellsPlayer (words : List (List ℕ)) (player : PlayerState) : Type 
   pub are_powerups : AreFields 16 0 powerups
   pub whole :
       words
-      ≡ map (pair_text []) fields
-      ++ map (pair_text (codes "s")) stats
-      ++ map (pair_text (codes "p")) persistant
-      ++ map (pair_text (codes "a")) ammo
-      ++ map (pair_text (codes "u")) powerups
-  pub state :
-      player
-      ≡ record {
-        words = with_fields (replicate 64 0) fields;
-        stats = shorts_of (with_fields (replicate 16 0) stats);
-        persistant = shorts_of (with_fields (replicate 16 0) persistant);
-        ammo = shorts_of (with_fields (replicate 16 0) ammo);
-        powerups = with_fields (replicate 16 0) powerups;
-      }
+      ≡ map (field_text []) fields
+      ++ map (field_text (codes "s")) stats
+      ++ map (field_text (codes "p")) persistant
+      ++ map (field_text (codes "a")) ammo
+      ++ map (field_text (codes "u")) powerups
+  pub state : player ≡ player_of fields stats persistant ammo powerups
 
--- the words of a line spell an event; the one client has the number 0
-abbrev pub SpellsEvent : List (List ℕ) → Event → Type 0
-SpellsEvent words (Client c challenge qport dup address) =
-    (c ≡ 0) × (challenge < 2 ^ 32) × (qport < 2 ^ 16) × (dup ≤ 5) × (last : List ℕ) × SpellsAddress last address
-    × (words ≡ codes "client" ∷ decimal c ∷ decimal challenge ∷ decimal qport ∷ decimal dup ∷ last ∷ [])
-SpellsEvent words (Time time) = (time < 2 ^ 32) × (words ≡ codes "time" ∷ decimal time ∷ [])
-SpellsEvent words (Player c player) =
-    (c ≡ 0) × (fields : List (List ℕ)) × SpellsPlayer fields player × (words ≡ codes "player" ∷ decimal c ∷ fields)
-SpellsEvent words (Serve c) = (c ≡ 0) × (words ≡ codes "serve" ∷ decimal c ∷ [])
-SpellsEvent words (Deliver datagram) = (1 ≤ datagram) × (datagram ≤ 65536) × (words ≡ codes "deliver" ∷ decimal datagram ∷ [])
-SpellsEvent words (Show c) = (c ≡ 0) × (words ≡ codes "show" ∷ decimal c ∷ [])
+-- the words that an event is spelled by
+abbrev pub HasWords : List (List ℕ) → Event → Type 0
+HasWords words (Client c challenge qport dup address) =
+    (last : List ℕ) × SpellsAddress last address × (words ≡ codes "client" ∷ decimal c ∷ decimal challenge ∷ decimal qport ∷ decimal dup ∷ last ∷ [])
+HasWords words (Player c player) = (fields : List (List ℕ)) × SpellsPlayer fields player × (words ≡ codes "player" ∷ decimal c ∷ fields)
+HasWords words (Time time) = words ≡ codes "time" ∷ decimal time ∷ []
+HasWords words (Serve c) = words ≡ codes "serve" ∷ decimal c ∷ []
+HasWords words (Deliver datagram) = words ≡ codes "deliver" ∷ decimal datagram ∷ []
+HasWords words (Show c) = words ≡ codes "show" ∷ decimal c ∷ []
+
+-- the words of a line spell an event
+pub record SpellsEvent (words : List (List ℕ)) (event : Event) : Type 0 where
+  pub event_of_replay : IsReplayEvent event
+  pub whole : HasWords words event
 
 -- each line spells the next event, but for those that are passed over
 abbrev pub SpellLine : Bool → List ℕ → (List Event → Type 0) → List Event → Type 0
@@ -91,12 +91,3 @@ pub record SpellsScript (bytes : List ℕ) (events : List Event) : Type 0 where
   pub small : length bytes ≤ longest_script
   pub few : length events ≤ most_events
   pub spelled : SpellEvents (lines_of bytes) events
-
--- an event that a replay's script may have
-abbrev pub IsReplayEvent : Event → Type 0
-IsReplayEvent (Client c challenge qport dup address) = c ≡ 0
-IsReplayEvent (Time time) = time < 2 ^ 32
-IsReplayEvent (Player c player) = (c ≡ 0) × IsState player
-IsReplayEvent (Serve c) = c ≡ 0
-IsReplayEvent (Deliver datagram) = (1 ≤ datagram) × (datagram ≤ most_events)
-IsReplayEvent (Show c) = c ≡ 0

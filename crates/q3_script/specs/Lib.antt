@@ -1,5 +1,7 @@
-pub mod Numbers
-pub mod Lines
 pub mod Words
-pub mod Grammar
+pub mod Numbers
+pub mod Fields
+pub mod Lines
 pub mod Script
+pub mod Grammar
+pub mod Laws

@@ -1,5 +1,6 @@
 -- The events that a script spells, or its first bad line.
 use Rattle.std.specs.Prelude.{◌≡◌, ℕ, ◌+◌, ◌==◌, ◌||◌, if◌then◌else◌, Bool, List, [], ◌∷◌, length, nat_lt, nat_le, slice_index, Result, Ok, Err}
+use Rattle.std.specs.Result.{result_map_both}
 use Rattle.std.specs.List.{slice_split}
 use Rattle.std.specs.Global.{Vec}
 use Rattle.q3_script.specs.declared.event.Event.{Event}
@@ -9,7 +10,9 @@ use Rattle.q3_script.specs.declared.cause.ScriptKind.{ScriptKind}
 use Rattle.q3_script.specs.declared.cause.ScriptKind.TheVariants.{Replay}
 use Rattle.q3_script.specs.declared.cause.ScriptError.{ScriptError}
 use Rattle.q3_script.specs.declared.cause.ScriptError.TheVariants as errors
-use Rattle.q3_script.specs.Lines.{◌>>=◌, words_of, line_at}
+use Rattle.q3_bits.specs.ResultBind.{◌>>=◌}
+use Rattle.q3_script.specs.Words.{words_of}
+use Rattle.q3_script.specs.Lines.{line_at}
 
 -- the longest script in bytes, and how many events it may have
 abbrev pub longest_script : ℕ
@@ -31,9 +34,13 @@ pub record BadLine : Type 0 where
   pub line : ℕ
   pub cause : LineCause
 
-abbrev pub bad_at : {A : Type 0} → ℕ → Result A LineCause → Result A BadLine
-bad_at line (Ok x) = Ok x
-bad_at line (Err cause) = Err (record { line = line; cause = cause })
+-- the event of a line behind so many others
+abbrev pub event_at : ℕ → List ℕ → Result Event LineCause
+event_at before line = if nat_le most_events before then Err Many else line_at (words_of line)
+
+-- an answer, where a cause is that of this line
+abbrev pub at_line : {A : Type 0} → ℕ → Result A LineCause → Result A BadLine
+at_line line answer = result_map_both (λ x. x) (λ cause. record { line = line; cause = cause }) answer
 
 -- the events of the lines from this number on, where so many events stood before them
 unfoldable pub events_from : ℕ → ℕ → List (List ℕ) → Result (List Event) BadLine
@@ -41,7 +48,7 @@ events_from number before [] = Ok []
 events_from number before (line ∷ lines) =
     if is_passed_over line then events_from (number + 1) before lines
     else (do
-      event ← bad_at number (if nat_le most_events before then Err Many else line_at (words_of line))
+      event ← at_line number (event_at before line)
       events ← events_from (number + 1) (before + 1) lines
       Ok (event ∷ events))
 
@@ -53,8 +60,7 @@ script_at Replay bytes =
 
 -- an answer with the events of its vector
 abbrev pub with_items : Result (Vec Event) ScriptError → Result (List Event) ScriptError
-with_items (Ok events) = Ok events.items
-with_items (Err e) = Err e
+with_items answer = result_map_both (λ events. events.items) (λ e. e) answer
 
 -- what a reader answered is what the script says, unless memory ran out
 abbrev pub Reads : Result (List Event) ScriptError → Result (List Event) BadLine → Type 0

@@ -1,6 +1,12 @@
--- The words of a line, taken one after the other.
-use Rattle.std.specs.Prelude.{ℕ, List, [], ◌∷◌, Option, Some, None}
-use Rattle.q3_script.specs.Lines.{words_of}
+-- The words of a line, and texts that are cut at a byte.
+use Rattle.std.specs.Prelude.{ℕ, ◌+◌, ◌==◌, List, [], ◌∷◌, take, drop, length, Option, Some, None, option_map}
+use Rattle.std.specs.List.{slice_split, position}
+use Rattle.std.specs.Bool.{then_some}
+use Rattle.std.specs.Str.{bytes_eq}
+
+-- the words of a line, with one space between them
+abbrev pub words_of : List ℕ → List (List ℕ)
+words_of line = slice_split (λ byte. byte == 32) line
 
 -- the words in what is left of a line: none, or those behind a space
 abbrev pub words_left : List ℕ → List (List ℕ)
@@ -17,3 +23,11 @@ abbrev pub only_of : List (List ℕ) → Option (List ℕ)
 only_of [] = None
 only_of (word ∷ []) = Some word
 only_of (word ∷ next ∷ words) = None
+
+-- what stands before and behind the first such byte
+unfoldable pub cut : ℕ → List ℕ → Option (List ℕ × List ℕ)
+cut byte text = option_map (λ place. (take place text, drop (place + 1) text)) (position (λ other. other == byte) text)
+
+-- what stands behind a prefix
+unfoldable pub behind : List ℕ → List ℕ → Option (List ℕ)
+behind prefix text = then_some (bytes_eq (take (length prefix) text) prefix) (drop (length prefix) text)

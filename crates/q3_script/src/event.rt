@@ -5,7 +5,7 @@ use q3_player::PlayerState;
 
 /// What one line of a script says: one call of one end, or something that the game hands in.
 /// `c` is the number of a client, of which there is one at this stage, 0.
-#[derive(Clone, Copy, Debug, PartialEq, Eq)]
+#[derive(Debug, Drop, PartialEq, Eq)]
 pub enum Event {
     /// A client joins, with its challenge, its qport, how many old moves it repeats, and its address.
     Client {
@@ -15,14 +15,14 @@ pub enum Event {
         dup: u8,
         address: Address,
     },
-    /// The server's time, in milliseconds.
-    Time {
-        time: u32,
-    },
     /// The whole state of a client's player.
     Player {
         c: u8,
         player: PlayerState,
+    },
+    /// The server's time, in milliseconds.
+    Time {
+        time: u32,
     },
     /// The server makes a datagram for the client.
     Serve {

@@ -3,6 +3,8 @@
 
 pub mod cause;
 pub mod event;
+mod fields;
+pub mod laws;
 mod line;
 mod number;
 mod script;

@@ -1,15 +1,14 @@
 //! Reads one line of a script.
 
-ghost use Rattle.std.specs.Prelude.{◌≡◌, ◌≤◌, IfOk, replicate};
-ghost use Rattle.q3_script.specs.Lines.{words_of, number_word, client_word, fields_at, player_of, client_line, time_line, player_line, serve_line, deliver_line, show_line, line_at};
-ghost use Rattle.q3_script.specs.Words.{words_left};
+ghost use Rattle.std.specs.Prelude.{◌≡◌, ◌≤◌, ◌∷◌, IfOk};
+ghost use Rattle.q3_script.specs.Words.{words_of, words_left};
+ghost use Rattle.q3_script.specs.Lines.{number_word, client_word, client_line, player_line, time_line, serve_line, deliver_line, show_line, line_at};
 
 use crate::cause::LineCause;
 use crate::event::Event;
-use crate::number::{address, number, pair};
+use crate::fields::player_state;
+use crate::number::{address, number};
 use crate::words::{first_word, next_word, only_word};
-use q3_player::PlayerState;
-use q3_player::state::shorts;
 
 /// The number that a word spells, if it is one from `low` to `high`.
 fn number_word(word: &[u8], low: u32, high: u32) -> Result<u32, LineCause>
@@ -24,45 +23,6 @@ fn client_word(word: &[u8]) -> Result<u8, LineCause>
     ensures { result ≡ client_word word.now }
 {
     Ok(number_word(word, 0, 0)? as u8)
-}
-
-/// The values of all places of a player, by rising place; those that no word names are 0.
-fn fields(start: &[u8]) -> Result<[u32; 128], LineCause>
-    ensures { result ≡ fields_at 0 (replicate 128 0) (words_left start.now) }
-{
-    let mut values = [0; 128];
-    let mut least = 0;
-    let mut left = start;
-    while let Some((word, behind)) = next_word(left) {
-        let Some((place, value)) = pair(word) else {
-            return Err(LineCause::Fields);
-        };
-        if place < least {
-            return Err(LineCause::Fields);
-        }
-        values[place] = value;
-        least = place + 1;
-        left = behind;
-    }
-    Ok(values)
-}
-
-/// The player of the values of all places.
-#[tactic(auto, unfolding(crate::specs::Lines::player_of))]
-fn player_of(values: &[u32; 128]) -> PlayerState
-    ensures { result ≡ player_of values.now }
-{
-    let mut words = [0; 64];
-    words.copy_from_slice(&values[..64]);
-    let mut powerups = [0; 16];
-    powerups.copy_from_slice(&values[112..]);
-    PlayerState {
-        words,
-        stats: shorts(&values[64..80]),
-        persistant: shorts(&values[80..96]),
-        ammo: shorts(&values[96..112]),
-        powerups,
-    }
 }
 
 #[tactic(auto, using(crate::proofs::Steps::client_steps))]
@@ -83,6 +43,17 @@ fn client(left: &[u8]) -> Result<Event, LineCause>
     })
 }
 
+#[tactic(auto, using(crate::proofs::Steps::player_steps))]
+fn player(left: &[u8]) -> Result<Event, LineCause>
+    ensures { result ≡ player_line (words_left left.now) }
+{
+    let (c, left) = next_word(left).ok_or(LineCause::Count)?;
+    Ok(Event::Player {
+        c: client_word(c)?,
+        player: player_state(left)?,
+    })
+}
+
 #[tactic(auto, using(crate::proofs::Steps::time_steps))]
 fn time(left: &[u8]) -> Result<Event, LineCause>
     ensures { result ≡ time_line (words_left left.now) }
@@ -90,19 +61,6 @@ fn time(left: &[u8]) -> Result<Event, LineCause>
     let word = only_word(left).ok_or(LineCause::Count)?;
     Ok(Event::Time {
         time: number_word(word, 0, u32::MAX)?,
-    })
-}
-
-#[tactic(auto, using(crate::proofs::Steps::player_steps))]
-fn player(left: &[u8]) -> Result<Event, LineCause>
-    ensures { result ≡ player_line (words_left left.now) }
-{
-    let (c, left) = next_word(left).ok_or(LineCause::Count)?;
-    let c = client_word(c)?;
-    let values = fields(left)?;
-    Ok(Event::Player {
-        c,
-        player: player_of(&values),
     })
 }
 
@@ -136,28 +94,26 @@ fn show(left: &[u8]) -> Result<Event, LineCause>
     })
 }
 
+/// The event of the line that begins with this word.
+#[tactic(auto, unfolding(crate::specs::Lines::line_at))]
+fn event(word: &[u8], left: &[u8]) -> Result<Event, LineCause>
+    ensures { result ≡ line_at (word.now ∷ words_left left.now) }
+{
+    match word {
+        b"client" => client(left),
+        b"player" => player(left),
+        b"time" => time(left),
+        b"serve" => serve(left),
+        b"deliver" => deliver(left),
+        b"show" => show(left),
+        _ => Err(LineCause::Word),
+    }
+}
+
 /// The event that a line spells, or the first cause for which it is refused.
 pub fn read_line(line: &[u8]) -> Result<Event, LineCause>
     ensures { result ≡ line_at (words_of line.now) }
 {
     let (word, left) = first_word(line);
-    if word == b"client".as_slice() {
-        return client(left);
-    }
-    if word == b"time".as_slice() {
-        return time(left);
-    }
-    if word == b"player".as_slice() {
-        return player(left);
-    }
-    if word == b"serve".as_slice() {
-        return serve(left);
-    }
-    if word == b"deliver".as_slice() {
-        return deliver(left);
-    }
-    if word == b"show".as_slice() {
-        return show(left);
-    }
-    Err(LineCause::Word)
+    event(word, left)
 }

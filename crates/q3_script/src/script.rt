@@ -1,9 +1,8 @@
 //! Reads a script.
 
-ghost use Rattle.std.specs.Prelude.{◌≡◌, ◌≤◌, List, length, All, IfOk, nat_le, if◌then◌else◌};
+ghost use Rattle.std.specs.Prelude.{◌≡◌, ◌≤◌, List, length, All, IfOk};
 ghost use Rattle.q3_script.specs.declared.event.Event.{Event as EventValue};
-ghost use Rattle.q3_script.specs.Lines.{words_of, line_at};
-ghost use Rattle.q3_script.specs.Script.{longest_script, most_events, lines_of, is_passed_over, events_from, script_at, with_items, Reads};
+ghost use Rattle.q3_script.specs.Script.{longest_script, lines_of, is_passed_over, event_at, events_from, script_at, with_items, Reads};
 ghost use Rattle.q3_script.specs.Grammar.{SpellsScript, IsReplayEvent};
 
 use crate::cause::{LineCause, ScriptError, ScriptKind};
@@ -26,7 +25,7 @@ fn passed_over(line: &[u8]) -> bool
 
 /// The event of a line that stands behind so many others.
 fn event_of(line: &[u8], before: usize) -> Result<Event, LineCause>
-    ensures { result ≡ (if nat_le most_events before then Err LineCause.Many else line_at (words_of line.now)) }
+    ensures { result ≡ event_at before line.now }
 {
     if before >= MOST_EVENTS {
         return Err(LineCause::Many);

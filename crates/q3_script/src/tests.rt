@@ -62,6 +62,8 @@ fn bad_scripts(rt: HostRuntime) {
         ("player 0 s:1\n", 1, LineCause::Fields),
         ("player 0 u15:4294967296\n", 1, LineCause::Fields),
         ("client 0 1 2 3 10.0.0.256:1\n", 1, LineCause::Address),
+        ("client 0 1 2 3 10.0.0.1:0\n", 1, LineCause::Address),
+        ("client 0 1 2 6 10.0.0.1:1\n", 1, LineCause::Number),
         ("client 0 1 2 9 x\n", 1, LineCause::Number),
     ];
     for (text, line, cause) in table {

@@ -1,21 +1,20 @@
-//! The words of a line, one after the other.
+//! The words of a line, one after the other, and words that are cut at a byte.
 
 ghost use Rattle.std.specs.Prelude.{◌≡◌, ◌==◌, ◌∷◌, position, option_map};
-ghost use Rattle.q3_script.specs.Lines.{words_of};
-ghost use Rattle.q3_script.specs.Words.{words_left, next_of, only_of};
+ghost use Rattle.q3_script.specs.Words.{words_of, words_left, next_of, only_of, cut, behind};
 
-/// The place of the first space in a text.
-fn space(text: &[u8]) -> Option<usize>
-    ensures { result ≡ position (λ byte. byte == 32) text.now }
+/// The place of the first such byte in a text.
+fn place_of(byte: u8, text: &[u8]) -> Option<usize>
+    ensures { result ≡ position (λ other. other == byte) text.now }
 {
-    text.iter().position(|byte| *byte == b' ')
+    text.iter().position(|other| *other == byte)
 }
 
 /// The first word of a text, and what is left behind it: nothing, or a space and the next words.
 pub fn first_word(text: &[u8]) -> (&[u8], &[u8])
     ensures { words_of text.now ≡ result.0.now ∷ words_left result.1.now }
 {
-    match space(text) {
+    match place_of(b' ', text) {
         Some(end) => text.split_at(end),
         None => (text, &[]),
     }
@@ -37,4 +36,21 @@ pub fn only_word(left: &[u8]) -> Option<&[u8]>
 {
     let (word, behind) = next_word(left)?;
     if behind.is_empty() { Some(word) } else { None }
+}
+
+/// What stands before and behind the first such byte.
+#[tactic(auto, unfolding(crate::specs::Words::cut))]
+pub fn cut_at(text: &[u8], byte: u8) -> Option<(&[u8], &[u8])>
+    ensures { option_map (λ parts. (parts.0.now, parts.1.now)) result ≡ cut byte text.now }
+{
+    let place = place_of(byte, text)?;
+    Some((&text[..place], &text[place + 1..]))
+}
+
+/// What stands behind a prefix.
+#[tactic(auto, unfolding(crate::specs::Words::behind))]
+pub fn behind<'a>(prefix: &[u8], text: &'a [u8]) -> Option<&'a [u8]>
+    ensures { option_map (λ rest. rest.now) result ≡ behind prefix.now text.now }
+{
+    text.strip_prefix(prefix)
 }

@@ -1,163 +1,221 @@
 -- Every list of events: what holds after it, and what it answers.
-use Rattle.std.proofs.Common.{◌≡◌, ℕ, ◌-◌, ◌≤◌, Bool, true, false, cond, List, [], ◌∷◌, length, Option, Some, None, refl, sym, ap, subst, ◌∙◌}
-use Rattle.std.specs.Prelude.{nat_le, slice_get, slice_index_or}
-use Rattle.std.specs.List.{AllByRecursion}
+use Rattle.std.proofs.Common.{◌≡◌, ℕ, ◌-◌, ◌<◌, Bool, true, false, cond, List, [], ◌∷◌, length, get_or, Option, Some, None, Result, Ok, Err, refl, sym, ap, subst, ◌∙◌, arith}
+use Rattle.std.specs.Prelude.{nat_le, slice_get}
+use Rattle.std.specs.List.{AllByRecursion, last_or}
+use Rattle.std.specs.Option.{option_map}
+use Rattle.std.proofs.lemmas.Option.{slice_get-map}
 use Rattle.std.proofs.lemmas.Bool.{lt-leb}
 use Rattle.q3_profile.specs.declared.profile.Profile.{Profile}
-use Rattle.q3_profile.specs.Profile.{IsProfile}
+use Rattle.q3_profile.specs.Profile.{IsCodec}
 use Rattle.q3_player.specs.Laws.{NormalIsNormal, ZeroIsNormal}
 use Rattle.q3_script.specs.declared.event.Event.{Event}
 use Rattle.q3_script.specs.declared.event.Event.TheVariants as events
 use Rattle.q3_script.specs.Grammar.{IsReplayEvent}
-use Rattle.q3_world.specs.declared.answer.Snapshot.{Snapshot}
-use Rattle.q3_world.specs.declared.answer.ClientTook.TheVariants.{Old}
-use Rattle.q3_world.specs.declared.answer.Shown.TheVariants.{Newest}
-use Rattle.q3_world.specs.declared.answer.Answer.{Answer}
-use Rattle.q3_world.specs.declared.answer.Answer.TheVariants.{Deliver, Show}
-use Rattle.q3_world.specs.State.{SlotState, ClientState, slot_at, client_at}
-use Rattle.q3_world.specs.Ends.{new_slot, new_client}
-use Rattle.q3_world.specs.Kept.{Kept, KeptStep, newest, shown_of}
-use Rattle.q3_world.specs.World.{Tag, History, Whole, no_snapshot, history_at, built_at, opening, join, set_player, deliver, arrive, arrive_new, step, after, answers}
-use Rattle.q3_world.specs.StandsFor.{IsNewest, IsClient, Invariant}
-use Rattle.q3_world.specs.Schedules.{BuiltIsRead, opening_kept, kept_answers, IsLegible, BytesFollowTags, AlwaysLegible, ShownWasBuilt, NewerIsAccepted}
-use Rattle.q3_world.proofs.Invariants.{opening-invariant}
-use Rattle.q3_world.proofs.Agreement.{Cited, kept_of, steps_agree}
+use Rattle.q3_world.specs.declared.message.Snapshot.{Snapshot}
+use Rattle.q3_world.specs.declared.server.SlotError.{SlotError}
+use Rattle.q3_world.specs.declared.client.ClientTook.TheVariants.{Old, Applied}
+use Rattle.q3_bits.specs.Bits.{message_bytes}
+use Rattle.q3_world.specs.Message.{snapshot_bits}
+use Rattle.q3_world.specs.MessageLaws.{BuiltIsRead}
+use Rattle.q3_world.specs.Server.{MapState, SlotState, slot_at, add_client_at}
+use Rattle.q3_world.specs.Client.{ClientState, Taken, new_client, applied, number_of_datagram}
+use Rattle.q3_world.specs.Ends.{Ends, Answered, delivered, client_at, newest, joined}
+use Rattle.q3_world.specs.Kept.{SentBytes, Kept, KeptStep, opening_kept, kept_step, kept_after, kept_answers}
+use Rattle.q3_world.specs.World.{Tag, Whole, History, history_at, opening, step, after, answers, deliver, arrive, arrive_new, snapshot_of}
+use Rattle.q3_world.specs.StandsFor.{IsClient, WasBuilt, Rise, AreJoined, IsJoined, StandsFor, bytes_of}
+use Rattle.q3_world.specs.Schedules.{StepFollows, BytesFollowTags, IsLegible, AlwaysLegible, AcceptedWereBuilt, ShownWasBuilt, NewerIsAccepted}
+use Rattle.q3_world.proofs.Events.{Holds, Holds-opening, tag_was_built}
+use Rattle.q3_world.proofs.Agreement.{Cited, stands_of, stands_next, kept_is, is_sent, number_is, delivers_agree}
+use Rattle.q3_world.proofs.Clients.{last_is}
 
 -- what is cited, of a profile that passed its check
-pub cited_of : BuiltIsRead → NormalIsNormal → ZeroIsNormal → (profile : Profile) → IsProfile profile → Cited profile
+pub cited_of : BuiltIsRead → NormalIsNormal → ZeroIsNormal → (profile : Profile) → IsCodec profile → Cited profile
 cited_of reads normal zero profile is =
-    let at_first = zero profile.player is.player in
+    let at_first = zero profile.player.kinds is.player.kinds in
     record {
       reads = reads profile is;
       zero = record { state = at_first.0; normal = at_first.1 };
-      normal = λ player state. let made = normal profile.player player is.player state in record { state = made.0; normal = made.1 };
+      normal = λ player state. let made = normal profile.player.kinds player is.player.kinds state in record { state = made.0; normal = made.1 };
     }
 
 -- ---- bytes and tags
 
--- events answer the same by bytes and by tags, from any whole on
-same_answers : (profile : Profile) (all : List Event) (whole : Whole) → Cited profile → AllByRecursion IsReplayEvent all
-    → Invariant profile whole → kept_answers (kept_of profile whole) all ≡ answers profile whole all
-unfolding kept_answers answers
-same_answers profile [] whole cited are inv = refl
-same_answers profile (event ∷ events) whole cited are inv =
-    let agree = steps_agree profile whole event cited are.0 inv in
-    let next = (step profile whole event).whole in
-    ap (λ (s : KeptStep). s.answer ∷ kept_answers s.kept events) agree.same
-    ∙ ap (λ (rest : List Answer). (step profile whole event).answer ∷ rest) (same_answers profile events next cited are.1 agree.invariant)
+pub step_follows : BuiltIsRead → NormalIsNormal → ZeroIsNormal → StepFollows
+step_follows reads normal zero profile kept whole event is stands =
+    stands_next profile kept whole event (cited_of reads normal zero profile stands.facts.codec) is stands
 
--- what is kept at first is that of the opening
-opening_is : (profile : Profile) → opening_kept profile ≡ kept_of profile opening
-unfolding opening_kept opening
-opening_is profile = refl
+-- from what stands for a whole on, events answer the same, and what is kept stands for the whole
+follow : StepFollows → (profile : Profile) (all : List Event) (kept : Kept) (whole : Whole) → AllByRecursion IsReplayEvent all
+    → StandsFor profile kept whole
+    → StandsFor profile (kept_after kept all) (after profile whole all) × (kept_answers kept all ≡ answers profile whole all)
+unfolding kept_after kept_answers after answers
+follow law profile [] kept whole are stands = (stands, refl)
+follow law profile (event ∷ events) kept whole are stands =
+    let next = law profile kept whole event are.0 stands in
+    let others = follow law profile events (kept_step kept event).kept (step profile whole event).whole are.1 next.0 in (
+      others.0,
+      ap (λ (a : Answered). a ∷ kept_answers (kept_step kept event).kept events) next.1
+          ∙ ap (λ (rest : List Answered). (step profile whole event).answer ∷ rest) others.1,
+    )
 
--- by bytes as by tags
-pub bytes_follow_tags : BuiltIsRead → NormalIsNormal → ZeroIsNormal → BytesFollowTags
-bytes_follow_tags reads normal zero profile all is are =
-    ap (λ (kept : Kept). kept_answers kept all) (opening_is profile)
-    ∙ same_answers profile all opening (cited_of reads normal zero profile is) are (opening-invariant profile)
+-- what is kept at first stands for the opening world
+pub stands_opening : (profile : Profile) → IsCodec profile → StandsFor profile (opening_kept profile) (opening profile)
+unfolding opening
+stands_opening profile codec = stands_of profile (opening profile) (Holds-opening profile codec)
+
+pub bytes_follow_tags : StepFollows → BytesFollowTags
+bytes_follow_tags law profile all is are = follow law profile all (opening_kept profile) (opening profile) are (stands_opening profile is)
+
+-- the worlds after the events
+abbrev kept_then : Profile → List Event → Kept
+kept_then profile all = kept_after (opening_kept profile) all
+
+abbrev whole_then : Profile → List Event → Whole
+whole_then profile all = after profile (opening profile) all
+
+abbrev Then : Profile → List Event → Type 0
+Then profile all = StandsFor profile (kept_then profile all) (whole_then profile all)
 
 -- ---- legible answers
 
--- what arrives is legible, whether it is old or new
-legible_taken : (whole : Whole) (number : ℕ) (tag : Tag) (client : ClientState) (snapshot : Snapshot) (old : Bool)
-    → IsLegible (cond old (record { whole = whole; answer = Deliver number tag.client Old }) (arrive_new whole number tag client snapshot)).answer
-legible_taken whole number tag client snapshot true = tt
-legible_taken whole number tag client snapshot false = tt
+-- a client that is handed in
+legible_joined : (ends : Ends) (c : ℕ) (client : ClientState) (added : Result (Unit {0}) SlotError) → IsLegible (joined ends c client added).answer
+legible_joined ends c client (Ok x) = tt
+legible_joined ends c client (Err e) = tt
 
--- at the client that a tag is for
-legible_arrive : (whole : Whole) (number : ℕ) (tag : Tag) (found : Option ClientState) → IsLegible (arrive whole number tag found).answer
+-- what arrives, whether it is old or new
+legible_taken : (whole : Whole) (number : ℕ) (tag : Tag) (taken : Taken) (snapshot : Snapshot) (old : Bool) → IsLegible (delivered number tag.client taken.answer).answer
+    → IsLegible (cond old (record { whole = whole; answer = delivered number tag.client Old }) (arrive_new whole number tag.client taken snapshot)).answer.answer
+legible_taken whole number tag taken snapshot true legible = tt
+legible_taken whole number tag taken snapshot false legible = legible
+
+legible_arrive : (whole : Whole) (number : ℕ) (tag : Tag) (found : Option ClientState) → IsLegible (arrive whole number tag found).answer.answer
 legible_arrive whole number tag None = tt
 legible_arrive whole number tag (Some client) =
-    legible_taken whole number tag client (built_at whole.histories tag.client tag.number) (nat_le tag.number client.taken)
+    let snapshot = snapshot_of whole.histories tag in
+    legible_taken whole number tag (applied client snapshot) snapshot (nat_le tag.number client.taken) tt
 
--- a delivery
-legible_deliver : (whole : Whole) (number : ℕ) (found : Option Tag) → IsLegible (deliver whole number found).answer
+legible_deliver : (whole : Whole) (number : ℕ) (found : Option Tag) → IsLegible (deliver whole number found).answer.answer
 legible_deliver whole number None = tt
-legible_deliver whole number (Some tag) = legible_arrive whole number tag (client_at whole.clients tag.client)
-
--- a client that is handed in
-legible_join : (whole : Whole) (c : ℕ) (slot : SlotState) (client : ClientState) (found : Option SlotState) → IsLegible (join whole c slot client found).answer
-legible_join whole c slot client None = tt
-legible_join whole c slot client (Some old) = tt
-
--- a player that is handed in
-legible_player : (profile : Profile) (whole : Whole) (c : ℕ) (player : _) (found : Option SlotState) → IsLegible (set_player profile whole c player found).answer
-legible_player profile whole c player None = tt
-legible_player profile whole c player (Some slot) = tt
+legible_deliver whole number (Some tag) = legible_arrive whole number tag (client_at whole.ends tag.client)
 
 -- each step by tags answers legibly
-legible_step : (profile : Profile) (whole : Whole) (event : Event) → IsLegible (step profile whole event).answer
+legible_step : (profile : Profile) (whole : Whole) (event : Event) → IsLegible (step profile whole event).answer.answer
 unfolding step
 legible_step profile whole (events.Client c challenge qport dup address) =
-    legible_join whole c (new_slot challenge qport address) (new_client challenge qport dup) (slot_at whole.server c)
+    let added = add_client_at whole.ends.server c challenge qport address in
+    legible_joined (record whole.ends { server = added.server }) c (new_client profile challenge qport dup) added.answer
+legible_step profile whole (events.Player c player) = tt
 legible_step profile whole (events.Time time) = tt
-legible_step profile whole (events.Player c player) = legible_player profile whole c player (slot_at whole.server c)
 legible_step profile whole (events.Serve c) = tt
 legible_step profile whole (events.Deliver number) = legible_deliver whole number (slice_get whole.sent (number - 1))
 legible_step profile whole (events.Show c) = tt
 
+abbrev AreLegible : List Answered → Type 0
+AreLegible all = AllByRecursion (λ (given : Answered). IsLegible given.answer) all
+
 -- and so does every list of events
-legible_answers : (profile : Profile) (all : List Event) (whole : Whole) → AllByRecursion IsLegible (answers profile whole all)
+legible_answers : (profile : Profile) (all : List Event) (whole : Whole) → AreLegible (answers profile whole all)
 unfolding answers
 legible_answers profile [] whole = tt
 legible_answers profile (event ∷ events) whole = (legible_step profile whole event, legible_answers profile events (step profile whole event).whole)
 
 -- by bytes too
 pub always_legible : BytesFollowTags → AlwaysLegible
-always_legible follow profile all is are =
-    subst (λ (given : List Answer). AllByRecursion IsLegible given) (sym (follow profile all is are)) (legible_answers profile all opening)
+always_legible law profile all is are = subst AreLegible (sym (law profile all is are).1) (legible_answers profile all (opening profile))
 
--- ---- what holds after every list of events
+-- ---- what was accepted
 
--- the invariant
-invariant_after : (profile : Profile) (all : List Event) (whole : Whole) → Cited profile → AllByRecursion IsReplayEvent all
-    → Invariant profile whole → Invariant profile (after profile whole all)
-unfolding after
-invariant_after profile [] whole cited are inv = inv
-invariant_after profile (event ∷ events) whole cited are inv =
-    invariant_after profile events (step profile whole event).whole cited are.1 (steps_agree profile whole event cited are.0 inv).invariant
+-- what joins the ends of a client that is there
+joined_at : (map : MapState) (slot : Option SlotState) (client : ClientState) (history : History) (profile : Profile)
+    → IsClient profile slot (Some client) history → IsJoined map slot (Some client) history → (found : SlotState) × AreJoined map found client history
+joined_at map None client history profile is joined = absurd is
+joined_at map (Some slot) client history profile is joined = (slot, joined)
 
--- a snapshot was built under its number
-abbrev WasBuilt : History → Snapshot → Type 0
-WasBuilt history snapshot =
-    (1 ≤ snapshot.number) × (snapshot.number ≤ length history.built) × (snapshot ≡ slice_index_or history.built (snapshot.number - 1) no_snapshot)
+abbrev Accepted : History → Type 0
+Accepted history = ((k : ℕ) (d : Snapshot) → k < length history.accepted → WasBuilt history.built (get_or history.accepted k d)) × Rise history.accepted
 
--- the newest accepted was
-newest_was_built : (history : History) (taken : ℕ) (accepted : Option Snapshot) (snapshot : Snapshot) → newest accepted ≡ Newest snapshot
-    → taken ≤ length history.built → IsNewest history.built taken accepted → WasBuilt history snapshot
-newest_was_built history taken None snapshot shown few is = absurd cc
-newest_was_built history taken (Some other) snapshot shown few is =
-    let same : other ≡ snapshot = cc in
-    let under : WasBuilt history other =
-    subst (λ (n : ℕ). (1 ≤ n) × (n ≤ length history.built) × (other ≡ slice_index_or history.built (n - 1) no_snapshot)) (sym is.1) (is.0, few, is.2) in
-    subst (λ (s : Snapshot). WasBuilt history s) same under
+-- what a client accepted, wherever it is
+accepted_by : (profile : Profile) (map : MapState) (slot : Option SlotState) (client : Option ClientState) (history : History)
+    → IsClient profile slot client history → IsJoined map slot client history → Accepted history
+accepted_by profile map None None history is joined =
+    rw is ((λ k d lt. absurd (omega (arith, lt))), (λ j k d lt within. absurd (omega (arith, within))))
+accepted_by profile map None (Some client) history is joined = absurd is
+accepted_by profile map (Some slot) None history is joined = absurd is
+accepted_by profile map (Some slot) (Some client) history is joined = (joined.accepted, joined.rise)
 
--- what a client shows was
-shown_was : (profile : Profile) (slot : Option SlotState) (client : Option ClientState) (history : History) (snapshot : Snapshot) → shown_of client ≡ Newest snapshot
-    → IsClient profile slot client history → WasBuilt history snapshot
-shown_was profile None None history snapshot shown is = absurd cc
-shown_was profile None (Some client) history snapshot shown is = absurd is
-shown_was profile (Some slot) None history snapshot shown is = absurd is
-shown_was profile (Some slot) (Some client) history snapshot shown is = newest_was_built history client.taken client.accepted snapshot shown is.taken is.newest
+pub accepted_were_built : BytesFollowTags → AcceptedWereBuilt
+accepted_were_built law profile all c is are within =
+    let stands : Then profile all = (law profile all is are).0 in
+    let whole = whole_then profile all in
+    accepted_by profile whole.ends.server.map (slot_at whole.ends.server c) (client_at whole.ends c) (history_at whole.histories c)
+    (stands.facts.each c within) (stands.joined c within)
 
--- what a show answers
-show_is : (profile : Profile) (whole : Whole) (c : ℕ) (snapshot : Snapshot) → (step profile whole (events.Show c)).answer ≡ Show c (Newest snapshot)
-    → shown_of (client_at whole.clients c) ≡ Newest snapshot
-unfolding step
-show_is profile whole c snapshot e = cc
+some_is : (x y : Snapshot) → Some x ≡ Some y → x ≡ y
+some_is x y e = cc
 
--- whatever came before, what a client shows was built
-pub shown_was_built : BuiltIsRead → NormalIsNormal → ZeroIsNormal → ShownWasBuilt
-shown_was_built reads normal zero profile all c snapshot is are within shown =
-    let whole = after profile opening all in
-    let inv = invariant_after profile all opening (cited_of reads normal zero profile is) are (opening-invariant profile) in
-    shown_was profile (slot_at whole.server c) (client_at whole.clients c) (history_at whole.histories c) snapshot (show_is profile whole c snapshot shown) (inv.each c within)
+-- the newest was
+newest_was : (profile : Profile) (map : MapState) (slot : Option SlotState) (client : Option ClientState) (history : History) (snapshot : Snapshot)
+    → newest client ≡ Some snapshot → IsClient profile slot client history → IsJoined map slot client history → WasBuilt history.built snapshot
+newest_was profile map slot None history snapshot shown is joined = absurd cc
+newest_was profile map None (Some client) history snapshot shown is joined = absurd is
+newest_was profile map (Some slot) (Some client) history snapshot shown is joined =
+    newest_of history snapshot history.accepted refl (sym joined.newest ∙ shown) joined.accepted
+  where
+    newest_of : (history : History) (snapshot : Snapshot) (accepted : List Snapshot) → history.accepted ≡ accepted → last_or None history.accepted ≡ Some snapshot
+        → ((k : ℕ) (d : Snapshot) → k < length history.accepted → WasBuilt history.built (get_or history.accepted k d)) → WasBuilt history.built snapshot
+    newest_of history snapshot [] none last all = absurd (let e : last_or None history.accepted ≡ None = ap (λ (a : List Snapshot). last_or None a) none in cc)
+    newest_of history snapshot (first ∷ others) some last all =
+        let count : 0 < length history.accepted = rw some (omega arith) in
+        let place = length history.accepted - 1 in
+        let there : get_or history.accepted place snapshot ≡ snapshot = some_is (get_or history.accepted place snapshot) snapshot (sym (last_is None history.accepted snapshot count) ∙ last) in
+        subst (λ (s : Snapshot). WasBuilt history.built s) there (all place snapshot (omega arith))
+
+-- what a show by bytes prints
+shows : (kept : Kept) (c : ℕ) → (kept_step kept (events.Show c)).answer.snapshot ≡ newest (client_at kept.ends c)
+unfolding kept_step
+shows kept c = refl
+
+pub shown_was_built : BytesFollowTags → ShownWasBuilt
+shown_was_built law profile all c snapshot is are within shown =
+    let stands : Then profile all = (law profile all is are).0 in
+    let whole = whole_then profile all in
+    newest_was profile whole.ends.server.map (slot_at whole.ends.server c) (client_at whole.ends c) (history_at whole.histories c) snapshot
+    (ap (λ (e : Ends). newest (client_at e c)) (sym stands.ends) ∙ (sym (shows (kept_then profile all) c) ∙ shown))
+    (stands.facts.each c within) (stands.joined c within)
 
 -- ---- newer messages
 
--- a message above every number taken is accepted
-pub newer_is_accepted : NewerIsAccepted
+-- a tag that has these bytes
+tag_of : (found : Option Tag) (sent : SentBytes) → option_map bytes_of found ≡ Some sent → (tag : Tag) × (found ≡ Some tag) × (bytes_of tag ≡ sent)
+tag_of None sent e = absurd cc
+tag_of (Some tag) sent e = (tag, refl, cc)
+
+-- what a delivery of it by its tag answers
+answers_tag : (profile : Profile) (whole : Whole) (number : ℕ) (tag : Tag) (client : ClientState) → slice_get whole.sent (number - 1) ≡ Some tag
+    → client_at whole.ends tag.client ≡ Some client → client.taken < tag.number
+    → (step profile whole (events.Deliver number)).answer ≡ delivered number tag.client (Applied (snapshot_of whole.histories tag).number 0)
 unfolding step
-newer_is_accepted profile all number tag client is are at found newer =
-    rw (at, found, lt-leb tag.number client.taken newer) refl
+answers_tag profile whole number tag client at found newer = rw (at, found, lt-leb tag.number client.taken newer) refl
+
+pub newer_is_accepted : BytesFollowTags → BuiltIsRead → NormalIsNormal → ZeroIsNormal → NewerIsAccepted
+newer_is_accepted law reads normal zero profile all number sent client is are at found newer =
+    let stands : Then profile all = (law profile all is are).0 in
+    let kept = kept_then profile all in
+    let whole = whole_then profile all in
+    let holds : Holds profile whole = record { facts = stands.facts; joined = stands.joined } in
+    let tag = tag_of (slice_get whole.sent (number - 1)) sent
+    (sym (slice_get-map bytes_of whole.sent (number - 1)) ∙ (ap (λ (d : List SentBytes). slice_get d (number - 1)) (sym stands.datagrams) ∙ at)) in
+    let sent_is = is_sent profile whole (number - 1) tag.0 tag.1 holds in
+    let client_is : client_at whole.ends tag.0.client ≡ Some client =
+    ap (λ (e : Ends). client_at e tag.0.client) (sym stands.ends) ∙ (ap (λ (s : SentBytes). client_at kept.ends s.client) tag.2 ∙ found) in
+    let built = tag_was_built profile whole tag.0 client sent_is client_is holds in
+    let number_there : number_of_datagram sent.bytes ≡ tag.0.number =
+    ap (λ (s : SentBytes). number_of_datagram s.bytes) (sym tag.2)
+    ∙ (ap number_of_datagram sent_is.bytes ∙ number_is profile tag.0.number (snapshot_of whole.histories tag.0) (message_bytes (snapshot_bits profile (snapshot_of whole.histories tag.0))) built) in
+    let by_bytes = ap (λ (k : Kept). (kept_step k (events.Deliver number)).answer) (kept_is profile kept whole stands)
+    ∙ ap (λ (s : KeptStep). s.answer) (delivers_agree profile whole number (cited_of reads normal zero profile is) holds).same in
+    by_bytes
+    ∙ (answers_tag profile whole number tag.0 client tag.1 client_is (omega (arith, number_there, newer))
+    ∙ (ap (λ (n : ℕ). delivered number tag.0.client (Applied n 0)) (built.number ∙ sym number_there)
+    ∙ ap (λ (s : SentBytes). delivered number s.client (Applied (number_of_datagram sent.bytes) 0)) tag.2))

@@ -1,5 +1,10 @@
-pub mod Invariants
-pub mod Agreement
-pub mod Stepped
 pub mod MessageText
+pub mod Delivering
+pub mod OnePlace
+pub mod Growth
+pub mod Clients
+pub mod Events
+pub mod Agreement
 pub mod EverySchedule
+pub mod Stepped
+pub mod Printing

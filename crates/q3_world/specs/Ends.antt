@@ -1,101 +1,101 @@
--- One call of one end: the state after it, and the answer.
-use Rattle.std.specs.Prelude.{ℕ, ◌+◌, ◌^◌, if◌then◌else◌, Bool, List, [], length, take, drop, nat_lt, nat_le, Option, Some, None, slice_set, Result, Ok, Err}
-use Rattle.std.specs.Int.{w32, from_le_bytes}
+-- The two ends of every client, and what the game hands in to them and reads of them.
+use Rattle.std.specs.Prelude.{ℕ, List, replicate, Option, Some, None, slice_set, slice_index_or, Result, Ok, Err}
 use Rattle.q3_profile.specs.declared.profile.Profile.{Profile}
-use Rattle.q3_bits.specs.Bits.{bits_of, message_bytes, message_length}
-use Rattle.q3_player.specs.State.{zero_player}
+use Rattle.q3_player.specs.declared.state.PlayerState.{PlayerState}
 use Rattle.q3_io.specs.declared.address.Address.{Address}
-use Rattle.q3_world.specs.declared.answer.Snapshot.{Snapshot}
-use Rattle.q3_world.specs.declared.answer.Emitted.{Emitted}
-use Rattle.q3_world.specs.declared.answer.Emitted.TheVariants as emitted
-use Rattle.q3_world.specs.declared.answer.ClientTook.{ClientTook}
-use Rattle.q3_world.specs.declared.answer.ClientTook.TheVariants.{Runt, Old, Illegible, Applied}
-use Rattle.q3_world.specs.declared.answer.Illegible as cause
-use Rattle.q3_world.specs.Message.{snapshot_bits, datagram_bytes, snapshot_at}
-use Rattle.q3_world.specs.State.{MapState, SlotState, ServerState, ClientState, slot_at}
+use Rattle.q3_world.specs.declared.message.Snapshot.{Snapshot}
+use Rattle.q3_world.specs.declared.server.Emitted.{Emitted}
+use Rattle.q3_world.specs.declared.client.ClientTook.{ClientTook}
+use Rattle.q3_world.specs.declared.server.NoClient.{NoClient}
+use Rattle.q3_world.specs.declared.server.SlotError.{SlotError}
+use Rattle.q3_world.specs.declared.answer.Answer.{Answer}
+use Rattle.q3_world.specs.declared.answer.Answer.TheVariants.{Client, Time, Player, Serve, Unknown, Deliver, Show}
+use Rattle.q3_world.specs.declared.answer.HandedIn.{HandedIn as Outcome}
+use Rattle.q3_world.specs.declared.answer.HandedIn.TheVariants as handed_in
+use Rattle.q3_world.specs.declared.answer.Shown.{Shown}
+use Rattle.q3_world.specs.declared.answer.Shown.TheVariants as shown
+use Rattle.q3_world.specs.Server.{ServerState, places, new_server, add_client_at, set_time_at, set_player_at}
+use Rattle.q3_world.specs.Client.{ClientState, new_client}
 
--- message numbers end here
-abbrev pub sequence_end : ℕ
-sequence_end = 2 ^ 30
-
--- a message below this length goes whole; longer ones aren't sent at this stage
-abbrev pub fragment_size : ℕ
-fragment_size = 1300
-
--- a client that just joined, at the server
-abbrev pub new_slot : ℕ → ℕ → Address → SlotState
-new_slot challenge qport address =
-    record { challenge = challenge; address = address; qport = qport; begun = 0; player = zero_player }
-
--- the same, at its own end
-abbrev pub new_client : ℕ → ℕ → ℕ → ClientState
-new_client challenge qport dup = record { challenge = challenge; qport = qport; dup = dup; taken = 0; accepted = None }
-
--- the snapshot that goes into a slot's next message
-abbrev pub next_snapshot : MapState → SlotState → Snapshot
-next_snapshot map slot = record { number = slot.begun + 1; time = map.time; flags = 0; player = slot.player }
-
--- what an emit of a slot gives: the slot after it, the answer, and the datagram
-pub record SlotEmission : Type 0 where
-  pub slot : SlotState
-  pub answer : Emitted
-  pub datagram : List ℕ
-
--- a message whose snapshot has these bits
-abbrev pub emit_bits : SlotState → List Bool → SlotEmission
-emit_bits slot bits =
-    if nat_le fragment_size (message_length (length bits))
-    then record { slot = slot; answer = emitted.Overlong; datagram = [] }
-    else record {
-      slot = record slot { begun = slot.begun + 1 };
-      answer = emitted.Snapshot (slot.begun + 1) 0 (message_length (length bits));
-      datagram = datagram_bytes (slot.begun + 1) (message_bytes bits);
-    }
-
-abbrev pub emit_slot : Profile → MapState → SlotState → SlotEmission
-emit_slot profile map slot =
-    if nat_le sequence_end (slot.begun + 1) then record { slot = slot; answer = emitted.SequenceEnd; datagram = [] }
-    else emit_bits slot (snapshot_bits profile (next_snapshot map slot))
-
--- what an emit of the server gives
-pub record Emission : Type 0 where
+-- the server, and each client at its place
+pub record Ends : Type 0 where
   pub server : ServerState
-  pub answer : Emitted
-  pub datagram : List ℕ
+  pub clients : List (Option ClientState)
 
-abbrev pub emit_from : Profile → ServerState → ℕ → Option SlotState → Emission
-emit_from profile server c None = record { server = server; answer = emitted.NoClient; datagram = [] }
-emit_from profile server c (Some slot) =
-    record {
-      server = record server { slots = slice_set server.slots c (Some (emit_slot profile server.map slot).slot) };
-      answer = (emit_slot profile server.map slot).answer;
-      datagram = (emit_slot profile server.map slot).datagram;
-    }
+abbrev pub client_at : Ends → ℕ → Option ClientState
+client_at ends c = slice_index_or ends.clients c None
 
--- the server makes a datagram for a client
-unfoldable pub emit_at : Profile → ServerState → ℕ → Emission
-emit_at profile server c = emit_from profile server c (slot_at server c)
+abbrev pub with_client : Ends → ℕ → ClientState → Ends
+with_client ends c client = record ends { clients = slice_set ends.clients c (Some client) }
 
--- what a take of a client gives
-pub record Taken : Type 0 where
-  pub client : ClientState
-  pub answer : ClientTook
+-- a server and no client
+abbrev pub new_ends : Profile → Ends
+new_ends profile = record { server = new_server profile; clients = replicate places None }
 
-abbrev pub accept : ClientState → Snapshot → Taken
-accept client snapshot =
-    record { client = record client { taken = snapshot.number; accepted = Some snapshot }; answer = Applied snapshot.number 0 }
+-- an answer, and the snapshot that is printed with it
+pub record Answered : Type 0 where
+  pub answer : Answer
+  pub snapshot : Option Snapshot
 
-abbrev pub accept_read : ClientState → Result Snapshot cause.Illegible → Taken
-accept_read client (Ok snapshot) = accept client snapshot
-accept_read client (Err e) = record { client = client; answer = Illegible e }
+-- the newest snapshot that a client accepted
+abbrev pub newest : Option ClientState → Option Snapshot
+newest None = None
+newest (Some client) = client.accepted
 
-abbrev pub take_message : Profile → ClientState → ℕ → List ℕ → Taken
-take_message profile client number message =
-    if nat_le number client.taken then record { client = client; answer = Old }
-    else accept_read client (snapshot_at profile number (bits_of message))
+-- a `show` prints the newest snapshot of its client
+abbrev pub lent : Ends → Answer → Option Snapshot
+lent ends (Show c what) = newest (client_at ends c)
+lent ends other = None
 
--- a client takes a datagram, by its bytes
-unfoldable pub take_at : Profile → ClientState → List ℕ → Taken
-take_at profile client datagram =
-    if nat_lt (length datagram) 4 then record { client = client; answer = Runt }
-    else take_message profile client (from_le_bytes w32 (take 4 datagram)) (drop 4 datagram)
+abbrev pub answered : Ends → Answer → Answered
+answered ends answer = record { answer = answer; snapshot = lent ends answer }
+
+-- the answers of a `serve` and of a `deliver`
+abbrev pub served : ℕ → Emitted → ℕ → Answered
+served c emission datagram = record { answer = Serve c emission datagram; snapshot = None }
+
+abbrev pub delivered : ℕ → ℕ → ClientTook → Answered
+delivered datagram c took = record { answer = Deliver datagram c took; snapshot = None }
+
+-- no datagram of this number was made for a client that is there
+abbrev pub unknown : ℕ → Answered
+unknown datagram = record { answer = Unknown datagram; snapshot = None }
+
+-- the ends after an event, and the answer
+pub record EndsStep : Type 0 where
+  pub ends : Ends
+  pub answer : Answer
+
+-- a client joins, at its own end too where the server took it
+abbrev pub joined : Ends → ℕ → ClientState → Result (Unit {0}) SlotError → EndsStep
+joined ends c client (Ok x) = record { ends = with_client ends c client; answer = Client c handed_in.Ok }
+joined ends c client (Err e) = record { ends = ends; answer = Client c handed_in.Taken }
+
+abbrev pub join : Profile → Ends → ℕ → ℕ → ℕ → ℕ → Address → EndsStep
+join profile ends c challenge qport dup address =
+    let added = add_client_at ends.server c challenge qport address in
+    joined (record ends { server = added.server }) c (new_client profile challenge qport dup) added.answer
+
+abbrev pub set_time : Ends → ℕ → EndsStep
+set_time ends time = record { ends = record ends { server = set_time_at ends.server time }; answer = Time }
+
+abbrev pub player_answer : Result (Unit {0}) NoClient → Outcome
+player_answer (Ok x) = handed_in.Ok
+player_answer (Err e) = handed_in.NoClient
+
+abbrev pub set_player : Ends → ℕ → PlayerState → EndsStep
+set_player ends c player =
+    let given = set_player_at ends.server c player in
+    record { ends = record ends { server = given.server }; answer = Player c (player_answer given.answer) }
+
+-- what a client shows
+abbrev pub shown_of : Option ClientState → Shown
+shown_of None = shown.NoClient
+shown_of (Some client) = accepted_shown client.accepted
+  where
+    accepted_shown : Option Snapshot → Shown
+    accepted_shown None = shown.Nothing
+    accepted_shown (Some snapshot) = shown.Newest
+
+abbrev pub show : Ends → ℕ → EndsStep
+show ends c = record { ends = ends; answer = Show c (shown_of (client_at ends c)) }

@@ -1,60 +1,43 @@
 -- What the program's world keeps, and what an event does to it: datagrams are taken by their bytes.
-use Rattle.std.specs.Prelude.{ℕ, ◌+◌, ◌-◌, List, [], ◌∷◌, ◌++◌, length, Option, Some, None, slice_get, slice_set}
+use Rattle.std.specs.Prelude.{ℕ, ◌+◌, ◌-◌, List, [], ◌∷◌, ◌++◌, length, Option, Some, None, slice_get}
 use Rattle.q3_profile.specs.declared.profile.Profile.{Profile}
-use Rattle.q3_player.specs.State.{normal_player}
-use Rattle.q3_player.specs.declared.state.PlayerState.{PlayerState}
 use Rattle.q3_script.specs.declared.event.Event.{Event}
 use Rattle.q3_script.specs.declared.event.Event.TheVariants as events
-use Rattle.q3_world.specs.declared.answer.Snapshot.{Snapshot}
-use Rattle.q3_world.specs.declared.answer.Emitted.{Emitted}
-use Rattle.q3_world.specs.declared.answer.Emitted.TheVariants as emitted
-use Rattle.q3_world.specs.declared.answer.Answer.{Answer}
-use Rattle.q3_world.specs.declared.answer.Answer.TheVariants.{Client, Time, Player, Serve, Unknown, Deliver, Show}
-use Rattle.q3_world.specs.declared.answer.HandedIn.TheVariants as handed_in
-use Rattle.q3_world.specs.declared.answer.Shown.{Shown}
-use Rattle.q3_world.specs.declared.answer.Shown.TheVariants as shown
-use Rattle.q3_world.specs.State.{SlotState, ServerState, ClientState, slot_at, client_at}
-use Rattle.q3_world.specs.Ends.{Emission, new_slot, new_client, emit_at, take_at}
+use Rattle.q3_world.specs.declared.server.Emitted.{Emitted}
+use Rattle.q3_world.specs.declared.server.Emitted.TheVariants as emitted
+use Rattle.q3_world.specs.Server.{Emission, emit_at}
+use Rattle.q3_world.specs.Client.{ClientState, Taken, take_at}
+use Rattle.q3_world.specs.Ends.{Ends, EndsStep, Answered, answered, client_at, with_client, new_ends, served, unknown, delivered, join, set_time, set_player, show}
 
 -- a datagram that was made, and the client that it is for
 pub record SentBytes : Type 0 where
   pub client : ℕ
   pub bytes : List ℕ
 
+-- datagrams have numbers of 32 bits
+abbrev pub most_datagrams : ℕ
+most_datagrams = 4294967295
+
 -- by which profile, both ends, and every datagram that was made
 pub record Kept : Type 0 where
   pub profile : Profile
-  pub server : ServerState
-  pub clients : List (Option ClientState)
+  pub ends : Ends
   pub datagrams : List SentBytes
 
 -- what is kept after an event, and the answer
 pub record KeptStep : Type 0 where
   pub kept : Kept
-  pub answer : Answer
+  pub answer : Answered
 
--- the server with a slot put in its place
-abbrev pub with_slot : ServerState → ℕ → SlotState → ServerState
-with_slot server c slot = record server { slots = slice_set server.slots c (Some slot) }
+-- before the first event
+abbrev pub opening_kept : Profile → Kept
+opening_kept profile = record { profile = profile; ends = new_ends profile; datagrams = [] }
 
-abbrev pub kept_client : Kept → ℕ → SlotState → ClientState → Option SlotState → KeptStep
-kept_client kept c slot client (Some old) = record { kept = kept; answer = Client c handed_in.Taken }
-kept_client kept c slot client None =
-    record {
-      kept = record kept { server = with_slot kept.server c slot; clients = slice_set kept.clients c (Some client) };
-      answer = Client c handed_in.Ok;
-    }
+-- what the game handed in, or read
+abbrev pub kept_ends : Kept → EndsStep → KeptStep
+kept_ends kept step = record { kept = record kept { ends = step.ends }; answer = answered step.ends step.answer }
 
--- the slot with another player, in the normal form of the profile's table
-abbrev pub with_player : Profile → SlotState → PlayerState → SlotState
-with_player profile slot player = record slot { player = normal_player profile.player player }
-
-abbrev pub kept_player : Kept → ℕ → PlayerState → Option SlotState → KeptStep
-kept_player kept c player None = record { kept = kept; answer = Player c handed_in.NoClient }
-kept_player kept c player (Some slot) =
-    record { kept = record kept { server = with_slot kept.server c (with_player kept.profile slot player) }; answer = Player c handed_in.Ok }
-
--- whether an answer hands out a datagram
+-- the datagram that an emission hands out, if it does
 abbrev pub datagrams_after : List SentBytes → ℕ → Emitted → List ℕ → List SentBytes
 datagrams_after datagrams c (emitted.Snapshot number base bytes) datagram = datagrams ++ record { client = c; bytes = datagram } ∷ []
 datagrams_after datagrams c other datagram = datagrams
@@ -62,49 +45,44 @@ datagrams_after datagrams c other datagram = datagrams
 abbrev pub kept_serve : Kept → ℕ → Emission → KeptStep
 kept_serve kept c emission =
     record {
-      kept = record kept { server = emission.server; datagrams = datagrams_after kept.datagrams c emission.answer emission.datagram };
-      answer = Serve c emission.answer (length kept.datagrams + 1);
+      kept = record kept {
+        ends = record kept.ends { server = emission.server };
+        datagrams = datagrams_after kept.datagrams c emission.answer emission.datagram;
+      };
+      answer = served c emission.answer (length kept.datagrams + 1);
     }
 
--- the clients after a datagram arrived, and the answer
-pub record Arrival : Type 0 where
-  pub clients : List (Option ClientState)
-  pub answer : Answer
-
-abbrev pub arrive_at : Profile → List (Option ClientState) → ℕ → SentBytes → Option ClientState → Arrival
-arrive_at profile clients number sent None = record { clients = clients; answer = Unknown number }
-arrive_at profile clients number sent (Some client) =
+abbrev pub kept_taken : Kept → ℕ → ℕ → Taken → KeptStep
+kept_taken kept number c taken =
     record {
-      clients = slice_set clients sent.client (Some (take_at profile client sent.bytes).client);
-      answer = Deliver number sent.client (take_at profile client sent.bytes).answer;
+      kept = record kept { ends = with_client kept.ends c taken.client };
+      answer = delivered number c taken.answer;
     }
 
 -- the client that a datagram is for takes it
-abbrev pub arrived : Profile → List (Option ClientState) → ℕ → SentBytes → Arrival
-arrived profile clients number sent = arrive_at profile clients number sent (client_at clients sent.client)
+abbrev pub kept_arrive : Kept → ℕ → SentBytes → Option ClientState → KeptStep
+kept_arrive kept number sent None = record { kept = kept; answer = unknown number }
+kept_arrive kept number sent (Some client) = kept_taken kept number sent.client (take_at client sent.bytes)
 
 abbrev pub kept_deliver : Kept → ℕ → Option SentBytes → KeptStep
-kept_deliver kept number None = record { kept = kept; answer = Unknown number }
-kept_deliver kept number (Some sent) =
-    record {
-      kept = record kept { clients = (arrived kept.profile kept.clients number sent).clients };
-      answer = (arrived kept.profile kept.clients number sent).answer;
-    }
+kept_deliver kept number None = record { kept = kept; answer = unknown number }
+kept_deliver kept number (Some sent) = kept_arrive kept number sent (client_at kept.ends sent.client)
 
-abbrev pub newest : Option Snapshot → Shown
-newest None = shown.Nothing
-newest (Some snapshot) = shown.Newest snapshot
-
-abbrev pub shown_of : Option ClientState → Shown
-shown_of None = shown.NoClient
-shown_of (Some client) = newest client.accepted
-
+-- one event
 unfoldable pub kept_step : Kept → Event → KeptStep
-kept_step kept (events.Client c challenge qport dup address) =
-    kept_client kept c (new_slot challenge qport address) (new_client challenge qport dup) (slot_at kept.server c)
-kept_step kept (events.Time time) =
-    record { kept = record kept { server = record kept.server { map = record { time = time } } }; answer = Time }
-kept_step kept (events.Player c player) = kept_player kept c player (slot_at kept.server c)
-kept_step kept (events.Serve c) = kept_serve kept c (emit_at kept.profile kept.server c)
+kept_step kept (events.Client c challenge qport dup address) = kept_ends kept (join kept.profile kept.ends c challenge qport dup address)
+kept_step kept (events.Player c player) = kept_ends kept (set_player kept.ends c player)
+kept_step kept (events.Time time) = kept_ends kept (set_time kept.ends time)
+kept_step kept (events.Serve c) = kept_serve kept c (emit_at kept.ends.server c)
 kept_step kept (events.Deliver number) = kept_deliver kept number (slice_get kept.datagrams (number - 1))
-kept_step kept (events.Show c) = record { kept = kept; answer = Show c (shown_of (client_at kept.clients c)) }
+kept_step kept (events.Show c) = kept_ends kept (show kept.ends c)
+
+-- what is kept after these events
+unfoldable pub kept_after : Kept → List Event → Kept
+kept_after kept [] = kept
+kept_after kept (event ∷ events) = kept_after (kept_step kept event).kept events
+
+-- what these events answer
+unfoldable pub kept_answers : Kept → List Event → List Answered
+kept_answers kept [] = []
+kept_answers kept (event ∷ events) = (kept_step kept event).answer ∷ kept_answers (kept_step kept event).kept events

@@ -1,9 +1,11 @@
 pub mod Message
-pub mod State
+pub mod MessageLaws
+pub mod Server
+pub mod Client
 pub mod Ends
 pub mod Kept
 pub mod World
-pub mod Report
 pub mod StandsFor
+pub mod Report
 pub mod Outcome
 pub mod Schedules

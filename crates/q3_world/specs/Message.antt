@@ -1,15 +1,34 @@
 -- The one form of message of this stage: a whole snapshot, with no base, no area and no entities.
 use Rattle.std.specs.Prelude.{◌≡◌, ℕ, ◌^◌, ◌<◌, ◌==◌, if◌then◌else◌, Bool, List, ◌++◌, Result, Ok, Err}
 use Rattle.std.specs.Int.{w32, to_le_bytes}
-use Rattle.q3_bits.specs.Words.{field_bits, field_read}
+use Rattle.q3_bits.specs.ResultBind.{◌>>=◌}
+use Rattle.q3_bits.specs.Words.{field_bits, field_at}
 use Rattle.q3_fields.specs.Kinds.{end_mark}
 use Rattle.q3_profile.specs.declared.profile.Profile.{Profile}
-use Rattle.q3_player.specs.State.{zero_player, IsState}
+use Rattle.q3_player.specs.declared.state.PlayerState.{PlayerState}
+use Rattle.q3_player.specs.State.{zero_player, IsState, IsNormal}
 use Rattle.q3_player.specs.Delta.{player_delta, player_at}
 use Rattle.q3_player.specs.Spelling.{SpellsPlayer}
-use Rattle.q3_world.specs.declared.answer.Snapshot.{Snapshot}
-use Rattle.q3_world.specs.declared.answer.Illegible.{Illegible}
-use Rattle.q3_world.specs.declared.answer.Illegible.TheVariants.{Form}
+use Rattle.q3_world.specs.declared.message.Snapshot.{Snapshot}
+use Rattle.q3_world.specs.declared.message.Illegible.{Illegible}
+use Rattle.q3_world.specs.declared.message.Illegible.TheVariants.{Form}
+
+-- message numbers end here
+abbrev pub sequence_end : ℕ
+sequence_end = 2 ^ 30
+
+-- a player as the server holds it: a state of the program's type, in normal form
+pub record IsHeld (profile : Profile) (player : PlayerState) : Type 0 where
+  pub state : IsState player
+  pub normal : IsNormal profile.player.kinds player
+
+-- a snapshot as it is built under a number
+pub record IsBuilt (profile : Profile) (n : ℕ) (snapshot : Snapshot) : Type 0 where
+  pub number : snapshot.number ≡ n
+  pub fits : n < sequence_end
+  pub time : snapshot.time < 2 ^ 32
+  pub flags : snapshot.flags ≡ 0
+  pub player : IsHeld profile snapshot.player
 
 -- the operations of a server's message
 abbrev pub snapshot_byte : ℕ
@@ -29,22 +48,17 @@ message_text profile executed snapshot player =
     ++ field_bits profile.code 8 snapshot.flags
     ++ field_bits profile.code 8 0
     ++ player
-    ++ field_bits profile.code 10 (end_mark profile.entity)
+    ++ field_bits profile.code profile.entity.number_bits (end_mark profile.entity)
     ++ field_bits profile.code 8 end_byte
 
 -- the message that is built: no client command was executed, and the player goes from zero
 unfoldable pub snapshot_bits : Profile → Snapshot → List Bool
 snapshot_bits profile snapshot =
-    message_text profile 0 snapshot (player_delta profile.code profile.player zero_player snapshot.player)
+    message_text profile 0 snapshot (player_delta profile.code profile.player.kinds zero_player snapshot.player)
 
 -- a datagram: the message's number in four bytes, least first, and the message
 abbrev pub datagram_bytes : ℕ → List ℕ → List ℕ
 datagram_bytes number message = to_le_bytes w32 number ++ message
-
-infixl 10 ◌>>=◌
-abbrev pub ◌>>=◌ : {A B E : Type 0} → Result A E → (A → Result B E) → Result B E
-(Ok x) >>= f = f x
-(Err e) >>= f = Err e
 
 -- whatever doesn't read isn't of the form
 abbrev pub form : {A E : Type 0} → Result A E → Result A Illegible
@@ -54,20 +68,20 @@ form (Err e) = Err Form
 -- a field that has to have this value, and what is behind it
 unfoldable pub fixed_at : List (List Bool) → ℕ → ℕ → List Bool → Result (List Bool) Illegible
 fixed_at words width value bits = do
-  found ← form (field_read words width bits)
+  found ← form (field_at words width bits)
   if found.0 == value then Ok found.1 else Err Form
 
 -- the snapshot with which the bits begin, under a number
 unfoldable pub snapshot_at : Profile → ℕ → List Bool → Result Snapshot Illegible
 snapshot_at profile number bits = do
-  executed ← form (field_read profile.code 32 bits)
+  executed ← form (field_at profile.code 32 bits)
   operation ← fixed_at profile.code 8 snapshot_byte executed.1
-  time ← form (field_read profile.code 32 operation)
+  time ← form (field_at profile.code 32 operation)
   base ← fixed_at profile.code 8 0 time.1
-  flags ← form (field_read profile.code 8 base)
+  flags ← form (field_at profile.code 8 base)
   area ← fixed_at profile.code 8 0 flags.1
-  player ← form (player_at profile.code profile.player zero_player area)
-  entities ← fixed_at profile.code 10 (end_mark profile.entity) player.1
+  player ← form (player_at profile.code profile.player.kinds zero_player area)
+  entities ← fixed_at profile.code profile.entity.number_bits (end_mark profile.entity) player.1
   end ← fixed_at profile.code 8 end_byte entities
   Ok (record { number = number; time = time.0; flags = flags.0; player = player.0 })
 
@@ -77,5 +91,5 @@ pub record SpellsSnapshot (profile : Profile) (snapshot : Snapshot) (text : List
   pub player : List Bool
   pub fits : (executed < 2 ^ 32) × (snapshot.time < 2 ^ 32) × (snapshot.flags < 2 ^ 8)
   pub state : IsState snapshot.player
-  pub spelled : SpellsPlayer profile.code profile.player zero_player snapshot.player player
+  pub spelled : SpellsPlayer profile.code profile.player.kinds zero_player snapshot.player player
   pub whole : text ≡ message_text profile executed snapshot player

@@ -1,15 +1,23 @@
 -- When a step of the world fails.
-use Rattle.std.specs.Prelude.{◌≡◌, ℕ, ◌≤◌, Result, Ok, Err}
+use Rattle.std.specs.Prelude.{◌≡◌, ℕ, ◌≤◌, List, Option, Result, Ok, Err}
 use Rattle.q3_script.specs.declared.event.Event.{Event}
-use Rattle.q3_script.specs.declared.event.Event.TheVariants.{Serve}
+use Rattle.q3_script.specs.declared.event.Event.TheVariants.{Client, Serve}
 use Rattle.q3_world.specs.declared.world.StepError.{StepError}
 use Rattle.q3_world.specs.declared.world.StepError.TheVariants.{NoMemory, WriteFault}
 use Rattle.q3_io.specs.Faults.{Rose}
+use Rattle.q3_io.specs.Written.{Written, Adds}
 
--- an event that makes a datagram
-abbrev pub IsServe : Event → Type 0
-IsServe (Serve c) = Unit {0}
-IsServe other = ⊥
+-- an event that takes memory: a client's, or a datagram's
+abbrev pub TakesMemory : Event → Type 0
+TakesMemory (Client c challenge qport dup address) = Unit {0}
+TakesMemory (Serve c) = Unit {0}
+TakesMemory other = ⊥
+
+-- what a step printed: its lines, or a front of them where the sink failed, and nothing where memory ran out
+abbrev pub Prints : Option Written → Option Written → List ℕ → Result (Unit {0}) StepError → Type 0
+Prints old new lines (Ok x) = Adds {T = Unit {0}} {E = StepError} old new lines (Ok x)
+Prints old new lines (Err NoMemory) = new ≡ old
+Prints old new lines (Err WriteFault) = Adds {T = Unit {0}} {E = StepError} old new lines (Err WriteFault)
 
 -- a fault of writing comes only where the sink's count rose, and no fault is passed over
 abbrev pub HasStepCause : ℕ → ℕ → Result (Unit {0}) StepError → Type 0

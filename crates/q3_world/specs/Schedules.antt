@@ -1,47 +1,34 @@
 -- Laws over every list of events.
-use Rattle.std.specs.Prelude.{◌≡◌, ℕ, ◌-◌, ◌<◌, ◌≤◌, Bool, List, [], ◌∷◌, ◌++◌, length, Some, Ok, slice_get}
+use Rattle.std.specs.Prelude.{◌≡◌, ℕ, ◌-◌, ◌<◌, List, length, Some, slice_get, slice_index_or}
 use Rattle.std.specs.List.{AllByRecursion}
 use Rattle.q3_profile.specs.declared.profile.Profile.{Profile}
-use Rattle.q3_profile.specs.Profile.{IsProfile}
-use Rattle.q3_bits.specs.Bits.{bits_of, message_bytes}
+use Rattle.q3_profile.specs.Profile.{IsCodec}
 use Rattle.q3_script.specs.declared.event.Event.{Event}
 use Rattle.q3_script.specs.declared.event.Event.TheVariants as events
 use Rattle.q3_script.specs.Grammar.{IsReplayEvent}
-use Rattle.q3_world.specs.declared.answer.Snapshot.{Snapshot}
-use Rattle.q3_world.specs.declared.answer.ClientTook.TheVariants.{Runt, Illegible, Applied}
-use Rattle.q3_world.specs.declared.answer.Shown.TheVariants.{Newest}
+use Rattle.q3_world.specs.declared.message.Snapshot.{Snapshot}
+use Rattle.q3_world.specs.declared.client.ClientTook.TheVariants.{Runt, Illegible, Applied}
 use Rattle.q3_world.specs.declared.answer.Answer.{Answer}
-use Rattle.q3_world.specs.declared.answer.Answer.TheVariants.{Deliver, Show}
-use Rattle.q3_world.specs.Message.{snapshot_bits, snapshot_at, SpellsSnapshot}
-use Rattle.q3_world.specs.State.{ClientState, client_at}
-use Rattle.q3_world.specs.Kept.{Kept, kept_step}
-use Rattle.q3_world.specs.World.{Tag, places, history_at, built_at, opening, step, after, answers}
-use Rattle.q3_world.specs.StandsFor.{IsBuilt}
+use Rattle.q3_world.specs.declared.answer.Answer.TheVariants.{Deliver}
+use Rattle.q3_world.specs.Server.{places}
+use Rattle.q3_world.specs.Client.{ClientState, number_of_datagram}
+use Rattle.q3_world.specs.Ends.{client_at, delivered}
+use Rattle.q3_world.specs.Kept.{SentBytes, Kept, opening_kept, kept_step, kept_after, kept_answers}
+use Rattle.q3_world.specs.World.{Whole, history_at, opening, step, after, answers}
+use Rattle.q3_world.specs.StandsFor.{StandsFor, WasBuilt, Rise}
 
--- a message that was built is read back from its bytes
-abbrev pub BuiltIsRead : Type 0
-BuiltIsRead = (profile : Profile) → IsProfile profile → (number : ℕ) (snapshot : Snapshot) → IsBuilt profile number snapshot
-    → snapshot_at profile number (bits_of (message_bytes (snapshot_bits profile snapshot))) ≡ Ok snapshot
+-- a step by bytes of what stands for a whole world gives what stands for its step by tags, and answers the same
+abbrev pub StepFollows : Type 0
+StepFollows = (profile : Profile) (kept : Kept) (whole : Whole) (event : Event) → IsReplayEvent event → StandsFor profile kept whole
+    → StandsFor profile (kept_step kept event).kept (step profile whole event).whole
+    × ((kept_step kept event).answer ≡ (step profile whole event).answer)
 
--- what is read as a snapshot was spelled so
-abbrev pub ReadIsSpelled : Type 0
-ReadIsSpelled = (profile : Profile) (number : ℕ) (snapshot : Snapshot) (bits : List Bool) → IsProfile profile
-    → snapshot_at profile number bits ≡ Ok snapshot
-    → (text : List Bool) × (rest : List Bool) × (bits ≡ text ++ rest) × (snapshot.number ≡ number) × SpellsSnapshot profile snapshot text
-
--- what is spelled so is read, with whatever follows it: so a message is illegible exactly where its bits don't begin so
-abbrev pub SpelledIsRead : Type 0
-SpelledIsRead = (profile : Profile) (snapshot : Snapshot) (text rest : List Bool) → IsProfile profile
-    → SpellsSnapshot profile snapshot text → snapshot_at profile snapshot.number (text ++ rest) ≡ Ok snapshot
-
--- what is kept before the first event
-unfoldable pub opening_kept : Profile → Kept
-opening_kept profile = record { profile = profile; server = opening.server; clients = opening.clients; datagrams = [] }
-
--- what these events answer where each datagram is taken by its bytes
-unfoldable pub kept_answers : Kept → List Event → List Answer
-kept_answers kept [] = []
-kept_answers kept (event ∷ events) = (kept_step kept event).answer ∷ kept_answers (kept_step kept event).kept events
+-- in a replay what is kept after the events, where each datagram is taken by its bytes, stands for the whole world after
+-- them, where each is taken by its tag; and each event answers the same
+abbrev pub BytesFollowTags : Type 0
+BytesFollowTags = (profile : Profile) (all : List Event) → IsCodec profile → AllByRecursion IsReplayEvent all
+    → StandsFor profile (kept_after (opening_kept profile) all) (after profile (opening profile) all)
+    × (kept_answers (opening_kept profile) all ≡ answers profile (opening profile) all)
 
 -- the answer of a client that could read what arrived
 abbrev pub IsLegible : Answer → Type 0
@@ -49,29 +36,33 @@ IsLegible (Deliver datagram c Runt) = ⊥
 IsLegible (Deliver datagram c (Illegible cause)) = ⊥
 IsLegible other = Unit {0}
 
--- in a replay each event answers the same by bytes and by tags
-abbrev pub BytesFollowTags : Type 0
-BytesFollowTags = (profile : Profile) (all : List Event) → IsProfile profile → AllByRecursion IsReplayEvent all
-    → kept_answers (opening_kept profile) all ≡ answers profile opening all
-
 -- in a replay no client ever gets what it can't read
 abbrev pub AlwaysLegible : Type 0
-AlwaysLegible = (profile : Profile) (all : List Event) → IsProfile profile → AllByRecursion IsReplayEvent all
-    → AllByRecursion IsLegible (kept_answers (opening_kept profile) all)
+AlwaysLegible = (profile : Profile) (all : List Event) → IsCodec profile → AllByRecursion IsReplayEvent all
+    → AllByRecursion (λ given. IsLegible given.answer) (kept_answers (opening_kept profile) all)
 
--- whatever came before, the snapshot that a client shows is the one that the server built for it under that number
+-- each snapshot that a client accepted is the one that the server built for it under that number, and the numbers rise
+abbrev pub AcceptedWereBuilt : Type 0
+AcceptedWereBuilt = (profile : Profile) (all : List Event) (c : ℕ) → IsCodec profile → AllByRecursion IsReplayEvent all → c < places
+    → ((k : ℕ) (d : Snapshot) → k < length (history_at (after profile (opening profile) all).histories c).accepted
+    → WasBuilt (history_at (after profile (opening profile) all).histories c).built
+    (slice_index_or (history_at (after profile (opening profile) all).histories c).accepted k d))
+    × Rise (history_at (after profile (opening profile) all).histories c).accepted
+
+-- where a client that takes datagrams by their bytes shows a snapshot, it is the one that the server built for it
+-- under that number
 abbrev pub ShownWasBuilt : Type 0
-ShownWasBuilt = (profile : Profile) (all : List Event) (c : ℕ) (snapshot : Snapshot) → IsProfile profile
+ShownWasBuilt = (profile : Profile) (all : List Event) (c : ℕ) (snapshot : Snapshot) → IsCodec profile
     → AllByRecursion IsReplayEvent all → c < places
-    → (step profile (after profile opening all) (events.Show c)).answer ≡ Show c (Newest snapshot)
-    → (1 ≤ snapshot.number) × (snapshot.number ≤ length (history_at (after profile opening all).histories c).built)
-    × (snapshot ≡ built_at (after profile opening all).histories c snapshot.number)
+    → (kept_step (kept_after (opening_kept profile) all) (events.Show c)).answer.snapshot ≡ Some snapshot
+    → WasBuilt (history_at (after profile (opening profile) all).histories c).built snapshot
 
--- whatever came before, a message whose number is above every number taken is accepted when it arrives
+-- a datagram whose number is above every number that its client has taken is accepted, by its bytes, when it arrives
 abbrev pub NewerIsAccepted : Type 0
-NewerIsAccepted = (profile : Profile) (all : List Event) (number : ℕ) (tag : Tag) (client : ClientState) → IsProfile profile
+NewerIsAccepted = (profile : Profile) (all : List Event) (number : ℕ) (sent : SentBytes) (client : ClientState) → IsCodec profile
     → AllByRecursion IsReplayEvent all
-    → slice_get (after profile opening all).sent (number - 1) ≡ Some tag
-    → client_at (after profile opening all).clients tag.client ≡ Some client
-    → client.taken < tag.number
-    → (step profile (after profile opening all) (events.Deliver number)).answer ≡ Deliver number tag.client (Applied tag.number 0)
+    → slice_get (kept_after (opening_kept profile) all).datagrams (number - 1) ≡ Some sent
+    → client_at (kept_after (opening_kept profile) all).ends sent.client ≡ Some client
+    → client.taken < number_of_datagram sent.bytes
+    → (kept_step (kept_after (opening_kept profile) all) (events.Deliver number)).answer
+    ≡ delivered number sent.client (Applied (number_of_datagram sent.bytes) 0)

@@ -1,43 +1,26 @@
--- What is kept stands for a whole world: the parts are the same, and each datagram's bytes are those of the message
+-- What is kept stands for a whole world: both ends are the same, and each datagram's bytes are those of the message
 -- that its tag names.
-use Rattle.std.specs.Prelude.{◌≡◌, ℕ, ◌+◌, ◌-◌, ◌^◌, ◌<◌, ◌≤◌, List, length, map, Option, Some, None, slice_index_or}
+use Rattle.std.specs.Prelude.{◌≡◌, ℕ, ◌+◌, ◌^◌, ◌<◌, ◌≤◌, List, length, map, Option, Some, None, slice_index_or}
+use Rattle.std.specs.List.{last_or}
 use Rattle.q3_profile.specs.declared.profile.Profile.{Profile}
+use Rattle.q3_profile.specs.Profile.{IsCodec}
 use Rattle.q3_bits.specs.Bits.{message_bytes}
-use Rattle.q3_player.specs.State.{IsState, IsNormal}
-use Rattle.q3_player.specs.declared.state.PlayerState.{PlayerState}
-use Rattle.q3_world.specs.declared.answer.Snapshot.{Snapshot}
-use Rattle.q3_world.specs.Message.{snapshot_bits, datagram_bytes}
-use Rattle.q3_world.specs.State.{SlotState, ClientState, slot_at, client_at}
-use Rattle.q3_world.specs.Ends.{sequence_end}
+use Rattle.q3_world.specs.declared.message.Snapshot.{Snapshot}
+use Rattle.q3_world.specs.Message.{IsHeld, IsBuilt, datagram_bytes}
+use Rattle.q3_world.specs.Server.{MapState, SlotState, Built, places, slot_at, built_bits}
+use Rattle.q3_world.specs.Client.{ClientState}
+use Rattle.q3_world.specs.Ends.{client_at}
 use Rattle.q3_world.specs.Kept.{SentBytes, Kept}
-use Rattle.q3_world.specs.World.{Tag, History, Whole, places, no_history, no_snapshot, history_at, built_at}
+use Rattle.q3_world.specs.World.{Tag, History, Whole, no_history, history_at, built_at}
 
--- a player as the server holds it: a state of the program's type, in normal form
-pub record IsHeld (profile : Profile) (player : PlayerState) : Type 0 where
-  pub state : IsState player
-  pub normal : IsNormal profile.player player
+-- ---- what holds whatever bytes were delivered
 
--- a snapshot as it is built under a number
-pub record IsBuilt (profile : Profile) (n : ℕ) (snapshot : Snapshot) : Type 0 where
-  pub number : snapshot.number ≡ n
-  pub fits : n < sequence_end
-  pub time : snapshot.time < 2 ^ 32
-  pub flags : snapshot.flags ≡ 0
-  pub player : IsHeld profile snapshot.player
-
--- the newest accepted snapshot is the one that was built under its number, which is the newest taken
-abbrev pub IsNewest : List Snapshot → ℕ → Option Snapshot → Type 0
-IsNewest built taken None = taken ≡ 0
-IsNewest built taken (Some snapshot) =
-    (1 ≤ taken) × (snapshot.number ≡ taken) × (snapshot ≡ slice_index_or built (taken - 1) no_snapshot)
-
--- the two ends of one client, and what was built for it
+-- what each end of a client keeps alone, and what was built for it
 pub record AreEnds (profile : Profile) (slot : SlotState) (client : ClientState) (history : History) : Type 0 where
   pub begun : slot.begun ≡ length history.built
   pub player : IsHeld profile slot.player
-  pub built : (k : ℕ) (d : Snapshot) → k < length history.built → IsBuilt profile (k + 1) (slice_index_or history.built k d)
-  pub taken : client.taken ≤ length history.built
-  pub newest : IsNewest history.built client.taken client.accepted
+  pub built : (k : ℕ) (d : Built) → k < length history.built → IsBuilt profile (k + 1) (slice_index_or history.built k d).snapshot
+  pub by : client.profile ≡ profile
 
 -- a client is at both ends or at none
 abbrev pub IsClient : Profile → Option SlotState → Option ClientState → History → Type 0
@@ -48,17 +31,53 @@ IsClient profile slot client history = ⊥
 -- a tag names a message that was begun, and has its bytes
 pub record IsSent (profile : Profile) (histories : List History) (tag : Tag) : Type 0 where
   pub client : tag.client < places
-  pub number : (1 ≤ tag.number) × (tag.number ≤ length (history_at histories tag.client).built)
-  pub bytes : tag.bytes ≡ datagram_bytes tag.number (message_bytes (snapshot_bits profile (built_at histories tag.client tag.number)))
+  pub some : 1 ≤ tag.number
+  pub begun : tag.number ≤ length (history_at histories tag.client).built
+  pub bytes : tag.bytes ≡ datagram_bytes tag.number (message_bytes (built_bits profile (built_at (history_at histories tag.client).built tag.number)))
 
--- what holds between any two events
-pub record Invariant (profile : Profile) (whole : Whole) : Type 0 where
-  pub slots : length whole.server.slots ≡ places
-  pub clients : length whole.clients ≡ places
+pub record Facts (profile : Profile) (whole : Whole) : Type 0 where
+  pub codec : IsCodec profile
+  pub by : whole.ends.server.profile ≡ profile
+  pub slots : length whole.ends.server.slots ≡ places
+  pub clients : length whole.ends.clients ≡ places
   pub histories : length whole.histories ≡ places
-  pub time : whole.server.map.time < 2 ^ 32
-  pub each : (c : ℕ) → c < places → IsClient profile (slot_at whole.server c) (client_at whole.clients c) (history_at whole.histories c)
+  pub time : whole.ends.server.map.time < 2 ^ 32
+  pub each : (c : ℕ) → c < places → IsClient profile (slot_at whole.ends.server c) (client_at whole.ends c) (history_at whole.histories c)
   pub sent : (k : ℕ) (d : Tag) → k < length whole.sent → IsSent profile whole.histories (slice_index_or whole.sent k d)
+
+-- ---- what holds while only the ends' own datagrams were delivered
+
+-- a snapshot was built under its number
+abbrev pub WasBuilt : List Built → Snapshot → Type 0
+WasBuilt built snapshot =
+    (1 ≤ snapshot.number) × (snapshot.number ≤ length built) × (snapshot ≡ (built_at built snapshot.number).snapshot)
+
+-- the number of the newest snapshot, 0 for none
+abbrev pub number_of_newest : Option Snapshot → ℕ
+number_of_newest None = 0
+number_of_newest (Some snapshot) = snapshot.number
+
+-- numbers rise
+abbrev pub Rise : List Snapshot → Type 0
+Rise snapshots = (j k : ℕ) (d : Snapshot) → j < k → k < length snapshots
+    → (slice_index_or snapshots j d).number < (slice_index_or snapshots k d).number
+
+-- of one client: each snapshot that it accepted was built, their numbers rise, and it keeps the newest
+pub record AreJoined (map : MapState) (slot : SlotState) (client : ClientState) (history : History) : Type 0 where
+  pub accepted : (k : ℕ) (d : Snapshot) → k < length history.accepted → WasBuilt history.built (slice_index_or history.accepted k d)
+  pub rise : Rise history.accepted
+  pub newest : client.accepted ≡ last_or None history.accepted
+  pub taken : client.taken ≡ number_of_newest client.accepted
+
+abbrev pub IsJoined : MapState → Option SlotState → Option ClientState → History → Type 0
+IsJoined map (Some slot) (Some client) history = AreJoined map slot client history
+IsJoined map slot client history = Unit {0}
+
+abbrev pub AllJoined : Whole → Type 0
+AllJoined whole = (c : ℕ) → c < places
+    → IsJoined whole.ends.server.map (slot_at whole.ends.server c) (client_at whole.ends c) (history_at whole.histories c)
+
+-- ---- the two worlds
 
 -- the bytes of a tag
 abbrev pub bytes_of : Tag → SentBytes
@@ -66,7 +85,7 @@ bytes_of tag = record { client = tag.client; bytes = tag.bytes }
 
 pub record StandsFor (profile : Profile) (kept : Kept) (whole : Whole) : Type 0 where
   pub by : kept.profile ≡ profile
-  pub server : kept.server ≡ whole.server
-  pub clients : kept.clients ≡ whole.clients
+  pub ends : kept.ends ≡ whole.ends
   pub datagrams : kept.datagrams ≡ map bytes_of whole.sent
-  pub invariant : Invariant profile whole
+  pub facts : Facts profile whole
+  pub joined : AllJoined whole

@@ -1,25 +1,17 @@
--- The whole world: what is kept, and what nothing wipes. A step delivers a datagram by its tag:
--- what arrives is the snapshot that was built under the message's number.
+-- The whole world: both ends, and what nothing wipes. A step delivers a datagram by its tag:
+-- what arrives is the message that was built under its number.
 use Rattle.std.specs.Prelude.{ℕ, ◌+◌, ◌-◌, if◌then◌else◌, List, [], ◌∷◌, ◌++◌, length, replicate, nat_le, Option, Some, None, slice_get, slice_set, slice_index_or}
 use Rattle.q3_profile.specs.declared.profile.Profile.{Profile}
 use Rattle.q3_player.specs.State.{zero_player}
-use Rattle.q3_player.specs.declared.state.PlayerState.{PlayerState}
 use Rattle.q3_script.specs.declared.event.Event.{Event}
 use Rattle.q3_script.specs.declared.event.Event.TheVariants as events
-use Rattle.q3_world.specs.declared.answer.Snapshot.{Snapshot}
-use Rattle.q3_world.specs.declared.answer.Emitted.{Emitted}
-use Rattle.q3_world.specs.declared.answer.Emitted.TheVariants as emitted
-use Rattle.q3_world.specs.declared.answer.ClientTook.TheVariants.{Old, Applied}
-use Rattle.q3_world.specs.declared.answer.Answer.{Answer}
-use Rattle.q3_world.specs.declared.answer.Answer.TheVariants.{Client, Time, Player, Serve, Unknown, Deliver, Show}
-use Rattle.q3_world.specs.declared.answer.HandedIn.TheVariants as handed_in
-use Rattle.q3_world.specs.State.{SlotState, ServerState, ClientState, slot_at, client_at}
-use Rattle.q3_world.specs.Ends.{Emission, new_slot, new_client, next_snapshot, accept, emit_at}
-use Rattle.q3_world.specs.Kept.{with_slot, with_player, shown_of}
-
--- how many clients there may be
-abbrev pub places : ℕ
-places = 16
+use Rattle.q3_world.specs.declared.message.Snapshot.{Snapshot}
+use Rattle.q3_world.specs.declared.server.Emitted.{Emitted}
+use Rattle.q3_world.specs.declared.server.Emitted.TheVariants as emitted
+use Rattle.q3_world.specs.declared.client.ClientTook.TheVariants.{Old}
+use Rattle.q3_world.specs.Server.{Built, Emission, places, emit_at}
+use Rattle.q3_world.specs.Client.{ClientState, Taken, applied}
+use Rattle.q3_world.specs.Ends.{Ends, EndsStep, Answered, answered, client_at, with_client, new_ends, served, unknown, delivered, join, set_time, set_player, show}
 
 -- a datagram that was made: the client that it is for, its message's number, and its bytes
 pub record Tag : Type 0 where
@@ -27,20 +19,19 @@ pub record Tag : Type 0 where
   pub number : ℕ
   pub bytes : List ℕ
 
--- of one client: the snapshots that the server built for it, message by message, and those that it accepted
+-- of one client: the messages that the server began for it, the one under number 1 first, and the snapshots that it accepted
 pub record History : Type 0 where
-  pub built : List Snapshot
+  pub built : List Built
   pub accepted : List Snapshot
 
 pub record Whole : Type 0 where
-  pub server : ServerState
-  pub clients : List (Option ClientState)
+  pub ends : Ends
   pub histories : List History
   pub sent : List Tag
 
 pub record Step : Type 0 where
   pub whole : Whole
-  pub answer : Answer
+  pub answer : Answered
 
 abbrev pub no_history : History
 no_history = record { built = []; accepted = [] }
@@ -48,91 +39,82 @@ no_history = record { built = []; accepted = [] }
 abbrev pub history_at : List History → ℕ → History
 history_at histories c = slice_index_or histories c no_history
 
-abbrev pub no_snapshot : Snapshot
-no_snapshot = record { number = 0; time = 0; flags = 0; player = zero_player }
+abbrev pub no_message : Built
+no_message = record { snapshot = record { number = 0; time = 0; flags = 0; player = zero_player } }
 
--- the snapshot that was built for a client under a number
-abbrev pub built_at : List History → ℕ → ℕ → Snapshot
-built_at histories c number = slice_index_or (history_at histories c).built (number - 1) no_snapshot
+-- the message that was built under a number
+abbrev pub built_at : List Built → ℕ → Built
+built_at built number = slice_index_or built (number - 1) no_message
 
--- one snapshot more was built for a client, or accepted by it
-abbrev pub with_built : List History → ℕ → Snapshot → List History
-with_built histories c snapshot =
-    slice_set histories c (record (history_at histories c) { built = (history_at histories c).built ++ snapshot ∷ [] })
+-- one message more was begun for a client, or one snapshot more accepted by it
+abbrev pub with_built : List History → ℕ → Built → List History
+with_built histories c built =
+    slice_set histories c (record (history_at histories c) { built = (history_at histories c).built ++ built ∷ [] })
 
 abbrev pub with_accepted : List History → ℕ → Snapshot → List History
 with_accepted histories c snapshot =
     slice_set histories c (record (history_at histories c) { accepted = (history_at histories c).accepted ++ snapshot ∷ [] })
 
 -- before the first event
-unfoldable pub opening : Whole
-opening = record {
-  server = record { map = record { time = 0 }; slots = replicate places None };
-  clients = replicate places None;
-  histories = replicate places no_history;
-  sent = [];
-}
+unfoldable pub opening : Profile → Whole
+opening profile = record { ends = new_ends profile; histories = replicate places no_history; sent = [] }
 
-abbrev pub join : Whole → ℕ → SlotState → ClientState → Option SlotState → Step
-join whole c slot client (Some old) = record { whole = whole; answer = Client c handed_in.Taken }
-join whole c slot client None =
-    record {
-      whole = record whole { server = with_slot whole.server c slot; clients = slice_set whole.clients c (Some client) };
-      answer = Client c handed_in.Ok;
-    }
+-- what the game handed in, or read
+abbrev pub with_ends : Whole → EndsStep → Step
+with_ends whole step = record { whole = record whole { ends = step.ends }; answer = answered step.ends step.answer }
 
-abbrev pub set_player : Profile → Whole → ℕ → PlayerState → Option SlotState → Step
-set_player profile whole c player None = record { whole = whole; answer = Player c handed_in.NoClient }
-set_player profile whole c player (Some slot) =
-    record { whole = record whole { server = with_slot whole.server c (with_player profile slot player) }; answer = Player c handed_in.Ok }
+-- the message that an emission began, if it did, is noted
+abbrev pub histories_after : List History → ℕ → Option Built → List History
+histories_after histories c None = histories
+histories_after histories c (Some built) = with_built histories c built
 
--- the snapshot that a message carries is built, and its datagram sent
-abbrev pub with_sent : Whole → ℕ → Option SlotState → Emitted → List ℕ → Whole
-with_sent whole c (Some slot) (emitted.Snapshot number base bytes) datagram =
-    record whole {
-      histories = with_built whole.histories c (next_snapshot whole.server.map slot);
-      sent = whole.sent ++ record { client = c; number = number; bytes = datagram } ∷ [];
-    }
-with_sent whole c slot other datagram = whole
+-- and its datagram, if it hands one out
+abbrev pub sent_after : List Tag → ℕ → Emitted → List ℕ → List Tag
+sent_after sent c (emitted.Snapshot number base bytes) datagram = sent ++ record { client = c; number = number; bytes = datagram } ∷ []
+sent_after sent c other datagram = sent
 
 abbrev pub serve : Whole → ℕ → Emission → Step
 serve whole c emission =
     record {
-      whole = record (with_sent whole c (slot_at whole.server c) emission.answer emission.datagram) { server = emission.server };
-      answer = Serve c emission.answer (length whole.sent + 1);
-    }
-
--- a message arrives at a client: an old one changes nothing, and of another the snapshot that was built is accepted
-abbrev pub arrive_new : Whole → ℕ → Tag → ClientState → Snapshot → Step
-arrive_new whole number tag client snapshot =
-    record {
       whole = record whole {
-        clients = slice_set whole.clients tag.client (Some (accept client snapshot).client);
-        histories = with_accepted whole.histories tag.client snapshot;
+        ends = record whole.ends { server = emission.server };
+        histories = histories_after whole.histories c emission.began;
+        sent = sent_after whole.sent c emission.answer emission.datagram;
       };
-      answer = Deliver number tag.client (Applied tag.number 0);
+      answer = served c emission.answer (length whole.sent + 1);
     }
 
+-- the snapshot that a tag names
+abbrev pub snapshot_of : List History → Tag → Snapshot
+snapshot_of histories tag = (built_at (history_at histories tag.client).built tag.number).snapshot
+
+-- a client took a message, and accepted its snapshot
+abbrev pub arrive_new : Whole → ℕ → ℕ → Taken → Snapshot → Step
+arrive_new whole number c taken snapshot =
+    record {
+      whole = record whole { ends = with_client whole.ends c taken.client; histories = with_accepted whole.histories c snapshot };
+      answer = delivered number c taken.answer;
+    }
+
+-- a message arrives: an old one changes nothing, and of another the client takes the value that was built
 abbrev pub arrive : Whole → ℕ → Tag → Option ClientState → Step
-arrive whole number tag None = record { whole = whole; answer = Unknown number }
+arrive whole number tag None = record { whole = whole; answer = unknown number }
 arrive whole number tag (Some client) =
-    if nat_le tag.number client.taken then record { whole = whole; answer = Deliver number tag.client Old }
-    else arrive_new whole number tag client (built_at whole.histories tag.client tag.number)
+    if nat_le tag.number client.taken then record { whole = whole; answer = delivered number tag.client Old }
+    else arrive_new whole number tag.client (applied client (snapshot_of whole.histories tag)) (snapshot_of whole.histories tag)
 
 abbrev pub deliver : Whole → ℕ → Option Tag → Step
-deliver whole number None = record { whole = whole; answer = Unknown number }
-deliver whole number (Some tag) = arrive whole number tag (client_at whole.clients tag.client)
+deliver whole number None = record { whole = whole; answer = unknown number }
+deliver whole number (Some tag) = arrive whole number tag (client_at whole.ends tag.client)
 
 -- one event
 unfoldable pub step : Profile → Whole → Event → Step
-step profile whole (events.Client c challenge qport dup address) =
-    join whole c (new_slot challenge qport address) (new_client challenge qport dup) (slot_at whole.server c)
-step profile whole (events.Time time) =
-    record { whole = record whole { server = record whole.server { map = record { time = time } } }; answer = Time }
-step profile whole (events.Player c player) = set_player profile whole c player (slot_at whole.server c)
-step profile whole (events.Serve c) = serve whole c (emit_at profile whole.server c)
+step profile whole (events.Client c challenge qport dup address) = with_ends whole (join profile whole.ends c challenge qport dup address)
+step profile whole (events.Player c player) = with_ends whole (set_player whole.ends c player)
+step profile whole (events.Time time) = with_ends whole (set_time whole.ends time)
+step profile whole (events.Serve c) = serve whole c (emit_at whole.ends.server c)
 step profile whole (events.Deliver number) = deliver whole number (slice_get whole.sent (number - 1))
-step profile whole (events.Show c) = record { whole = whole; answer = Show c (shown_of (client_at whole.clients c)) }
+step profile whole (events.Show c) = with_ends whole (show whole.ends c)
 
 -- the world after these events
 unfoldable pub after : Profile → Whole → List Event → Whole
@@ -140,6 +122,6 @@ after profile whole [] = whole
 after profile whole (event ∷ events) = after profile (step profile whole event).whole events
 
 -- what these events answer
-unfoldable pub answers : Profile → Whole → List Event → List Answer
+unfoldable pub answers : Profile → Whole → List Event → List Answered
 answers profile whole [] = []
 answers profile whole (event ∷ events) = (step profile whole event).answer ∷ answers profile (step profile whole event).whole events

@@ -1,17 +1,32 @@
 //! A client's end: pure state, one call an event.
-//! Keeps the rule "when a message is old", with this project's own: an illegible message leaves its number untaken.
+//! Keeps the rule "when a message is old", and an interim rule of this project's own: a message that isn't legible
+//! leaves its number untaken.
 
-ghost use Rattle.std.specs.Prelude.{◌≡◌, ◌<◌, ◌^◌, length};
-ghost use Rattle.q3_world.specs.Ends.{new_client, take_at};
+ghost use Rattle.std.specs.Prelude.{◌≡◌, ◌<◌, ◌^◌, length, IfOk};
+ghost use Rattle.std.specs.Option.{option_copied};
+ghost use Rattle.q3_world.specs.Client.{new_client, applied, take_at};
 
-use crate::answer::{ClientTook, Snapshot};
-use crate::message::read_snapshot;
+use crate::message::{Illegible, Snapshot, read_snapshot};
+use q3_bits::NoMemory;
 use q3_profile::Profile;
 use std::marker::Model;
 
-/// A client: the newest number taken, 0 for none, and the newest snapshot accepted.
+/// What a client's take answers.
+#[derive(Clone, Copy, Debug, PartialEq, Eq)]
+pub enum ClientTook {
+    /// The datagram has fewer than four bytes.
+    Runt,
+    /// The message's number isn't above the newest taken.
+    Old,
+    Illegible(Illegible),
+    /// The message was applied, and its snapshot accepted: its number, and that of the base, 0 for none.
+    Applied { number: u32, base: u32 },
+}
+
+/// A client: a copy of the profile, the newest number taken, 0 for none, and the newest snapshot accepted.
 #[derive(Drop)]
 pub(crate) struct Client {
+    profile: Profile,
     challenge: u32,
     qport: u16,
     dup: u8,
@@ -20,11 +35,12 @@ pub(crate) struct Client {
 }
 
 impl Model for Client {
-    ghost use Rattle.q3_world.specs.State.{ClientState};
+    ghost use Rattle.q3_world.specs.Client.{ClientState};
 
     ghost Value = { ClientState };
 
     ghost view = { λ c. record {
+      profile = c.profile;
       challenge = c.challenge;
       qport = c.qport;
       dup = c.dup;
@@ -34,23 +50,29 @@ impl Model for Client {
 }
 
 impl Client {
-    pub(crate) fn new(challenge: u32, qport: u16, dup: u8) -> Client
-        ensures { result ≡ new_client challenge qport dup }
+    /// A client that has taken nothing. It repeats `dup` old moves. `Err` is want of memory.
+    pub(crate) fn new(
+        profile: &Profile,
+        challenge: u32,
+        qport: u16,
+        dup: u8,
+    ) -> Result<Client, NoMemory>
+        ensures { IfOk result (λ client. client ≡ new_client profile.now challenge qport dup) }
     {
-        Client {
+        Ok(Client {
+            profile: profile.copy()?,
             challenge,
             qport,
             dup,
             taken: 0,
             accepted: None,
-        }
+        })
     }
 
     /// Takes a datagram: an old one changes nothing, nor does one that isn't legible.
-    #[tactic(auto, unfolding(crate::specs::Ends::take_at))]
-    pub(crate) fn take(&mut self, profile: &Profile, datagram: &[u8]) -> ClientTook
-        requires { length datagram.now < 2 ^ 60 }
-        ensures { take_at profile.now self.old datagram.now ≡ record { client = self.new; answer = result } }
+    #[tactic(auto, unfolding(crate::specs::Client::take_at))]
+    pub(crate) fn take(&mut self, datagram: &[u8]) -> ClientTook
+        ensures { take_at self.old datagram.now ≡ record { client = self.new; answer = result } }
     {
         if datagram.len() < 4 {
             return ClientTook::Runt;
@@ -60,23 +82,26 @@ impl Client {
         if number <= self.taken {
             return ClientTook::Old;
         }
-        match read_snapshot(profile, number, message) {
+        match read_snapshot(&self.profile, number, message) {
             Err(e) => ClientTook::Illegible(e),
-            Ok(snapshot) => {
-                self.taken = snapshot.number;
-                self.accepted = Some(snapshot);
-                ClientTook::Applied {
-                    number: snapshot.number,
-                    base: 0,
-                }
-            }
+            Ok(snapshot) => self.apply(snapshot),
         }
     }
 
-    /// The newest snapshot accepted.
-    pub(crate) fn newest(&self) -> Option<Snapshot>
-        ensures { result ≡ self.now.accepted }
+    /// Applies a message: the client accepts its snapshot.
+    fn apply(&mut self, snapshot: Snapshot) -> ClientTook
+        ensures { applied self.old snapshot ≡ record { client = self.new; answer = result } }
     {
-        self.accepted
+        let number = snapshot.number;
+        self.taken = number;
+        self.accepted = Some(snapshot);
+        ClientTook::Applied { number, base: 0 }
+    }
+
+    /// The newest snapshot accepted.
+    pub(crate) fn newest(&self) -> Option<&Snapshot>
+        ensures { option_copied result ≡ self.now.accepted }
+    {
+        self.accepted.as_ref()
     }
 }

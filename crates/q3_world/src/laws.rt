@@ -1,6 +1,7 @@
 //! Laws of the messages and of every schedule, each the contract of a call that does nothing but cite the laws below it.
 
-ghost use Rattle.q3_world.specs.Schedules.{BuiltIsRead, ReadIsSpelled, SpelledIsRead, BytesFollowTags, AlwaysLegible, ShownWasBuilt, NewerIsAccepted};
+ghost use Rattle.q3_world.specs.MessageLaws.{BuiltIsRead, ReadIsSpelled, SpelledIsRead};
+ghost use Rattle.q3_world.specs.Schedules.{StepFollows, BytesFollowTags, AlwaysLegible, AcceptedWereBuilt, ShownWasBuilt, NewerIsAccepted};
 
 use q3_bits::laws as bits;
 use q3_player::laws as player;
@@ -34,13 +35,22 @@ pub fn spelled_is_read()
     player::zero_is_normal();
 }
 
-/// In a replay each event answers the same, whether its datagram is taken by its bytes or by its tag.
-pub fn bytes_follow_tags()
-    ensures { BytesFollowTags }
+/// A step of what stands for a whole world, where each datagram is taken by its bytes, is the whole world's step, where
+/// each is taken by its tag.
+pub fn step_follows()
+    ensures { StepFollows }
 {
     built_is_read();
     player::normal_is_normal();
     player::zero_is_normal();
+}
+
+/// In a replay what is kept, where each datagram is taken by its bytes, stands for the whole world, where each is taken
+/// by its tag, and each event answers the same.
+pub fn bytes_follow_tags()
+    ensures { BytesFollowTags }
+{
+    step_follows();
 }
 
 /// In a replay no client ever gets what it can't read.
@@ -50,16 +60,26 @@ pub fn always_legible()
     bytes_follow_tags();
 }
 
+/// Each snapshot that a client accepted is the one that the server built for it under that number, and the numbers rise.
+pub fn accepted_were_built()
+    ensures { AcceptedWereBuilt }
+{
+    bytes_follow_tags();
+}
+
 /// Whatever came before, the snapshot that a client shows is the one that the server built for it under that number.
 pub fn shown_was_built()
     ensures { ShownWasBuilt }
 {
+    bytes_follow_tags();
+}
+
+/// Whatever came before, a datagram whose number is above every number that its client has taken is accepted.
+pub fn newer_is_accepted()
+    ensures { NewerIsAccepted }
+{
+    bytes_follow_tags();
     built_is_read();
     player::normal_is_normal();
     player::zero_is_normal();
 }
-
-/// Whatever came before, a message whose number is above every number taken is accepted when it arrives.
-pub fn newer_is_accepted()
-    ensures { NewerIsAccepted }
-{}

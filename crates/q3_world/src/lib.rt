@@ -5,11 +5,15 @@ pub mod answer;
 mod client;
 pub mod laws;
 mod message;
+mod places;
 mod report;
 mod server;
 #[cfg(test)]
 mod tests;
 pub mod world;
 
-pub use answer::{Answer, ClientTook, Emitted, HandedIn, Illegible, NoClient, Shown, Snapshot};
+pub use answer::{Answer, HandedIn, Shown};
+pub use client::ClientTook;
+pub use message::{Illegible, Snapshot};
+pub use server::{Emitted, NoClient, SlotError};
 pub use world::{StepError, World};

@@ -4,14 +4,33 @@
 
 ghost use Rattle.std.specs.Prelude.{◌≡◌, ◌+◌, ◌^◌, ◌<◌, ◌≤◌, ◌++◌, ◌↔◌, length, Ok, Err, IsErr, OnOk, IfOk, MatchResult};
 ghost use Rattle.q3_bits.specs.Bits.{bits_of, message_length};
-ghost use Rattle.q3_bits.specs.Words.{field_read};
-ghost use Rattle.q3_bits.specs.Streams.{with_rest};
+ghost use Rattle.q3_bits.specs.Words.{field_bits, field_at};
+ghost use Rattle.q3_bits.specs.Streams.{Reads, Writes, IsOverlong, with_rest};
+ghost use Rattle.q3_fields.specs.Kinds.{end_mark};
 ghost use Rattle.q3_world.specs.Message.{snapshot_bits, snapshot_at, form, fixed_at};
 
-use crate::answer::{Illegible, Snapshot};
 use q3_bits::{Overflow, Reader, Writer};
+use q3_fields::Table;
 use q3_player::{PlayerState, read_player, write_player};
 use q3_profile::Profile;
+
+/// A snapshot as the server builds it and as a client accepts it.
+#[derive(Debug, PartialEq, Eq, Drop)]
+pub struct Snapshot {
+    /// The number of the message that carries it.
+    pub number: u32,
+    /// The server's time, in milliseconds.
+    pub time: u32,
+    pub flags: u8,
+    pub player: PlayerState,
+}
+
+/// Why a message isn't legible.
+#[derive(Clone, Copy, Debug, PartialEq, Eq)]
+pub enum Illegible {
+    /// It doesn't begin as a whole snapshot without area and entities, the one form of this stage.
+    Form,
+}
 
 /// The operations of a server's message that this stage has.
 const SNAPSHOT: u32 = 7;
@@ -27,8 +46,7 @@ pub(crate) fn write_snapshot(
     snapshot: &Snapshot,
 ) -> Result<(), Overflow>
     requires { w.old.words ≡ profile.now.code }
-    ensures overflow { IsErr result ↔
-        (w.old.room < message_length (length w.old.bits + length (snapshot_bits profile.now snapshot.now))) }
+    ensures overflow { IsErr result ↔ IsOverlong w.old (snapshot_bits profile.now snapshot.now) }
     ensures ok { OnOk result (w.new ≡ record w.old { bits = w.old.bits ++ snapshot_bits profile.now snapshot.now }) }
 {
     w.put(0, 32)?;
@@ -38,8 +56,15 @@ pub(crate) fn write_snapshot(
     w.put(u32::from(snapshot.flags), 8)?;
     w.put(0, 8)?;
     write_player(w, &profile.player, &PlayerState::zero(), &snapshot.player)?;
-    w.put(u32::from(profile.entity.end()), 10)?;
+    write_no_entities(w, &profile.entity)?;
     w.put(END, 8)
+}
+
+/// Writes an entity list with nothing in it: the end mark.
+fn write_no_entities(w: &mut Writer, table: &Table) -> Result<(), Overflow>
+    ensures { Writes w.old w.new (field_bits w.old.words table.now.number_bits (end_mark table.now)) result }
+{
+    w.put(u32::from(table.end()), table.number_bits())
 }
 
 /// Reads the message's bytes as a snapshot under its number.
@@ -50,7 +75,6 @@ pub(crate) fn read_snapshot(
     number: u32,
     message: &[u8],
 ) -> Result<Snapshot, Illegible>
-    requires { length message.now < 2 ^ 60 }
     ensures { result ≡ snapshot_at profile.now number (bits_of message.now) }
 {
     let mut r = Reader::new(&profile.code, message);
@@ -64,7 +88,7 @@ pub(crate) fn read_snapshot(
     if read_player(&mut r, &profile.player, &PlayerState::zero(), &mut player).is_err() {
         return Err(Illegible::Form);
     }
-    read_fixed(&mut r, 10, u32::from(profile.entity.end()))?;
+    read_fixed(&mut r, profile.entity.number_bits(), u32::from(profile.entity.end()))?;
     read_fixed(&mut r, 8, END)?;
     Ok(Snapshot {
         number,
@@ -77,7 +101,7 @@ pub(crate) fn read_snapshot(
 fn read_bits(r: &mut Reader, width: u32) -> Result<u32, Illegible>
     requires some { 1 ≤ width }
     requires most { width ≤ 32 }
-    ensures value { with_rest r.new.left result ≡ form (field_read r.old.words width r.old.left) }
+    ensures value { with_rest r.new.left result ≡ form (field_at r.old.words width r.old.left) }
     ensures fits { IfOk result (λ value. value < 2 ^ width) }
     ensures words { r.new.words ≡ r.old.words }
 {

@@ -1,18 +1,43 @@
-//! Prints the lines of an answer, all in one write where they fit the line buffer.
+//! Prints the lines of an answer, and hands them on behind the last: one write, where a line buffer has room for them.
 
-ghost use Rattle.std.specs.Prelude.{◌≡◌, [], ◌∷◌, codes, decimal};
-ghost use Rattle.q3_io.specs.Print.{joined};
+ghost use Rattle.std.specs.Prelude.{◌≡◌, [], ◌∷◌, codes, decimal, OnOk};
+ghost use Rattle.std.specs.Option.{option_copied};
+ghost use Rattle.std.specs.List.{concat};
 ghost use Rattle.q3_io.specs.Faults.{HasCause};
-ghost use Rattle.q3_io.specs.Written.{Adds};
-ghost use Rattle.q3_world.specs.Report.{answer_text, handed_in_text, emitted_text, took_text, shown_text};
+ghost use Rattle.q3_io.specs.Written.{Adds, NothingWaits};
+ghost use Rattle.q3_world.specs.Report.{lines_of, handed_in_text, emitted_text, took_text, shown_text, head_text, snapshot_text};
 
-use crate::answer::{Answer, ClientTook, Emitted, HandedIn, Illegible, Shown};
-use q3_io::{Failed, Piece, Sink, print_all};
+use crate::answer::{Answer, HandedIn, Shown};
+use crate::client::ClientTook;
+use crate::message::{Illegible, Snapshot};
+use crate::server::Emitted;
+use q3_io::{Failed, Piece, Sink, laws, print_all};
+use q3_player::print_words;
 
-/// Prints the lines of an answer, or a front of them and answers `Failed`.
-#[tactic(auto, unfolding(crate::specs::Report::answer_text))]
-pub(crate) fn print_answer<O: Sink>(answer: &Answer, out: &mut O) -> Result<(), Failed>
-    ensures adds { Adds (O.written out.old) (O.written out.new) (answer_text answer.now) result }
+/// Prints the lines of an answer, with the snapshot that is lent for it, and hands them on, or a front of them and
+/// answers `Failed`.
+pub(crate) fn print_answer<O: Sink>(
+    answer: &Answer,
+    lent: Option<&Snapshot>,
+    out: &mut O,
+) -> Result<(), Failed>
+    ensures adds { Adds (O.written out.old) (O.written out.new) (lines_of answer.now (option_copied lent.entry)) result }
+    ensures flushed { OnOk result (NothingWaits (O.written out.new)) }
+    ensures cause { HasCause (O.faults out.old) (O.faults out.new) result }
+{
+    laws::texts_follow();
+    print_lines(answer, lent, out)?;
+    out.flush()
+}
+
+/// Prints the lines of an answer.
+#[tactic(auto, unfolding(crate::specs::Report::lines_of))]
+fn print_lines<O: Sink>(
+    answer: &Answer,
+    lent: Option<&Snapshot>,
+    out: &mut O,
+) -> Result<(), Failed>
+    ensures adds { Adds (O.written out.old) (O.written out.new) (lines_of answer.now (option_copied lent.entry)) result }
     ensures cause { HasCause (O.faults out.old) (O.faults out.new) result }
 {
     match answer {
@@ -24,7 +49,6 @@ pub(crate) fn print_answer<O: Sink>(answer: &Answer, out: &mut O) -> Result<(), 
             ],
             out,
         ),
-        Answer::Time => print_all(&[Piece::Text(b"time ok\n")], out),
         Answer::Player { c, outcome } => print_all(
             &[
                 Piece::Text(b"player "),
@@ -33,6 +57,7 @@ pub(crate) fn print_answer<O: Sink>(answer: &Answer, out: &mut O) -> Result<(), 
             ],
             out,
         ),
+        Answer::Time => print_all(&[Piece::Text(b"time ok\n")], out),
         Answer::Unknown { datagram } => print_all(
             &[
                 Piece::Text(b"deliver "),
@@ -47,7 +72,7 @@ pub(crate) fn print_answer<O: Sink>(answer: &Answer, out: &mut O) -> Result<(), 
             datagram,
         } => print_emitted(*c, emitted, *datagram, out),
         Answer::Deliver { datagram, c, took } => print_took(*datagram, *c, took, out),
-        Answer::Show { c, shown } => print_shown(*c, shown, out),
+        Answer::Show { c, shown } => print_shown(*c, *shown, lent, out),
     }
 }
 
@@ -58,7 +83,7 @@ fn print_emitted<O: Sink>(
     datagram: u32,
     out: &mut O,
 ) -> Result<(), Failed>
-    ensures adds { Adds (O.written out.old) (O.written out.new) (joined (codes "serve " ∷ decimal c ∷ emitted_text emitted.now datagram ∷ [])) result }
+    ensures adds { Adds (O.written out.old) (O.written out.new) (concat (codes "serve " ∷ decimal c ∷ emitted_text emitted.now datagram ∷ [])) result }
     ensures cause { HasCause (O.faults out.old) (O.faults out.new) result }
 {
     let word: &[u8] = match emitted {
@@ -101,7 +126,7 @@ fn print_emitted<O: Sink>(
 /// Prints the lines of a delivery to a client.
 fn print_took<O: Sink>(datagram: u32, c: u8, took: &ClientTook, out: &mut O) -> Result<(), Failed>
     ensures adds { Adds (O.written out.old) (O.written out.new)
-        (joined (codes "deliver " ∷ decimal datagram ∷ codes " client " ∷ decimal c ∷ took_text took.now ∷ [])) result }
+        (concat (codes "deliver " ∷ decimal datagram ∷ codes " client " ∷ decimal c ∷ took_text took.now ∷ [])) result }
     ensures cause { HasCause (O.faults out.old) (O.faults out.new) result }
 {
     let word: &[u8] = match took {
@@ -140,56 +165,57 @@ fn print_took<O: Sink>(datagram: u32, c: u8, took: &ClientTook, out: &mut O) -> 
 }
 
 /// Prints the lines of a `show`.
-fn print_shown<O: Sink>(c: u8, shown: &Shown, out: &mut O) -> Result<(), Failed>
-    ensures adds { Adds (O.written out.old) (O.written out.new) (joined (codes "show " ∷ decimal c ∷ shown_text shown.now ∷ [])) result }
+fn print_shown<O: Sink>(
+    c: u8,
+    shown: Shown,
+    lent: Option<&Snapshot>,
+    out: &mut O,
+) -> Result<(), Failed>
+    ensures adds { Adds (O.written out.old) (O.written out.new) (concat (codes "show " ∷ decimal c ∷ shown_text shown (option_copied lent.entry) ∷ [])) result }
     ensures cause { HasCause (O.faults out.old) (O.faults out.new) result }
 {
-    let word: &[u8] = match shown {
-        Shown::Newest(snapshot) => {
-            return print_all(
-                &[
-                    Piece::Text(b"show "),
-                    Piece::Number(u64::from(c)),
-                    Piece::Text(b" snapshot "),
-                    Piece::Number(u64::from(snapshot.number)),
-                    Piece::Text(b" time "),
-                    Piece::Number(u64::from(snapshot.time)),
-                    Piece::Text(b" flags "),
-                    Piece::Number(u64::from(snapshot.flags)),
-                    Piece::Text(b" area -\n+ player"),
-                    Piece::Words {
-                        letter: b"",
-                        words: &snapshot.player.words,
-                    },
-                    Piece::Signed {
-                        letter: b"s",
-                        values: &snapshot.player.stats,
-                    },
-                    Piece::Signed {
-                        letter: b"p",
-                        values: &snapshot.player.persistant,
-                    },
-                    Piece::Signed {
-                        letter: b"a",
-                        values: &snapshot.player.ammo,
-                    },
-                    Piece::Words {
-                        letter: b"u",
-                        words: &snapshot.player.powerups,
-                    },
-                    Piece::Text(b"\n"),
-                ],
-                out,
-            );
-        }
-        Shown::NoClient => b" noclient\n",
-        Shown::Nothing => b" none\n",
+    let word: &[u8] = match (shown, lent) {
+        (Shown::Newest, Some(snapshot)) => return print_snapshot(c, snapshot, out),
+        (Shown::NoClient, _) => b" noclient\n",
+        _ => b" none\n",
     };
     print_all(
         &[
             Piece::Text(b"show "),
             Piece::Number(u64::from(c)),
             Piece::Text(word),
+        ],
+        out,
+    )
+}
+
+/// Prints the lines of a `show` that shows a snapshot.
+fn print_snapshot<O: Sink>(c: u8, snapshot: &Snapshot, out: &mut O) -> Result<(), Failed>
+    ensures adds { Adds (O.written out.old) (O.written out.new) (concat (codes "show " ∷ decimal c ∷ snapshot_text snapshot.now ∷ [])) result }
+    ensures cause { HasCause (O.faults out.old) (O.faults out.new) result }
+{
+    laws::texts_follow();
+    print_head(c, snapshot, out)?;
+    print_words(&snapshot.player, out)?;
+    out.write_all(b"\n")
+}
+
+/// Prints what stands in front of the player's words.
+fn print_head<O: Sink>(c: u8, snapshot: &Snapshot, out: &mut O) -> Result<(), Failed>
+    ensures adds { Adds (O.written out.old) (O.written out.new) (concat (codes "show " ∷ decimal c ∷ head_text snapshot.now ∷ [])) result }
+    ensures cause { HasCause (O.faults out.old) (O.faults out.new) result }
+{
+    print_all(
+        &[
+            Piece::Text(b"show "),
+            Piece::Number(u64::from(c)),
+            Piece::Text(b" snapshot "),
+            Piece::Number(u64::from(snapshot.number)),
+            Piece::Text(b" time "),
+            Piece::Number(u64::from(snapshot.time)),
+            Piece::Text(b" flags "),
+            Piece::Number(u64::from(snapshot.flags)),
+            Piece::Text(b" area -\n+ player"),
         ],
         out,
     )

@@ -1,38 +1,38 @@
 //! Both ends over a schedule of events: the world of a replay.
 
-ghost use Rattle.std.specs.Prelude.{◌≡◌, ◌+◌, ◌-◌, ◌<◌, ◌≤◌, length, None, replicate, slice_get, IfOk, OnOk, OnErr, IsErrOf};
+ghost use Rattle.std.specs.Prelude.{◌≡◌, ◌+◌, ◌-◌, ◌<◌, ◌≤◌, [], length, slice_get, IfOk, OnOk, OnErr, IsErrOf};
+ghost use Rattle.std.specs.Option.{option_copied};
 ghost use Rattle.q3_profile.specs.declared.profile.Profile.{Profile as ProfileValue};
 ghost use Rattle.q3_profile.specs.Profile.{IsProfile};
 ghost use Rattle.q3_script.specs.Grammar.{IsReplayEvent};
-ghost use Rattle.q3_io.specs.Written.{Adds};
-ghost use Rattle.q3_world.specs.State.{slot_at, client_at};
-ghost use Rattle.q3_world.specs.Ends.{emit_at};
-ghost use Rattle.q3_world.specs.Kept.{arrived, kept_step, kept_client, kept_player, kept_serve, kept_deliver, shown_of};
+ghost use Rattle.q3_io.specs.Written.{NothingWaits};
+ghost use Rattle.q3_world.specs.Server.{places, emit_at};
+ghost use Rattle.q3_world.specs.Ends.{answered, lent, newest, client_at, shown_of, join, set_time, set_player};
+ghost use Rattle.q3_world.specs.Kept.{most_datagrams, kept_step, kept_ends, kept_serve, kept_deliver};
 ghost use Rattle.q3_world.specs.World.{Whole, opening, step as step_of};
 ghost use Rattle.q3_world.specs.StandsFor.{StandsFor};
 ghost use Rattle.q3_world.specs.Report.{answer_text};
-ghost use Rattle.q3_world.specs.Outcome.{IsServe, HasStepCause};
+ghost use Rattle.q3_world.specs.Outcome.{TakesMemory, Prints, HasStepCause};
 
-use crate::answer::{Answer, Emitted, HandedIn, NoClient, Shown};
+use crate::answer::{Answer, HandedIn, Shown};
 use crate::client::Client;
 use crate::laws;
+use crate::message::Snapshot;
+use crate::places::empty_places;
 use crate::report::print_answer;
-use crate::server::{Datagram, PLACES, Server, Slot};
+use crate::server::{DATAGRAM_ROOM, Datagram, Emitted, NoClient, Server, SlotError};
 use q3_bits::NoMemory;
-use q3_io::{Files, Sink};
+use q3_io::{Address, Failed, Files, Sink};
 use q3_player::PlayerState;
 use q3_profile::Profile;
 use q3_script::Event;
 use std::alloc::Global;
 use std::marker::Model;
 
-/// The most bytes that a datagram may have.
-const DATAGRAM_ROOM: usize = 1_320;
-
 /// Why a step failed.
 #[derive(Clone, Copy, Debug, PartialEq, Eq)]
 pub enum StepError {
-    /// Want of memory, at an event that makes a datagram; the world is as it was.
+    /// Want of memory, at an event that makes a client or a datagram; the world is as it was.
     NoMemory,
     /// The sink failed, and took a front of the event's lines.
     WriteFault,
@@ -46,14 +46,15 @@ struct Sent {
 }
 
 impl Model for Sent {
-    ghost use Rattle.std.specs.Prelude.{◌<◌, ◌≤◌, length};
+    ghost use Rattle.std.specs.Prelude.{◌<◌};
+    ghost use Rattle.q3_world.specs.Server.{places};
     ghost use Rattle.q3_world.specs.Kept.{SentBytes};
 
     ghost Value = { SentBytes };
 
     ghost view = { λ s. record { client = s.client; bytes = s.bytes.items } };
 
-    ghost invariant = { λ s. (s.client < 16) × (length s.bytes.items ≤ 1320) };
+    ghost invariant = { λ s. s.client < places };
 }
 
 /// A copy of the profile, a server, a client for each added slot, and every datagram that was made.
@@ -68,59 +69,37 @@ pub struct World {
 
 impl Model for World {
     ghost use Rattle.std.specs.Prelude.{◌≡◌, length};
-    ghost use Rattle.q3_profile.specs.Profile.{IsProfile};
+    ghost use Rattle.q3_world.specs.Server.{places};
     ghost use Rattle.q3_world.specs.Kept.{Kept};
 
     ghost Value = { Kept };
 
-    ghost view = { λ w. record { profile = w.profile; server = w.server; clients = w.clients.items; datagrams = w.datagrams.items } };
+    ghost view = { λ w. record {
+      profile = w.profile;
+      ends = record { server = w.server; clients = w.clients.items };
+      datagrams = w.datagrams.items;
+    } };
 
-    ghost invariant = { λ w. IsProfile w.profile × (length w.clients.items ≡ 16) };
-}
-
-impl Sent {
-    fn new(client: u8, bytes: Vec<u8>) -> Sent
-        requires client { client < 16 }
-        requires short { length bytes.items ≤ 1320 }
-        ensures { result ≡ record { client = client; bytes = bytes.items } }
-    {
-        Sent { client, bytes }
-    }
-
-    /// The client takes the datagram.
-    fn arrive(&self, profile: &Profile, clients: &mut Vec<Option<Client>>, number: u32) -> Answer
-        requires { length clients.old.items ≡ 16 }
-        ensures kept { arrived profile.now clients.old.items number self.now ≡ record { clients = clients.new.items; answer = result } }
-        ensures places { length clients.new.items ≡ 16 }
-    {
-        let Some(client) = &mut clients[self.client as usize] else {
-            return Answer::Unknown { datagram: number };
-        };
-        Answer::Deliver {
-            datagram: number,
-            c: self.client,
-            took: client.take(profile, &self.bytes),
-        }
-    }
+    ghost invariant = { λ w. length w.clients.items ≡ places };
 }
 
 impl World {
     /// A world by this profile, with no client, nothing sent, and the time 0. `Err` is want of memory.
     pub fn new(alloc: Global, profile: &Profile) -> Result<World, NoMemory>
         requires { IsProfile profile.now }
-        ensures stands { IfOk result (λ world. StandsFor profile.now world opening) }
+        ensures stands { IfOk result (λ world. StandsFor profile.now world (opening profile.now)) }
     {
         Ok(World {
             alloc,
-            profile: profile.copy(alloc)?,
-            server: Server::new(alloc)?,
-            clients: no_clients(alloc)?,
+            profile: profile.copy()?,
+            server: Server::new(alloc, profile)?,
+            clients: empty_places(alloc)?,
             datagrams: Vec::new(alloc),
         })
     }
 
     /// Does one event, and prints its lines.
-    /// `NoMemory` comes at `serve` alone, and the world is then as it was; nothing is printed.
+    /// `NoMemory` comes at `client` and `serve` alone, and the world is then as it was; nothing is printed.
     /// `WriteFault` comes where the sink failed; the world then has no promised state.
     pub fn step<F: Files, O: Sink>(
         &mut self,
@@ -129,45 +108,40 @@ impl World {
         out: &mut O,
     ) -> Result<(), StepError>
         requires event { IsReplayEvent event.now }
-        requires few { length self.old.datagrams < 4294967295 }
+        requires few { length self.old.datagrams < most_datagrams }
         ensures stands { OnOk result ((profile : ProfileValue) (whole : Whole) → StandsFor profile self.old whole
             → StandsFor profile self.new (step_of profile whole event.now).whole) }
+        ensures kept { OnOk result (self.new ≡ (kept_step self.old event.now).kept) }
         ensures lines { (profile : ProfileValue) (whole : Whole) → StandsFor profile self.old whole
-            → Adds (O.written out.old) (O.written out.new) (answer_text (step_of profile whole event.now).answer) result }
+            → Prints (O.written out.old) (O.written out.new) (answer_text (step_of profile whole event.now).answer) result }
+        ensures flushed { OnOk result (NothingWaits (O.written out.new)) }
         ensures cause { HasStepCause (O.faults out.old) (O.faults out.new) result }
         ensures no_memory { IsErrOf result StepError.NoMemory
-            → IsServe event.now × (self.new ≡ self.old) × (O.written out.new ≡ O.written out.old) }
+            → TakesMemory event.now × (self.new ≡ self.old) × (O.written out.new ≡ O.written out.old) }
         ensures few { length self.new.datagrams ≤ length self.old.datagrams + 1 }
         ensures files { files.new ≡ files.old }
     {
         // No event of this stage uses the files.
         let _ = files;
-        // What is cited here: a message is read back, and the normal form is normal.
-        q3_player::laws::normal_is_normal();
-        q3_player::laws::zero_is_normal();
-        laws::built_is_read();
-        let _ = self.profile();
+        // What the clauses on the whole world cite.
+        laws::step_follows();
         let Ok(answer) = self.apply(event) else {
             return Err(StepError::NoMemory);
         };
-        print_answer(&answer, out).map_err(|_| StepError::WriteFault)
+        match print_answer(&answer, self.lent(answer), out) {
+            Ok(()) => Ok(()),
+            Err(Failed) => Err(StepError::WriteFault),
+        }
     }
 
-    /// The profile, which passed its check.
-    fn profile(&self) -> &Profile
-        ensures profile { result.now ≡ self.now.profile }
-        ensures passes { IsProfile self.now.profile }
-    {
-        &self.profile
-    }
-
-    /// Does one event. `Err` is want of memory, at `serve` alone, and changes nothing.
+    /// Does one event. `Err` is want of memory, at `client` and `serve` alone, and changes nothing.
     #[tactic(auto, unfolding(crate::specs::Kept::kept_step))]
     fn apply(&mut self, event: &Event) -> Result<Answer, NoMemory>
         requires event { IsReplayEvent event.now }
-        requires few { length self.old.datagrams < 4294967295 }
-        ensures ok { IfOk result (λ answer. kept_step self.old event.now ≡ record { kept = self.new; answer = answer }) }
-        ensures err { OnErr result (IsServe event.now × (self.new ≡ self.old)) }
+        requires few { length self.old.datagrams < most_datagrams }
+        ensures ok { IfOk result (λ answer. kept_step self.old event.now
+            ≡ record { kept = self.new; answer = answered self.new.ends answer }) }
+        ensures err { OnErr result (TakesMemory event.now × (self.new ≡ self.old)) }
     {
         match event {
             Event::Client {
@@ -176,73 +150,80 @@ impl World {
                 qport,
                 dup,
                 address,
-            } => {
-                let slot = Slot::new(*challenge, *qport, *address);
-                let client = Client::new(*challenge, *qport, *dup);
-                Ok(self.join(*c, slot, client))
-            }
-            Event::Time { time } => Ok(self.set_time(*time)),
+            } => self.join(*c, *challenge, *qport, *dup, *address),
             Event::Player { c, player } => Ok(self.set_player(*c, player)),
+            Event::Time { time } => Ok(self.set_time(*time)),
             Event::Serve { c } => self.serve(*c),
             Event::Deliver { datagram } => Ok(self.deliver(*datagram)),
             Event::Show { c } => Ok(self.show(*c)),
         }
     }
 
-    /// A client joins, at both ends.
-    fn join(&mut self, c: u8, slot: Slot, client: Client) -> Answer
-        requires { c < 16 }
-        ensures { kept_client self.old c slot client (slot_at self.old.server c) ≡ record { kept = self.new; answer = result } }
+    /// A client joins, at both ends. Its memory is taken first.
+    fn join(
+        &mut self,
+        c: u8,
+        challenge: u32,
+        qport: u16,
+        dup: u8,
+        address: Address,
+    ) -> Result<Answer, NoMemory>
+        requires { c < places }
+        ensures ok { IfOk result (λ answer. kept_ends self.old (join self.old.profile self.old.ends c challenge qport dup address)
+            ≡ record { kept = self.new; answer = answered self.new.ends answer }) }
+        ensures err { OnErr result (self.new ≡ self.old) }
     {
-        if self.server.has(c as usize) {
-            return Answer::Client {
+        let client = Client::new(&self.profile, challenge, qport, dup)?;
+        if let Err(SlotError::Taken) = self.server.add_client(c, challenge, qport, address) {
+            return Ok(Answer::Client {
                 c,
                 outcome: HandedIn::Taken,
-            };
+            });
         }
-        self.server.add_client(c as usize, slot);
         self.clients[c as usize] = Some(client);
-        Answer::Client {
+        Ok(Answer::Client {
             c,
             outcome: HandedIn::Ok,
-        }
-    }
-
-    fn set_time(&mut self, time: u32) -> Answer
-        ensures kept { self.new ≡ record self.old { server = record self.old.server { map = record { time = time } } } }
-        ensures answer { result ≡ Answer.Time }
-    {
-        self.server.set_time(time);
-        Answer::Time
+        })
     }
 
     fn set_player(&mut self, c: u8, player: &PlayerState) -> Answer
-        requires { c < 16 }
-        ensures { kept_player self.old c player.now (slot_at self.old.server c) ≡ record { kept = self.new; answer = result } }
+        requires { c < places }
+        ensures { kept_ends self.old (set_player self.old.ends c player.now)
+            ≡ record { kept = self.new; answer = answered self.new.ends result } }
     {
-        let outcome = match self.server.set_player(&self.profile, c as usize, player) {
+        let outcome = match self.server.set_player(c, player) {
             Ok(()) => HandedIn::Ok,
             Err(NoClient) => HandedIn::NoClient,
         };
         Answer::Player { c, outcome }
     }
 
+    fn set_time(&mut self, time: u32) -> Answer
+        ensures { kept_ends self.old (set_time self.old.ends time)
+            ≡ record { kept = self.new; answer = answered self.new.ends result } }
+    {
+        self.server.set_time(time);
+        Answer::Time
+    }
+
     /// The server makes a datagram, whose memory is taken first.
     fn serve(&mut self, c: u8) -> Result<Answer, NoMemory>
-        requires place { c < 16 }
-        requires few { length self.old.datagrams < 4294967295 }
-        ensures ok { IfOk result (λ answer. kept_serve self.old c (emit_at self.old.profile self.old.server c) ≡ record { kept = self.new; answer = answer }) }
+        requires place { c < places }
+        requires few { length self.old.datagrams < most_datagrams }
+        ensures ok { IfOk result (λ answer. kept_serve self.old c (emit_at self.old.ends.server c)
+            ≡ record { kept = self.new; answer = answered self.new.ends answer }) }
         ensures err { OnErr result (self.new ≡ self.old) }
     {
         let mut bytes = Vec::with_capacity(self.alloc, DATAGRAM_ROOM)?;
         self.datagrams.reserve(1)?;
         let mut out = Datagram::new();
-        let emitted = self.server.emit(&self.profile, c as usize, &mut out);
+        let emitted = self.server.emit(c, &mut out);
         let datagram = self.datagrams.len() as u32 + 1;
         if let Emitted::Snapshot { .. } = emitted {
             bytes.extend_from_slice(&out).unwrap();
             bytes.shrink_to_fit();
-            self.datagrams.push(Sent::new(c, bytes)).unwrap();
+            self.datagrams.push(Sent { client: c, bytes }).unwrap();
         }
         Ok(Answer::Serve {
             c,
@@ -251,38 +232,51 @@ impl World {
         })
     }
 
-    /// A datagram arrives at its client.
+    /// A datagram arrives: its client takes the stored bytes.
     fn deliver(&mut self, number: u32) -> Answer
         requires { 1 ≤ number }
-        ensures { kept_deliver self.old number (slice_get self.old.datagrams (number - 1)) ≡ record { kept = self.new; answer = result } }
+        ensures { kept_deliver self.old number (slice_get self.old.datagrams (number - 1))
+            ≡ record { kept = self.new; answer = answered self.new.ends result } }
     {
         let Some(sent) = self.datagrams.get(number as usize - 1) else {
             return Answer::Unknown { datagram: number };
         };
-        sent.arrive(&self.profile, &mut self.clients, number)
+        let Some(client) = &mut self.clients[sent.client as usize] else {
+            return Answer::Unknown { datagram: number };
+        };
+        Answer::Deliver {
+            datagram: number,
+            c: sent.client,
+            took: client.take(&sent.bytes),
+        }
     }
 
     fn show(&self, c: u8) -> Answer
-        requires { c < 16 }
-        ensures { result ≡ Answer.Show c (shown_of (client_at self.now.clients c)) }
+        requires { c < places }
+        ensures { result ≡ Answer.Show c (shown_of (client_at self.now.ends c)) }
     {
         let shown = match &self.clients[c as usize] {
             None => Shown::NoClient,
-            Some(client) => match client.newest() {
-                None => Shown::Nothing,
-                Some(snapshot) => Shown::Newest(snapshot),
-            },
+            Some(client) if client.newest().is_none() => Shown::Nothing,
+            Some(_) => Shown::Newest,
         };
         Answer::Show { c, shown }
     }
-}
 
-fn no_clients(alloc: Global) -> Result<Vec<Option<Client>>, NoMemory>
-    ensures { IfOk result (λ clients. clients.items ≡ replicate 16 None) }
-{
-    let mut clients = Vec::with_capacity(alloc, PLACES)?;
-    for _ in 0..PLACES {
-        clients.push(None)?;
+    /// The snapshot that is printed with an answer.
+    fn lent(&self, answer: Answer) -> Option<&Snapshot>
+        ensures { option_copied result ≡ lent self.now.ends answer }
+    {
+        match answer {
+            Answer::Show { c, .. } => self.newest(c),
+            _ => None,
+        }
     }
-    Ok(clients)
+
+    /// The newest snapshot that a client accepted.
+    fn newest(&self, c: u8) -> Option<&Snapshot>
+        ensures { option_copied result ≡ newest (client_at self.now.ends c) }
+    {
+        self.clients.get(c as usize)?.as_ref()?.newest()
+    }
 }

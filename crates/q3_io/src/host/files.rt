@@ -5,6 +5,7 @@ ghost use Rattle.q3_io.specs.Faults.{HasCause};
 ghost use Rattle.q3_io.specs.HostCounts.{most_files};
 ghost use Rattle.q3_io.specs.Told.{IsGiven, LooksUp, Creates};
 
+use super::counted;
 use crate::files::Files;
 use crate::memory::NoMemory;
 use crate::sink::Failed;
@@ -17,12 +18,13 @@ use std::marker::Model;
 /// How many files there may be at most: a lookup or a create beyond is a fault.
 const MOST_FILES: usize = 32;
 
-/// An open file, where it stands for the system, and where what was written to it ends.
+/// An open file. One that was created stands behind what was written to it and isn't read; of another it is kept where
+/// it stands, as far as that is known.
 #[derive(Drop)]
 struct OpenedFile<F> {
     file: F,
+    created: bool,
     place: Option<u64>,
-    end: u64,
 }
 
 /// Files of the system by their paths, relative to the folder that the program was started in.
@@ -60,90 +62,46 @@ impl<R: std::rt::Files> HostFiles<R> {
     }
 }
 
-/// Opens the file of this path for reading. A folder is refused.
-fn open<R: std::rt::Files>(rt: &R, name: &str) -> Result<OpenedFile<R::File>, Failed> {
-    let Ok(file) = fs::open(rt, name) else {
-        return Err(Failed);
-    };
-    let Ok(metadata) = file.metadata() else {
-        return Err(Failed);
-    };
-    if metadata.is_dir() {
-        return Err(Failed);
-    }
-    Ok(OpenedFile {
-        file,
-        place: Some(0),
-        end: 0,
-    })
-}
-
-/// Makes an empty file of this path, also where there was one.
-fn create<R: std::rt::Files>(rt: &R, name: &str) -> Result<OpenedFile<R::File>, Failed> {
-    match fs::create(rt, name) {
-        Ok(file) => Ok(OpenedFile {
-            file,
-            place: Some(0),
-            end: 0,
-        }),
-        Err(_) => Err(Failed),
-    }
-}
-
-/// Takes one more file, and answers its number.
-fn keep<F: Drop>(files: &mut Vec<OpenedFile<F>>, opened: OpenedFile<F>) -> Result<usize, Failed>
-    ensures { IsGiven (vec_len files.old) (vec_len files.new) result }
+/// Opens one more file for reading, or creates an empty one, unless there are as many as there may be. A folder is refused.
+fn keep<R: std::rt::Files>(
+    rt: &R,
+    files: &mut Vec<OpenedFile<R::File>>,
+    name: &str,
+    created: bool,
+) -> Result<usize, Failed>
+    ensures given { IsGiven (vec_len files.old) (vec_len files.new) result }
+    ensures most { most_files ≤ vec_len files.old → IsErr result }
 {
     let number = files.len();
-    match files.push(opened) {
+    if number >= MOST_FILES {
+        return Err(Failed);
+    }
+    let Ok(file) = (if created {
+        fs::create(rt, name)
+    } else {
+        fs::open(rt, name)
+    }) else {
+        return Err(Failed);
+    };
+    if !is_no_folder(&file) {
+        return Err(Failed);
+    }
+    let place = Some(0);
+    match files.push(OpenedFile {
+        file,
+        created,
+        place,
+    }) {
         Ok(()) => Ok(number),
         Err(_) => Err(Failed),
     }
 }
 
-/// Opens one more file for reading, unless there are as many as there may be.
-fn keep_opened<R: std::rt::Files>(
-    rt: &R,
-    files: &mut Vec<OpenedFile<R::File>>,
-    name: &str,
-) -> Result<usize, Failed>
-    ensures given { IsGiven (vec_len files.old) (vec_len files.new) result }
-    ensures most { most_files ≤ vec_len files.old → IsErr result }
-{
-    if files.len() >= MOST_FILES {
-        return Err(Failed);
-    }
-    keep(files, open(rt, name)?)
+fn is_no_folder<F: OpenFile>(file: &F) -> bool {
+    file.metadata().is_ok_and(|metadata| !metadata.is_dir())
 }
 
-/// Creates one more file, unless there are as many as there may be.
-fn keep_created<R: std::rt::Files>(
-    rt: &R,
-    files: &mut Vec<OpenedFile<R::File>>,
-    name: &str,
-) -> Result<usize, Failed>
-    ensures given { IsGiven (vec_len files.old) (vec_len files.new) result }
-    ensures most { most_files ≤ vec_len files.old → IsErr result }
-{
-    if files.len() >= MOST_FILES {
-        return Err(Failed);
-    }
-    keep(files, create(rt, name)?)
-}
-
-/// Goes to a place of the file, where it doesn't stand there: so a pipe can be read in order.
-fn go_to<F: Seek>(opened: &mut OpenedFile<F>, place: u64) -> Result<(), Failed> {
-    if opened.place == Some(place) {
-        return Ok(());
-    }
-    opened.place = None;
-    if opened.file.seek(SeekFrom::Start(place)).is_err() {
-        return Err(Failed);
-    }
-    opened.place = Some(place);
-    Ok(())
-}
-
+/// Reads from a place on. It only seeks where the file doesn't stand there: so a pipe can be read in order.
 fn read_at<F: Read + Seek>(
     opened: &mut OpenedFile<F>,
     at: u64,
@@ -151,35 +109,16 @@ fn read_at<F: Read + Seek>(
 ) -> Result<usize, Failed>
     ensures { IfOk result (λ count. count ≤ length into.old) }
 {
-    go_to(opened, at)?;
+    let stands = opened.place == Some(at);
     opened.place = None;
-    match opened.file.read(into) {
-        Ok(count) => {
-            opened.place = at.checked_add(count as u64);
-            Ok(count)
-        }
-        Err(_) => Err(Failed),
+    if opened.created || (!stands && opened.file.seek(SeekFrom::Start(at)).is_err()) {
+        return Err(Failed);
     }
-}
-
-/// Writes the bytes behind the end of what was written. At an error, a front of them is there.
-fn append<F: Write + Seek>(opened: &mut OpenedFile<F>, bytes: &[u8]) -> Result<(), Failed> {
-    go_to(opened, opened.end)?;
-    let mut rest = bytes;
-    while !rest.is_empty() {
-        let count = match opened.file.write(rest) {
-            Ok(count) => count,
-            Err(_) => 0,
-        };
-        if count == 0 {
-            opened.place = None;
-            return Err(Failed);
-        }
-        opened.end = opened.end.saturating_add(count as u64);
-        rest = &rest[count..];
-    }
-    opened.place = Some(opened.end);
-    Ok(())
+    let Ok(count) = opened.file.read(into) else {
+        return Err(Failed);
+    };
+    opened.place = at.checked_add(count as u64);
+    Ok(count)
 }
 
 impl<R: std::rt::Files> Files for HostFiles<R> {
@@ -200,29 +139,21 @@ impl<R: std::rt::Files> Files for HostFiles<R> {
         ensures others { self.new.write_faults ≡ self.old.write_faults }
         ensures most { most_files ≤ self.old.given → IsErr result }
     {
-        let kept = keep_opened(&self.rt, &mut self.files, name);
-        if kept.is_err() {
-            self.faults = self.faults.saturating_add(1);
-        }
-        kept
+        let kept = keep(&self.rt, &mut self.files, name, false);
+        counted(kept, &mut self.faults)
     }
 
     fn size(&mut self, file: usize) -> Result<u64, Failed> {
-        match self.files[file].file.metadata() {
+        let size = match self.files[file].file.metadata() {
             Ok(metadata) => Ok(metadata.len()),
-            Err(_) => {
-                self.faults = self.faults.saturating_add(1);
-                Err(Failed)
-            }
-        }
+            Err(_) => Err(Failed),
+        };
+        counted(size, &mut self.faults)
     }
 
     fn read_at(&mut self, file: usize, at: u64, into: &mut [u8]) -> Result<usize, Failed> {
         let read = read_at(&mut self.files[file], at, into);
-        if read.is_err() {
-            self.faults = self.faults.saturating_add(1);
-        }
-        read
+        counted(read, &mut self.faults)
     }
 
     fn create(&mut self, name: &str) -> Result<usize, Failed>
@@ -232,18 +163,12 @@ impl<R: std::rt::Files> Files for HostFiles<R> {
         ensures others { self.new.faults ≡ self.old.faults }
         ensures most { most_files ≤ self.old.given → IsErr result }
     {
-        let kept = keep_created(&self.rt, &mut self.files, name);
-        if kept.is_err() {
-            self.write_faults = self.write_faults.saturating_add(1);
-        }
-        kept
+        let kept = keep(&self.rt, &mut self.files, name, true);
+        counted(kept, &mut self.write_faults)
     }
 
     fn append(&mut self, file: usize, bytes: &[u8]) -> Result<(), Failed> {
-        let added = append(&mut self.files[file], bytes);
-        if added.is_err() {
-            self.write_faults = self.write_faults.saturating_add(1);
-        }
-        added
+        let written = self.files[file].file.write_all(bytes);
+        counted(written.map_err(|_| Failed), &mut self.write_faults)
     }
 }

@@ -2,6 +2,7 @@
 
 ghost use Rattle.std.specs.Prelude.{◌≡◌, None};
 
+use super::counted;
 use crate::sink::{Failed, Sink};
 
 /// Standard output. Each write goes to the system at once: after `Ok` the bytes are handed over.
@@ -26,11 +27,8 @@ impl<R: Print> Sink for HostSink<R> {
     ghost written = { λ s. None };
 
     fn write_all(&mut self, bytes: &[u8]) -> Result<(), Failed> {
-        if self.rt.write_all(bytes).is_err() {
-            self.faults = self.faults.saturating_add(1);
-            return Err(Failed);
-        }
-        Ok(())
+        let written = self.rt.write_all(bytes);
+        counted(written.map_err(|_| Failed), &mut self.faults)
     }
 
     fn flush(&mut self) -> Result<(), Failed> {

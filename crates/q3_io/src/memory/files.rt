@@ -4,8 +4,8 @@ ghost use Rattle.std.specs.Prelude.{◌≡◌, ◌<◌, ◌≤◌, [], Some, Non
 ghost use Rattle.q3_io.specs.Faults.{HasCause};
 ghost use Rattle.q3_io.specs.Told.{contents_of, contents_at, IsGiven, LooksUp, Measures, ReadsAt, Creates, Appends};
 ghost use Rattle.q3_io.specs.MemoryCalls.{next_fails};
-ghost use Rattle.q3_io.specs.MemoryStore.{read_count};
-ghost use Rattle.q3_io.specs.MemoryFiles.{finds, after_lookup, after_size, reads, after_read, creates, after_create, appends, after_append, stores, after_store};
+ghost use Rattle.q3_io.specs.FileStore.{read_count};
+ghost use Rattle.q3_io.specs.MemoryFiles.{no_files, finds, after_lookup, after_size, reads, after_read, creates, after_create, appends, after_append, stores, after_store};
 
 use crate::files::Files;
 use crate::memory::NoMemory;
@@ -16,7 +16,7 @@ use crate::sink::Failed;
 use std::alloc::Global;
 use std::marker::Model;
 
-/// Files in memory, with room for so many files, numbers and bytes.
+/// Files in memory, with room for so many files, numbers and bytes. It takes memory in proportion to these.
 /// Each name takes its bytes once for its file and once for each number that it is given.
 /// Room that was taken isn't given back. A call that fails names no file.
 #[derive(Drop)]
@@ -32,11 +32,11 @@ impl Model for MemFiles {
     ghost use Rattle.std.specs.Prelude.{◌≤◌, IsSome};
     ghost use Rattle.std.specs.List.{All};
     ghost use Rattle.q3_io.specs.Told.{contents_of};
-    ghost use Rattle.q3_io.specs.MemoryFiles.{FilesState};
+    ghost use Rattle.q3_io.specs.MemoryFiles.{FilesState, files_state};
 
     ghost Value = { FilesState };
 
-    ghost view = { λ m. record { told = record { files = m.store.files; numbers = m.numbers.numbers; asked = m.numbers.asked; named = m.numbers.named }; room = m.store.room; files = m.store.spare; numbers = m.numbers.spare; calls = m.calls; faults = m.faults; write_faults = m.write_faults } };
+    ghost view = { λ m. files_state m.store m.numbers m.calls m.faults m.write_faults };
 
     ghost invariant = { λ m. (m.store.room ≤ m.numbers.room) × All (λ name. IsSome (contents_of m.store.files name)) m.numbers.numbers };
 }
@@ -51,7 +51,7 @@ impl MemFiles {
         calls: usize,
         fails: &[u64],
     ) -> Result<MemFiles, NoMemory>
-        ensures { IfOk result (λ new. new ≡ record { told = record { files = []; numbers = []; asked = []; named = [] }; room = room; files = files; numbers = calls; calls = record { made = 0; fails = fails.now }; faults = 0; write_faults = 0 }) }
+        ensures { IfOk result (λ new. new ≡ no_files files room calls fails.now) }
     {
         Ok(MemFiles {
             store: Store::new(alloc, files, room)?,

@@ -1,62 +1,45 @@
-//! The numbers that files in memory are known by.
+//! The numbers that files are known by.
 
-ghost use Rattle.std.specs.Prelude.{◌≡◌, ◌+◌, ◌-◌, ◌≤◌, ◌<◌, [], ◌∷◌, ◌++◌, length, slice_index_or, IfOk};
+ghost use Rattle.std.specs.Prelude.{◌≡◌, ◌-◌, ◌≤◌, ◌<◌, [], ◌∷◌, ◌++◌, length, slice_index_or, IfOk};
 ghost use Rattle.q3_io.specs.Told.{can_ask, with_asked};
-ghost use Rattle.q3_io.specs.MemoryNumbers.{call_of};
+ghost use Rattle.q3_io.specs.FileNumbers.{call_of};
 
 use crate::memory::NoMemory;
-use crate::memory::text::Text;
+use crate::memory::texts::Texts;
 use std::alloc::Global;
 use std::marker::Model;
 
-/// The name that was given, by which call, and how many bytes were asked for.
-#[derive(Drop)]
-struct Number {
-    name: Text,
-    creates: bool,
-    asked: u64,
-}
-
-/// Numbers, as many as there is room for.
+/// Numbers, as many as there is room for: of each the name that was given, by which call, and how many bytes were asked
+/// for.
 #[derive(Drop)]
 pub struct Numbers {
-    list: Vec<Number>,
-    used: usize,
-    room: usize,
+    names: Texts,
+    creates: Vec<bool>,
+    asked: Vec<u64>,
 }
 
 impl Model for Numbers {
-    ghost use Rattle.std.specs.Prelude.{◌≡◌, ◌≤◌, ◌-◌, length, take, map};
-    ghost use Rattle.std.specs.List.{All};
-    ghost use Rattle.q3_io.specs.MemoryNumbers.{NumbersState};
+    ghost use Rattle.std.specs.Prelude.{◌≡◌, ◌≤◌, ◌+◌, length, vec_capacity};
+    ghost use Rattle.q3_io.specs.FileNumbers.{NumbersState, named_of};
 
     ghost Value = { NumbersState };
 
-    ghost use Rattle.q3_io.specs.MemoryNumbered.{name_given, asked_of, named_of};
+    ghost view = { λ n. record { numbers = n.names.texts; asked = n.asked.items; named = named_of n.names.texts n.creates.items; spare = n.names.spare; room = n.names.room } };
 
-    ghost view = { λ n. record { numbers = map name_given (take n.used n.list.items); asked = map asked_of (take n.used n.list.items); named = map named_of (take n.used n.list.items); spare = length n.list.items - n.used; room = n.room } };
-
-    ghost invariant = { λ n. (n.used ≤ length n.list.items) × All (λ one. one.name.room ≡ n.room) n.list.items };
+    ghost invariant = { λ n. (length n.creates.items ≡ length n.names.texts) × (length n.asked.items ≡ length n.names.texts)
+        × (length n.names.texts + n.names.spare ≤ vec_capacity n.creates) × (length n.names.texts + n.names.spare ≤ vec_capacity n.asked) };
 }
 
 impl Numbers {
-    /// No numbers, with room for so many, each for a name of so many bytes.
+    /// No numbers, with room for so many, and for names of so many bytes.
+    #[tactic(auto, unfolding(crate::specs::FileNumbers::named_of))]
     pub fn new(alloc: Global, numbers: usize, room: usize) -> Result<Numbers, NoMemory>
         ensures { IfOk result (λ new. new ≡ record { numbers = []; asked = []; named = []; spare = numbers; room = room }) }
     {
-        let mut list = Vec::with_capacity(alloc, numbers)?;
-        for taken in 0..numbers {
-            let number = Number {
-                name: Text::new(alloc, room)?,
-                creates: false,
-                asked: 0,
-            };
-            list.push(number)?;
-        }
         Ok(Numbers {
-            list,
-            used: 0,
-            room,
+            names: Texts::new(alloc, numbers, room)?,
+            creates: Vec::with_capacity(alloc, numbers)?,
+            asked: Vec::with_capacity(alloc, numbers)?,
         })
     }
 
@@ -64,10 +47,11 @@ impl Numbers {
     pub fn spare(&self) -> usize
         ensures { result ≡ self.now.spare }
     {
-        self.list.len() - self.used
+        self.names.spare()
     }
 
     /// Gives a name the next number.
+    #[tactic(auto, using(crate::proofs::Numbered::named_more))]
     pub fn give(&mut self, name: &[u8], creates: bool) -> usize
         requires spare { 0 < self.old.spare }
         requires room { length name.now ≤ self.old.room }
@@ -76,14 +60,12 @@ impl Numbers {
         ensures asked { self.new.asked ≡ self.old.asked ++ 0 ∷ [] }
         ensures named { self.new.named ≡ self.old.named ++ record { name = name.now; call = call_of creates } ∷ [] }
         ensures left { self.new.spare ≡ self.old.spare - 1 }
-        ensures same { self.new.room ≡ self.old.room }
+        ensures room { self.new.room ≡ self.old.room - length name.now }
     {
-        let file = self.used;
-        let number = &mut self.list[file];
-        number.name.put(name);
-        number.creates = creates;
-        number.asked = 0;
-        self.used += 1;
+        let file = self.names.count();
+        self.names.push(name);
+        self.creates.push_reserved(creates);
+        self.asked.push_reserved(0);
         file
     }
 
@@ -92,7 +74,7 @@ impl Numbers {
         requires { file < length self.now.numbers }
         ensures { result.now ≡ slice_index_or self.now.numbers file [] }
     {
-        self.list[file].name.bytes()
+        self.names.get(file)
     }
 
     /// Counts the bytes that are asked for, as far as 64 bits count.
@@ -103,13 +85,12 @@ impl Numbers {
         ensures numbers { self.new.numbers ≡ self.old.numbers }
         ensures named { self.new.named ≡ self.old.named }
         ensures left { self.new.spare ≡ self.old.spare }
-        ensures same { self.new.room ≡ self.old.room }
+        ensures room { self.new.room ≡ self.old.room }
     {
-        let number = &mut self.list[file];
-        let Some(asked) = number.asked.checked_add(count as u64) else {
+        let Some(asked) = self.asked[file].checked_add(count as u64) else {
             return false;
         };
-        number.asked = asked;
+        self.asked[file] = asked;
         true
     }
 }

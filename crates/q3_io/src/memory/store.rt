@@ -1,63 +1,45 @@
-//! Files in memory, by their names.
+//! Files in memory, by their places.
 
-ghost use Rattle.std.specs.Prelude.{◌≡◌, ◌+◌, ◌-◌, ◌≤◌, ◌<◌, [], ◌∷◌, ◌++◌, length, map, slice_set, slice_index_or, IfOk, MatchOption, None, position};
+ghost use Rattle.std.specs.Prelude.{◌≡◌, ◌+◌, ◌-◌, ◌≤◌, ◌<◌, [], ◌∷◌, ◌++◌, length, slice_set, slice_index_or, IfOk, MatchOption, None, position};
 ghost use Rattle.std.specs.Str.{bytes_eq};
 ghost use Rattle.q3_io.specs.Told.{contents_of};
-ghost use Rattle.q3_io.specs.MemoryStore.{no_file};
-ghost use Rattle.q3_io.specs.MemoryStored.{file_of, StandsAt};
+ghost use Rattle.q3_io.specs.FileStore.{no_file, StandsAt};
 
 use crate::memory::NoMemory;
-use crate::memory::text::Text;
+use crate::memory::texts::Texts;
 use std::alloc::Global;
 use std::marker::Model;
-
-/// A file's name and contents.
-#[derive(Drop)]
-struct Stored {
-    name: Text,
-    contents: Text,
-}
 
 /// Files, as many as there is room for. Of the room, what was taken once isn't given back.
 #[derive(Drop)]
 pub struct Store {
-    files: Vec<Stored>,
-    used: usize,
-    most: usize,
+    names: Texts,
+    contents: Texts,
     room: usize,
 }
 
 impl Model for Store {
-    ghost use Rattle.std.specs.Prelude.{◌≤◌, ◌-◌, length, take, map};
-    ghost use Rattle.std.specs.List.{All};
-    ghost use Rattle.q3_io.specs.MemoryStore.{StoreState};
+    ghost use Rattle.std.specs.Prelude.{◌≡◌, ◌≤◌, length};
+    ghost use Rattle.q3_io.specs.FileStore.{StoreState, files_of};
 
     ghost Value = { StoreState };
 
-    ghost use Rattle.q3_io.specs.MemoryStored.{file_of, HasPlace};
+    ghost view = { λ s. record { files = files_of s.names.texts s.contents.texts; spare = s.names.spare; room = s.room } };
 
-    ghost view = { λ s. record { files = map file_of (take s.used s.files.items); spare = length s.files.items - s.used; room = s.room } };
-
-    ghost invariant = { λ s. (s.used ≤ length s.files.items) × (s.room ≤ s.most) × All (HasPlace s.most s.room) s.files.items };
+    ghost invariant = { λ s. (length s.contents.texts ≡ length s.names.texts) × (s.contents.spare ≡ s.names.spare)
+        × (s.room ≤ s.names.room) × (s.room ≤ s.contents.room) };
 }
 
+#[tactic(auto, using(crate::proofs::ToldPlaces::length_files_of, crate::proofs::ToldPlaces::contents_files_of, crate::proofs::ToldPlaces::set_files_of, crate::proofs::ToldPlaces::push_files_of))]
 impl Store {
     /// No files, with room for so many, and for so many bytes of names and contents.
+    #[tactic(auto, unfolding(crate::specs::FileStore::files_of))]
     pub fn new(alloc: Global, files: usize, room: usize) -> Result<Store, NoMemory>
         ensures { IfOk result (λ store. store ≡ record { files = []; spare = files; room = room }) }
     {
-        let mut places = Vec::with_capacity(alloc, files)?;
-        for taken in 0..files {
-            let place = Stored {
-                name: Text::new(alloc, room)?,
-                contents: Text::new(alloc, room)?,
-            };
-            places.push(place)?;
-        }
         Ok(Store {
-            files: places,
-            used: 0,
-            most: room,
+            names: Texts::new(alloc, files, room)?,
+            contents: Texts::new(alloc, files, room)?,
             room,
         })
     }
@@ -81,14 +63,14 @@ impl Store {
     pub fn spare(&self) -> usize
         ensures { result ≡ self.now.spare }
     {
-        self.files.len() - self.used
+        self.names.spare()
     }
 
     /// The place of the file of this name.
     pub fn find(&self, name: &[u8]) -> Option<usize>
         ensures { MatchOption result (contents_of self.now.files name.now ≡ None) (StandsAt self.now.files name.now) }
     {
-        find(&self.files[..self.used], name)
+        first(&self.names, name)
     }
 
     /// What the file at a place holds.
@@ -96,7 +78,7 @@ impl Store {
         requires { place < length self.now.files }
         ensures { result.now ≡ (slice_index_or self.now.files place no_file).contents }
     {
-        self.files[place].contents.bytes()
+        self.contents.get(place)
     }
 
     /// Makes the file at a place hold these bytes, and takes so much room.
@@ -108,8 +90,7 @@ impl Store {
         ensures spare { self.new.spare ≡ self.old.spare }
         ensures left { self.new.room ≡ self.old.room - count }
     {
-        let file = &mut self.files[place];
-        file.contents.put(bytes);
+        self.contents.put(place, bytes);
         self.room -= count;
     }
 
@@ -121,8 +102,7 @@ impl Store {
         ensures spare { self.new.spare ≡ self.old.spare }
         ensures left { self.new.room ≡ self.old.room - length bytes.now }
     {
-        let file = &mut self.files[place];
-        file.contents.add(bytes);
+        self.contents.add(place, bytes);
         self.room -= bytes.len();
     }
 
@@ -135,24 +115,20 @@ impl Store {
         ensures spare { self.new.spare ≡ self.old.spare - 1 }
         ensures left { self.new.room ≡ self.old.room - (length name.now + count) }
     {
-        let file = &mut self.files[self.used];
-        file.name.put(name);
-        file.contents.put(bytes);
-        self.used += 1;
+        self.names.push(name);
+        self.contents.push(bytes);
         self.room -= name.len() + count;
     }
 }
 
-/// The first place that has this name.
-fn first(files: &[Stored], name: &[u8]) -> Option<usize>
-    ensures { result ≡ position (λ stored. bytes_eq stored.name.bytes name.now) files.now }
+/// The first place that has this text.
+fn first(texts: &Texts, text: &[u8]) -> Option<usize>
+    ensures { result ≡ position (λ one. bytes_eq one text.now) texts.now.texts }
 {
-    files.iter().position(|stored| stored.name.bytes() == name)
-}
-
-/// The place of the file of this name.
-fn find(files: &[Stored], name: &[u8]) -> Option<usize>
-    ensures { MatchOption result (contents_of (map file_of files.now) name.now ≡ None) (StandsAt (map file_of files.now) name.now) }
-{
-    first(files, name)
+    for place in 0..texts.count() {
+        if texts.get(place) == text {
+            return Some(place);
+        }
+    }
+    None
 }

@@ -1,5 +1,5 @@
 use Rattle.std.proofs.Common.{◌≡◌, take, length}
-use Rattle.q3_player.specs.Delta.{shorts_of}
+use Rattle.q3_player.specs.State.{shorts_of}
 use Rattle.q3_player.proofs.state.shorts.Given as goal
 
 -- so many words were turned

@@ -1,5 +1,5 @@
 use Rattle.std.proofs.Common.{◌∙◌, arith}
-use Rattle.q3_player.proofs.Shorts.{words-same}
+use Rattle.q3_player.proofs.Same.{words-same}
 use Rattle.q3_player.proofs.writing.same_words.Goals as goal
 
 pub returns : goal.returns

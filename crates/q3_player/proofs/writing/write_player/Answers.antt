@@ -1,31 +1,38 @@
-use Rattle.std.proofs.Common.{ℕ, ◌++◌, take, sym, ap, subst}
-use Rattle.q3_bits.specs.Streams.{Extends}
+use Rattle.std.proofs.Common.{◌++◌, take, refl, append_assoc}
+use Rattle.std.proofs.lemmas.Result.{err_from_is_err_and}
 use Rattle.q3_bits.specs.Words.{field_bits}
+use Rattle.q3_player.specs.Arrays.{player_changes}
 use Rattle.q3_player.specs.Delta.{fields_text, arrays_text, player_delta}
-use Rattle.q3_player.proofs.Written.{HasPut-first, HasPut-more, HasPut-front, HasPut-front_last}
 use Rattle.q3_player.proofs.writing.write_player.Goals as goal
 
-pub returns-in_err-write_fields-clause-front : goal.returns-in_err-write_fields-clause-front
+pub returns-in_err-put : goal.returns-in_err-put
 unfolding player_delta
-returns-in_err-write_fields-clause-front c =
-    let from = c.args.from.now in
-    let to = c.args.to.now in
-    let table = c.args.table.now in
-    let words = c.args.w.now.words in
-    let put = HasPut-first _ _ _ c.in_ok-put.ensures.ok in
-    HasPut-front _ _ _ _ (λ ws. fields_text ws (take c.changed_fields-count.result table) from.words to.words) (arrays_text words from to) _ put
-    (ap (λ (count : ℕ). field_bits words 8 count ++ fields_text words (take count table) from.words to.words ++ arrays_text words from to) (sym c.changed_fields-count.ensures.count))
-    c.in_err-write_fields.ensures.front
+returns-in_err-put c =
+    let p = err_from_is_err_and c.from_residual.result c.from_residual.ensures.1 in
+    rw (p.1, p.2, ← c.changed_fields-count.ensures.count, append_assoc) (c.texts_are_written.ensures.early _ _ _ _ _ _ refl c.in_err-put.ensures.writes)
 
-pub returns-clause-front : goal.returns-clause-front
+pub returns-in_err-write_fields : goal.returns-in_err-write_fields
 unfolding player_delta
-returns-clause-front c =
+returns-in_err-write_fields c =
     let from = c.args.from.now in
     let to = c.args.to.now in
-    let table = c.args.table.now in
-    let words = c.args.w.now.words in
-    let put = HasPut-first _ _ _ c.in_ok-put.ensures.ok in
-    let fields = HasPut-more _ _ _ _ (λ ws. fields_text ws (take c.changed_fields-count.result table) from.words to.words) put c.in_ok-write_fields.ensures.ok in
-    subst (λ (count : ℕ). Extends c.args.w.now c.write_arrays.new.w (field_bits words 8 count ++ fields_text words (take count table) from.words to.words ++ arrays_text words from to))
-    c.changed_fields-count.ensures.count
-    (HasPut-front_last _ _ _ _ (λ ws. arrays_text ws from to) fields c.write_arrays.ensures.front)
+    let ws = c.args.w.now.words in
+    let count = c.changed_fields-count.result in
+    let kinds = take count c.args.table.now.kinds in
+    let law = c.texts_are_written.ensures in
+    let p = err_from_is_err_and c.from_residual-in_err-write_fields.result c.from_residual-in_err-write_fields.ensures.1 in
+    let two = law.then _ _ _ (field_bits ws 8 count) (field_bits ws 8 count ++ fields_text ws kinds from.words to.words) (λ ws. fields_text ws kinds from.words to.words) _ refl c.in_ok-put.ensures.writes c.in_err-write_fields.ensures in
+    rw (p.1, p.2, ← c.changed_fields-count.ensures.count) (law.early _ _ _ (arrays_text ws (player_changes from to)) _ _ refl two)
+
+pub returns : goal.returns
+unfolding player_delta
+returns c =
+    let from = c.args.from.now in
+    let to = c.args.to.now in
+    let ws = c.args.w.now.words in
+    let count = c.changed_fields-count.result in
+    let kinds = take count c.args.table.now.kinds in
+    let law = c.texts_are_written.ensures in
+    let two = law.then _ _ _ (field_bits ws 8 count) (field_bits ws 8 count ++ fields_text ws kinds from.words to.words) (λ ws. fields_text ws kinds from.words to.words) _ refl c.in_ok-put.ensures.writes c.in_ok-write_fields.ensures in
+    rw (← c.changed_fields-count.ensures.count)
+    (law.then _ _ _ (field_bits ws 8 count ++ fields_text ws kinds from.words to.words) _ (λ ws. arrays_text ws (player_changes from to)) _ refl two c.write_arrays.ensures)

@@ -1,34 +1,28 @@
-use Rattle.std.proofs.Common.{refl, arith}
-use Rattle.std.proofs.lemmas.Bool.{false≢true}
-use Rattle.q3_player.proofs.Written.{HasWritten-words, HasWritten-overflow, HasWritten-more, HasWritten-front, HasWritten-all, HasWritten-fits}
+use Rattle.std.proofs.Common.{arith}
+use Rattle.std.proofs.lemmas.Result.{err_from_is_err_and}
 use Rattle.q3_player.proofs.Changes.{values_text-next, values_text-end}
 use Rattle.q3_player.proofs.writing.write_values.Goals as goal
 
+pub loop-k-init : goal.loop-k-init
+loop-k-init c = c.texts_are_written.ensures.begin _ _ (λ over. omega (arith, c.length.ensures.length, c.length.ensures.within, over))
+
 pub loop-k-preserved : goal.loop-k-preserved
 loop-k-preserved c =
-    HasWritten-more _ _ _ _ _ _ _ c.loop-k.invariant
-    (values_text-next c.args.w.now.words c.loop-k.w.words c.args.kind c.loop-k.k c.args.from.now c.args.to.now (HasWritten-words _ _ _ _ c.loop-k.invariant) (omega arith) (omega arith))
-    c.in_ok-write_place.ensures.ok
-    (λ over. false≢true (c.in_ok-write_place.ensures.overflow.1 over))
+    let law = c.texts_are_written.ensures in
+    law.more _ _ _ _ _ _ _ c.loop-k.invariant
+    (values_text-next c.args.w.now.words c.loop-k.w.words c.args.kind c.loop-k.k c.args.from.now c.args.to.now (law.words _ _ _ _ c.loop-k.invariant) (omega arith) (omega arith))
+    c.in_ok-write_place.ensures
 
-pub returns-in_err-write_place-clause-overflow : goal.returns-in_err-write_place-clause-overflow
-returns-in_err-write_place-clause-overflow c = (
-  λ _. HasWritten-overflow _ _ _ _ _ _ c.loop-k.invariant
-      (values_text-next c.args.w.now.words c.loop-k.w.words c.args.kind c.loop-k.k c.args.from.now c.args.to.now (HasWritten-words _ _ _ _ c.loop-k.invariant) (omega arith) (omega arith))
-      (c.in_err-write_place.ensures.overflow.0 refl),
-  λ _. c.from_residual.ensures.0,
-)
+pub returns-in_err-write_place : goal.returns-in_err-write_place
+returns-in_err-write_place c =
+    let law = c.texts_are_written.ensures in
+    let p = err_from_is_err_and c.from_residual.result c.from_residual.ensures.1 in
+    rw (p.1, p.2)
+    (law.stops _ _ _ _ _ _ _ _ c.loop-k.invariant
+    (values_text-next c.args.w.now.words c.loop-k.w.words c.args.kind c.loop-k.k c.args.from.now c.args.to.now (law.words _ _ _ _ c.loop-k.invariant) (omega arith) (omega arith))
+    c.in_err-write_place.ensures)
 
-pub returns-in_err-write_place-clause-front : goal.returns-in_err-write_place-clause-front
-returns-in_err-write_place-clause-front c =
-    HasWritten-front _ _ _ _ _ _ _ c.loop-k.invariant
-    (values_text-next c.args.w.now.words c.loop-k.w.words c.args.kind c.loop-k.k c.args.from.now c.args.to.now (HasWritten-words _ _ _ _ c.loop-k.invariant) (omega arith) (omega arith))
-    c.in_err-write_place.ensures.front
-
-pub returns-clause-overflow : goal.returns-clause-overflow
-returns-clause-overflow c =
-    (λ none. absurd cc, λ over. absurd (HasWritten-fits _ _ _ _ c.loop-k.invariant (values_text-end c.args.w.now.words c.args.kind c.loop-k.k c.args.from.now c.args.to.now (omega arith)) over))
-
-pub returns-clause-ok : goal.returns-clause-ok
-returns-clause-ok c =
-    HasWritten-all _ _ _ _ c.loop-k.invariant (values_text-end c.args.w.now.words c.args.kind c.loop-k.k c.args.from.now c.args.to.now (omega arith))
+pub returns : goal.returns
+returns c =
+    let end = values_text-end c.args.w.now.words c.args.kind c.loop-k.k c.args.from.now c.args.to.now (omega arith) in
+    c.texts_are_written.ensures.all _ _ _ (rw end at c.loop-k.invariant)

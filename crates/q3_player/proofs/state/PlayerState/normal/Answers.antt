@@ -9,9 +9,9 @@ loop-k-init c =
 
 pub loop-k-preserved : goal.loop-k-preserved
 loop-k-preserved c =
-    rw (c.norm.ensures, c.loop-k.invariant) (normal_words-more c.args.table.now c.loop-k.k c.kind_at.result c.args.self.now.words c.kind_at.ensures.kind (omega arith))
+    rw (c.norm.ensures, c.loop-k.invariant) (normal_words-more c.args.table.now.kinds c.loop-k.k c.kind_at.result c.args.self.now.words c.kind_at.ensures.kind (omega arith))
 
 pub returns : goal.returns
 returns c =
-    let all = take_all c.loop-k.k c.args.table.now (omega arith) in
+    let all = take_all c.loop-k.k c.args.table.now.kinds (omega arith) in
     rw (c.loop-k.invariant, all) refl

@@ -4,4 +4,4 @@ use Rattle.q3_player.proofs.state.PlayerState.normal.Given as goal
 
 -- so many words are normal, and the others 0
 abbrev pub invariant-loop-k : goal.invariant-loop-k
-invariant-loop-k l = l.words ≡ normal_words (take l.k l.table) l.self.words
+invariant-loop-k l = l.words ≡ normal_words (take l.k l.table.kinds) l.self.words

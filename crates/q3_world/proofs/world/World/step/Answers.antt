@@ -1,28 +1,12 @@
 use Rattle.std.proofs.Common.{◌+◌, ◌≤◌, length, subst}
-use Rattle.q3_io.specs.Written.{Adds}
-use Rattle.q3_world.specs.Report.{answer_text}
 use Rattle.q3_world.specs.Kept.{KeptStep}
-use Rattle.q3_world.specs.declared.answer.Answer.{Answer}
-use Rattle.q3_world.proofs.Agreement.{stands_next}
-use Rattle.q3_world.proofs.EverySchedule.{cited_of}
-use Rattle.q3_profile.specs.Profile.{IsProfile}
-use Rattle.q3_world.proofs.Stepped.{on_ok_from, Adds-error, few_more}
+use Rattle.q3_world.proofs.Stepped.{few_more}
 use Rattle.q3_world.proofs.world.World.step.Goals as goal
 
-pub returns-clause-stands : goal.returns-clause-stands
-returns-clause-stands g c =
-    on_ok_from c.map_err.result (λ profile whole stands.
-    (stands_next profile c.args.self.now whole c.args.event.now (record { kept = c.apply.new.self; answer = c.in-Ok.answer })
-    (cited_of c.built_is_read.ensures c.normal_is_normal.ensures c.zero_is_normal.ensures profile (subst IsProfile stands.by c.profile.ensures.passes)) c.requires.event stands c.in-Ok.ensures.ok).0)
+pub returns-in-Ok-print_answer-clause-few : goal.returns-in-Ok-print_answer-clause-few
+returns-in-Ok-print_answer-clause-few g c =
+    subst (λ (s : KeptStep). length s.kept.datagrams ≤ length c.args.self.now.datagrams + 1) c.in-Ok.ensures.ok (few_more c.args.self.now c.args.event.now)
 
-pub returns-clause-lines : goal.returns-clause-lines
-returns-clause-lines g c = λ profile whole stands.
-    let same = (stands_next profile c.args.self.now whole c.args.event.now (record { kept = c.apply.new.self; answer = c.in-Ok.answer })
-    (cited_of c.built_is_read.ensures c.normal_is_normal.ensures c.zero_is_normal.ensures profile (subst IsProfile stands.by c.profile.ensures.passes)) c.requires.event stands c.in-Ok.ensures.ok).1 in
-    subst (λ (a : Answer). Adds (g.O.Sink.written c.args.out.now) (g.O.Sink.written c.print_answer.new.out) (answer_text a) c.map_err.result) same
-    (Adds-error _ _ _ c.print_answer.result c.map_err.result c.map_err.ensures.variant c.print_answer.ensures.adds)
-
-pub returns-clause-few : goal.returns-clause-few
-returns-clause-few g c =
-    let made : KeptStep = record { kept = c.apply.new.self; answer = c.in-Ok.answer } in
+pub returns-in-Err-clause-few : goal.returns-in-Err-clause-few
+returns-in-Err-clause-few g c =
     subst (λ (s : KeptStep). length s.kept.datagrams ≤ length c.args.self.now.datagrams + 1) c.in-Ok.ensures.ok (few_more c.args.self.now c.args.event.now)

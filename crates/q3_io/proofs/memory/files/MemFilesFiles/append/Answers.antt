@@ -1,5 +1,5 @@
 use Rattle.std.proofs.Common.{◌≡◌, ◌<◌, [], length, refl, ap, ◌∙◌}
-use Rattle.q3_io.specs.MemoryStore.{StoreState}
+use Rattle.q3_io.specs.FileStore.{StoreState}
 use Rattle.q3_io.proofs.ToldHeld.{have_files_add, nothing_added}
 use Rattle.q3_io.proofs.memory.files.MemFilesFiles.append.Goals as goal
 

@@ -1,0 +1,62 @@
+-- Fields in a line: words of an index and a value behind the letter of their array, and the player that they make.
+use Rattle.std.specs.Prelude.{ℕ, ◌+◌, ◌-◌, ◌==◌, if◌then◌else◌, List, [], ◌∷◌, length, replicate, codes, slice_set, Option, Some, Result, Ok, Err}
+use Rattle.std.specs.Option.{option_map_or}
+use Rattle.q3_player.specs.declared.state.PlayerState.{PlayerState}
+use Rattle.q3_player.specs.State.{shorts_of}
+use Rattle.q3_script.specs.declared.cause.LineCause.{LineCause}
+use Rattle.q3_script.specs.declared.cause.LineCause.TheVariants as causes
+use Rattle.q3_bits.specs.OptionBind.{◌>>=◌}
+use Rattle.q3_script.specs.Words.{cut, behind}
+use Rattle.q3_script.specs.Numbers.{number_at}
+
+-- the index and the value in a word of this letter: the index is from least up to below the limit
+unfoldable pub field_at : List ℕ → ℕ → ℕ → List ℕ → Option (ℕ × ℕ)
+field_at letter limit least word = do
+  text ← behind letter word
+  parts ← cut 58 text
+  index ← number_at least (limit - 1) parts.0
+  value ← number_at 0 4294967295 parts.1
+  Some (index, value)
+
+-- fields, and the words behind them
+pub record Fields : Type 0 where
+  pub fields : List (ℕ × ℕ)
+  pub left : List (List ℕ)
+
+-- the leading words of this letter, by rising index from least on
+unfoldable pub fields_at : List ℕ → ℕ → ℕ → List (List ℕ) → Fields
+fields_at letter limit least [] = record { fields = []; left = [] }
+fields_at letter limit least (word ∷ words) =
+    option_map_or (λ field. (let others = fields_at letter limit (field.0 + 1) words in record { fields = field ∷ others.fields; left = others.left }))
+    (field_at letter limit least word) (record { fields = []; left = word ∷ words })
+
+-- these fields put over the values
+abbrev pub with_fields : List ℕ → List (ℕ × ℕ) → List ℕ
+with_fields values [] = values
+with_fields values (field ∷ fields) = with_fields (slice_set values field.0 field.1) fields
+
+-- so many values: 0 but for these fields
+abbrev pub values_of : ℕ → List (ℕ × ℕ) → List ℕ
+values_of count fields = with_fields (replicate count 0) fields
+
+-- the player of its fields and those of its arrays
+abbrev pub player_of : List (ℕ × ℕ) → List (ℕ × ℕ) → List (ℕ × ℕ) → List (ℕ × ℕ) → List (ℕ × ℕ) → PlayerState
+player_of fields stats persistant ammo powerups = record {
+  words = values_of 64 fields;
+  stats = shorts_of (values_of 16 stats);
+  persistant = shorts_of (values_of 16 persistant);
+  ammo = shorts_of (values_of 16 ammo);
+  powerups = values_of 16 powerups;
+}
+
+-- the player that these words and no others spell
+unfoldable pub player_at : List (List ℕ) → Result PlayerState LineCause
+player_at words =
+    let fields = fields_at [] 64 0 words in
+    let stats = fields_at (codes "s") 16 0 fields.left in
+    let persistant = fields_at (codes "p") 16 0 stats.left in
+    let ammo = fields_at (codes "a") 16 0 persistant.left in
+    let powerups = fields_at (codes "u") 16 0 ammo.left in
+    if length powerups.left == 0
+    then Ok (player_of fields.fields stats.fields persistant.fields ammo.fields powerups.fields)
+    else Err causes.Fields

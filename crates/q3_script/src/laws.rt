@@ -1,0 +1,15 @@
+//! Laws of scripts, each the contract of a call that does nothing.
+
+ghost use Rattle.q3_script.specs.Laws.{ReadIsSpelled, BadIsNotSpelled};
+
+/// What is read of a script is what it spells, and what it spells is read.
+pub fn read_is_spelled()
+    ensures { ReadIsSpelled }
+{}
+
+/// Where a line is bad, the bytes are a script of no events.
+pub fn bad_is_not_spelled()
+    ensures { BadIsNotSpelled }
+{
+    read_is_spelled();
+}

@@ -1,0 +1,149 @@
+-- The server's end: what the game handed in for all clients, and a slot for each of them. Each call gives the server
+-- after it, and its answer.
+use Rattle.std.specs.Prelude.{ℕ, ◌+◌, if◌then◌else◌, Bool, List, [], length, replicate, nat_le, Option, Some, None, slice_set, slice_index_or, Result, Ok, Err}
+use Rattle.q3_profile.specs.declared.profile.Profile.{Profile}
+use Rattle.q3_bits.specs.Bits.{message_bytes, message_length}
+use Rattle.q3_player.specs.declared.state.PlayerState.{PlayerState}
+use Rattle.q3_player.specs.State.{zero_player, normal_player}
+use Rattle.q3_io.specs.declared.address.Address.{Address}
+use Rattle.q3_world.specs.declared.message.Snapshot.{Snapshot}
+use Rattle.q3_world.specs.declared.server.Emitted.{Emitted}
+use Rattle.q3_world.specs.declared.server.Emitted.TheVariants as emitted
+use Rattle.q3_world.specs.declared.server.NoClient.{NoClient}
+use Rattle.q3_world.specs.declared.server.SlotError.{SlotError}
+use Rattle.q3_world.specs.declared.server.SlotError.TheVariants.{Taken}
+use Rattle.q3_world.specs.Message.{sequence_end, snapshot_bits, datagram_bytes}
+
+-- how many clients there may be
+abbrev pub places : ℕ
+places = 16
+
+-- a message below this length goes whole; longer ones aren't sent at this stage
+abbrev pub fragment_size : ℕ
+fragment_size = 1300
+
+-- what the game handed in for all clients
+pub record MapState : Type 0 where
+  pub time : ℕ
+
+-- a client at the server: how many messages were begun for it, and its player in normal form
+pub record SlotState : Type 0 where
+  pub challenge : ℕ
+  pub address : Address
+  pub qport : ℕ
+  pub begun : ℕ
+  pub player : PlayerState
+
+pub record ServerState : Type 0 where
+  pub profile : Profile
+  pub map : MapState
+  pub slots : List (Option SlotState)
+
+-- the whole value of a message that was begun
+pub record Built : Type 0 where
+  pub snapshot : Snapshot
+
+abbrev pub slot_at : ServerState → ℕ → Option SlotState
+slot_at server c = slice_index_or server.slots c None
+
+abbrev pub with_slot : ServerState → ℕ → SlotState → ServerState
+with_slot server c slot = record server { slots = slice_set server.slots c (Some slot) }
+
+-- a server with no client, at the time 0
+abbrev pub new_server : Profile → ServerState
+new_server profile = record { profile = profile; map = record { time = 0 }; slots = replicate places None }
+
+-- ---- what the game hands in
+
+-- the server after something was handed in, and the answer
+pub record Handed (E : Type 0) : Type 0 where
+  pub server : ServerState
+  pub answer : Result (Unit {0}) E
+
+-- a client that just joined
+abbrev pub new_slot : ℕ → ℕ → Address → SlotState
+new_slot challenge qport address =
+    record { challenge = challenge; address = address; qport = qport; begun = 0; player = zero_player }
+
+abbrev pub add_to : ServerState → ℕ → SlotState → Option SlotState → Handed SlotError
+add_to server c slot (Some old) = record { server = server; answer = Err Taken }
+add_to server c slot None = record { server = with_slot server c slot; answer = Ok tt }
+
+-- a client joins, in a slot that has none
+abbrev pub add_client_at : ServerState → ℕ → ℕ → ℕ → Address → Handed SlotError
+add_client_at server c challenge qport address = add_to server c (new_slot challenge qport address) (slot_at server c)
+
+abbrev pub set_time_at : ServerState → ℕ → ServerState
+set_time_at server time = record server { map = record server.map { time = time } }
+
+-- the slot with another player, in the normal form of the profile's table
+abbrev pub with_player : Profile → SlotState → PlayerState → SlotState
+with_player profile slot player = record slot { player = normal_player profile.player.kinds player }
+
+abbrev pub give_player : ServerState → ℕ → PlayerState → Option SlotState → Handed NoClient
+give_player server c player None = record { server = server; answer = Err (record {}) }
+give_player server c player (Some slot) =
+    record { server = with_slot server c (with_player server.profile slot player); answer = Ok tt }
+
+-- the player of a client
+abbrev pub set_player_at : ServerState → ℕ → PlayerState → Handed NoClient
+set_player_at server c player = give_player server c player (slot_at server c)
+
+-- ---- messages
+
+-- the message that goes to a slot next
+abbrev pub next_message : MapState → SlotState → Built
+next_message map slot =
+    record { snapshot = record { number = slot.begun + 1; time = map.time; flags = 0; player = slot.player } }
+
+-- the bits of a message
+abbrev pub built_bits : Profile → Built → List Bool
+built_bits profile built = snapshot_bits profile built.snapshot
+
+-- what an emit of a slot gives: the slot after it, the answer, the message that it began, and the datagram
+pub record SlotEmission : Type 0 where
+  pub slot : SlotState
+  pub answer : Emitted
+  pub began : Option Built
+  pub datagram : List ℕ
+
+-- no message was begun
+abbrev pub nothing : SlotState → Emitted → SlotEmission
+nothing slot answer = record { slot = slot; answer = answer; began = None; datagram = [] }
+
+-- a message of these bits, as long as it goes whole
+abbrev pub emit_bits : SlotState → Built → List Bool → SlotEmission
+emit_bits slot built bits =
+    if nat_le fragment_size (message_length (length bits))
+    then nothing slot emitted.Overlong
+    else record {
+      slot = record slot { begun = slot.begun + 1 };
+      answer = emitted.Snapshot (slot.begun + 1) 0 (message_length (length bits));
+      began = Some built;
+      datagram = datagram_bytes (slot.begun + 1) (message_bytes bits);
+    }
+
+abbrev pub emit_slot : Profile → MapState → SlotState → SlotEmission
+emit_slot profile map slot =
+    if nat_le sequence_end (slot.begun + 1) then nothing slot emitted.SequenceEnd
+    else emit_bits slot (next_message map slot) (built_bits profile (next_message map slot))
+
+-- what an emit of the server gives
+pub record Emission : Type 0 where
+  pub server : ServerState
+  pub answer : Emitted
+  pub began : Option Built
+  pub datagram : List ℕ
+
+-- the emission of a slot in its place
+abbrev pub emission_at : ServerState → ℕ → SlotEmission → Emission
+emission_at server c emission =
+    record { server = with_slot server c emission.slot; answer = emission.answer; began = emission.began; datagram = emission.datagram }
+
+abbrev pub emit_from : ServerState → ℕ → Option SlotState → Emission
+emit_from server c None = record { server = server; answer = emitted.NoClient; began = None; datagram = [] }
+emit_from server c (Some slot) = emission_at server c (emit_slot server.profile server.map slot)
+
+-- the server makes a datagram for a client
+unfoldable pub emit_at : ServerState → ℕ → Emission
+emit_at server c = emit_from server c (slot_at server c)
