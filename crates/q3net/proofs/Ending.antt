@@ -1,21 +1,23 @@
 -- How a run ends.
-use Rattle.std.proofs.Common.{ℕ, List, [], ◌++◌, Option, None, Result, Ok, Err, refl, sym, ap, subst, ◌∙◌, inl, inr}
+use Rattle.std.proofs.Common.{◌≡◌, ℕ, Bool, true, false, List, [], ◌∷◌, ◌++◌, Option, Some, None, Result, Ok, Err, refl, ap, subst, ◌∙◌, inl, inr}
+use Rattle.std.specs.Prelude.{if◌then◌else◌}
 use Rattle.std.proofs.lemmas.List.{append-nil}
+use Rattle.q3_io.specs.Laws.{TextsFollow}
 use Rattle.q3_io.specs.Told.{Told}
+use Rattle.q3_io.specs.Written.{Written, Wrote}
 use Rattle.q3net.specs.declared.fault.Fault.{Fault}
 use Rattle.q3net.specs.declared.fault.Fault.TheVariants as faults
 use Rattle.q3net.specs.Command.{Command}
 use Rattle.q3net.specs.Lines.{ending_status, ending_line}
 use Rattle.q3net.specs.Verdict.{IsVerdict, settled}
-use Rattle.q3net.specs.Run.{AddsAll, AddsFront, Executes, PrintsAll, Took, Closes, Prints}
-use Rattle.q3net.proofs.Adding.{adds_none, adds_then, adds_early}
+use Rattle.q3net.specs.Run.{Executes, PrintsAll, Took, Prints}
 
 -- ---- a command that reads nothing
 
-pub none_executes : (told : Option Told) (old : Option (List ℕ)) → Executes None told old old (Err faults.Usage)
-none_executes told old = (settled (Err faults.Usage), refl, inl ([], inl (refl, refl), adds_none old))
+pub none_executes : (follow : TextsFollow) (told : Option Told) (old : Option Written) → Executes None told old old (Err faults.Usage)
+none_executes follow told old = (settled (Err faults.Usage), refl, inl ([], inl (refl, refl), follow.none))
 
-pub text_executes : (command : Option Command) (told : Option Told) (old now : Option (List ℕ)) (text : List ℕ) (ended : Result (Unit {0}) Fault)
+pub text_executes : (command : Option Command) (told : Option Told) (old now : Option Written) (text : List ℕ) (ended : Result (Unit {0}) Fault)
     → IsVerdict told command (settled (Ok text)) → PrintsAll text old now ended → Executes command told old now ended
 text_executes command told old now text ended is prints =
     elim prints [
@@ -23,31 +25,72 @@ text_executes command told old now text ended is prints =
       | inr front ↦ (settled (Ok text), is, inr front)
     ]
 
+-- ---- after a sink has failed
+
+front_nil : (xs ys : List ℕ) → xs ++ ys ≡ [] → (xs ≡ []) × (ys ≡ [])
+front_nil [] ys e = (refl, e)
+front_nil (x ∷ xs) ys e = absurd cc
+
+either_nil : (all : Bool) (ys : List ℕ) → ys ≡ [] → (if all then ys else []) ≡ []
+either_nil true ys e = e
+either_nil false ys e = refl
+
+-- nothing waits then, and nothing more is handed on
+nothing_more : (a b c : Option Written) (text : List ℕ) (all : Bool) → Wrote a b text false → Wrote b c [] all → Wrote a c text false
+nothing_more a b c text all first second = record {
+  untold = λ none. second.untold (first.untold none);
+  told = λ had is.
+      let one = first.told had is in
+      let sent = had.sent ++ one.0 in
+      let two = second.told (record { sent = sent; waits = [] }) one.3 in
+      let gone = front_nil two.0 two.1 two.2 in (
+        one.0,
+        one.1,
+        one.2,
+        two.3
+            ∙ (ap (λ (z : List ℕ). Some (record { sent = sent ++ z; waits = if all then two.1 else [] })) gone.0
+            ∙ (ap (λ (z : List ℕ). Some (record { sent = z; waits = if all then two.1 else [] })) (append-nil sent)
+            ∙ ap (λ (z : List ℕ). Some (record { sent = sent; waits = z })) (either_nil all two.1 gone.1))),
+      );
+}
+
 -- ---- what was printed
 
-behind : (old mid now : Option (List ℕ)) (printed line : List ℕ) (ended : Result (Unit {0}) Fault) (status : ℕ) → AddsAll old mid printed → Took ended line mid now status
-    → Took ended (printed ++ line) old now status
-behind old mid now printed line ended status added took =
+behind : (follow : TextsFollow) (old mid now : Option Written) (printed line : List ℕ) (ended : Result (Unit {0}) Fault) (status : ℕ) → Wrote old mid printed true
+    → Took ended line mid now status → Took ended (printed ++ line) old now status
+behind follow old mid now printed line ended status added took =
     elim took [
-      | inl all ↦ inl (all.0, adds_then old mid now printed line (Ok tt) added all.1)
-      | inr front ↦ inr (front.0, adds_then old mid now printed line (Err tt) added front.1)
+      | inl all ↦ inl (all.0, (follow.more added all.1.0 refl, all.1.1))
+      | inr front ↦ inr (front.0, follow.more added front.1 refl)
     ]
 
-pub prints : (command : Option Command) (told : Option Told) (old mid now : Option (List ℕ)) (ended : Result (Unit {0}) Fault) (status : ℕ)
-    → Executes command told old mid ended → Closes ended mid now status → Prints command told old now status
-prints command told old mid now ended status executes closes =
+failed : (follow : TextsFollow) (old mid now : Option Written) (text line : List ℕ) (ended : Result (Unit {0}) Fault) (status : ℕ) → ended ≡ Err faults.Write
+    → Wrote old mid text false → Took ended (ending_line ended) mid now status → (status ≡ 4) × Wrote old now (text ++ line) false
+failed follow old mid now text line ended status is front took =
+    let none : ending_line ended ≡ [] = ap ending_line is in
+    elim took [
+      | inl all ↦ (
+        all.0 ∙ ap ending_status is,
+        follow.early line (nothing_more old mid now text true front (subst (λ (z : List ℕ). Wrote mid now z true) none all.1.0)) refl,
+      )
+      | inr more ↦ (
+        more.0,
+        follow.early line (nothing_more old mid now text false front (subst (λ (z : List ℕ). Wrote mid now z false) none more.1)) refl,
+      )
+    ]
+
+pub prints : (follow : TextsFollow) (command : Option Command) (told : Option Told) (old mid now : Option Written) (ended : Result (Unit {0}) Fault) (status : ℕ)
+    → Executes command told old mid ended → Took ended (ending_line ended) mid now status → Prints command told old now status
+prints follow command told old mid now ended status executes took =
     let verdict = executes.0 in
     elim executes.2 [
-      | inl ends ↦ (verdict, executes.1, ended, ends.0, ends.1, elim closes [
-        | inl failed ↦ inl (
-          failed.1 ∙ ap ending_status (sym failed.0),
-          subst (λ (m : Option (List ℕ)). AddsAll old m (ends.0 ++ ending_line ended)) (sym failed.2)
-              (subst (λ (text : List ℕ). AddsAll old mid text) (sym (append-nil ends.0) ∙ ap (λ (d : Result (Unit {0}) Fault). ends.0 ++ ending_line d) (sym failed.0)) ends.2),
-        )
-        | inr line ↦ behind old mid now ends.0 (ending_line ended) ended status ends.2 line.1
-      ])
-      | inr failed ↦ (verdict, executes.1, verdict.ending, verdict.text, inl (refl, refl), elim closes [
-        | inl so ↦ inr (so.1, subst (λ (m : Option (List ℕ)). AddsFront old m (verdict.text ++ ending_line verdict.ending)) (sym so.2) (adds_early old mid verdict.text (ending_line verdict.ending) failed.1))
-        | inr not ↦ absurd (not.0 failed.0)
-      ])
+      | inl ends ↦ (verdict, executes.1, ended, ends.0, ends.1, behind follow old mid now ends.0 (ending_line ended) ended status ends.2 took)
+      | inr so ↦ (
+        verdict,
+        executes.1,
+        verdict.ending,
+        verdict.text,
+        inl (refl, refl),
+        inr (failed follow old mid now verdict.text (ending_line verdict.ending) ended status so.0 so.1 took),
+      )
     ]

@@ -1,7 +1,6 @@
 pub mod Reading
 pub mod Loading
 pub mod Looking
-pub mod Adding
 pub mod Stepping
 pub mod Replaying
 pub mod Ending

@@ -2,8 +2,10 @@
 use Rattle.std.proofs.Common.{◌≡◌, ℕ, List, [], ◌∷◌, length, Option, Some, None, Result, Ok, Err, refl, sym, ap, subst, ◌∙◌, inl, inr}
 use Rattle.std.specs.Prelude.{◌⊎◌}
 use Rattle.q3_profile.specs.declared.profile.Profile.{Profile}
-use Rattle.q3_profile.specs.Document.{◌>>=◌}
+use Rattle.q3_bits.specs.ResultBind.{◌>>=◌}
 use Rattle.q3_script.specs.declared.event.Event.{Event}
+use Rattle.q3_io.specs.Laws.{TextsFollow}
+use Rattle.q3_io.specs.Written.{Written}
 use Rattle.q3_io.specs.Told.{File, Told, contents_of}
 use Rattle.q3_world.specs.declared.world.StepError.{StepError}
 use Rattle.q3_world.specs.declared.world.StepError.TheVariants as step
@@ -18,7 +20,6 @@ use Rattle.q3net.specs.Faults.{Gets, step_fault}
 use Rattle.q3net.specs.Input.{Holds, LooksUpTold, Gives}
 use Rattle.q3net.specs.Verdict.{IsVerdict, settled, profile_in, events_in, replayed, GetsFrom}
 use Rattle.q3net.specs.Run.{AddsLines, Stops, Executes}
-use Rattle.q3net.proofs.Adding.{adds_none}
 use Rattle.q3net.proofs.Loading.{held}
 use Rattle.q3net.proofs.Looking.{gave}
 use Rattle.q3net.proofs.Stepping.{lines_of}
@@ -43,10 +44,10 @@ all_said profile script by events passes is =
     ∙ ap (λ (says : Result (List Event) Fault). says >>= (λ events. Ok (report by events))) is
 
 -- the input ended a replay before anything was printed
-refused : (told : Option Told) (profile script : List ℕ) (old : Option (List ℕ)) (p s : Option (List ℕ)) (e : Fault) → Holds told profile p → Holds told script s
+refused : (follow : TextsFollow) (told : Option Told) (profile script : List ℕ) (old : Option Written) (p s : Option (List ℕ)) (e : Fault) → Holds told profile p → Holds told script s
     → replayed p s ≡ Err e → Executes (Some (Replay profile script)) told old old (Err e)
-refused told profile script old p s e of_p of_s says =
-    (settled (Err e), (p, s, of_p, of_s, sym (ap settled says)), inl ([], inl (refl, refl), adds_none old))
+refused follow told profile script old p s e of_p of_s says =
+    (settled (Err e), (p, s, of_p, of_s, sym (ap settled says)), inl ([], inl (refl, refl), follow.none))
 
 stops : (e : Fault) (text : List ℕ) → (e ≡ faults.NoMemory) ⊎ (e ≡ faults.Read) → Stops e [] text
 stops e text outside =
@@ -56,26 +57,26 @@ stops e text outside =
     ]
 
 -- something from outside did
-stopped : (told : Option Told) (profile script : List ℕ) (old : Option (List ℕ)) (p s : Option (List ℕ)) (e : Fault) → Holds told profile p → Holds told script s
+stopped : (follow : TextsFollow) (told : Option Told) (profile script : List ℕ) (old : Option Written) (p s : Option (List ℕ)) (e : Fault) → Holds told profile p → Holds told script s
     → (e ≡ faults.NoMemory) ⊎ (e ≡ faults.Read) → Executes (Some (Replay profile script)) told old old (Err e)
-stopped told profile script old p s e of_p of_s outside =
-    (settled (replayed p s), (p, s, of_p, of_s, refl), inl ([], inr (tt, e, refl, stops e (settled (replayed p s)).text outside), adds_none old))
+stopped follow told profile script old p s e of_p of_s outside =
+    (settled (replayed p s), (p, s, of_p, of_s, refl), inl ([], inr (tt, e, refl, stops e (settled (replayed p s)).text outside), follow.none))
 
 -- a part ended it early
-part_ended : {A : Type 0} (told : Option Told) (profile script : List ℕ) (old : Option (List ℕ)) (p s : Option (List ℕ)) (e : Fault) (said : Result A Fault)
+part_ended : {A : Type 0} (follow : TextsFollow) (told : Option Told) (profile script : List ℕ) (old : Option Written) (p s : Option (List ℕ)) (e : Fault) (said : Result A Fault)
     → Holds told profile p → Holds told script s → (said ≡ Err e → replayed p s ≡ Err e) → Gets said (Err e)
     → Executes (Some (Replay profile script)) told old old (Err e)
-part_ended told profile script old p s e said of_p of_s so gets =
+part_ended follow told profile script old p s e said of_p of_s so gets =
     elim gets [
-      | inl is ↦ refused told profile script old p s e of_p of_s (so (sym is))
-      | inr outside ↦ stopped told profile script old p s e of_p of_s (elim outside [ inl memory ↦ inl (cc) | inr read ↦ inr (cc) ])
+      | inl is ↦ refused follow told profile script old p s e of_p of_s (so (sym is))
+      | inr outside ↦ stopped follow told profile script old p s e of_p of_s (elim outside [ inl memory ↦ inl (cc) | inr read ↦ inr (cc) ])
     ]
 
-pub profile_ended : (told : Option Told) (profile script : List ℕ) (old : Option (List ℕ)) (e : Fault) → GetsFrom profile_in told profile (Err e)
+pub profile_ended : (follow : TextsFollow) (told : Option Told) (profile script : List ℕ) (old : Option Written) (e : Fault) → GetsFrom profile_in told profile (Err e)
     → Executes (Some (Replay profile script)) told old old (Err e)
-profile_ended told profile script old e gets =
+profile_ended follow told profile script old e gets =
     let s = held told script in
-    part_ended told profile script old gets.0 s.0 e (profile_in gets.0) gets.1 s.1 (no_profile gets.0 s.0 e) gets.2
+    part_ended follow told profile script old gets.0 s.0 e (profile_in gets.0) gets.1 s.1 (no_profile gets.0 s.0 e) gets.2
 
 -- what the files hold isn't changed by a look
 same_held : (told mid : Option Told) (names : List (List ℕ)) (name : List ℕ) (file : Option (List ℕ)) → LooksUpTold told mid names → Holds mid name file → Holds told name file
@@ -84,11 +85,11 @@ same_held (Some told) mid names name file looks holds =
     let there = subst (λ (m : Option Told). Holds m name file) looks.1 holds in
     ap (λ (files : List File). contents_of files name) (sym looks.2.files) ∙ there
 
-pub events_ended : (told mid : Option Told) (profile script : List ℕ) (by : Profile) (old : Option (List ℕ)) (e : Fault) → GetsFrom profile_in told profile (Ok by)
+pub events_ended : (follow : TextsFollow) (told mid : Option Told) (profile script : List ℕ) (by : Profile) (old : Option Written) (e : Fault) → GetsFrom profile_in told profile (Ok by)
     → Gives (Ok by) (profile ∷ []) told mid → GetsFrom events_in mid script (Err e) → Executes (Some (Replay profile script)) told old old (Err e)
-events_ended told mid profile script by old e passes gives gets =
+events_ended follow told mid profile script by old e passes gives gets =
     let of_script = same_held told mid (profile ∷ []) script gets.0 (gave by (profile ∷ []) told mid gives) gets.1 in
-    part_ended told profile script old passes.0 gets.0 e (events_in gets.0) passes.1 of_script
+    part_ended follow told profile script old passes.0 gets.0 e (events_in gets.0) passes.1 of_script
     (no_events passes.0 gets.0 by e (got_ok (profile_in passes.0) by passes.2)) gets.2
 
 -- both files were read
@@ -114,13 +115,13 @@ verdict_of : (told : Option Told) (profile script : List ℕ) (by : Profile) (ev
     → IsVerdict told (Some (Replay profile script)) (settled (Ok (report by events)))
 verdict_of told profile script by events read = (read.of_profile, read.of_script, read.holds_profile, read.holds_script, ap settled (sym read.says))
 
-pub memory_ended : (told : Option Told) (profile script : List ℕ) (by : Profile) (events : List Event) (old : Option (List ℕ)) → BothRead told profile script by events
+pub memory_ended : (follow : TextsFollow) (told : Option Told) (profile script : List ℕ) (by : Profile) (events : List Event) (old : Option Written) → BothRead told profile script by events
     → Executes (Some (Replay profile script)) told old old (Err faults.NoMemory)
-memory_ended told profile script by events old read =
-    (settled (Ok (report by events)), verdict_of told profile script by events read, inl ([], inr (tt, faults.NoMemory, refl, (report by events, refl)), adds_none old))
+memory_ended follow told profile script by events old read =
+    (settled (Ok (report by events)), verdict_of told profile script by events read, inl ([], inr (tt, faults.NoMemory, refl, (report by events, refl)), follow.none))
 
-pub steps_ended : (told : Option Told) (profile script : List ℕ) (by : Profile) (events : List Event) (old now : Option (List ℕ)) (e : StepError)
-    → BothRead told profile script by events → AddsLines (lines_of by opening events) old now (Err e)
+pub steps_ended : (told : Option Told) (profile script : List ℕ) (by : Profile) (events : List Event) (old now : Option Written) (e : StepError)
+    → BothRead told profile script by events → AddsLines (lines_of by (opening by) events) old now (Err e)
     → Executes (Some (Replay profile script)) told old now (Err (step_fault e))
 unfolding report
 steps_ended told profile script by events old now step.NoMemory read adds =
@@ -128,14 +129,14 @@ steps_ended told profile script by events old now step.NoMemory read adds =
 steps_ended told profile script by events old now step.WriteFault read adds =
     (settled (Ok (report by events)), verdict_of told profile script by events read, inr (refl, adds))
 
-pub steps_done : (told : Option Told) (profile script : List ℕ) (by : Profile) (events : List Event) (old now : Option (List ℕ))
-    → BothRead told profile script by events → AddsLines (lines_of by opening events) old now (Ok tt)
+pub steps_done : (told : Option Told) (profile script : List ℕ) (by : Profile) (events : List Event) (old now : Option Written)
+    → BothRead told profile script by events → AddsLines (lines_of by (opening by) events) old now (Ok tt)
     → Executes (Some (Replay profile script)) told old now (Ok tt)
 unfolding report
 steps_done told profile script by events old now read adds =
     (settled (Ok (report by events)), verdict_of told profile script by events read, inl (report by events, inl (refl, refl), adds))
 
 -- a new world has sent nothing
-pub nothing_sent : (profile : Profile) (kept : Kept) → StandsFor profile kept opening → length kept.datagrams ≡ 0
+pub nothing_sent : (profile : Profile) (kept : Kept) → StandsFor profile kept (opening profile) → length kept.datagrams ≡ 0
 unfolding opening
 nothing_sent profile kept stands = ap length stands.datagrams

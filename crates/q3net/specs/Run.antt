@@ -1,7 +1,7 @@
 -- How a run goes: as its verdict says, or something from outside ends it early.
-use Rattle.std.specs.Prelude.{◌≡◌, ◌≢◌, ◌⊎◌, ℕ, List, [], ◌++◌, Option, Some, None, Result, Ok, Err}
+use Rattle.std.specs.Prelude.{◌≡◌, ◌⊎◌, ℕ, true, false, List, [], ◌++◌, Option, Some, None, Result, Ok, Err}
 use Rattle.q3_io.specs.Told.{Told}
-use Rattle.q3_io.specs.Written.{Adds}
+use Rattle.q3_io.specs.Written.{Written, Wrote, NothingWaits}
 use Rattle.q3_world.specs.declared.world.StepError.{StepError}
 use Rattle.q3_world.specs.declared.world.StepError.TheVariants as step
 use Rattle.q3net.specs.Command.{Command, Help, Version, files_of}
@@ -11,14 +11,9 @@ use Rattle.q3net.specs.Verdict.{Verdict, IsVerdict}
 use Rattle.q3net.specs.declared.fault.Fault.{Fault}
 use Rattle.q3net.specs.declared.fault.Fault.TheVariants.{NoMemory, Read, Write}
 
--- ---- what the sink takes
-
--- all of a text, or, where it failed, a front of it
-abbrev pub AddsAll : Option (List ℕ) → Option (List ℕ) → List ℕ → Type 0
-AddsAll old now text = Adds {T = Unit {0}} {E = Unit {0}} old now text (Ok tt)
-
-abbrev pub AddsFront : Option (List ℕ) → Option (List ℕ) → List ℕ → Type 0
-AddsFront old now text = Adds {T = Unit {0}} {E = Unit {0}} old now text (Err tt)
+-- all that waited in the sink was handed on, and the text behind it
+abbrev pub HandsOn : Option Written → Option Written → List ℕ → Type 0
+HandsOn old now text = Wrote old now text true × NothingWaits now
 
 -- ---- how a command ends
 
@@ -42,37 +37,32 @@ Ends command verdict ended printed =
     ⊎ (MayStop command × (fault : Fault) × (ended ≡ Err fault) × Stops fault printed verdict.text)
 
 -- what the sink took of a command by then; where it failed, a front of the verdict's text
-abbrev pub Executes : Option Command → Option Told → Option (List ℕ) → Option (List ℕ) → Result (Unit {0}) Fault → Type 0
+abbrev pub Executes : Option Command → Option Told → Option Written → Option Written → Result (Unit {0}) Fault → Type 0
 Executes command told old now ended =
     (verdict : Verdict) × IsVerdict told command verdict
-    × (((printed : List ℕ) × Ends command verdict ended printed × AddsAll old now printed)
-      ⊎ ((ended ≡ Err Write) × AddsFront old now verdict.text))
+    × (((printed : List ℕ) × Ends command verdict ended printed × Wrote old now printed true)
+    ⊎ ((ended ≡ Err Write) × Wrote old now verdict.text false))
 
 -- a text of the program's own
-abbrev pub PrintsAll : List ℕ → Option (List ℕ) → Option (List ℕ) → Result (Unit {0}) Fault → Type 0
-PrintsAll text old now ended = ((ended ≡ Ok tt) × AddsAll old now text) ⊎ ((ended ≡ Err Write) × AddsFront old now text)
+abbrev pub PrintsAll : List ℕ → Option Written → Option Written → Result (Unit {0}) Fault → Type 0
+PrintsAll text old now ended = ((ended ≡ Ok tt) × Wrote old now text true) ⊎ ((ended ≡ Err Write) × Wrote old now text false)
 
 -- ---- how a run ends
 
--- the sink took a whole text and the status is that of the end, or it failed, took a front of the text, and the status is 4
-abbrev pub Took : Result (Unit {0}) Fault → List ℕ → Option (List ℕ) → Option (List ℕ) → ℕ → Type 0
-Took ended text old now status = ((status ≡ ending_status ended) × AddsAll old now text) ⊎ ((status ≡ 4) × AddsFront old now text)
-
--- the fault line of a command that ended so, unless the sink has failed already
-abbrev pub Closes : Result (Unit {0}) Fault → Option (List ℕ) → Option (List ℕ) → ℕ → Type 0
-Closes ended old now status =
-    ((ended ≡ Err Write) × (status ≡ 4) × (now ≡ old)) ⊎ ((ended ≢ Err Write) × Took ended (ending_line ended) old now status)
+-- the whole text was handed on and the status is that of the end, or the sink failed, took a front of the text, and the status is 4
+abbrev pub Took : Result (Unit {0}) Fault → List ℕ → Option Written → Option Written → ℕ → Type 0
+Took ended text old now status = ((status ≡ ending_status ended) × HandsOn old now text) ⊎ ((status ≡ 4) × Wrote old now text false)
 
 -- a run prints what its command prints, and behind that the fault line, if any
-abbrev pub Prints : Option Command → Option Told → Option (List ℕ) → Option (List ℕ) → ℕ → Type 0
+abbrev pub Prints : Option Command → Option Told → Option Written → Option Written → ℕ → Type 0
 Prints command told old now status =
     (verdict : Verdict) × IsVerdict told command verdict × (ended : Result (Unit {0}) Fault) × (printed : List ℕ)
     × Ends command verdict ended printed × Took ended (printed ++ ending_line ended) old now status
 
 -- the verdict is that the command is done, and its whole text was printed
-abbrev pub Reports : Option Command → Option Told → Option (List ℕ) → Option (List ℕ) → Type 0
+abbrev pub Reports : Option Command → Option Told → Option Written → Option Written → Type 0
 Reports command told old now =
-    (verdict : Verdict) × IsVerdict told command verdict × (verdict.ending ≡ Ok tt) × AddsAll old now verdict.text
+    (verdict : Verdict) × IsVerdict told command verdict × (verdict.ending ≡ Ok tt) × HandsOn old now verdict.text
 
 -- the status of a run that something from outside ended early
 abbrev pub IsEarlyStatus : Option Command → ℕ → Type 0
@@ -97,7 +87,7 @@ HasGiven command told now status =
 -- ---- of the steps
 
 -- the lines of all events; want of memory comes between two events, and the sink fails in a line
-abbrev pub AddsLines : List ℕ → Option (List ℕ) → Option (List ℕ) → Result (Unit {0}) StepError → Type 0
-AddsLines lines old now (Ok x) = AddsAll old now lines
-AddsLines lines old now (Err step.NoMemory) = (printed : List ℕ) × IsFront printed lines × AddsAll old now printed
-AddsLines lines old now (Err step.WriteFault) = AddsFront old now lines
+abbrev pub AddsLines : List ℕ → Option Written → Option Written → Result (Unit {0}) StepError → Type 0
+AddsLines lines old now (Ok x) = Wrote old now lines true
+AddsLines lines old now (Err step.NoMemory) = (printed : List ℕ) × IsFront printed lines × Wrote old now printed true
+AddsLines lines old now (Err step.WriteFault) = Wrote old now lines false

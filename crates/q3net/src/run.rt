@@ -1,23 +1,25 @@
 //! The top call: does all that the program does.
 
-ghost use Rattle.std.specs.Prelude.{◌≡◌, ℕ, [], ◌∷◌, ◌⊎◌, ◌+◌, ◌<◌, ◌≤◌, All, length, map, Some, IsNone, IfOk};
+ghost use Rattle.std.specs.Prelude.{◌≡◌, ℕ, [], ◌∷◌, ◌⊎◌, ◌+◌, ◌<◌, ◌≤◌, All, length, map, Some, IsNone, IsOk, IfOk};
 ghost use Rattle.std.specs.List.{flat_map};
 ghost use Rattle.std.specs.String.{string_bytes};
 ghost use Rattle.q3_profile.specs.declared.profile.Profile.{Profile as ProfileValue};
 ghost use Rattle.q3_profile.specs.Profile.{IsProfile};
 ghost use Rattle.q3_script.specs.Script.{most_events};
 ghost use Rattle.q3_script.specs.Grammar.{IsReplayEvent};
-ghost use Rattle.q3_io.specs.Faults.{Rose};
+ghost use Rattle.q3_io.specs.Faults.{HasCause, Rose};
+ghost use Rattle.q3_io.specs.Written.{Adds, NothingWaits};
 ghost use Rattle.q3_world.specs.Outcome.{HasStepCause};
+ghost use Rattle.q3_world.specs.Kept.{most_datagrams};
 ghost use Rattle.q3_world.specs.World.{Whole, answers};
 ghost use Rattle.q3_world.specs.StandsFor.{StandsFor};
 ghost use Rattle.q3_world.specs.Report.{answer_text};
 ghost use Rattle.q3net.specs.Command.{Replay, command_of, files_of};
 ghost use Rattle.q3net.specs.Faults.{ReadCause, WriteCause};
-ghost use Rattle.q3net.specs.Lines.{ending_status};
+ghost use Rattle.q3net.specs.Lines.{ending_line, ending_status};
 ghost use Rattle.q3net.specs.Input.{Gives, LooksUpFirst, names_given};
 ghost use Rattle.q3net.specs.Verdict.{GetsFrom, profile_in, events_in, with_events};
-ghost use Rattle.q3net.specs.Run.{PrintsAll, Executes, Closes, Prints, Reports, IsDecided, IsComplete, HasGiven, AddsLines};
+ghost use Rattle.q3net.specs.Run.{PrintsAll, Executes, Took, Prints, Reports, IsDecided, IsComplete, HasGiven, AddsLines};
 
 use crate::command::{Command, parse};
 use crate::fault::Fault;
@@ -69,6 +71,7 @@ pub fn run<F: Files, O: Sink>(alloc: Global, words: &[String], files: &mut F, ou
     ensures complete { ¬ Rose (F.faults files.old) (F.faults files.new) → ¬ Rose (O.faults out.old) (O.faults out.new)
         → IsComplete (command_of (map string_bytes words.now)) (F.told files.old) result }
 {
+    q3_io::laws::texts_follow();
     let ended = execute(alloc, words, files, out);
     end(ended, out)
 }
@@ -87,6 +90,7 @@ fn execute<F: Files, O: Sink>(
     ensures read_cause { ReadCause (F.faults files.old) (F.faults files.new) result }
     ensures write_cause { WriteCause (O.faults out.old) (O.faults out.new) result }
 {
+    q3_io::laws::texts_follow();
     match parse(words) {
         None => Err(Fault::Usage),
         Some(Command::Help) => print(HELP, out),
@@ -95,20 +99,32 @@ fn execute<F: Files, O: Sink>(
     }
 }
 
-/// Prints the fault line of a run that ended early, and answers the status.
+/// Prints the fault line of a run that ended early, hands on all that waits, and answers the status.
 pub(crate) fn end<O: Sink>(ended: Result<(), Fault>, out: &mut O) -> u8
-    ensures closes { Closes ended (O.written out.old) (O.written out.new) result }
+    ensures took { Took ended (ending_line ended) (O.written out.old) (O.written out.new) result }
     ensures status { ((result ≡ ending_status ended) × (O.faults out.new ≡ O.faults out.old))
         ⊎ ((result ≡ 4) × (O.faults out.old ≤ O.faults out.new) × Rose (O.faults out.old) (O.faults out.new)) }
 {
+    if close(ended, out).is_err() {
+        return Fault::Write.status();
+    }
     match ended {
         Ok(()) => 0,
-        Err(Fault::Write) => 4,
-        Err(fault) => match fault.print(out) {
-            Ok(()) => fault.status(),
-            Err(Failed) => 4,
-        },
+        Err(fault) => fault.status(),
     }
+}
+
+/// Prints the fault line, if any, and hands on all that waits.
+fn close<O: Sink>(ended: Result<(), Fault>, out: &mut O) -> Result<(), Failed>
+    ensures adds { Adds (O.written out.old) (O.written out.new) (ending_line ended) result }
+    ensures flushed { IsOk result → NothingWaits (O.written out.new) }
+    ensures cause { HasCause (O.faults out.old) (O.faults out.new) result }
+{
+    q3_io::laws::texts_follow();
+    if let Err(fault) = ended {
+        fault.print(out)?;
+    }
+    out.flush()
 }
 
 /// Prints a text of the program's own.
@@ -133,6 +149,7 @@ fn replay<F: Files, O: Sink>(
     ensures read_cause { ReadCause (F.faults files.old) (F.faults files.new) result }
     ensures write_cause { WriteCause (O.faults out.old) (O.faults out.new) result }
 {
+    q3_io::laws::texts_follow();
     let profile = load_profile(alloc, profile, files)?;
     let events = load_events(alloc, script, files)?;
     let mut world = World::new(alloc, &profile)?;
@@ -173,12 +190,13 @@ fn step_all<F: Files, O: Sink>(
     out: &mut O,
 ) -> Result<(), StepError>
     requires events { All IsReplayEvent events.now }
-    requires few { length world.old.datagrams + length events.now < 4294967295 }
+    requires few { length world.old.datagrams + length events.now < most_datagrams }
     ensures adds { (profile : ProfileValue) (whole : Whole) → StandsFor profile world.old whole
         → AddsLines (flat_map answer_text (answers profile whole events.now)) (O.written out.old) (O.written out.new) result }
     ensures cause { HasStepCause (O.faults out.old) (O.faults out.new) result }
     ensures files { files.new ≡ files.old }
 {
+    q3_io::laws::texts_follow();
     for event in events {
         world.step(event, files, out)?;
     }

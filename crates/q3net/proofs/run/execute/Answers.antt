@@ -6,7 +6,7 @@ use Rattle.q3net.proofs.run.execute.Goals as goal
 
 pub returns-in-None-clause-executes : goal.returns-in-None-clause-executes
 returns-in-None-clause-executes g c =
-    rw (← c.in-None.ensures) (none_executes (g.F.Files.told c.args.files.now) (g.O.Sink.written c.args.out.now))
+    rw (← c.in-None.ensures) (none_executes c.texts_follow.ensures (g.F.Files.told c.args.files.now) (g.O.Sink.written c.args.out.now))
 
 pub returns-in-Some-Help-clause-executes : goal.returns-in-Some-Help-clause-executes
 unfolding help_text

@@ -11,7 +11,7 @@ use Rattle.q3net.proofs.run.replay.Goals as goal
 pub returns-in_err-profile-clause-executes : goal.returns-in_err-profile-clause-executes
 returns-in_err-profile-clause-executes g c =
     let p = err_from_is_err_and c.from_residual.result c.from_residual.ensures.1 in
-    rw (p.1, p.2) (profile_ended (g.F.Files.told c.args.files.now) c.args.profile.now c.args.script.now (g.O.Sink.written c.args.out.now) c.in_err-profile.field-0.0 c.in_err-profile.ensures.gets)
+    rw (p.1, p.2) (profile_ended c.texts_follow.ensures (g.F.Files.told c.args.files.now) c.args.profile.now c.args.script.now (g.O.Sink.written c.args.out.now) c.in_err-profile.field-0.0 c.in_err-profile.ensures.gets)
 
 pub returns-in_err-profile-clause-gives : goal.returns-in_err-profile-clause-gives
 returns-in_err-profile-clause-gives g c =
@@ -22,7 +22,7 @@ returns-in_err-profile-clause-gives g c =
 pub returns-in_err-events-clause-executes : goal.returns-in_err-events-clause-executes
 returns-in_err-events-clause-executes g c =
     let p = err_from_is_err_and c.from_residual-in_err-events.result c.from_residual-in_err-events.ensures.1 in
-    rw (p.1, p.2) (events_ended (g.F.Files.told c.args.files.now) (g.F.Files.told c.load_profile.new.files) c.args.profile.now c.args.script.now c.in_ok-profile.profile (g.O.Sink.written c.args.out.now) c.in_err-events.field-0.0
+    rw (p.1, p.2) (events_ended c.texts_follow.ensures (g.F.Files.told c.args.files.now) (g.F.Files.told c.load_profile.new.files) c.args.profile.now c.args.script.now c.in_ok-profile.profile (g.O.Sink.written c.args.out.now) c.in_err-events.field-0.0
     c.in_ok-profile.ensures.gets c.in_ok-profile.ensures.gives c.in_err-events.ensures.gets)
 
 pub returns-in_err-events-clause-gives : goal.returns-in_err-events-clause-gives
@@ -36,7 +36,7 @@ returns-in_err-world-clause-executes g c =
     let p = err_from_is_err_and c.from_residual-in_err-world.result c.from_residual-in_err-world.ensures.1 in
     let read = both_read (g.F.Files.told c.args.files.now) (g.F.Files.told c.load_profile.new.files) c.args.profile.now c.args.script.now c.in_ok-profile.profile c.in_ok-events.events.items
     c.in_ok-profile.ensures.gets c.in_ok-profile.ensures.gives c.in_ok-events.ensures.gets in
-    rw (p.1, p.2) (memory_ended (g.F.Files.told c.args.files.now) c.args.profile.now c.args.script.now c.in_ok-profile.profile c.in_ok-events.events.items (g.O.Sink.written c.args.out.now) read)
+    rw (p.1, p.2) (memory_ended c.texts_follow.ensures (g.F.Files.told c.args.files.now) c.args.profile.now c.args.script.now c.in_ok-profile.profile c.in_ok-events.events.items (g.O.Sink.written c.args.out.now) read)
 
 pub step_all-requires-clause-few : goal.step_all-requires-clause-few
 step_all-requires-clause-few g c =
@@ -48,15 +48,15 @@ returns-in_err-step_all-clause-executes g c =
     let read = both_read (g.F.Files.told c.args.files.now) (g.F.Files.told c.load_profile.new.files) c.args.profile.now c.args.script.now c.in_ok-profile.profile c.in_ok-events.events.items
     c.in_ok-profile.ensures.gets c.in_ok-profile.ensures.gives c.in_ok-events.ensures.gets in
     rw (p.1, p.2) (steps_ended (g.F.Files.told c.args.files.now) c.args.profile.now c.args.script.now c.in_ok-profile.profile c.in_ok-events.events.items (g.O.Sink.written c.args.out.now)
-    (g.O.Sink.written c.step_all.new.out) c.in_err-step_all.field-0.0 read (subst (λ (events : List Event). AddsLines (lines_of c.in_ok-profile.profile opening events) (g.O.Sink.written c.args.out.now) (g.O.Sink.written c.step_all.new.out) (Err c.in_err-step_all.field-0.0))
-    c.deref.ensures.value (c.in_err-step_all.ensures.adds c.in_ok-profile.profile opening c.in_ok-world.ensures.stands)))
+    (g.O.Sink.written c.step_all.new.out) c.in_err-step_all.field-0.0 read (subst (λ (events : List Event). AddsLines (lines_of c.in_ok-profile.profile (opening c.in_ok-profile.profile) events) (g.O.Sink.written c.args.out.now) (g.O.Sink.written c.step_all.new.out) (Err c.in_err-step_all.field-0.0))
+    c.deref.ensures.value (c.in_err-step_all.ensures.adds c.in_ok-profile.profile (opening c.in_ok-profile.profile) c.in_ok-world.ensures.stands)))
 
 pub returns-clause-executes : goal.returns-clause-executes
 returns-clause-executes g c =
     let read = both_read (g.F.Files.told c.args.files.now) (g.F.Files.told c.load_profile.new.files) c.args.profile.now c.args.script.now c.in_ok-profile.profile c.in_ok-events.events.items
     c.in_ok-profile.ensures.gets c.in_ok-profile.ensures.gives c.in_ok-events.ensures.gets in
     steps_done (g.F.Files.told c.args.files.now) c.args.profile.now c.args.script.now c.in_ok-profile.profile c.in_ok-events.events.items (g.O.Sink.written c.args.out.now)
-    (g.O.Sink.written c.step_all.new.out) read (rw c.deref.ensures.value at (c.in_ok-step_all.ensures.adds c.in_ok-profile.profile opening c.in_ok-world.ensures.stands))
+    (g.O.Sink.written c.step_all.new.out) read (rw c.deref.ensures.value at (c.in_ok-step_all.ensures.adds c.in_ok-profile.profile (opening c.in_ok-profile.profile) c.in_ok-world.ensures.stands))
 
 pub returns-in_err-step_all-clause-gives : goal.returns-in_err-step_all-clause-gives
 returns-in_err-step_all-clause-gives g c =
