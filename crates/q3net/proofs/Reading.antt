@@ -1,12 +1,11 @@
 -- Reading a file piece by piece.
-use Rattle.std.proofs.Common.{◌≡◌, ℕ, ◌+◌, ◌<◌, ◌≤◌, List, [], ◌++◌, length, take, drop, Option, Some, None, Ok, Err, refl, sym, ap, subst, ◌∙◌, inl, inr, arith}
-use Rattle.std.specs.Prelude.{◌⊎◌}
+use Rattle.std.proofs.Common.{◌≡◌, ℕ, ◌+◌, ◌<◌, ◌≤◌, List, [], ◌++◌, length, take, drop, Option, Some, None, Result, Ok, Err, refl, sym, ap, subst, ◌∙◌, inl, inr, arith}
+use Rattle.std.specs.Prelude.{◌⊎◌, true, false, IsSome, unwrap_or}
 use Rattle.std.proofs.lemmas.List.{take_all, take-append-drop, length-take, length-drop, length-append, take_at, append-nil}
-use Rattle.std.proofs.Math.Seq.{take-add}
-use Rattle.q3_io.specs.Told.{Told, Gives, ReadsAt, contents_at, after_asked}
-use Rattle.q3_io.specs.declared.sink.Failed.{Failed}
-use Rattle.q3net.specs.Input.{ReadsPieces}
-use Rattle.q3net.specs.declared.input.InputError.{InputError}
+use Rattle.std.proofs.Math.Seq.{take-add, get_or-append_seam}
+use Rattle.q3_io.specs.Told.{Told, Lookup, LooksUp, Gives, ReadsAt, contents_of, contents_at, after_asked, after_given, after_named}
+use Rattle.q3net.specs.Input.{ReadsFile, ReadsPieces, ReadsWhole}
+use Rattle.q3net.specs.declared.fault.Fault.{Fault}
 
 -- what was read is the front of the file, and only what was asked for has changed
 abbrev pub HasRead : Option Told → Option Told → ℕ → List ℕ → Type 0
@@ -60,7 +59,7 @@ HasRead-more (Some told) (Some now) next file bytes before after count has reads
 pub HasRead-end : (most : ℕ) (start now next : Option Told) (file : ℕ) (bytes before after : List ℕ) (count : ℕ) → 0 < length before → count ≡ 0
     → HasRead start now file bytes → ReadsAt now next file (length bytes) before after (Ok count)
     → ReadsPieces most file start next (Ok bytes)
-HasRead-end most None None next file bytes before after count some none has reads = reads
+HasRead-end most None None next file bytes before after count some none has reads = (reads, bytes, ([], append-nil bytes, λ le. refl))
 HasRead-end most None (Some now) next file bytes before after count some none has reads = absurd cc
 HasRead-end most (Some told) None next file bytes before after count some none has reads = absurd (let e = has.1 in cc)
 HasRead-end most (Some told) (Some now) next file bytes before after count some none has reads =
@@ -77,7 +76,7 @@ HasRead-end most (Some told) (Some now) next file bytes before after count some 
 -- more than the limit
 pub HasRead-long : (most : ℕ) (start now : Option Told) (file : ℕ) (bytes : List ℕ) → most < length bytes
     → HasRead start now file bytes → ReadsPieces most file start now (Ok bytes)
-HasRead-long most None now file bytes long has = has
+HasRead-long most None now file bytes long has = (has, bytes, ([], append-nil bytes, λ le. refl))
 HasRead-long most (Some told) now file bytes long has = (
   has.0,
   has.1,
@@ -88,33 +87,32 @@ HasRead-long most (Some told) now file bytes long has = (
   ),
 )
 
--- a fault
-pub HasRead-fault : (most : ℕ) (start now next : Option Told) (file : ℕ) (bytes before after : List ℕ) (d : Failed) (e : InputError)
-    → HasRead start now file bytes → ReadsAt now next file (length bytes) before after (Err d)
-    → ReadsPieces most file start next (Err e)
-HasRead-fault most None None next file bytes before after d e has reads = reads
-HasRead-fault most None (Some now) next file bytes before after d e has reads = absurd cc
-HasRead-fault most (Some told) None next file bytes before after d e has reads = absurd (let h = has.1 in cc)
-HasRead-fault most (Some told) (Some now) next file bytes before after d e has reads =
-    let is : now ≡ record told { asked = has.0 } = same_told now (record told { asked = has.0 }) has.1 in
-    elim reads [
-      | inl same ↦ (has.0, same ∙ ap (λ (t : Told). Some t) is, tt)
-      | inr more ↦ (
-        (after_asked now file (length before)).asked,
-        more ∙ ap (λ (t : Told). Some (record t { asked = (after_asked now file (length before)).asked })) is,
-        tt,
-      )
-    ]
+-- ---- a file by its name
 
--- only what was asked for has changed
-without : (most : ℕ) (start now : Option Told) (file : ℕ) (bytes : List ℕ) (e : InputError) → HasRead start now file bytes
-    → ReadsPieces most file start now (Err e)
-without most None now file bytes e has = has
-without most (Some told) now file bytes e has = (has.0, has.1, tt)
+-- the number that a name is given stands for it
+given_name : (told : Told) (name : List ℕ) → contents_at (after_given (after_named told name Lookup) name) (length told.numbers) ≡ unwrap_or (contents_of told.files name) []
+given_name told name = ap (λ (n : List ℕ). unwrap_or (contents_of told.files n) []) (get_or-append_seam told.numbers name [] [])
 
--- want of memory
-pub HasRead-memory : (most : ℕ) (start now next : Option Told) (file : ℕ) (bytes before after : List ℕ) (count : ℕ) (e : InputError)
-    → HasRead start now file bytes → ReadsAt now next file (length bytes) before after (Ok count)
-    → ReadsPieces most file start next (Err e)
-HasRead-memory most start now next file bytes before after count e has reads =
-    without most start next file (bytes ++ take count after) e (HasRead-more start now next file bytes before after count has reads)
+some_held : (found : Option (List ℕ)) → IsSome found → found ≡ Some (unwrap_or found [])
+some_held None is = absurd (let e : false ≡ true = is in cc)
+some_held (Some x) is = refl
+
+read_told : (most : ℕ) (told : Told) (file : ℕ) (name : List ℕ) (result : Result (List ℕ) Fault) → IsSome (contents_of told.files name)
+    → ReadsWhole most (unwrap_or (contents_of told.files name) []) result → ReadsFile most name (Some told) result
+read_told most told file name (Ok bytes) is reads = (unwrap_or (contents_of told.files name) [], some_held (contents_of told.files name) is, reads)
+read_told most told file name (Err e) is reads = reads
+
+read_any : (most : ℕ) (contents : List ℕ) (name : List ℕ) (result : Result (List ℕ) Fault) → ReadsWhole most contents result → ReadsFile most name None result
+read_any most contents name (Ok bytes) reads = (contents, tt, reads)
+read_any most contents name (Err e) reads = reads
+
+pub file_read : (most : ℕ) (told mid now : Option Told) (file : ℕ) (name : List ℕ) (result : Result (List ℕ) Fault) → LooksUp told mid name (Ok file)
+    → ReadsPieces most file mid now result → ReadsFile most name told result
+file_read most None None now file name result looks reads = read_any most reads.1 name result reads.2
+file_read most None (Some mid) now file name result looks reads = absurd cc
+file_read most (Some told) None now file name result looks reads = absurd (let e = looks.2 in cc)
+file_read most (Some told) (Some mid) now file name result looks reads =
+    let is : mid ≡ after_given (after_named told name Lookup) name = same_told mid (after_given (after_named told name Lookup) name) looks.2 in
+    let contents : contents_at mid file ≡ unwrap_or (contents_of told.files name) [] =
+    ap (λ (t : Told). contents_at t file) is ∙ (ap (λ (n : ℕ). contents_at (after_given (after_named told name Lookup) name) n) looks.1 ∙ given_name told name) in
+    read_told most told file name result looks.0 (subst (λ (c : List ℕ). ReadsWhole most c result) contents reads.2)

@@ -1,182 +1,142 @@
--- How a replay of a script by a profile ends, and what reading a profile answers.
-use Rattle.std.proofs.Common.{◌≡◌, ℕ, ◌<◌, List, [], ◌++◌, length, Option, Some, None, Result, Ok, Err, refl, sym, ap, subst, ◌∙◌, inl, inr, arith}
+-- How a replay ends.
+use Rattle.std.proofs.Common.{◌≡◌, ℕ, List, [], ◌∷◌, length, Option, Some, None, Result, Ok, Err, refl, sym, ap, subst, ◌∙◌, inl, inr}
 use Rattle.std.specs.Prelude.{◌⊎◌}
-use Rattle.std.proofs.lemmas.List.{append-nil, length-append}
-use Rattle.std.proofs.lemmas.Bool.{cases_lt, lt-ltb}
 use Rattle.q3_profile.specs.declared.profile.Profile.{Profile}
-use Rattle.q3_profile.specs.declared.error.ProfileError.{ProfileError}
-use Rattle.q3_profile.specs.declared.error.ProfileError.TheVariants as profile
-use Rattle.q3_profile.specs.Profile.{longest_profile, checked}
+use Rattle.q3_bits.specs.ResultBind.{◌>>=◌}
 use Rattle.q3_script.specs.declared.event.Event.{Event}
-use Rattle.q3_script.specs.declared.cause.ScriptKind.TheVariants as kinds
-use Rattle.q3_script.specs.declared.cause.ScriptError.{ScriptError}
-use Rattle.q3_script.specs.declared.cause.ScriptError.TheVariants as script
-use Rattle.q3_script.specs.Script.{Reads as ReadsScript, script_at, longest_script}
+use Rattle.q3_io.specs.Laws.{TextsFollow}
+use Rattle.q3_io.specs.Written.{Written}
+use Rattle.q3_io.specs.Told.{File, Told, contents_of}
 use Rattle.q3_world.specs.declared.world.StepError.{StepError}
 use Rattle.q3_world.specs.declared.world.StepError.TheVariants as step
-use Rattle.q3_io.specs.Written.{Adds}
-use Rattle.q3_io.specs.Told.{Told, contents_of}
 use Rattle.q3_world.specs.Kept.{Kept}
 use Rattle.q3_world.specs.World.{opening}
 use Rattle.q3_world.specs.StandsFor.{StandsFor}
 use Rattle.q3_world.specs.Report.{report}
-use Rattle.q3net.specs.declared.input.InputError.{InputError}
-use Rattle.q3net.specs.declared.input.InputError.TheVariants as input
 use Rattle.q3net.specs.declared.fault.Fault.{Fault}
 use Rattle.q3net.specs.declared.fault.Fault.TheVariants as faults
-use Rattle.q3net.specs.Input.{Reads, ReadsFront}
-use Rattle.q3net.specs.Faults.{input_fault, profile_fault, script_fault, step_fault}
-use Rattle.q3net.specs.Run.{read_replay, report_of, Replays, ReplaysFile, ScriptTold, ScriptAdded, Loads, LoadsFile, LoadsTold}
+use Rattle.q3net.specs.Command.{Replay}
+use Rattle.q3net.specs.Faults.{Gets, step_fault}
+use Rattle.q3net.specs.Input.{Holds, LooksUpTold, Gives}
+use Rattle.q3net.specs.Verdict.{IsVerdict, settled, profile_in, events_in, replayed, GetsFrom}
+use Rattle.q3net.specs.Run.{AddsLines, Stops, Executes}
+use Rattle.q3net.proofs.Loading.{held}
+use Rattle.q3net.proofs.Looking.{gave}
 use Rattle.q3net.proofs.Stepping.{lines_of}
 
-abbrev some : List ℕ → Option (List ℕ)
-some xs = Some xs
+-- a part that answered well answered what its input says
+got_ok : {A : Type 0} (said : Result A Fault) (x : A) → Gets said (Ok x) → said ≡ Ok x
+got_ok said x gets = elim gets [ inl is ↦ sym is | inr outside ↦ absurd (elim outside [ inl e ↦ (cc) | inr e ↦ (cc) ]) ]
 
--- a front that is longer than a script may be says what the whole says
-pub front_reads : (contents bytes : List ℕ) → ReadsFront longest_script contents bytes → read_replay bytes ≡ read_replay contents
-unfolding script_at
-front_reads contents bytes front =
-    elim (cases_lt longest_script (length bytes)) [
-      | inl long ↦
-          let longer : longest_script < length contents = omega (arith, long, length-append bytes front.0, ap length front.1) in
-          rw (lt-ltb longest_script (length bytes) long, lt-ltb longest_script (length contents) longer) refl
-      | inr short ↦
-          let whole : bytes ≡ contents = sym (append-nil bytes) ∙ (ap (λ (z : List ℕ). bytes ++ z) (sym (front.2 short)) ∙ front.1) in
-          ap (λ (z : List ℕ). script_at kinds.Replay z) whole
+-- the first part that its input ends, or the text
+no_profile : (profile script : Option (List ℕ)) (e : Fault) → profile_in profile ≡ Err e → replayed profile script ≡ Err e
+no_profile profile script e is = ap (λ (says : Result Profile Fault). says >>= (λ by. events_in script >>= (λ events. Ok (report by events)))) is
+
+no_events : (profile script : Option (List ℕ)) (by : Profile) (e : Fault) → profile_in profile ≡ Ok by → events_in script ≡ Err e → replayed profile script ≡ Err e
+no_events profile script by e passes is =
+    ap (λ (says : Result Profile Fault). says >>= (λ by. events_in script >>= (λ events. Ok (report by events)))) passes
+    ∙ ap (λ (says : Result (List Event) Fault). says >>= (λ events. Ok (report by events))) is
+
+all_said : (profile script : Option (List ℕ)) (by : Profile) (events : List Event) → profile_in profile ≡ Ok by → events_in script ≡ Ok events
+    → replayed profile script ≡ Ok (report by events)
+all_said profile script by events passes is =
+    ap (λ (says : Result Profile Fault). says >>= (λ by. events_in script >>= (λ events. Ok (report by events)))) passes
+    ∙ ap (λ (says : Result (List Event) Fault). says >>= (λ events. Ok (report by events))) is
+
+-- the input ended a replay before anything was printed
+refused : (follow : TextsFollow) (told : Option Told) (profile script : List ℕ) (old : Option Written) (p s : Option (List ℕ)) (e : Fault) → Holds told profile p → Holds told script s
+    → replayed p s ≡ Err e → Executes (Some (Replay profile script)) told old old (Err e)
+refused follow told profile script old p s e of_p of_s says =
+    (settled (Err e), (p, s, of_p, of_s, sym (ap settled says)), inl ([], inl (refl, refl), follow.none))
+
+stops : (e : Fault) (text : List ℕ) → (e ≡ faults.NoMemory) ⊎ (e ≡ faults.Read) → Stops e [] text
+stops e text outside =
+    elim outside [
+      | inl memory ↦ subst (λ (d : Fault). Stops d [] text) (sym memory) (text, refl)
+      | inr read ↦ subst (λ (d : Fault). Stops d [] text) (sym read) refl
     ]
 
-pub nothing_added : (profile : Profile) (told : Option Told) (name : List ℕ) (a : Option (List ℕ)) (ended : Result (Unit {0}) Fault)
-    → ScriptTold profile told name ended [] → ScriptAdded profile told name a a ended
-nothing_added profile told name None ended h = refl
-nothing_added profile told name (Some had) ended h = ([], h, ap (λ (z : List ℕ). some z) (sym (append-nil had)))
+-- something from outside did
+stopped : (follow : TextsFollow) (told : Option Told) (profile script : List ℕ) (old : Option Written) (p s : Option (List ℕ)) (e : Fault) → Holds told profile p → Holds told script s
+    → (e ≡ faults.NoMemory) ⊎ (e ≡ faults.Read) → Executes (Some (Replay profile script)) told old old (Err e)
+stopped follow told profile script old p s e of_p of_s outside =
+    (settled (replayed p s), (p, s, of_p, of_s, refl), inl ([], inr (tt, e, refl, stops e (settled (replayed p s)).text outside), follow.none))
 
--- no script was read
-file_ended : (profile : Profile) (found : Option (List ℕ)) (e : InputError) → ReplaysFile profile found (Err (input_fault e)) []
-file_ended profile None input.NoMemory = (tt, refl)
-file_ended profile None input.Fault = (tt, refl)
-file_ended profile (Some bytes) input.NoMemory = (report_of profile (read_replay bytes), refl)
-file_ended profile (Some bytes) input.Fault = refl
+-- a part ended it early
+part_ended : {A : Type 0} (follow : TextsFollow) (told : Option Told) (profile script : List ℕ) (old : Option Written) (p s : Option (List ℕ)) (e : Fault) (said : Result A Fault)
+    → Holds told profile p → Holds told script s → (said ≡ Err e → replayed p s ≡ Err e) → Gets said (Err e)
+    → Executes (Some (Replay profile script)) told old old (Err e)
+part_ended follow told profile script old p s e said of_p of_s so gets =
+    elim gets [
+      | inl is ↦ refused follow told profile script old p s e of_p of_s (so (sym is))
+      | inr outside ↦ stopped follow told profile script old p s e of_p of_s (elim outside [ inl memory ↦ inl (cc) | inr read ↦ inr (cc) ])
+    ]
 
-pub input_ended : (profile : Profile) (told : Option Told) (name : List ℕ) (a : Option (List ℕ)) (e : InputError) → ScriptAdded profile told name a a (Err (input_fault e))
-input_ended profile None name a e = nothing_added profile None name a (Err (input_fault e)) tt
-input_ended profile (Some told) name a e = nothing_added profile (Some told) name a (Err (input_fault e)) (file_ended profile (contents_of told.files name) e)
+pub profile_ended : (follow : TextsFollow) (told : Option Told) (profile script : List ℕ) (old : Option Written) (e : Fault) → GetsFrom profile_in told profile (Err e)
+    → Executes (Some (Replay profile script)) told old old (Err e)
+profile_ended follow told profile script old e gets =
+    let s = held told script in
+    part_ended follow told profile script old gets.0 s.0 e (profile_in gets.0) gets.1 s.1 (no_profile gets.0 s.0 e) gets.2
 
--- of a script that was read
-of_contents : (profile : Profile) (told now : Option Told) (name bytes printed : List ℕ) (ended : Result (Unit {0}) Fault) → Reads longest_script name told now (Ok bytes)
-    → ((contents : List ℕ) → read_replay bytes ≡ read_replay contents → Replays profile contents ended printed) → ScriptTold profile told name ended printed
-of_contents profile None now name bytes printed ended reads replays = tt
-of_contents profile (Some told) now name bytes printed ended reads replays =
-    subst (λ (found : Option (List ℕ)). ReplaysFile profile found ended printed) (sym reads.2.2)
-    (replays reads.2.1 (front_reads reads.2.1 bytes reads.2.3))
+-- what the files hold isn't changed by a look
+same_held : (told mid : Option Told) (names : List (List ℕ)) (name : List ℕ) (file : Option (List ℕ)) → LooksUpTold told mid names → Holds mid name file → Holds told name file
+same_held None mid names name file looks holds = tt
+same_held (Some told) mid names name file looks holds =
+    let there = subst (λ (m : Option Told). Holds m name file) looks.1 holds in
+    ap (λ (files : List File). contents_of files name) (sym looks.2.files) ∙ there
 
--- a bad script
-script_replays : (profile : Profile) (bytes contents : List ℕ) (e : ScriptError) → ReadsScript (Err e) (read_replay bytes) → read_replay bytes ≡ read_replay contents
-    → Replays profile contents (Err (script_fault e)) []
-script_replays profile bytes contents script.NoMemory reads same = (report_of profile (read_replay contents), refl)
-script_replays profile bytes contents (script.Line line cause) reads same = (sym same ∙ reads, refl)
+pub events_ended : (follow : TextsFollow) (told mid : Option Told) (profile script : List ℕ) (by : Profile) (old : Option Written) (e : Fault) → GetsFrom profile_in told profile (Ok by)
+    → Gives (Ok by) (profile ∷ []) told mid → GetsFrom events_in mid script (Err e) → Executes (Some (Replay profile script)) told old old (Err e)
+events_ended follow told mid profile script by old e passes gives gets =
+    let of_script = same_held told mid (profile ∷ []) script gets.0 (gave by (profile ∷ []) told mid gives) gets.1 in
+    part_ended follow told profile script old passes.0 gets.0 e (events_in gets.0) passes.1 of_script
+    (no_events passes.0 gets.0 by e (got_ok (profile_in passes.0) by passes.2)) gets.2
 
-pub script_ended : (profile : Profile) (told now : Option Told) (name bytes : List ℕ) (a : Option (List ℕ)) (e : ScriptError) → Reads longest_script name told now (Ok bytes)
-    → ReadsScript (Err e) (read_replay bytes) → ScriptAdded profile told name a a (Err (script_fault e))
-script_ended profile told now name bytes a e reads says =
-    nothing_added profile told name a (Err (script_fault e))
-    (of_contents profile told now name bytes [] (Err (script_fault e)) reads (λ contents same. script_replays profile bytes contents e says same))
+-- both files were read
+pub record BothRead (told : Option Told) (profile script : List ℕ) (by : Profile) (events : List Event) : Type 0 where
+  pub of_profile : Option (List ℕ)
+  pub of_script : Option (List ℕ)
+  pub holds_profile : Holds told profile of_profile
+  pub holds_script : Holds told script of_script
+  pub says : replayed of_profile of_script ≡ Ok (report by events)
 
--- the report of a script that spells events
-report_is : (profile : Profile) (contents bytes : List ℕ) (events : List Event) → read_replay bytes ≡ Ok events → read_replay bytes ≡ read_replay contents
-    → lines_of profile opening events ≡ report_of profile (read_replay contents)
+pub both_read : (told mid : Option Told) (profile script : List ℕ) (by : Profile) (events : List Event) → GetsFrom profile_in told profile (Ok by)
+    → Gives (Ok by) (profile ∷ []) told mid → GetsFrom events_in mid script (Ok events) → BothRead told profile script by events
+both_read told mid profile script by events passes gives gets = record {
+  of_profile = passes.0;
+  of_script = gets.0;
+  holds_profile = passes.1;
+  holds_script = same_held told mid (profile ∷ []) script gets.0 (gave by (profile ∷ []) told mid gives) gets.1;
+  says = all_said passes.0 gets.0 by events (got_ok (profile_in passes.0) by passes.2) (got_ok (events_in gets.0) events gets.2);
+}
+
+-- the verdict of what was read
+verdict_of : (told : Option Told) (profile script : List ℕ) (by : Profile) (events : List Event) → BothRead told profile script by events
+    → IsVerdict told (Some (Replay profile script)) (settled (Ok (report by events)))
+verdict_of told profile script by events read = (read.of_profile, read.of_script, read.holds_profile, read.holds_script, ap settled (sym read.says))
+
+pub memory_ended : (follow : TextsFollow) (told : Option Told) (profile script : List ℕ) (by : Profile) (events : List Event) (old : Option Written) → BothRead told profile script by events
+    → Executes (Some (Replay profile script)) told old old (Err faults.NoMemory)
+memory_ended follow told profile script by events old read =
+    (settled (Ok (report by events)), verdict_of told profile script by events read, inl ([], inr (tt, faults.NoMemory, refl, (report by events, refl)), follow.none))
+
+pub steps_ended : (told : Option Told) (profile script : List ℕ) (by : Profile) (events : List Event) (old now : Option Written) (e : StepError)
+    → BothRead told profile script by events → AddsLines (lines_of by (opening by) events) old now (Err e)
+    → Executes (Some (Replay profile script)) told old now (Err (step_fault e))
 unfolding report
-report_is profile contents bytes events spells same = ap (report_of profile) (sym spells ∙ same)
+steps_ended told profile script by events old now step.NoMemory read adds =
+    (settled (Ok (report by events)), verdict_of told profile script by events read, inl (adds.0, inr (tt, faults.NoMemory, refl, adds.1), adds.2))
+steps_ended told profile script by events old now step.WriteFault read adds =
+    (settled (Ok (report by events)), verdict_of told profile script by events read, inr (refl, adds))
 
-step_replays : (profile : Profile) (contents printed rest : List ℕ) (e : StepError) → printed ++ rest ≡ report_of profile (read_replay contents) → Replays profile contents (Err (step_fault e)) printed
-step_replays profile contents printed rest step.NoMemory front = (rest, front)
-step_replays profile contents printed rest step.WriteFault front = (rest, front)
-
--- the steps ended early
-pub steps_ended : (profile : Profile) (told now : Option Told) (name bytes : List ℕ) (events : List Event) (a c : Option (List ℕ)) (e : StepError) → Reads longest_script name told now (Ok bytes)
-    → read_replay bytes ≡ Ok events → Adds {T = Unit {0}} a c (lines_of profile opening events) (Err e) → ScriptAdded profile told name a c (Err (step_fault e))
-steps_ended profile told now name bytes events None c e reads spells adds = adds
-steps_ended profile told now name bytes events (Some had) c e reads spells adds = (
-  adds.0,
-  of_contents profile told now name bytes adds.0 (Err (step_fault e)) reads
-      (λ contents same. step_replays profile contents adds.0 adds.1.0 e (adds.1.1 ∙ report_is profile contents bytes events spells same)),
-  adds.2,
-)
-
--- every step was done
-pub steps_done : (profile : Profile) (told now : Option Told) (name bytes : List ℕ) (events : List Event) (a c : Option (List ℕ)) → Reads longest_script name told now (Ok bytes)
-    → read_replay bytes ≡ Ok events → Adds {T = Unit {0}} {E = StepError} a c (lines_of profile opening events) (Ok tt) → ScriptAdded profile told name a c (Ok tt)
+pub steps_done : (told : Option Told) (profile script : List ℕ) (by : Profile) (events : List Event) (old now : Option Written)
+    → BothRead told profile script by events → AddsLines (lines_of by (opening by) events) old now (Ok tt)
+    → Executes (Some (Replay profile script)) told old now (Ok tt)
 unfolding report
-steps_done profile told now name bytes events None c reads spells adds = adds
-steps_done profile told now name bytes events (Some had) c reads spells adds =
-    (adds.0, of_contents profile told now name bytes adds.0 (Ok tt) reads (λ contents same. (events, sym same ∙ spells, adds.1)), adds.2)
+steps_done told profile script by events old now read adds =
+    (settled (Ok (report by events)), verdict_of told profile script by events read, inl (report by events, inl (refl, refl), adds))
 
 -- a new world has sent nothing
-pub nothing_sent : (profile : Profile) (kept : Kept) → StandsFor profile kept opening → length kept.datagrams ≡ 0
+pub nothing_sent : (profile : Profile) (kept : Kept) → StandsFor profile kept (opening profile) → length kept.datagrams ≡ 0
 unfolding opening
 nothing_sent profile kept stands = ap length stands.datagrams
-
--- ---- the same, where it isn't told what the sink took
-
-pub input_so : (profile : Profile) (told : Option Told) (name : List ℕ) (e : InputError) → (printed : List ℕ) × ScriptTold profile told name (Err (input_fault e)) printed
-input_so profile None name e = ([], tt)
-input_so profile (Some told) name e = ([], file_ended profile (contents_of told.files name) e)
-
-pub script_so : (profile : Profile) (told now : Option Told) (name bytes : List ℕ) (e : ScriptError) → Reads longest_script name told now (Ok bytes)
-    → ReadsScript (Err e) (read_replay bytes) → (printed : List ℕ) × ScriptTold profile told name (Err (script_fault e)) printed
-script_so profile told now name bytes e reads says =
-    ([], of_contents profile told now name bytes [] (Err (script_fault e)) reads (λ contents same. script_replays profile bytes contents e says same))
-
-pub memory_so : (profile : Profile) (told now : Option Told) (name bytes : List ℕ) → Reads longest_script name told now (Ok bytes)
-    → (printed : List ℕ) × ScriptTold profile told name (Err faults.NoMemory) printed
-memory_so profile told now name bytes reads =
-    ([], of_contents profile told now name bytes [] (Err faults.NoMemory) reads (λ contents same. (report_of profile (read_replay contents), refl)))
-
-pub steps_so : (profile : Profile) (told now : Option Told) (name bytes : List ℕ) (e : StepError) → Reads longest_script name told now (Ok bytes)
-    → (printed : List ℕ) × ScriptTold profile told name (Err (step_fault e)) printed
-steps_so profile told now name bytes e reads =
-    ([], of_contents profile told now name bytes [] (Err (step_fault e)) reads (λ contents same. step_replays profile contents [] (report_of profile (read_replay contents)) e refl))
-
-pub done_so : (profile : Profile) (told now : Option Told) (name bytes : List ℕ) (events : List Event) → Reads longest_script name told now (Ok bytes)
-    → read_replay bytes ≡ Ok events → (printed : List ℕ) × ScriptTold profile told name (Ok tt) printed
-done_so profile told now name bytes events reads spells =
-    (report profile events, of_contents profile told now name bytes (report profile events) (Ok tt) reads (λ contents same. (events, sym same ∙ spells, refl)))
-
--- ---- reading a profile
-
--- a front that is longer than a profile may be says what the whole says
-front_checks : (contents bytes : List ℕ) → ReadsFront longest_profile contents bytes → checked bytes ≡ checked contents
-unfolding checked
-front_checks contents bytes front =
-    elim (cases_lt longest_profile (length bytes)) [
-      | inl long ↦
-          let longer : longest_profile < length contents = omega (arith, long, length-append bytes front.0, ap length front.1) in
-          rw (lt-ltb longest_profile (length bytes) long, lt-ltb longest_profile (length contents) longer) refl
-      | inr short ↦
-          let whole : bytes ≡ contents = sym (append-nil bytes) ∙ (ap (λ (z : List ℕ). bytes ++ z) (sym (front.2 short)) ∙ front.1) in
-          rw whole refl
-    ]
-
--- what the contents say, where a profile was read from the bytes or a rule failed
-loads_contents : (contents bytes : List ℕ) (e : ProfileError) → checked bytes ≡ checked contents → (e ≡ profile.NoMemory) ⊎ (checked bytes ≡ Err e)
-    → Loads contents (Err (profile_fault e))
-loads_contents contents bytes profile.NoMemory same says = tt
-loads_contents contents bytes profile.NotToml same says = elim says [ inl none ↦ absurd (let e = none in cc) | inr e ↦ sym same ∙ e ]
-loads_contents contents bytes (profile.Missing key) same says = elim says [ inl none ↦ absurd (let e = none in cc) | inr e ↦ sym same ∙ e ]
-loads_contents contents bytes (profile.Kind key) same says = elim says [ inl none ↦ absurd (let e = none in cc) | inr e ↦ sym same ∙ e ]
-loads_contents contents bytes (profile.Code d) same says = elim says [ inl none ↦ absurd (let e = none in cc) | inr e ↦ sym same ∙ e ]
-loads_contents contents bytes (profile.Width key i) same says = elim says [ inl none ↦ absurd (let e = none in cc) | inr e ↦ sym same ∙ e ]
-loads_contents contents bytes (profile.Fields key) same says = elim says [ inl none ↦ absurd (let e = none in cc) | inr e ↦ sym same ∙ e ]
-loads_contents contents bytes (profile.Limit key) same says = elim says [ inl none ↦ absurd (let e = none in cc) | inr e ↦ sym same ∙ e ]
-
-pub refused_loads : (told now : Option Told) (name bytes : List ℕ) (e : ProfileError) → Reads longest_profile name told now (Ok bytes)
-    → (e ≡ profile.NoMemory) ⊎ (checked bytes ≡ Err e) → LoadsTold told name (Err (profile_fault e))
-refused_loads None now name bytes e reads says = tt
-refused_loads (Some told) now name bytes e reads says =
-    subst (λ (found : Option (List ℕ)). LoadsFile found (Err (profile_fault e))) (sym reads.2.2)
-    (loads_contents reads.2.1 bytes e (front_checks reads.2.1 bytes reads.2.3) says)
-
-pub passed_loads : (told now : Option Told) (name bytes : List ℕ) (by : Profile) → Reads longest_profile name told now (Ok bytes)
-    → checked bytes ≡ Ok by → LoadsTold told name (Ok by)
-passed_loads None now name bytes by reads says = tt
-passed_loads (Some told) now name bytes by reads says =
-    subst (λ (found : Option (List ℕ)). LoadsFile found (Ok by)) (sym reads.2.2) (sym (front_checks reads.2.1 bytes reads.2.3) ∙ says)

@@ -1,15 +1,20 @@
 -- Stepping over the events of a script.
-use Rattle.std.proofs.Common.{◌≡◌, ℕ, ◌+◌, ◌<◌, ◌≤◌, List, [], ◌∷◌, ◌++◌, length, get_or, drop, Option, Some, None, Result, Ok, Err, refl, sym, ap, subst, ◌∙◌, append_assoc}
+use Rattle.std.proofs.Common.{◌≡◌, ℕ, ◌+◌, ◌<◌, ◌≤◌, List, [], ◌∷◌, ◌++◌, length, get_or, drop, Option, Err, refl, sym, ap, subst, ◌∙◌, append_assoc}
+use Rattle.std.specs.Prelude.{true, false}
 use Rattle.std.specs.List.{flat_map}
 use Rattle.std.proofs.lemmas.List.{append-nil, drop_more, drop_all}
 use Rattle.q3_profile.specs.declared.profile.Profile.{Profile}
 use Rattle.q3_script.specs.declared.event.Event.{Event}
 use Rattle.q3_world.specs.declared.world.StepError.{StepError}
-use Rattle.q3_io.specs.Written.{Adds}
+use Rattle.q3_world.specs.declared.world.StepError.TheVariants as errors
+use Rattle.q3_io.specs.Laws.{TextsFollow}
+use Rattle.q3_io.specs.Written.{Written, Wrote}
+use Rattle.q3_world.specs.Outcome.{Prints}
 use Rattle.q3_world.specs.Kept.{Kept}
 use Rattle.q3_world.specs.World.{Whole, step, answers}
 use Rattle.q3_world.specs.StandsFor.{StandsFor}
 use Rattle.q3_world.specs.Report.{answer_text}
+use Rattle.q3net.specs.Run.{AddsLines}
 
 -- the lines of these events' answers
 abbrev pub lines_of : Profile → Whole → List Event → List ℕ
@@ -25,56 +30,19 @@ lines_of-none : (profile : Profile) (whole : Whole) → lines_of profile whole [
 unfolding answers
 lines_of-none profile whole = refl
 
-some_is : (xs ys : List ℕ) → Some xs ≡ Some ys → xs ≡ ys
-some_is xs ys e = cc
-
--- one text behind another, or a front of it
-abbrev AddsAll : Option (List ℕ) → Option (List ℕ) → List ℕ → Type 0
-AddsAll old now text = Adds {T = Unit {0}} {E = StepError} old now text (Ok tt)
-
-Adds-then : (a b c : Option (List ℕ)) (xs ys : List ℕ) (r : Result (Unit {0}) StepError)
-    → AddsAll a b xs → Adds b c ys r → Adds a c (xs ++ ys) r
-Adds-then None None c xs ys r p q = q
-Adds-then None (Some m) c xs ys r p q = absurd cc
-Adds-then (Some had) None c xs ys r p q = absurd (let e = p.2 in cc)
-Adds-then (Some had) (Some m) c xs ys (Ok x) p q =
-    let m_is : m ≡ had ++ p.0 = some_is m (had ++ p.0) p.2 in (
-      p.0 ++ q.0,
-      ap (λ (z : List ℕ). z ++ q.0) p.1 ∙ ap (λ (z : List ℕ). xs ++ z) q.1,
-      q.2 ∙ ap (λ (z : List ℕ). Some z) (ap (λ (z : List ℕ). z ++ q.0) m_is ∙ append_assoc had p.0 q.0),
-    )
-Adds-then (Some had) (Some m) c xs ys (Err e) p q =
-    let m_is : m ≡ had ++ p.0 = some_is m (had ++ p.0) p.2 in (
-      p.0 ++ q.0,
-      (q.1.0, append_assoc p.0 q.0 q.1.0 ∙ (ap (λ (z : List ℕ). p.0 ++ z) q.1.1 ∙ ap (λ (z : List ℕ). z ++ ys) p.1)),
-      q.2 ∙ ap (λ (z : List ℕ). Some z) (ap (λ (z : List ℕ). z ++ q.0) m_is ∙ append_assoc had p.0 q.0),
-    )
-
-Adds-early : (a c : Option (List ℕ)) (xs ys : List ℕ) (e : StepError) → Adds {T = Unit {0}} a c xs (Err e) → Adds {T = Unit {0}} a c (xs ++ ys) (Err e)
-Adds-early None c xs ys e p = p
-Adds-early (Some had) c xs ys e p =
-    (p.0, (p.1.0 ++ ys, sym (append_assoc p.0 p.1.0 ys) ∙ ap (λ (z : List ℕ). z ++ ys) p.1.1), p.2)
-
-Adds-none : (a : Option (List ℕ)) → AddsAll a a []
-Adds-none None = refl
-Adds-none (Some had) = ([], refl, ap (λ (z : List ℕ). Some z) (sym (append-nil had)))
-
 -- the events before the k-th were done and their lines written; the lines of the others are still to come
-abbrev pub HasStepped : Profile → Kept → Kept → Option (List ℕ) → Option (List ℕ) → List Event → ℕ → Type 0
+abbrev pub HasStepped : Profile → Kept → Kept → Option Written → Option Written → List Event → ℕ → Type 0
 HasStepped profile start now had written events k =
     (whole : Whole) → StandsFor profile start whole
     → (next : Whole) × StandsFor profile now next
-    × (done : List ℕ) × AddsAll had written done × (done ++ lines_of profile next (drop k events) ≡ lines_of profile whole events)
+    × (done : List ℕ) × Wrote had written done true × (done ++ lines_of profile next (drop k events) ≡ lines_of profile whole events)
 
-pub HasStepped-none : (profile : Profile) (start : Kept) (had : Option (List ℕ)) (events : List Event) → HasStepped profile start start had had events 0
-HasStepped-none profile start had events = λ whole stands. (whole, stands, [], Adds-none had, refl)
-
-pub HasStepped-more : (profile : Profile) (start now after : Kept) (had written more : Option (List ℕ)) (events : List Event) (k : ℕ) (d : Event) → k < length events
+pub HasStepped-more : (follow : TextsFollow) (profile : Profile) (start now after : Kept) (had written more : Option Written) (events : List Event) (k : ℕ) (d : Event) → k < length events
     → HasStepped profile start now had written events k
     → ((whole : Whole) → StandsFor profile now whole → StandsFor profile after (step profile whole (get_or events k d)).whole)
-    → ((whole : Whole) → StandsFor profile now whole → AddsAll written more (answer_text (step profile whole (get_or events k d)).answer))
+    → ((whole : Whole) → StandsFor profile now whole → Wrote written more (answer_text (step profile whole (get_or events k d)).answer) true)
     → HasStepped profile start after had more events (k + 1)
-HasStepped-more profile start now after had written more events k d lt stepped stands lines = λ whole begun.
+HasStepped-more follow profile start now after had written more events k d lt stepped stands lines = λ whole begun.
     let was = stepped whole begun in
     let event = get_or events k d in
     let text = answer_text (step profile was.0 event).answer in
@@ -82,17 +50,20 @@ HasStepped-more profile start now after had written more events k d lt stepped s
       next,
       stands was.0 was.1,
       was.2 ++ text,
-      Adds-then had written more was.2 text (Ok tt) was.3 (lines was.0 was.1),
+      follow.more was.3 (lines was.0 was.1) refl,
       append_assoc was.2 text (lines_of profile next (drop (k + 1) events))
           ∙ (ap (λ (z : List ℕ). was.2 ++ z) (sym (lines_of-next profile was.0 event (drop (k + 1) events)) ∙ ap (lines_of profile was.0) (sym (drop_more events k d lt))) ∙ was.4),
     )
 
 -- the sink or memory failed at the k-th event
-pub HasStepped-early : (profile : Profile) (start now : Kept) (had written more : Option (List ℕ)) (events : List Event) (k : ℕ) (d : Event) (e : StepError) → k < length events
+pub HasStepped-early : (follow : TextsFollow) (profile : Profile) (start now : Kept) (had written more : Option Written) (events : List Event) (k : ℕ) (d : Event) (e : StepError) → k < length events
     → HasStepped profile start now had written events k
-    → ((whole : Whole) → StandsFor profile now whole → Adds {T = Unit {0}} written more (answer_text (step profile whole (get_or events k d)).answer) (Err e))
-    → (whole : Whole) → StandsFor profile start whole → Adds {T = Unit {0}} had more (lines_of profile whole events) (Err e)
-HasStepped-early profile start now had written more events k d e lt stepped lines whole begun =
+    → ((whole : Whole) → StandsFor profile now whole → Prints written more (answer_text (step profile whole (get_or events k d)).answer) (Err e))
+    → (whole : Whole) → StandsFor profile start whole → AddsLines (lines_of profile whole events) had more (Err e)
+HasStepped-early follow profile start now had written more events k d errors.NoMemory lt stepped lines whole begun =
+    let was = stepped whole begun in
+    (was.2, (lines_of profile was.0 (drop k events), was.4), subst (λ (m : Option Written). Wrote had m was.2 true) (sym (lines was.0 was.1)) was.3)
+HasStepped-early follow profile start now had written more events k d errors.WriteFault lt stepped lines whole begun =
     let was = stepped whole begun in
     let event = get_or events k d in
     let text = answer_text (step profile was.0 event).answer in
@@ -100,15 +71,14 @@ HasStepped-early profile start now had written more events k d e lt stepped line
     let total : (was.2 ++ text) ++ others ≡ lines_of profile whole events =
     append_assoc was.2 text others
     ∙ (ap (λ (z : List ℕ). was.2 ++ z) (sym (lines_of-next profile was.0 event (drop (k + 1) events)) ∙ ap (lines_of profile was.0) (sym (drop_more events k d lt))) ∙ was.4) in
-    subst (λ (z : List ℕ). Adds {T = Unit {0}} had more z (Err e)) total
-    (Adds-early had more (was.2 ++ text) others e (Adds-then had written more was.2 text (Err e) was.3 (lines was.0 was.1)))
+    follow.early others (follow.more was.3 (lines was.0 was.1) refl) (sym total)
 
 -- every event was done
-pub HasStepped-all : (profile : Profile) (start now : Kept) (had written : Option (List ℕ)) (events : List Event) (k : ℕ) → length events ≤ k
+pub HasStepped-all : (profile : Profile) (start now : Kept) (had written : Option Written) (events : List Event) (k : ℕ) → length events ≤ k
     → HasStepped profile start now had written events k
-    → (whole : Whole) → StandsFor profile start whole → AddsAll had written (lines_of profile whole events)
+    → (whole : Whole) → StandsFor profile start whole → Wrote had written (lines_of profile whole events) true
 HasStepped-all profile start now had written events k le stepped whole begun =
     let was = stepped whole begun in
     let total : was.2 ≡ lines_of profile whole events =
     sym (append-nil was.2) ∙ (ap (λ (z : List ℕ). was.2 ++ z) (sym (lines_of-none profile was.0) ∙ ap (lines_of profile was.0) (sym (drop_all k events le))) ∙ was.4) in
-    subst (λ (z : List ℕ). AddsAll had written z) total was.3
+    subst (λ (z : List ℕ). Wrote had written z true) total was.3

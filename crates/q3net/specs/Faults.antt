@@ -1,5 +1,5 @@
 -- Which fault of a run an error of a part is, and when each comes.
-use Rattle.std.specs.Prelude.{◌≡◌, ℕ, ◌≤◌, Result, Err}
+use Rattle.std.specs.Prelude.{◌≡◌, ◌⊎◌, ℕ, ◌≤◌, Result, Err}
 use Rattle.q3_profile.specs.declared.error.ProfileError.{ProfileError}
 use Rattle.q3_profile.specs.declared.error.ProfileError.TheVariants as profile
 use Rattle.q3_script.specs.declared.cause.ScriptError.{ScriptError}
@@ -7,14 +7,8 @@ use Rattle.q3_script.specs.declared.cause.ScriptError.TheVariants as script
 use Rattle.q3_world.specs.declared.world.StepError.{StepError}
 use Rattle.q3_world.specs.declared.world.StepError.TheVariants as step
 use Rattle.q3_io.specs.Faults.{Rose}
-use Rattle.q3net.specs.declared.input.InputError.{InputError}
-use Rattle.q3net.specs.declared.input.InputError.TheVariants as input
 use Rattle.q3net.specs.declared.fault.Fault.{Fault}
 use Rattle.q3net.specs.declared.fault.Fault.TheVariants.{NoMemory, Read, Write, Profile, Script}
-
-abbrev pub input_fault : InputError → Fault
-input_fault input.NoMemory = NoMemory
-input_fault input.Fault = Read
 
 abbrev pub profile_fault : ProfileError → Fault
 profile_fault profile.NoMemory = NoMemory
@@ -27,6 +21,14 @@ script_fault (script.Line line cause) = Script line cause
 abbrev pub step_fault : StepError → Fault
 step_fault step.NoMemory = NoMemory
 step_fault step.WriteFault = Write
+
+-- a part of a run answers what its input says, unless memory runs out or a read fails
+abbrev pub Gets : {A : Type 0} → Result A Fault → Result A Fault → Type 0
+Gets said got = (got ≡ said) ⊎ ((got ≡ Err NoMemory) ⊎ (got ≡ Err Read))
+
+-- something from outside ended a part early
+abbrev pub IsEarly : {A : Type 0} → Result A Fault → Type 0
+IsEarly ended = (ended ≡ Err NoMemory) ⊎ ((ended ≡ Err Read) ⊎ (ended ≡ Err Write))
 
 -- a fault of reading comes only where the files' count rose, one of writing only where the sink's did,
 -- and no fault is passed over

@@ -1,51 +1,69 @@
--- Reading a file whole, up to a limit.
-use Rattle.std.specs.Prelude.{◌≡◌, ◌⊎◌, ℕ, ◌≤◌, List, [], ◌++◌, length, Option, Some, None, Result, Ok, Err}
-use Rattle.q3_io.specs.Told.{Told, Lookup, contents_of, contents_at, after_named}
+-- The files that a run reads: what it reads of each, and which names it gives.
+use Rattle.std.specs.Prelude.{◌≡◌, ◌⊎◌, ℕ, ◌≤◌, List, [], ◌++◌, length, map, take, Option, Some, None, Result, Ok, Err}
 use Rattle.std.specs.Global.{Vec}
-use Rattle.q3_io.specs.Faults.{Rose}
-use Rattle.q3net.specs.declared.input.InputError.{InputError}
-use Rattle.q3net.specs.declared.input.InputError.TheVariants.{NoMemory, Fault}
+use Rattle.q3_io.specs.Told.{Told, Named, Lookup, contents_of, contents_at}
+use Rattle.q3net.specs.declared.fault.Fault.{Fault}
+use Rattle.q3net.specs.declared.fault.Fault.TheVariants.{NoMemory, Read, Profile}
+use Rattle.q3net.specs.Faults.{IsEarly}
+
+abbrev pub IsFront : {A : Type 0} → List A → List A → Type 0
+IsFront {A} front whole = (rest : List A) × (front ++ rest ≡ whole)
+
+-- ---- what is read
+
+-- where it is told, the file of a name holds this, or there is no such file; else it may be anything
+abbrev pub Holds : Option Told → List ℕ → Option (List ℕ) → Type 0
+Holds (Some told) name file = contents_of told.files name ≡ file
+Holds None name file = Unit {0}
 
 -- a front of the contents, and all of them unless it is longer than the limit
 abbrev pub ReadsFront : ℕ → List ℕ → List ℕ → Type 0
 ReadsFront most contents bytes = (rest : List ℕ) × (bytes ++ rest ≡ contents) × (length bytes ≤ most → rest ≡ [])
 
--- the name was given to `lookup` once, or, where nothing was read, maybe not; no file was changed
-pub record LookedUp (told now : Told) (name : List ℕ) : Type 0 where
-  pub files : now.files ≡ told.files
-  pub named : now.named ≡ (after_named told name Lookup).named
-
-pub record MayHaveLookedUp (told now : Told) (name : List ℕ) : Type 0 where
-  pub files : now.files ≡ told.files
-  pub named : (now.named ≡ told.named) ⊎ (now.named ≡ (after_named told name Lookup).named)
-
-abbrev pub ReadsFile : ℕ → List ℕ → Told → Told → Result (List ℕ) InputError → Type 0
-ReadsFile most name told now (Ok bytes) =
-    LookedUp told now name × (contents : List ℕ) × (contents_of told.files name ≡ Some contents) × ReadsFront most contents bytes
-ReadsFile most name told now (Err e) = MayHaveLookedUp told now name
-
--- where the files are told
-abbrev pub Reads : ℕ → List ℕ → Option Told → Option Told → Result (List ℕ) InputError → Type 0
-Reads most name None now result = now ≡ None
-Reads most name (Some told) now result = (after : Told) × (now ≡ Some after) × ReadsFile most name told after result
-
 -- an answer with the bytes of its vector
-abbrev pub with_items : Result (Vec ℕ) InputError → Result (List ℕ) InputError
+abbrev pub with_items : Result (Vec ℕ) Fault → Result (List ℕ) Fault
 with_items (Ok bytes) = Ok bytes.items
 with_items (Err e) = Err e
 
--- a fault comes only where the count rose, and no fault is passed over
-abbrev pub HasInputCause : {T : Type 0} → ℕ → ℕ → Result T InputError → Type 0
-HasInputCause before now (Ok x) = now ≡ before
-HasInputCause before now (Err NoMemory) = now ≡ before
-HasInputCause before now (Err Fault) = (before ≤ now) × Rose before now
+-- the file of a name was read up to the limit, unless memory ran out or a read failed
+abbrev pub ReadsFile : ℕ → List ℕ → Option Told → Result (List ℕ) Fault → Type 0
+ReadsFile most name told (Ok bytes) = (contents : List ℕ) × Holds told name (Some contents) × ReadsFront most contents bytes
+ReadsFile most name told (Err e) = (e ≡ NoMemory) ⊎ (e ≡ Read)
 
 -- of a file that was looked up: what is asked for grows, and nothing else changes
-abbrev pub ReadsWhole : ℕ → List ℕ → Result (List ℕ) InputError → Type 0
+abbrev pub ReadsWhole : ℕ → List ℕ → Result (List ℕ) Fault → Type 0
 ReadsWhole most contents (Ok bytes) = ReadsFront most contents bytes
-ReadsWhole most contents (Err e) = Unit {0}
+ReadsWhole most contents (Err e) = (e ≡ NoMemory) ⊎ (e ≡ Read)
 
-abbrev pub ReadsPieces : ℕ → ℕ → Option Told → Option Told → Result (List ℕ) InputError → Type 0
-ReadsPieces most file None now result = now ≡ None
+abbrev pub ReadsPieces : ℕ → ℕ → Option Told → Option Told → Result (List ℕ) Fault → Type 0
+ReadsPieces most file None now result = (now ≡ None) × (contents : List ℕ) × ReadsWhole most contents result
 ReadsPieces most file (Some told) now result =
     (asked : List ℕ) × (now ≡ Some (record told { asked = asked })) × ReadsWhole most (contents_at told file) result
+
+-- ---- which names are given
+
+abbrev pub looked_up : List ℕ → Named
+looked_up name = record { name = name; call = Lookup }
+
+-- these names were given to `lookup`, once each and in this order; nothing was created, and every file stays
+pub record LooksUp (told now : Told) (names : List (List ℕ)) : Type 0 where
+  pub files : now.files ≡ told.files
+  pub named : now.named ≡ told.named ++ map looked_up names
+
+-- the same where the files are told
+abbrev pub LooksUpTold : Option Told → Option Told → List (List ℕ) → Type 0
+LooksUpTold None now names = now ≡ None
+LooksUpTold (Some told) now names = (after : Told) × (now ≡ Some after) × LooksUp told after names
+
+-- only the first of the names, so many, maybe none
+abbrev pub LooksUpFirst : Option Told → Option Told → List (List ℕ) → Type 0
+LooksUpFirst told now names = (first : List (List ℕ)) × IsFront first names × LooksUpTold told now first
+
+-- of its names, those that a run has given when its input has decided its end: a profile is checked before another file is looked up
+abbrev pub names_given : {A : Type 0} → Result A Fault → List (List ℕ) → List (List ℕ)
+names_given (Err (Profile e)) names = take 1 names
+names_given ended names = names
+
+-- these names were given, or, where something from outside ended a part early, the first of them
+abbrev pub Gives : {A : Type 0} → Result A Fault → List (List ℕ) → Option Told → Option Told → Type 0
+Gives ended names told now = LooksUpTold told now names ⊎ (IsEarly ended × LooksUpFirst told now names)

@@ -1,5 +1,6 @@
 pub mod Command
-pub mod Input
 pub mod Faults
 pub mod Lines
+pub mod Input
+pub mod Verdict
 pub mod Run

@@ -2,13 +2,14 @@
 use Rattle.std.specs.Prelude.{ℕ, List, [], ◌∷◌, codes, decimal, Result, Ok, Err}
 use Rattle.q3_bits.specs.declared.words.CodeError.{CodeError}
 use Rattle.q3_bits.specs.declared.words.CodeError.TheVariants as codes_of
+use Rattle.q3_profile.specs.declared.error.Key.{Key}
 use Rattle.q3_profile.specs.declared.error.Key.TheVariants.{File}
 use Rattle.q3_profile.specs.declared.error.ProfileError.{ProfileError}
 use Rattle.q3_profile.specs.declared.error.ProfileError.TheVariants as profile
 use Rattle.q3_profile.specs.Document.{key_name}
 use Rattle.q3_script.specs.declared.cause.LineCause.{LineCause}
 use Rattle.q3_script.specs.declared.cause.LineCause.TheVariants.{Large, Many, Word, Count, Number, Fields, Address}
-use Rattle.q3_io.specs.Print.{joined}
+use Rattle.std.specs.List.{concat}
 use Rattle.q3net.specs.declared.fault.Fault.{Fault}
 use Rattle.q3net.specs.declared.fault.Fault.TheVariants.{NoMemory, Usage, Read, Write, Profile, Script}
 
@@ -27,35 +28,46 @@ cause_word Number = codes "number"
 cause_word Fields = codes "fields"
 cause_word Address = codes "address"
 
--- what is wrong with the words of a code
-abbrev pub code_text : CodeError → List (List ℕ)
-code_text codes_of.NoMemory = codes "memory" ∷ []
-code_text codes_of.Count = codes "count" ∷ []
-code_text (codes_of.Empty i) = codes "empty " ∷ decimal i ∷ []
-code_text (codes_of.Long i) = codes "long " ∷ decimal i ∷ []
-code_text (codes_of.NotBits i) = codes "bits " ∷ decimal i ∷ []
-code_text (codes_of.Clash i j) = codes "clash " ∷ decimal i ∷ codes " " ∷ decimal j ∷ []
+-- want of memory, wherever it is noticed
+abbrev pub no_memory_line : List ℕ
+no_memory_line = codes "no memory\n"
 
--- what is wrong with a profile; want of memory has a line of its own
-abbrev pub profile_text : ProfileError → List (List ℕ)
-profile_text profile.NoMemory = codes "memory" ∷ []
-profile_text profile.NotToml = codes "toml" ∷ []
-profile_text (profile.Missing key) = codes "missing " ∷ key_name key ∷ []
-profile_text (profile.Kind key) = codes "kind " ∷ key_name key ∷ []
-profile_text (profile.Code e) = codes "code " ∷ code_text e
-profile_text (profile.Width key i) = codes "width " ∷ key_name key ∷ codes " " ∷ decimal i ∷ []
-profile_text (profile.Fields key) = codes "fields " ∷ key_name key ∷ []
-profile_text (profile.Limit File) = codes "large" ∷ []
-profile_text (profile.Limit key) = codes "limit " ∷ key_name key ∷ []
+-- a rule of a key, and one of a code's texts
+abbrev pub key_line : List ℕ → Key → List ℕ
+key_line rule key = concat (codes "profile: " ∷ rule ∷ key_name key ∷ codes "\n" ∷ [])
+
+abbrev pub text_line : List ℕ → ℕ → List ℕ
+text_line rule i = concat (codes "profile: code " ∷ rule ∷ decimal i ∷ codes "\n" ∷ [])
+
+-- what is wrong with the texts of a code
+abbrev pub code_line : CodeError → List ℕ
+code_line codes_of.NoMemory = no_memory_line
+code_line codes_of.Count = codes "profile: code count\n"
+code_line (codes_of.Empty i) = text_line (codes "empty ") i
+code_line (codes_of.Long i) = text_line (codes "long ") i
+code_line (codes_of.NotBits i) = text_line (codes "bits ") i
+code_line (codes_of.Clash i j) = concat (codes "profile: code clash " ∷ decimal i ∷ codes " " ∷ decimal j ∷ codes "\n" ∷ [])
+
+-- what is wrong with a profile
+abbrev pub profile_line : ProfileError → List ℕ
+profile_line profile.NoMemory = no_memory_line
+profile_line profile.NotToml = codes "profile: toml\n"
+profile_line (profile.Missing key) = key_line (codes "missing ") key
+profile_line (profile.Kind key) = key_line (codes "kind ") key
+profile_line (profile.Code e) = code_line e
+profile_line (profile.Width key i) = concat (codes "profile: width " ∷ key_name key ∷ codes " " ∷ decimal i ∷ codes "\n" ∷ [])
+profile_line (profile.Fields key) = key_line (codes "fields ") key
+profile_line (profile.Limit File) = codes "profile: large\n"
+profile_line (profile.Limit key) = key_line (codes "limit ") key
 
 -- the line that a fault prints; none is asked for where a write failed
 abbrev pub fault_line : Fault → List ℕ
-fault_line NoMemory = codes "no memory\n"
+fault_line NoMemory = no_memory_line
 fault_line Usage = codes "usage\n"
 fault_line Read = codes "read fault\n"
 fault_line Write = []
-fault_line (Profile e) = joined (codes "profile: " ∷ joined (profile_text e) ∷ codes "\n" ∷ [])
-fault_line (Script line cause) = joined (codes "script: line " ∷ decimal line ∷ codes ": " ∷ cause_word cause ∷ codes "\n" ∷ [])
+fault_line (Profile e) = profile_line e
+fault_line (Script line cause) = concat (codes "script: line " ∷ decimal line ∷ codes ": " ∷ cause_word cause ∷ codes "\n" ∷ [])
 
 abbrev pub fault_status : Fault → ℕ
 fault_status NoMemory = 1

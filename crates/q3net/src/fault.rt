@@ -1,13 +1,10 @@
 //! Why a run ended early: its fault line and its status.
 
-ghost use Rattle.std.specs.Prelude.{◌≡◌, ◌⊎◌, ◌≤◌, [], ◌∷◌, codes, decimal};
-ghost use Rattle.q3_profile.specs.Document.{key_name};
-ghost use Rattle.q3_io.specs.Faults.{HasCause, Rose};
+ghost use Rattle.std.specs.Prelude.{◌≡◌};
+ghost use Rattle.q3_io.specs.Faults.{HasCause};
 ghost use Rattle.q3_io.specs.Written.{Adds};
-ghost use Rattle.q3_io.specs.Print.{joined};
-ghost use Rattle.q3net.specs.Lines.{fault_line, fault_status, cause_word, code_text, profile_text};
+ghost use Rattle.q3net.specs.Lines.{fault_line, fault_status, cause_word, key_line, text_line, code_line, profile_line};
 
-use crate::input::InputError;
 use q3_bits::{CodeError, NoMemory};
 use q3_io::{Failed, Piece, Sink, print_all};
 use q3_profile::{Key, ProfileError};
@@ -73,58 +70,41 @@ impl Fault {
 
 /// Prints the fault line of a profile that fails a rule.
 fn print_profile<O: Sink>(e: ProfileError, out: &mut O) -> Result<(), Failed>
-    ensures adds { Adds (O.written out.old) (O.written out.new) (joined (codes "profile: " ∷ joined (profile_text e) ∷ codes "\n" ∷ [])) result }
+    ensures adds { Adds (O.written out.old) (O.written out.new) (profile_line e) result }
     ensures cause { HasCause (O.faults out.old) (O.faults out.new) result }
 {
-    let (word, key): (&[u8], Key) = match e {
-        ProfileError::NoMemory => return print_word(b"memory", out),
-        ProfileError::NotToml => return print_word(b"toml", out),
-        ProfileError::Limit(Key::File) => return print_word(b"large", out),
-        ProfileError::Code(e) => return print_code(e, out),
-        ProfileError::Width(key, i) => return print_width(key, i, out),
-        ProfileError::Missing(key) => (b"missing ", key),
-        ProfileError::Kind(key) => (b"kind ", key),
-        ProfileError::Fields(key) => (b"fields ", key),
-        ProfileError::Limit(key) => (b"limit ", key),
-    };
+    match e {
+        ProfileError::NoMemory => print_all(&[Piece::Text(b"no memory\n")], out),
+        ProfileError::NotToml => print_all(&[Piece::Text(b"profile: toml\n")], out),
+        ProfileError::Limit(Key::File) => print_all(&[Piece::Text(b"profile: large\n")], out),
+        ProfileError::Code(e) => print_code(e, out),
+        ProfileError::Missing(key) => print_key(b"missing ", key, out),
+        ProfileError::Kind(key) => print_key(b"kind ", key, out),
+        ProfileError::Fields(key) => print_key(b"fields ", key, out),
+        ProfileError::Limit(key) => print_key(b"limit ", key, out),
+        ProfileError::Width(key, i) => print_all(
+            &[
+                Piece::Text(b"profile: width "),
+                Piece::Text(key.name().as_bytes()),
+                Piece::Text(b" "),
+                Piece::Number(i as u64),
+                Piece::Text(b"\n"),
+            ],
+            out,
+        ),
+    }
+}
+
+/// Prints the fault line of a key's rule.
+fn print_key<O: Sink>(rule: &[u8], key: Key, out: &mut O) -> Result<(), Failed>
+    ensures adds { Adds (O.written out.old) (O.written out.new) (key_line rule.now key) result }
+    ensures cause { HasCause (O.faults out.old) (O.faults out.new) result }
+{
     print_all(
         &[
             Piece::Text(b"profile: "),
-            Piece::Text(word),
+            Piece::Text(rule),
             Piece::Text(key.name().as_bytes()),
-            Piece::Text(b"\n"),
-        ],
-        out,
-    )
-}
-
-/// Prints the fault line of a profile that is one word.
-fn print_word<O: Sink>(word: &[u8], out: &mut O) -> Result<(), Failed>
-    ensures adds { Adds (O.written out.old) (O.written out.new) (joined (codes "profile: " ∷ word.now ∷ codes "\n" ∷ [])) result }
-    ensures cause { HasCause (O.faults out.old) (O.faults out.new) result }
-{
-    print_all(
-        &[
-            Piece::Text(b"profile: "),
-            Piece::Text(word),
-            Piece::Text(b"\n"),
-        ],
-        out,
-    )
-}
-
-/// Prints the fault line of a width that isn't allowed.
-fn print_width<O: Sink>(key: Key, i: usize, out: &mut O) -> Result<(), Failed>
-    ensures adds { Adds (O.written out.old) (O.written out.new)
-        (joined (codes "profile: " ∷ joined (codes "width " ∷ key_name key ∷ codes " " ∷ decimal i ∷ []) ∷ codes "\n" ∷ [])) result }
-    ensures cause { HasCause (O.faults out.old) (O.faults out.new) result }
-{
-    print_all(
-        &[
-            Piece::Text(b"profile: width "),
-            Piece::Text(key.name().as_bytes()),
-            Piece::Text(b" "),
-            Piece::Number(i as u64),
             Piece::Text(b"\n"),
         ],
         out,
@@ -133,41 +113,38 @@ fn print_width<O: Sink>(key: Key, i: usize, out: &mut O) -> Result<(), Failed>
 
 /// Prints the fault line of texts that are no code.
 fn print_code<O: Sink>(e: CodeError, out: &mut O) -> Result<(), Failed>
-    ensures adds { Adds (O.written out.old) (O.written out.new)
-        (joined (codes "profile: " ∷ joined (codes "code " ∷ code_text e) ∷ codes "\n" ∷ [])) result }
+    ensures adds { Adds (O.written out.old) (O.written out.new) (code_line e) result }
     ensures cause { HasCause (O.faults out.old) (O.faults out.new) result }
 {
-    let (word, i): (&[u8], usize) = match e {
-        CodeError::NoMemory => return print_word(b"code memory", out),
-        CodeError::Count => return print_word(b"code count", out),
-        CodeError::Clash(i, j) => return print_clash(i, j, out),
-        CodeError::Empty(i) => (b"empty ", i),
-        CodeError::Long(i) => (b"long ", i),
-        CodeError::NotBits(i) => (b"bits ", i),
-    };
+    match e {
+        CodeError::NoMemory => print_all(&[Piece::Text(b"no memory\n")], out),
+        CodeError::Count => print_all(&[Piece::Text(b"profile: code count\n")], out),
+        CodeError::Empty(i) => print_place(b"empty ", i, out),
+        CodeError::Long(i) => print_place(b"long ", i, out),
+        CodeError::NotBits(i) => print_place(b"bits ", i, out),
+        CodeError::Clash(i, j) => print_all(
+            &[
+                Piece::Text(b"profile: code clash "),
+                Piece::Number(i as u64),
+                Piece::Text(b" "),
+                Piece::Number(j as u64),
+                Piece::Text(b"\n"),
+            ],
+            out,
+        ),
+    }
+}
+
+/// Prints the fault line of a rule that the code's text at this place breaks.
+fn print_place<O: Sink>(rule: &[u8], place: usize, out: &mut O) -> Result<(), Failed>
+    ensures adds { Adds (O.written out.old) (O.written out.new) (text_line rule.now place) result }
+    ensures cause { HasCause (O.faults out.old) (O.faults out.new) result }
+{
     print_all(
         &[
             Piece::Text(b"profile: code "),
-            Piece::Text(word),
-            Piece::Number(i as u64),
-            Piece::Text(b"\n"),
-        ],
-        out,
-    )
-}
-
-/// Prints the fault line of two code words that clash.
-fn print_clash<O: Sink>(i: usize, j: usize, out: &mut O) -> Result<(), Failed>
-    ensures adds { Adds (O.written out.old) (O.written out.new)
-        (joined (codes "profile: " ∷ joined (codes "code " ∷ code_text (CodeError.Clash i j)) ∷ codes "\n" ∷ [])) result }
-    ensures cause { HasCause (O.faults out.old) (O.faults out.new) result }
-{
-    print_all(
-        &[
-            Piece::Text(b"profile: code clash "),
-            Piece::Number(i as u64),
-            Piece::Text(b" "),
-            Piece::Number(j as u64),
+            Piece::Text(rule),
+            Piece::Number(place as u64),
             Piece::Text(b"\n"),
         ],
         out,
@@ -196,19 +173,6 @@ impl From<NoMemory> for Fault {
 
     fn from(_: NoMemory) -> Fault {
         Fault::NoMemory
-    }
-}
-
-impl From<InputError> for Fault {
-    ghost use Rattle.q3net.specs.Faults.{input_fault};
-
-    ghost from_gives = { λ e f. f ≡ input_fault e };
-
-    fn from(e: InputError) -> Fault {
-        match e {
-            InputError::NoMemory => Fault::NoMemory,
-            InputError::Fault => Fault::Read,
-        }
     }
 }
 

@@ -1,48 +1,32 @@
 //! Reads a file whole, up to a limit.
 
-ghost use Rattle.std.specs.Prelude.{◌≡◌, ◌+◌, ◌<◌, ◌^◌, length};
-ghost use Rattle.q3net.specs.Input.{Reads, ReadsPieces, with_items, HasInputCause};
+ghost use Rattle.std.specs.Prelude.{◌≡◌, ◌+◌, ◌<◌, ◌^◌, [], ◌∷◌, length};
+ghost use Rattle.q3net.specs.Faults.{ReadCause};
+ghost use Rattle.q3net.specs.Input.{ReadsFile, ReadsPieces, Gives, with_items};
 
-use q3_bits::NoMemory;
+use crate::fault::Fault;
 use q3_io::Files;
 use std::alloc::Global;
-
-/// Why a file wasn't read.
-#[derive(Clone, Copy, Debug, PartialEq, Eq)]
-pub enum InputError {
-    NoMemory,
-    /// The count of faults of the files rose.
-    Fault,
-}
-
-impl From<NoMemory> for InputError {
-    ghost use Rattle.std.specs.Prelude.{◌≡◌};
-    ghost use Rattle.q3net.specs.declared.input.InputError.TheVariants as errors;
-
-    ghost from_gives = { λ _ e. e ≡ errors.NoMemory };
-
-    fn from(_: NoMemory) -> InputError {
-        InputError::NoMemory
-    }
-}
 
 /// How many bytes are asked for at a time.
 const PIECE: usize = 65_536;
 
 /// The bytes of the file of this name: all of them, or a front that is longer than the limit.
+/// `Read` comes where the files' count of faults rose, and `NoMemory` is want of memory.
 pub fn read_file<F: Files>(
     alloc: Global,
     name: &str,
     most: usize,
     files: &mut F,
-) -> Result<Vec<u8>, InputError>
+) -> Result<Vec<u8>, Fault>
     requires { most < 2 ^ 32 }
-    ensures reads { Reads most name.now (F.told files.old) (F.told files.new) (with_items result) }
-    ensures cause { HasInputCause (F.faults files.old) (F.faults files.new) result }
+    ensures reads { ReadsFile most name.now (F.told files.old) (with_items result) }
+    ensures gives { Gives result (name.now ∷ []) (F.told files.old) (F.told files.new) }
+    ensures cause { ReadCause (F.faults files.old) (F.faults files.new) result }
     ensures writes { F.write_faults files.new ≡ F.write_faults files.old }
 {
     let Ok(file) = files.lookup(name) else {
-        return Err(InputError::Fault);
+        return Err(Fault::Read);
     };
     read_pieces(alloc, file, most, files, &mut zeros::<PIECE>())
 }
@@ -61,18 +45,18 @@ fn read_pieces<F: Files>(
     most: usize,
     files: &mut F,
     piece: &mut [u8],
-) -> Result<Vec<u8>, InputError>
+) -> Result<Vec<u8>, Fault>
     requires given { file < F.given files.old }
     requires some { 0 < length piece.old }
     requires few { most + length piece.old < 2 ^ 33 }
     ensures reads { ReadsPieces most file (F.told files.old) (F.told files.new) (with_items result) }
-    ensures cause { HasInputCause (F.faults files.old) (F.faults files.new) result }
+    ensures cause { ReadCause (F.faults files.old) (F.faults files.new) result }
     ensures writes { F.write_faults files.new ≡ F.write_faults files.old }
 {
     let mut bytes = Vec::new(alloc);
     while bytes.len() <= most {
         let Ok(count) = files.read_at(file, bytes.len() as u64, piece) else {
-            return Err(InputError::Fault);
+            return Err(Fault::Read);
         };
         if count == 0 {
             return Ok(bytes);

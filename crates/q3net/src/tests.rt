@@ -1,7 +1,7 @@
-//! The top call over files and a sink in memory, with ample memory.
+//! The top call over files and a line buffer in memory, with ample memory.
 
 use crate::run::run;
-use q3_io::{MemFiles, MemSink};
+use q3_io::{Line, MemFiles, MemSink};
 use std::alloc::{AllocError, Global};
 use std::test::Fail;
 
@@ -24,32 +24,14 @@ fn add_word(text: &mut String, byte: u32) -> Result<(), AllocError> {
     text.push_str("\", ")
 }
 
-/// A profile with the plain code, but for the word of one byte.
-fn profile_with(alloc: Global, other: u32, word: &str) -> Result<String, AllocError> {
+/// A profile with the plain code.
+fn plain_profile(alloc: Global) -> Result<String, AllocError> {
     let mut text = String::from_str(alloc, TABLES)?;
     text.push_str("code = [")?;
     for byte in 0..256 {
-        if byte == other {
-            text.push_str(word)?;
-        } else {
-            add_word(&mut text, byte)?;
-        }
+        add_word(&mut text, byte)?;
     }
     text.push_str("]\n")?;
-    Ok(text)
-}
-
-/// A profile with the plain code.
-fn plain_profile(alloc: Global) -> Result<String, AllocError> {
-    profile_with(alloc, 256, "")
-}
-
-/// A file of spaces, one byte longer than a profile may be.
-fn large_profile(alloc: Global) -> Result<String, AllocError> {
-    let mut text = String::new(alloc);
-    for _ in 0..1_048_577u32 {
-        text.push(' ')?;
-    }
     Ok(text)
 }
 
@@ -70,117 +52,44 @@ fn ran(
     stored: (&[u8], &[u8]),
     fails: (&[u64], &[u64]),
 ) -> Result<(u8, Vec<u8>), Fail> {
-    let mut files = MemFiles::new(alloc, 2, 1_050_000, 4, fails.0)?;
+    let mut files = MemFiles::new(alloc, 2, 8_192, 4, fails.0)?;
     assert!(rt; files.store("p", stored.0));
     assert!(rt; files.store("s", stored.1));
-    let mut out = MemSink::new(alloc, 4_096, fails.1)?;
+    let mut out = Line::new(MemSink::new(alloc, 4_096, fails.1)?);
     let status = run(alloc, &words(alloc, line)?, &mut files, &mut out);
-    Ok((status, out.bytes().to_vec(alloc)?))
+    Ok((status, out.sink().bytes().to_vec(alloc)?))
 }
 
 #[test]
-fn first_replay_over_one_client(rt: HostRuntime) -> Result<(), Fail> {
+fn one_run_for_each_end(rt: HostRuntime) -> Result<(), Fail> {
     let profile = plain_profile(rt.alloc())?;
-    let stored = (profile.as_bytes(), FIRST);
-    let (status, printed) = ran(&rt, rt.alloc(), "replay p s", stored, (&[], &[]))?;
-    assert_eq!(rt; status, 0);
-    assert_eq!(rt; printed.as_slice(), FIRST_REPORT);
-    let empty: (&[u8], &[u8]) = (profile.as_bytes(), b"");
-    let (status, printed) = ran(&rt, rt.alloc(), "replay p s", empty, (&[], &[]))?;
-    assert_eq!(rt; status, 0);
-    assert_eq!(rt; printed.as_slice(), b"".as_slice());
-    Ok(())
-}
-
-#[test]
-fn faulty_command_lines(rt: HostRuntime) -> Result<(), Fail> {
-    for line in [
-        "",
-        "make 0 1",
-        "replay a",
-        "replay p s s",
-        "serve p s 1.2.3.4:5",
-        "--helps",
-    ] {
-        let (status, printed) = ran(&rt, rt.alloc(), line, (b"", FIRST), (&[], &[]))?;
-        assert_eq!(rt; status, 2, "{line}");
-        assert_eq!(rt; printed.as_slice(), b"usage\n".as_slice());
-    }
-    Ok(())
-}
-
-#[test]
-fn one_bad_profile_for_each_line(rt: HostRuntime) -> Result<(), Fail> {
-    let table: [(&[u8], &[u8]); 7] = [
-        (b"protocol", b"profile: toml\n"),
-        (b"protocol = 68", b"profile: missing server_ring\n"),
-        (b"protocol = '68'", b"profile: kind protocol\n"),
-        (b"protocol = 71", b"profile: limit protocol\n"),
+    let good = profile.as_bytes();
+    let bad: &[u8] = b"protocol = 71";
+    let table: [(&str, (&[u8], &[u8]), u8, &[u8]); 9] = [
+        ("replay p s", (good, FIRST), 0, FIRST_REPORT),
+        ("replay p s", (good, b""), 0, b""),
+        ("--version", (bad, b""), 0, b"q3net 0.1.0\n"),
+        ("replay p s s", (good, FIRST), 2, b"usage\n"),
+        ("replay t s", (good, FIRST), 3, b"read fault\n"),
+        ("replay p t", (good, FIRST), 3, b"read fault\n"),
+        ("replay p s", (bad, b"x"), 5, b"profile: limit protocol\n"),
         (
-            b"protocol = 68\nserver_ring = 256\nparse_ring = 512\nentity = []",
-            b"profile: fields entity\n",
+            "replay p s",
+            (b"", FIRST),
+            5,
+            b"profile: missing protocol\n",
         ),
         (
-            b"protocol = 68\nserver_ring = 256\nparse_ring = 512\nentity = [8]\nplayer = [0, 33]",
-            b"profile: width player 1\n",
-        ),
-        (
-            b"protocol = 68\nserver_ring = 256\nparse_ring = 512\nentity = [8]\nplayer = [0]\ncode = ['0']",
-            b"profile: code count\n",
+            "replay p s",
+            (good, b"time 1\n\nserve x\n"),
+            6,
+            b"script: line 3: number\n",
         ),
     ];
-    for (profile, line) in &table {
-        let (status, printed) = ran(&rt, rt.alloc(), "replay p s", (profile, b"x"), (&[], &[]))?;
-        assert_eq!(rt; status, 5);
-        assert_eq!(rt; printed.as_slice(), *line);
-    }
-    let large = large_profile(rt.alloc())?;
-    let stored: (&[u8], &[u8]) = (large.as_bytes(), b"x");
-    let (status, printed) = ran(&rt, rt.alloc(), "replay p s", stored, (&[], &[]))?;
-    assert_eq!(rt; status, 5);
-    assert_eq!(rt; printed.as_slice(), b"profile: large\n".as_slice());
-    Ok(())
-}
-
-#[test]
-fn one_bad_code_for_each_line(rt: HostRuntime) -> Result<(), Fail> {
-    let table: [(u32, &str, &[u8]); 4] = [
-        (3, "'', ", b"profile: code empty 3\n"),
-        (
-            3,
-            "'0000000000000000000000001', ",
-            b"profile: code long 3\n",
-        ),
-        (3, "'11x00000', ", b"profile: code bits 3\n"),
-        (255, "'0000000', ", b"profile: code clash 255 0\n"),
-    ];
-    for (byte, word, line) in &table {
-        let profile = profile_with(rt.alloc(), *byte, word)?;
-        let stored: (&[u8], &[u8]) = (profile.as_bytes(), b"x");
-        let (status, printed) = ran(&rt, rt.alloc(), "replay p s", stored, (&[], &[]))?;
-        assert_eq!(rt; status, 5);
-        assert_eq!(rt; printed.as_slice(), *line);
-    }
-    Ok(())
-}
-
-#[test]
-fn one_bad_line_for_each_cause(rt: HostRuntime) -> Result<(), Fail> {
-    let profile = plain_profile(rt.alloc())?;
-    let table: [(&[u8], &[u8]); 7] = [
-        (b"time 1\n\nserve x\n", b"script: line 3: number\n"),
-        (b"# none\nmap 1 2\n", b"script: line 2: word\n"),
-        (b"serve 0 \n", b"script: line 1: count\n"),
-        (b"deliver 0\n", b"script: line 1: number\n"),
-        (b"player 0 1:1 1:2\n", b"script: line 1: fields\n"),
-        (b"client 0 1 2 3 1.2.3.4\n", b"script: line 1: address\n"),
-        (b"client 0 1 2 6 x\n", b"script: line 1: number\n"),
-    ];
-    for (script, line) in &table {
-        let stored = (profile.as_bytes(), *script);
-        let (status, printed) = ran(&rt, rt.alloc(), "replay p s", stored, (&[], &[]))?;
-        assert_eq!(rt; status, 6);
-        assert_eq!(rt; printed.as_slice(), *line);
+    for (line, stored, status, printed) in &table {
+        let (got, bytes) = ran(&rt, rt.alloc(), line, *stored, (&[], &[]))?;
+        assert_eq!(rt; got, *status, "{line}");
+        assert_eq!(rt; bytes.as_slice(), *printed, "{line}");
     }
     Ok(())
 }
@@ -189,17 +98,13 @@ fn one_bad_line_for_each_cause(rt: HostRuntime) -> Result<(), Fail> {
 fn faults_of_the_outside(rt: HostRuntime) -> Result<(), Fail> {
     let profile = plain_profile(rt.alloc())?;
     let stored = (profile.as_bytes(), FIRST);
+    // The second event's lines aren't taken, and nothing is written behind them.
     let (status, printed) = ran(&rt, rt.alloc(), "replay p s", stored, (&[], &[2]))?;
     assert_eq!(rt; status, 4);
     assert_eq!(rt; printed.as_slice(), b"client 0 ok\n".as_slice());
-    // A read of the profile fails, then one of the script, and then a file is missing.
-    for (line, fails) in [
-        ("replay p s", 2),
-        ("replay p s", 5),
-        ("replay t s", 9),
-        ("replay p t", 9),
-    ] {
-        let (status, printed) = ran(&rt, rt.alloc(), line, stored, (&[fails], &[]))?;
+    // A read of the profile fails, and one of the script.
+    for fails in [2, 5] {
+        let (status, printed) = ran(&rt, rt.alloc(), "replay p s", stored, (&[fails], &[]))?;
         assert_eq!(rt; status, 3);
         assert_eq!(rt; printed.as_slice(), b"read fault\n".as_slice());
     }

@@ -1,9 +1,22 @@
+use Rattle.std.proofs.Common.{Some, refl}
+use Rattle.q3net.specs.Command.{Help, Version}
 use Rattle.q3net.specs.Lines.{help_text, version_text}
-use Rattle.q3net.proofs.Ending.{text_so}
+use Rattle.q3net.proofs.Ending.{none_executes, text_executes}
 use Rattle.q3net.proofs.run.execute.Goals as goal
 
-pub returns-in-Some-Help-clause-so : goal.returns-in-Some-Help-clause-so
-returns-in-Some-Help-clause-so g c = let e = rw c.in-Some-Help.field-0-is at c.in-Some-Help.ensures in rw (← e) (text_so help_text c.print.result c.print.ensures.only)
+pub returns-in-None-clause-executes : goal.returns-in-None-clause-executes
+returns-in-None-clause-executes g c =
+    rw (← c.in-None.ensures) (none_executes c.texts_follow.ensures (g.F.Files.told c.args.files.now) (g.O.Sink.written c.args.out.now))
 
-pub returns-in-Some-Version-clause-so : goal.returns-in-Some-Version-clause-so
-returns-in-Some-Version-clause-so g c = let e = rw c.in-Some-Version.field-0-is at c.in-Some-Version.ensures in rw (← e) (text_so version_text c.print-in-Some-Version.result c.print-in-Some-Version.ensures.only)
+pub returns-in-Some-Help-clause-executes : goal.returns-in-Some-Help-clause-executes
+unfolding help_text
+returns-in-Some-Help-clause-executes g c =
+    let e = rw c.in-Some-Help.field-0-is at c.in-Some-Help.ensures in
+    rw (← e) (text_executes (Some Help) (g.F.Files.told c.args.files.now) (g.O.Sink.written c.args.out.now) (g.O.Sink.written c.print.new.out) help_text c.print.result refl c.print.ensures.prints)
+
+pub returns-in-Some-Version-clause-executes : goal.returns-in-Some-Version-clause-executes
+unfolding version_text
+returns-in-Some-Version-clause-executes g c =
+    let e = rw c.in-Some-Version.field-0-is at c.in-Some-Version.ensures in
+    rw (← e) (text_executes (Some Version) (g.F.Files.told c.args.files.now) (g.O.Sink.written c.args.out.now) (g.O.Sink.written c.print-in-Some-Version.new.out) version_text c.print-in-Some-Version.result refl
+    c.print-in-Some-Version.ensures.prints)

@@ -1,0 +1,65 @@
+-- What the input of a run decides: what is printed, and how the run ends.
+use Rattle.std.specs.Prelude.{◌≡◌, ℕ, List, [], Option, Some, None, Result, Ok, Err, ok_or}
+use Rattle.std.specs.Result.{result_map_both}
+use Rattle.std.specs.Global.{Vec}
+use Rattle.q3_profile.specs.declared.profile.Profile.{Profile as ProfileValue}
+use Rattle.q3_bits.specs.ResultBind.{◌>>=◌}
+use Rattle.q3_profile.specs.Profile.{checked}
+use Rattle.q3_script.specs.declared.event.Event.{Event}
+use Rattle.q3_script.specs.declared.cause.ScriptKind.TheVariants as kinds
+use Rattle.q3_script.specs.Script.{BadLine, script_at}
+use Rattle.q3_io.specs.Told.{Told}
+use Rattle.q3_world.specs.Report.{report}
+use Rattle.q3net.specs.Command.{Command, Help, Version, Replay}
+use Rattle.q3net.specs.Faults.{Gets}
+use Rattle.q3net.specs.Input.{Holds}
+use Rattle.q3net.specs.Lines.{help_text, version_text}
+use Rattle.q3net.specs.declared.fault.Fault.{Fault}
+use Rattle.q3net.specs.declared.fault.Fault.TheVariants.{Usage, Read, Profile, Script}
+
+-- what a command prints, and how it ends: done, or by the first cause that its input decides
+pub record Verdict : Type 0 where
+  pub text : List ℕ
+  pub ending : Result (Unit {0}) Fault
+
+-- a text and nothing more, or a cause and no text
+abbrev pub settled : Result (List ℕ) Fault → Verdict
+settled (Ok text) = record { text = text; ending = Ok tt }
+settled (Err cause) = record { text = []; ending = Err cause }
+
+-- the profile that a file spells, or its first broken rule; a file that isn't there doesn't read
+abbrev pub profile_in : Option (List ℕ) → Result ProfileValue Fault
+profile_in file = do
+  bytes ← ok_or file Read
+  result_map_both (λ profile. profile) Profile (checked bytes)
+
+-- the events that a file spells, or its first bad line
+abbrev pub events_in : Option (List ℕ) → Result (List Event) Fault
+events_in file = do
+  bytes ← ok_or file Read
+  result_map_both (λ events. events) (λ (bad : BadLine). Script bad.line bad.cause) (script_at kinds.Replay bytes)
+
+-- a replay of the script in one file by the profile in another
+abbrev pub replayed : Option (List ℕ) → Option (List ℕ) → Result (List ℕ) Fault
+replayed profile script = do
+  by ← profile_in profile
+  events ← events_in script
+  Ok (report by events)
+
+-- the verdict of a command, by what the files hold that it names
+abbrev pub IsVerdict : Option Told → Option Command → Verdict → Type 0
+IsVerdict told None verdict = verdict ≡ settled (Err Usage)
+IsVerdict told (Some Help) verdict = verdict ≡ settled (Ok help_text)
+IsVerdict told (Some Version) verdict = verdict ≡ settled (Ok version_text)
+IsVerdict told (Some (Replay profile script)) verdict =
+    (of_profile : Option (List ℕ)) × (of_script : Option (List ℕ)) × Holds told profile of_profile × Holds told script of_script
+    × (verdict ≡ settled (replayed of_profile of_script))
+
+-- what a part of a run answers by the file of a name
+abbrev pub GetsFrom : {A : Type 0} → (Option (List ℕ) → Result A Fault) → Option Told → List ℕ → Result A Fault → Type 0
+GetsFrom says told name got = (file : Option (List ℕ)) × Holds told name file × Gets (says file) got
+
+-- an answer with the events of its vector
+abbrev pub with_events : Result (Vec Event) Fault → Result (List Event) Fault
+with_events (Ok events) = Ok events.items
+with_events (Err e) = Err e
