@@ -4,8 +4,10 @@ use Rattle.std.specs.Prelude.{codes}
 use Rattle.std.specs.Fmt.{decimal}
 use Rattle.std.specs.List.{list_all}
 use Rattle.std.proofs.lemmas.Bool.{and_parts, ne_eqb, false≢true}
+use Rattle.std.proofs.lemmas.List.Elements.{All-nil, All-cons, All-head, All-tail}
 use Rattle.std.proofs.lemmas.Option.{same_Some}
 use Rattle.std.proofs.lemmas.Fmt.{decimal_nonempty, digits_decimal}
+use Rattle.q3_fields.specs.Places.{Change}
 use Rattle.q3_player.specs.declared.state.PlayerState.{PlayerState}
 use Rattle.q3_script.specs.declared.cause.LineCause.{LineCause}
 use Rattle.q3_script.specs.declared.cause.LineCause.TheVariants as causes
@@ -21,7 +23,7 @@ use Rattle.q3_script.proofs.Addresses.{bind_some}
 -- ---- one field
 
 -- a field that is read
-record WasField (letter : List ℕ) (limit least : ℕ) (word : List ℕ) (field : ℕ × ℕ) : Type 0 where
+record WasField (letter : List ℕ) (limit least : ℕ) (word : List ℕ) (field : Change) : Type 0 where
   lower : least ≤ field.0
   upper : field.0 < limit
   small : field.1 < 2 ^ 32
@@ -33,14 +35,14 @@ regroup letter index value = simp append_assoc
 together : (letter word text : List ℕ) (parts : List ℕ × List ℕ) (index value : ℕ) → word ≡ letter ++ text → text ≡ parts.0 ++ 58 ∷ parts.1 → parts.0 ≡ decimal index → parts.1 ≡ decimal value → word ≡ field_text letter (index, value)
 together letter word text parts index value at_letter at_colon index_is value_is = rw (at_letter, at_colon, index_is, value_is) (sym (regroup letter (decimal index) (decimal value)))
 
-was_field : (letter : List ℕ) (limit least : ℕ) (word : List ℕ) (field : ℕ × ℕ) (text : List ℕ) (parts : List ℕ × List ℕ) (index value : ℕ) → word ≡ letter ++ text → text ≡ parts.0 ++ 58 ∷ parts.1 → parts.0 ≡ decimal index → parts.1 ≡ decimal value
+was_field : (letter : List ℕ) (limit least : ℕ) (word : List ℕ) (field : Change) (text : List ℕ) (parts : List ℕ × List ℕ) (index value : ℕ) → word ≡ letter ++ text → text ≡ parts.0 ++ 58 ∷ parts.1 → parts.0 ≡ decimal index → parts.1 ≡ decimal value
     → least ≤ index → index < limit → value < 2 ^ 32 → Some (index, value) ≡ Some field → WasField letter limit least word field
 was_field letter limit least word field text parts index value at_letter at_colon index_is value_is lower upper small same =
     let was : WasField letter limit least word (index, value) = record { lower = lower; upper = upper; small = small; whole = together letter word text parts index value at_letter at_colon index_is value_is } in
-    subst (λ (x : ℕ × ℕ). WasField letter limit least word x) (same_Some (index, value) field same) was
+    subst (λ (x : Change). WasField letter limit least word x) (same_Some (index, value) field same) was
 
 -- was spelled so
-field_at-spelled : (letter : List ℕ) (limit least : ℕ) (word : List ℕ) (field : ℕ × ℕ) → 1 ≤ limit → limit < 2 ^ 32 → field_at letter limit least word ≡ Some field → WasField letter limit least word field
+field_at-spelled : (letter : List ℕ) (limit least : ℕ) (word : List ℕ) (field : Change) → 1 ≤ limit → limit < 2 ^ 32 → field_at letter limit least word ≡ Some field → WasField letter limit least word field
 unfolding field_at
 field_at-spelled letter limit least word field some few e =
     let text = bind_some (behind letter word) (λ text. cut 58 text >>= λ parts. number_at least (limit - 1) parts.0 >>= λ index. number_at 0 4294967295 parts.1 >>= λ value. Some (index, value)) field e in
@@ -52,7 +54,7 @@ field_at-spelled letter limit least word field some few e =
     was_field letter limit least word field text.0 parts.0 index.0 value.0 (behind-spelled letter word text.0 text.1) (cut-spelled 58 text.0 parts.0 parts.1) index_is.2 value_is.2 index_is.0 (omega arith) (omega arith) value.2
 
 -- and what is spelled so is read
-field_at-again : (letter : List ℕ) (limit least : ℕ) (field : ℕ × ℕ) → limit < 2 ^ 32 → least ≤ field.0 → field.0 < limit → field.1 < 2 ^ 32 → field_at letter limit least (field_text letter field) ≡ Some field
+field_at-again : (letter : List ℕ) (limit least : ℕ) (field : Change) → limit < 2 ^ 32 → least ≤ field.0 → field.0 < limit → field.1 < 2 ^ 32 → field_at letter limit least (field_text letter field) ≡ Some field
 unfolding field_at
 field_at-again letter limit least field few lower upper small =
     let text : behind letter (letter ++ (decimal field.0 ++ 58 ∷ decimal field.1)) ≡ Some (decimal field.0 ++ 58 ∷ decimal field.1) = behind-again letter (decimal field.0 ++ 58 ∷ decimal field.1) in
@@ -99,15 +101,15 @@ record WereFields (letter : List ℕ) (limit least : ℕ) (words : List (List �
 -- were spelled so
 fields_at-spelled : (letter : List ℕ) (limit least : ℕ) (words : List (List ℕ)) → 1 ≤ limit → limit < 2 ^ 32 → WereFields letter limit least words (fields_at letter limit least words)
 unfolding fields_at
-fields_at-spelled letter limit least [] some few = record { are = tt; whole = refl }
+fields_at-spelled letter limit least [] some few = record { are = (tt, All-nil (λ (field : Change). field.1 < 2 ^ 32)); whole = refl }
 fields_at-spelled letter limit least (word ∷ words) some few =
     elim (option_cases (field_at letter limit least word)) [
-      | inl none ↦ rw none (record { are = tt; whole = refl })
+      | inl none ↦ rw none (record { are = (tt, All-nil (λ (field : Change). field.1 < 2 ^ 32)); whole = refl })
       | inr (field, read) ↦
           let was = field_at-spelled letter limit least word field some few read in
           let others = fields_at-spelled letter limit (field.0 + 1) words some few in
           rw read (record {
-            are = (was.lower, was.upper, was.small, others.are);
+            are = ((was.lower, was.upper, others.are.0), All-cons (λ (field : Change). field.1 < 2 ^ 32) field (fields_at letter limit (field.0 + 1) words).fields was.small others.are.1);
             whole = ap (λ (w : List ℕ). w ∷ words) was.whole ∙ ap (λ (ws : List (List ℕ)). field_text letter field ∷ ws) others.whole;
           })
     ]
@@ -117,25 +119,28 @@ abbrev HasNone : List ℕ → ℕ → List (List ℕ) → Type 0
 HasNone letter limit words = (least : ℕ) → fields_at letter limit least words ≡ record { fields = []; left = words }
 
 -- and what is spelled so is read, with whatever follows it
-fields_at-again : (letter : List ℕ) (limit least : ℕ) (fields : List (ℕ × ℕ)) (rest : List (List ℕ)) → limit < 2 ^ 32 → AreFields limit least fields → HasNone letter limit rest
+fields_at-again : (letter : List ℕ) (limit least : ℕ) (fields : List Change) (rest : List (List ℕ)) → limit < 2 ^ 32 → AreFields limit least fields → HasNone letter limit rest
     → fields_at letter limit least (map (field_text letter) fields ++ rest) ≡ record { fields = fields; left = rest }
 unfolding fields_at
 fields_at-again letter limit least [] rest few are none = none least
 fields_at-again letter limit least (field ∷ fields) rest few are none =
-    rw (field_at-again letter limit least field few are.0 are.1 are.2, fields_at-again letter limit (field.0 + 1) fields rest few are.3 none) refl
+    rw (
+      field_at-again letter limit least field few are.0.0 are.0.1 (All-head (λ (field : Change). field.1 < 2 ^ 32) field fields are.1),
+      fields_at-again letter limit (field.0 + 1) fields rest few (are.0.2, All-tail (λ (field : Change). field.1 < 2 ^ 32) field fields are.1) none,
+    ) refl
 
 -- there is none where the words have other letters
-none_of_other : (letter other : List ℕ) (limit : ℕ) (fields : List (ℕ × ℕ)) (rest : List (List ℕ)) → ((field : ℕ × ℕ) → IsOther letter limit (field_text other field)) → HasNone letter limit rest → HasNone letter limit (map (field_text other) fields ++ rest)
+none_of_other : (letter other : List ℕ) (limit : ℕ) (fields : List Change) (rest : List (List ℕ)) → ((field : Change) → IsOther letter limit (field_text other field)) → HasNone letter limit rest → HasNone letter limit (map (field_text other) fields ++ rest)
 unfolding fields_at
 none_of_other letter other limit [] rest differs none least = none least
 none_of_other letter other limit (field ∷ fields) rest differs none least = rw (differs field least) refl
 
 -- words of another letter
-other_letter : (x y limit : ℕ) (field : ℕ × ℕ) → eqb y x ≡ false → IsOther (x ∷ []) limit (field_text (y ∷ []) field)
+other_letter : (x y limit : ℕ) (field : Change) → eqb y x ≡ false → IsOther (x ∷ []) limit (field_text (y ∷ []) field)
 unfolding field_at behind
 other_letter x y limit field differs least = rw differs refl
 
-letter_other_than_digits : (limit x : ℕ) (field : ℕ × ℕ) → 1 ≤ limit → limit < 2 ^ 32 → is_digit x ≡ false → IsOther [] limit (field_text (x ∷ []) field)
+letter_other_than_digits : (limit x : ℕ) (field : Change) → 1 ≤ limit → limit < 2 ^ 32 → is_digit x ≡ false → IsOther [] limit (field_text (x ∷ []) field)
 letter_other_than_digits limit x field some few other = other_than_digits limit x (decimal field.0 ++ codes ":" ++ decimal field.1) some few other
 
 none_of_nothing : (letter : List ℕ) (limit : ℕ) → HasNone letter limit []

@@ -1,5 +1,6 @@
 -- The grammar of a script: which words spell which event, and which lines which events.
-use Rattle.std.specs.Prelude.{◌≡◌, ℕ, ◌+◌, ◌^◌, ◌<◌, ◌≤◌, Bool, true, false, List, [], ◌∷◌, ◌++◌, length, map, codes, decimal}
+use Rattle.std.specs.Prelude.{◌≡◌, ℕ, ◌^◌, ◌<◌, ◌≤◌, Bool, true, false, List, [], ◌∷◌, ◌++◌, length, map, codes, decimal, All}
+use Rattle.q3_fields.specs.Places.{Change, AreRising}
 use Rattle.q3_player.specs.State.{IsState}
 use Rattle.q3_player.specs.declared.state.PlayerState.{PlayerState}
 use Rattle.q3_io.specs.declared.address.Address.{Address}
@@ -32,21 +33,20 @@ pub record SpellsAddress (word : List ℕ) (address : Address) : Type 0 where
   pub whole : word ≡ decimal a ++ codes "." ++ decimal b ++ codes "." ++ decimal c ++ codes "." ++ decimal d ++ codes ":" ++ decimal address.port
 
 -- the word of a field: an index and a value, behind the letter of its array
-abbrev pub field_text : List ℕ → ℕ × ℕ → List ℕ
+abbrev pub field_text : List ℕ → Change → List ℕ
 field_text letter field = letter ++ decimal field.0 ++ codes ":" ++ decimal field.1
 
 -- the indexes rise, from least on, and stay below a limit; the values have 32 bits
-abbrev pub AreFields : ℕ → ℕ → List (ℕ × ℕ) → Type 0
-AreFields limit least [] = Unit {0}
-AreFields limit least (field ∷ fields) = (least ≤ field.0) × (field.0 < limit) × (field.1 < 2 ^ 32) × AreFields limit (field.0 + 1) fields
+abbrev pub AreFields : ℕ → ℕ → List Change → Type 0
+AreFields limit least fields = AreRising limit least fields × All (λ field. field.1 < 2 ^ 32) fields
 
 -- a player: fields, and behind them those of each array
 pub record SpellsPlayer (words : List (List ℕ)) (player : PlayerState) : Type 0 where
-  pub fields : List (ℕ × ℕ)
-  pub stats : List (ℕ × ℕ)
-  pub persistant : List (ℕ × ℕ)
-  pub ammo : List (ℕ × ℕ)
-  pub powerups : List (ℕ × ℕ)
+  pub fields : List Change
+  pub stats : List Change
+  pub persistant : List Change
+  pub ammo : List Change
+  pub powerups : List Change
   pub are_fields : AreFields 64 0 fields
   pub are_stats : AreFields 16 0 stats
   pub are_persistant : AreFields 16 0 persistant
