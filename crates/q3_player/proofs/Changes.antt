@@ -8,8 +8,9 @@ use Rattle.std.proofs.Math.Nat.{pow-suc}
 use Rattle.std.proofs.lemmas.Nat.{pow_pos}
 use Rattle.q3_bits.specs.Words.{field_bits}
 use Rattle.q3_fields.specs.declared.kind.Kind.{Kind}
+use Rattle.q3_fields.specs.Places.{Change}
 use Rattle.q3_fields.specs.Texts.{player_field}
-use Rattle.q3_player.specs.Arrays.{Change, changes_from, changes, mask_of}
+use Rattle.q3_player.specs.Arrays.{changes_from, changes, mask_of}
 use Rattle.q3_player.specs.Delta.{values_text, array_text}
 
 -- a place more at the end
