@@ -28,7 +28,8 @@ pub record StartsAt (lengths bytes : List ℕ) (place start : ℕ) : Type 0 wher
   pub within : start + slice_index lengths place ≤ length bytes
   pub count : length (slice_index_or (texts_of lengths bytes) place []) ≡ slice_index lengths place
   pub text : take (slice_index lengths place) (drop start bytes) ≡ slice_index_or (texts_of lengths bytes) place []
-  pub cleared : AreCutFrom (slice_set (texts_of lengths bytes) place []) (slice_set lengths place 0) (take start bytes ++ drop (start + slice_index lengths place) bytes)
+  pub cleared : AreCutFrom (slice_set (texts_of lengths bytes) place []) (slice_set lengths place 0)
+      (take start bytes ++ drop (start + slice_index lengths place) bytes)
   pub added : (more : List ℕ) → AreCutFrom (slice_set (texts_of lengths bytes) place (slice_index_or (texts_of lengths bytes) place [] ++ more))
       (slice_set lengths place (slice_index lengths place + length more))
       (take (start + slice_index lengths place) bytes ++ more ++ drop (start + slice_index lengths place) bytes)
