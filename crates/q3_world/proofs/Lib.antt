@@ -1,3 +1,4 @@
+pub mod Rows
 pub mod MessageText
 pub mod Delivering
 pub mod OnePlace

@@ -3,7 +3,7 @@ use Rattle.std.specs.Prelude.{◌≡◌, ℕ, ◌^◌, ◌<◌, ◌==◌, if◌t
 use Rattle.std.specs.Int.{w32, to_le_bytes}
 use Rattle.q3_bits.specs.ResultBind.{◌>>=◌}
 use Rattle.q3_bits.specs.Words.{field_bits, field_at}
-use Rattle.q3_fields.specs.Kinds.{end_mark}
+use Rattle.q3_fields.specs.Kinds.{Layout, end_mark}
 use Rattle.q3_profile.specs.declared.profile.Profile.{Profile}
 use Rattle.q3_player.specs.declared.state.PlayerState.{PlayerState}
 use Rattle.q3_player.specs.State.{zero_player, IsState, IsNormal}
@@ -37,19 +37,25 @@ snapshot_byte = 7
 abbrev pub end_byte : ℕ
 end_byte = 8
 
--- a message, around the text of its player: the number of the last client command executed; the snapshot's time,
--- base distance, flags, length of the area, player, and the end mark of no entities; and the end
+-- what stands in front of the player: the number of the last client command executed, and the snapshot's operation, time,
+-- base distance, flags and length of the area
+abbrev pub head_text : List (List Bool) → ℕ → Snapshot → List Bool
+head_text words executed snapshot =
+    field_bits words 32 executed
+    ++ field_bits words 8 snapshot_byte
+    ++ field_bits words 32 snapshot.time
+    ++ field_bits words 8 0
+    ++ field_bits words 8 snapshot.flags
+    ++ field_bits words 8 0
+
+-- what stands behind it: the end mark of no entities, and the end
+abbrev pub tail_text : List (List Bool) → Layout → List Bool
+tail_text words entity = field_bits words entity.number_bits (end_mark entity) ++ field_bits words 8 end_byte
+
+-- a message, around the text of its player
 abbrev pub message_text : Profile → ℕ → Snapshot → List Bool → List Bool
 message_text profile executed snapshot player =
-    field_bits profile.code 32 executed
-    ++ field_bits profile.code 8 snapshot_byte
-    ++ field_bits profile.code 32 snapshot.time
-    ++ field_bits profile.code 8 0
-    ++ field_bits profile.code 8 snapshot.flags
-    ++ field_bits profile.code 8 0
-    ++ player
-    ++ field_bits profile.code profile.entity.number_bits (end_mark profile.entity)
-    ++ field_bits profile.code 8 end_byte
+    head_text profile.code executed snapshot ++ player ++ tail_text profile.code profile.entity
 
 -- the message that is built: no client command was executed, and the player goes from zero
 unfoldable pub snapshot_bits : Profile → Snapshot → List Bool

@@ -2,14 +2,13 @@
 //! Keeps the rules "layout of a server message" and "snapshot section", which are the engine's `SV_SendClientSnapshot`
 //! and `CL_ParseServerMessage`.
 
-ghost use Rattle.std.specs.Prelude.{◌≡◌, ◌+◌, ◌^◌, ◌<◌, ◌≤◌, ◌++◌, ◌↔◌, Ok, Err, IsErr, OnOk, IfOk, MatchResult};
+ghost use Rattle.std.specs.Prelude.{◌≡◌, ◌+◌, ◌^◌, ◌<◌, ◌≤◌, Ok, Err, IfOk, MatchResult};
 ghost use Rattle.q3_bits.specs.Bits.{bits_of};
-ghost use Rattle.q3_bits.specs.Words.{field_bits, field_at};
-ghost use Rattle.q3_bits.specs.Streams.{Reads, Writes, IsOverlong};
-ghost use Rattle.q3_fields.specs.Kinds.{end_mark};
-ghost use Rattle.q3_world.specs.Message.{snapshot_bits, snapshot_at, form, fixed_at};
+ghost use Rattle.q3_bits.specs.Words.{field_at};
+ghost use Rattle.q3_bits.specs.Streams.{Reads, Writes};
+ghost use Rattle.q3_world.specs.Message.{head_text, tail_text, snapshot_bits, snapshot_at, form, fixed_at};
 
-use q3_bits::{Overflow, Reader, Writer};
+use q3_bits::{Overflow, Reader, Writer, laws};
 use q3_fields::Table;
 use q3_player::{PlayerState, read_player, write_player};
 use q3_profile::Profile;
@@ -38,7 +37,7 @@ const SNAPSHOT: u32 = 7;
 const END: u32 = 8;
 
 /// Writes a message with a snapshot, by a writer of the profile's code.
-/// `Overflow` comes exactly where the message doesn't fit the writer's room.
+/// `Overflow` comes exactly where the message doesn't fit the writer's room; a front of it was then written.
 #[tactic(auto, unfolding(crate::specs::Message::snapshot_bits))]
 pub(crate) fn write_snapshot(
     w: &mut Writer,
@@ -46,25 +45,34 @@ pub(crate) fn write_snapshot(
     snapshot: &Snapshot,
 ) -> Result<(), Overflow>
     requires { w.old.words ≡ profile.now.code }
-    ensures overflow { IsErr result ↔ IsOverlong w.old (snapshot_bits profile.now snapshot.now) }
-    ensures ok { OnOk result (w.new ≡ record w.old { bits = w.old.bits ++ snapshot_bits profile.now snapshot.now }) }
+    ensures { Writes w.old w.new (snapshot_bits profile.now snapshot.now) result }
 {
+    laws::texts_are_written();
+    write_head(w, snapshot)?;
+    write_player(w, &profile.player, &PlayerState::zero(), &snapshot.player)?;
+    write_tail(w, &profile.entity)
+}
+
+/// Writes what stands in front of the player: no client command was executed, and there is no base and no area.
+fn write_head(w: &mut Writer, snapshot: &Snapshot) -> Result<(), Overflow>
+    ensures { Writes w.old w.new (head_text w.old.words 0 snapshot.now) result }
+{
+    laws::texts_are_written();
     w.put(0, 32)?;
     w.put(SNAPSHOT, 8)?;
     w.put(snapshot.time, 32)?;
     w.put(0, 8)?;
     w.put(u32::from(snapshot.flags), 8)?;
-    w.put(0, 8)?;
-    write_player(w, &profile.player, &PlayerState::zero(), &snapshot.player)?;
-    write_no_entities(w, &profile.entity)?;
-    w.put(END, 8)
+    w.put(0, 8)
 }
 
-/// Writes an entity list with nothing in it: the end mark.
-fn write_no_entities(w: &mut Writer, table: &Table) -> Result<(), Overflow>
-    ensures { Writes w.old w.new (field_bits w.old.words table.now.number_bits (end_mark table.now)) result }
+/// Writes what stands behind the player: the end mark of no entities, and the end.
+fn write_tail(w: &mut Writer, entity: &Table) -> Result<(), Overflow>
+    ensures { Writes w.old w.new (tail_text w.old.words entity.now) result }
 {
-    w.put(u32::from(table.end()), table.number_bits())
+    laws::texts_are_written();
+    w.put(u32::from(entity.end()), entity.number_bits())?;
+    w.put(END, 8)
 }
 
 /// Reads the message's bytes as a snapshot under its number.

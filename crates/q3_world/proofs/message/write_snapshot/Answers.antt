@@ -1,21 +1,31 @@
-use Rattle.std.proofs.Common.{append_assoc}
-use Rattle.q3_world.specs.Message.{snapshot_bits}
+use Rattle.std.proofs.Common.{◌≡◌, ◌++◌, append_assoc, refl}
+use Rattle.std.proofs.lemmas.Result.{err_from_is_err_and}
+use Rattle.q3_player.specs.State.{zero_player}
+use Rattle.q3_player.specs.Delta.{player_delta}
+use Rattle.q3_world.specs.Message.{tail_text, snapshot_bits}
+use Rattle.q3_world.proofs.Rows.{next, refused}
 use Rattle.q3_world.proofs.message.write_snapshot.Goals as goal
 
-pub returns-clause-ok : goal.returns-clause-ok
+pub returns-in_err-write_head : goal.returns-in_err-write_head
 unfolding snapshot_bits
-returns-clause-ok c =
-    let written = rw (
-      c.in_ok-write_no_entities.ensures.ok,
-      c.in_ok-write_player.ensures.ok,
-      c.in_ok-put-6.ensures.writes.ok,
-      c.in_ok-put-5.ensures.writes.ok,
-      c.in_ok-put-4.ensures.writes.ok,
-      c.in_ok-put-3.ensures.writes.ok,
-      c.in_ok-put-2.ensures.writes.ok,
-      c.in_ok-put.ensures.writes.ok,
-      c.from.ensures,
-      c.zero.ensures,
-      c.requires,
-    ) at c.put-7.ensures.writes.ok in
-    rw c.requires (simp append_assoc (simp append_assoc at written))
+returns-in_err-write_head c =
+    let law = c.texts_are_written.ensures in
+    let p = err_from_is_err_and c.from_residual.result c.from_residual.ensures.1 in
+    rw (p.1, p.2, ← c.requires) (refused law _ (refused law _ c.in_err-write_head.ensures))
+
+pub returns-in_err-write_player : goal.returns-in_err-write_player
+unfolding snapshot_bits
+returns-in_err-write_player c =
+    let law = c.texts_are_written.ensures in
+    let p = err_from_is_err_and c.from_residual-in_err-write_player.result c.from_residual-in_err-write_player.ensures.1 in
+    let refusal = rw c.zero.ensures at c.in_err-write_player.ensures in
+    let both = next law (λ ws. player_delta ws c.args.profile.now.player.kinds zero_player c.args.snapshot.now.player) c.in_ok-write_head.ensures refusal in
+    rw (p.1, p.2, ← c.requires) (refused law _ both)
+
+pub returns : goal.returns
+unfolding snapshot_bits
+returns c =
+    let law = c.texts_are_written.ensures in
+    let written = rw c.zero.ensures at c.in_ok-write_player.ensures in
+    let both = next law (λ ws. player_delta ws c.args.profile.now.player.kinds zero_player c.args.snapshot.now.player) c.in_ok-write_head.ensures written in
+    rw (← c.requires) (next law (λ ws. tail_text ws c.args.profile.now.entity) both c.write_tail.ensures)
