@@ -10,9 +10,8 @@ use Rattle.q3_player.specs.declared.state.PlayerState.{PlayerState}
 use Rattle.q3_fields.specs.Kinds.{end_mark}
 use Rattle.q3_profile.specs.declared.profile.Profile.{Profile}
 use Rattle.q3_profile.specs.Profile.{IsCodec}
-use Rattle.q3_player.specs.State.{zero_player, IsState}
+use Rattle.q3_player.specs.State.{zero_player}
 use Rattle.q3_player.specs.Delta.{player_delta, player_at}
-use Rattle.q3_player.specs.Spelling.{SpellsPlayer}
 use Rattle.q3_player.specs.Laws as player
 use Rattle.q3_world.specs.declared.message.Snapshot.{Snapshot}
 use Rattle.q3_world.specs.declared.message.Illegible.{Illegible}

@@ -2,7 +2,7 @@
 //! Keeps the rule "when a message is old", and an interim rule of this project's own: a message that isn't legible
 //! leaves its number untaken.
 
-ghost use Rattle.std.specs.Prelude.{◌≡◌, ◌<◌, ◌^◌, length, IfOk};
+ghost use Rattle.std.specs.Prelude.{◌≡◌, ◌<◌, IfOk};
 ghost use Rattle.std.specs.Option.{option_copied};
 ghost use Rattle.q3_world.specs.Client.{new_client, applied, take_at};
 

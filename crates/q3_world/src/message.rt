@@ -2,10 +2,10 @@
 //! Keeps the rules "layout of a server message" and "snapshot section", which are the engine's `SV_SendClientSnapshot`
 //! and `CL_ParseServerMessage`.
 
-ghost use Rattle.std.specs.Prelude.{◌≡◌, ◌+◌, ◌^◌, ◌<◌, ◌≤◌, ◌++◌, ◌↔◌, length, Ok, Err, IsErr, OnOk, IfOk, MatchResult};
-ghost use Rattle.q3_bits.specs.Bits.{bits_of, message_length};
+ghost use Rattle.std.specs.Prelude.{◌≡◌, ◌+◌, ◌^◌, ◌<◌, ◌≤◌, ◌++◌, ◌↔◌, Ok, Err, IsErr, OnOk, IfOk, MatchResult};
+ghost use Rattle.q3_bits.specs.Bits.{bits_of};
 ghost use Rattle.q3_bits.specs.Words.{field_bits, field_at};
-ghost use Rattle.q3_bits.specs.Streams.{Reads, Writes, IsOverlong, with_rest};
+ghost use Rattle.q3_bits.specs.Streams.{Reads, Writes, IsOverlong};
 ghost use Rattle.q3_fields.specs.Kinds.{end_mark};
 ghost use Rattle.q3_world.specs.Message.{snapshot_bits, snapshot_at, form, fixed_at};
 
@@ -102,12 +102,12 @@ pub(crate) fn read_snapshot(
     })
 }
 
+/// Reads a field of so many bits.
 fn read_bits(r: &mut Reader, width: u32) -> Result<u32, Illegible>
     requires some { 1 ≤ width }
     requires most { width ≤ 32 }
-    ensures value { with_rest r.new.left result ≡ form (field_at r.old.words width r.old.left) }
+    ensures reads { Reads r.old r.new (form (field_at r.old.words width r.old.left)) result }
     ensures fits { IfOk result (λ value. value < 2 ^ width) }
-    ensures words { r.new.words ≡ r.old.words }
 {
     r.get(width).map_err(|_| Illegible::Form)
 }

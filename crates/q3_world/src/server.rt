@@ -1,7 +1,7 @@
 //! The server's end: pure state, one call an event.
 //! Keeps the rules "datagram" and "end of message numbers", the second of which is this project's own.
 
-ghost use Rattle.std.specs.Prelude.{◌≡◌, ◌<◌, ◌≤◌, [], None, IfOk, length};
+ghost use Rattle.std.specs.Prelude.{◌≡◌, ◌<◌, [], IfOk, length};
 ghost use Rattle.q3_world.specs.Message.{datagram_bytes};
 ghost use Rattle.q3_world.specs.Server.{places, fragment_size, new_slot, new_server, with_player, add_client_at, set_time_at, set_player_at, emit_slot, emit_at};
 
@@ -80,7 +80,7 @@ struct Slot {
 }
 
 impl Model for Slot {
-    ghost use Rattle.std.specs.Prelude.{◌^◌, ◌<◌};
+    ghost use Rattle.std.specs.Prelude.{◌<◌};
     ghost use Rattle.q3_world.specs.Message.{sequence_end};
     ghost use Rattle.q3_world.specs.Server.{SlotState};
 
