@@ -1,4 +1,4 @@
-use Rattle.std.proofs.Common.{◌≡◌, ℕ, ◌+◌, List, [], ◌∷◌, length, refl, ap, ◌∙◌, arith}
+use Rattle.std.proofs.Common.{◌≡◌, ◌+◌, [], ◌∷◌, length, refl, ap, ◌∙◌, arith}
 use Rattle.q3_bits.specs.Bits.{low_bits, bits_of}
 use Rattle.q3_bits.specs.Streams.{Reading}
 use Rattle.q3_fields.proofs.tests.integers_and_zeros_are_written_and_read.Goals as goal
