@@ -1,5 +1,5 @@
 -- How a table lies in its array.
-use Rattle.std.specs.Prelude.{◌≡◌, List, length, take}
+use Rattle.std.specs.Prelude.{◌≡◌, length, take}
 use Rattle.q3_fields.specs.declared.table.Table.TheInside.{Inside}
 use Rattle.q3_fields.specs.Kinds.{Layout, IsTable}
 

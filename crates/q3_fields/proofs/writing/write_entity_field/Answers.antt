@@ -1,4 +1,4 @@
-use Rattle.std.proofs.Common.{◌≡◌, ◌++◌, Bool, false, eqb, List, refl, sym, ◌∙◌}
+use Rattle.std.proofs.Common.{◌≡◌, ◌++◌, false, eqb, refl, ◌∙◌}
 use Rattle.std.proofs.lemmas.Bool.{ne_eqb}
 use Rattle.q3_bits.specs.Words.{field_bits}
 use Rattle.q3_fields.specs.Kinds.{norm}

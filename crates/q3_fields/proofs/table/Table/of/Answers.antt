@@ -1,4 +1,4 @@
-use Rattle.std.proofs.Common.{◌≡◌, ◌≤◌, length, take, get_or, ℤ, pos, w64, SFits, Ok, refl, sym, ap, ◌∙◌, rules, arith}
+use Rattle.std.proofs.Common.{◌≡◌, ◌≤◌, length, get_or, ℤ, pos, w64, SFits, refl, sym, ◌∙◌, rules, arith}
 use Rattle.std.proofs.lemmas.Int.{to_z-of_z}
 use Rattle.std.proofs.lemmas.Bool.{eqb-false}
 use Rattle.q3_fields.proofs.KindsRead.{HasKinds-more, HasKinds-ends, HasKinds-all, table_of-some}
