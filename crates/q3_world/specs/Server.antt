@@ -1,6 +1,6 @@
 -- The server's end: what the game handed in for all clients, and a slot for each of them. Each call gives the server
 -- after it, and its answer.
-use Rattle.std.specs.Prelude.{ℕ, ◌+◌, if◌then◌else◌, Bool, List, [], length, replicate, nat_le, Option, Some, None, slice_set, slice_index_or, Result, Ok, Err}
+use Rattle.std.specs.Prelude.{ℕ, ◌+◌, if◌then◌else◌, Bool, List, [], ◌∷◌, ◌++◌, length, replicate, nat_le, Option, Some, None, slice_set, slice_index_or, Result, Ok, Err}
 use Rattle.q3_profile.specs.declared.profile.Profile.{Profile}
 use Rattle.q3_bits.specs.Bits.{message_bytes, message_length}
 use Rattle.q3_player.specs.declared.state.PlayerState.{PlayerState}
@@ -134,6 +134,11 @@ pub record Emission : Type 0 where
   pub answer : Emitted
   pub began : Option Built
   pub datagram : List ℕ
+
+-- a list, and behind it what an emission hands out under a message's number, if it does
+abbrev pub with_handed_out : {X : Type 0} → List X → Emitted → (ℕ → X) → List X
+with_handed_out xs (emitted.Snapshot number base bytes) datagram = xs ++ datagram number ∷ []
+with_handed_out xs other datagram = xs
 
 -- the emission of a slot in its place
 abbrev pub emission_at : ServerState → ℕ → SlotEmission → Emission
