@@ -1,5 +1,5 @@
 -- What the program's world keeps, and what an event does to it: datagrams are taken by their bytes.
-use Rattle.std.specs.Prelude.{ℕ, ◌+◌, ◌-◌, List, [], ◌∷◌, length, Option, Some, None, slice_get}
+use Rattle.std.specs.Prelude.{ℕ, ◌+◌, ◌-◌, ◌^◌, List, [], ◌∷◌, length, Option, Some, None, slice_get}
 use Rattle.q3_profile.specs.declared.profile.Profile.{Profile}
 use Rattle.q3_script.specs.declared.event.Event.{Event}
 use Rattle.q3_script.specs.declared.event.Event.TheVariants as events
@@ -14,7 +14,7 @@ pub record SentBytes : Type 0 where
 
 -- datagrams have numbers of 32 bits
 abbrev pub most_datagrams : ℕ
-most_datagrams = 4294967295
+most_datagrams = 2 ^ 32 - 1
 
 -- by which profile, both ends, and every datagram that was made
 pub record Kept : Type 0 where

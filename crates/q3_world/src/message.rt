@@ -20,7 +20,9 @@ pub struct Snapshot {
     pub number: u32,
     /// The server's time, in milliseconds.
     pub time: u32,
+    /// The flags of a snapshot, none of which this stage sets.
     pub flags: u8,
+    /// The client's own player, in the normal form of the profile's table.
     pub player: PlayerState,
 }
 

@@ -1,4 +1,3 @@
-use Rattle.std.proofs.Common.{◌≡◌, ◌++◌, append_assoc, refl}
 use Rattle.std.proofs.lemmas.Result.{err_from_is_err_and}
 use Rattle.q3_player.specs.State.{zero_player}
 use Rattle.q3_player.specs.Delta.{player_delta}
