@@ -1,3 +1,4 @@
+pub mod Places
 pub mod Kinds
 pub mod Rows
 pub mod Floats

@@ -5,7 +5,7 @@ use Rattle.std.proofs.lemmas.List.{length-append, append-nil, map-append, map-se
 use Rattle.std.proofs.lemmas.List.Folds.{concat-append}
 use Rattle.std.proofs.lemmas.List.Sums.{sum_by-cons, sum_by_more_le}
 use Rattle.std.specs.List.{concat, sum}
-use Rattle.q3_io.specs.Texts.{texts_of, LieBehind, Are, StartsAt}
+use Rattle.q3_io.specs.Texts.{texts_of, LieBehind, AreCutFrom, StartsAt}
 
 -- texts are cut again as they were
 texts_of-concat : (texts : List (List ℕ)) → texts_of (map length texts) (concat texts) ≡ texts
@@ -15,8 +15,8 @@ texts_of-concat (text ∷ texts) =
     rw (take-append_seam text (concat texts), drop-append_seam text (concat texts)) (ap (λ (t : List (List ℕ)). text ∷ t) (texts_of-concat texts))
 
 -- what lies behind one another does so as texts
-are : (texts : List (List ℕ)) (lengths bytes : List ℕ) → lengths ≡ map length texts → bytes ≡ concat texts → Are texts lengths bytes
-are texts lengths bytes l b = rw (l, b) (record {
+are_cut_from : (texts : List (List ℕ)) (lengths bytes : List ℕ) → lengths ≡ map length texts → bytes ≡ concat texts → AreCutFrom texts lengths bytes
+are_cut_from texts lengths bytes l b = rw (l, b) (record {
   lie = record {
     bytes_are = ap concat (texts_of-concat texts);
     lengths_are = ap (map length) (texts_of-concat texts);
@@ -63,14 +63,14 @@ starts_at texts lengths bytes place start l b within is =
     let whole : bytes ≡ front ++ (text ++ back) = sym b ∙ parts texts place inside in
     let count : get_or lengths place 0 ≡ length text = ap (λ (z : List ℕ). get_or z place 0) (sym l) ∙ get_or-map length texts place [] 0 inside in
     let begins : start ≡ length front = is ∙ (ap (λ (z : List ℕ). sum (take place z)) (sym l) ∙ (ap sum (take-map length place texts) ∙ sym (length-concat (take place texts)))) in
-    let same : texts_of lengths bytes ≡ texts = (are texts lengths bytes (sym l) (sym b)).same in
+    let same : texts_of lengths bytes ≡ texts = (are_cut_from texts lengths bytes (sym l) (sym b)).same in
     record {
       within = rw (count, begins, whole) (omega (arith, length-append front (text ++ back), length-append text back));
       count = rw same (sym count);
       text = rw (same, count, begins, whole, drop-append_seam front (text ++ back)) (take-append_seam text back);
-      cleared = rw same (are (set texts place []) (set lengths place 0) _ (rw (← l) (sym (map-set length texts place [])))
+      cleared = rw same (are_cut_from (set texts place []) (set lengths place 0) _ (rw (← l) (sym (map-set length texts place [])))
           (rw (count, begins, whole, take-append_seam front (text ++ back), cut_behind front text back) (sym (set_parts texts place [] inside))));
-      added = λ more. rw same (are (set texts place (text ++ more)) (set lengths place (get_or lengths place 0 + length more)) _
+      added = λ more. rw same (are_cut_from (set texts place (text ++ more)) (set lengths place (get_or lengths place 0 + length more)) _
           (rw (count, ← l, ← length-append text more) (sym (map-set length texts place (text ++ more))))
           (rw (count, begins, whole, cut_with front text back, cut_behind front text back) (simp append_assoc (sym (set_parts texts place (text ++ more) inside ∙ ap (λ (z : List ℕ). front ++ z) (append_assoc text more back))))));
     }
@@ -86,10 +86,10 @@ sum_within lengths bytes k lie within =
     omega (arith, whole, sum_by_more_le (λ n. n) lengths k 0 within)
 
 -- a text more
-pub pushed : (lengths bytes text : List ℕ) → LieBehind lengths bytes → Are (texts_of lengths bytes ++ text ∷ []) (lengths ++ length text ∷ []) (bytes ++ text)
+pub pushed : (lengths bytes text : List ℕ) → LieBehind lengths bytes → AreCutFrom (texts_of lengths bytes ++ text ∷ []) (lengths ++ length text ∷ []) (bytes ++ text)
 pushed lengths bytes text lie =
     let texts = texts_of lengths bytes in
-    are (texts ++ text ∷ []) (lengths ++ length text ∷ []) (bytes ++ text)
+    are_cut_from (texts ++ text ∷ []) (lengths ++ length text ∷ []) (bytes ++ text)
     (ap (λ (z : List ℕ). z ++ length text ∷ []) (sym lie.lengths_are) ∙ sym (map-append length texts (text ∷ [])))
     (ap (λ (z : List ℕ). z ++ text) (sym lie.bytes_are) ∙ (ap (λ (z : List ℕ). concat texts ++ z) (sym (append-nil text)) ∙ sym (concat-append texts (text ∷ []))))
 

@@ -49,8 +49,16 @@ files_of (name ∷ names) (text ∷ texts) = record { name = name; contents = te
 files_of [] texts = []
 files_of names [] = []
 
+-- the file at a place
+abbrev pub file_at : List File → ℕ → File
+file_at files place = slice_index_or files place no_file
+
+-- the file at a place holds these bytes
+abbrev pub with_contents_at : List File → ℕ → List ℕ → List File
+with_contents_at files place contents = slice_set files place (record (file_at files place) { contents = contents })
+
 -- the file of this name stands at this place
 pub record StandsAt (files : List File) (name : List ℕ) (place : ℕ) : Type 0 where
   pub within : place < length files
-  pub contents : contents_of files name ≡ Some (slice_index_or files place no_file).contents
-  pub put : (bytes : List ℕ) → with_contents files name bytes ≡ slice_set files place (record (slice_index_or files place no_file) { contents = bytes })
+  pub contents : contents_of files name ≡ Some (file_at files place).contents
+  pub put : (bytes : List ℕ) → with_contents files name bytes ≡ with_contents_at files place bytes

@@ -10,10 +10,13 @@ piece_text (Text text) = text.now
 piece_text (Number number) = decimal number
 piece_text (Quoted text) = quoted text.now
 
--- a word by its letter and index, with a space before it, if it isn't 0
+-- a word behind its letter and index, as reports and scripts spell it
+abbrev pub indexed_text : List ℕ → ℕ → ℕ → List ℕ
+indexed_text letter index word = concat (letter ∷ decimal index ∷ codes ":" ∷ decimal word ∷ [])
+
+-- the same behind a space, if the word isn't 0
 abbrev pub word_text : List ℕ → ℕ → ℕ → List ℕ
-word_text letter index word =
-    if word == 0 then [] else concat (codes " " ∷ letter ∷ decimal index ∷ codes ":" ∷ decimal word ∷ [])
+word_text letter index word = if word == 0 then [] else codes " " ++ indexed_text letter index word
 
 -- the words that aren't 0, behind a letter, by index from this one on
 unfoldable pub words_text : List ℕ → ℕ → List ℕ → List ℕ

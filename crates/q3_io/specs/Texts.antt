@@ -19,7 +19,7 @@ pub record LieBehind (lengths bytes : List ℕ) : Type 0 where
   pub lengths_are : map length (texts_of lengths bytes) ≡ lengths
 
 -- texts of these lengths in these bytes
-pub record Are (texts : List (List ℕ)) (lengths bytes : List ℕ) : Type 0 where
+pub record AreCutFrom (texts : List (List ℕ)) (lengths bytes : List ℕ) : Type 0 where
   pub lie : LieBehind lengths bytes
   pub same : texts_of lengths bytes ≡ texts
 
@@ -28,7 +28,8 @@ pub record StartsAt (lengths bytes : List ℕ) (place start : ℕ) : Type 0 wher
   pub within : start + slice_index lengths place ≤ length bytes
   pub count : length (slice_index_or (texts_of lengths bytes) place []) ≡ slice_index lengths place
   pub text : take (slice_index lengths place) (drop start bytes) ≡ slice_index_or (texts_of lengths bytes) place []
-  pub cleared : Are (slice_set (texts_of lengths bytes) place []) (slice_set lengths place 0) (take start bytes ++ drop (start + slice_index lengths place) bytes)
-  pub added : (more : List ℕ) → Are (slice_set (texts_of lengths bytes) place (slice_index_or (texts_of lengths bytes) place [] ++ more))
+  pub cleared : AreCutFrom (slice_set (texts_of lengths bytes) place []) (slice_set lengths place 0)
+      (take start bytes ++ drop (start + slice_index lengths place) bytes)
+  pub added : (more : List ℕ) → AreCutFrom (slice_set (texts_of lengths bytes) place (slice_index_or (texts_of lengths bytes) place [] ++ more))
       (slice_set lengths place (slice_index lengths place + length more))
       (take (start + slice_index lengths place) bytes ++ more ++ drop (start + slice_index lengths place) bytes)

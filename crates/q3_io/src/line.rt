@@ -1,9 +1,9 @@
 //! A line buffer: a sink that hands on what is written to it in few writes.
 
-ghost use Rattle.std.specs.Prelude.{◌≡◌, ◌↔◌, ◌+◌, ◌≤◌, [], ◌++◌, length, if◌then◌else◌, IsTrue};
+ghost use Rattle.std.specs.Prelude.{◌≡◌, ◌↔◌, ◌+◌, ◌<◌, ◌≤◌, [], ◌++◌, length, if◌then◌else◌, IsOk, IsTrue};
 ghost use Rattle.q3_io.specs.Faults.{HasCause};
 ghost use Rattle.q3_io.specs.Written.{Adds, NothingWaits};
-ghost use Rattle.q3_io.specs.Line.{held_behind};
+ghost use Rattle.q3_io.specs.Line.{most_held, held_alone, held_behind};
 
 use crate::sink::{Failed, Sink};
 use std::marker::Model;
@@ -46,13 +46,6 @@ impl<O: Sink> Line<O> {
         &self.sink
     }
 
-    /// Holds the bytes behind the others, where they fit.
-    fn hold(&mut self, bytes: &[u8]) -> bool
-        ensures { self.new ≡ (if result then record self.old { held = self.old.held ++ bytes.now } else self.old) }
-    {
-        self.held.keep(bytes)
-    }
-
     /// Hands on the bytes that are held, in one write if there are any.
     fn hand_on(&mut self) -> Result<(), Failed>
         ensures adds { Adds (O.written self.old.sink) (O.written self.new.sink) self.old.held result }
@@ -82,18 +75,31 @@ impl<O: Sink> Sink for Line<O> {
 
     ghost written = { λ l. held_behind (O.written l.sink) l.held };
 
-    fn write_all(&mut self, bytes: &[u8]) -> Result<(), Failed> {
-        if self.hold(bytes) {
+    /// Bytes that fit beside what is held wait with it, and nothing is handed on. Otherwise what is held is handed on,
+    /// and then the bytes wait alone, or go straight on where they are more than 1,024.
+    fn write_all(&mut self, bytes: &[u8]) -> Result<(), Failed>
+        ensures adds { Adds (held_behind (O.written self.old.sink) self.old.held) (held_behind (O.written self.new.sink) self.new.held) bytes.now result }
+        ensures cause { HasCause (O.faults self.old.sink) (O.faults self.new.sink) result }
+        ensures holds { length self.old.held + length bytes.now ≤ most_held
+            → IsOk result × (self.new ≡ record self.old { held = self.old.held ++ bytes.now }) }
+        ensures alone { most_held < length self.old.held + length bytes.now → self.new.held ≡ held_alone bytes.now result }
+    {
+        if self.held.keep(bytes) {
             return Ok(());
         }
         self.hand_on()?;
-        if self.hold(bytes) {
-            return Ok(());
+        if !self.held.keep(bytes) {
+            return self.pass_on(bytes);
         }
-        self.pass_on(bytes)
+        Ok(())
     }
 
-    fn flush(&mut self) -> Result<(), Failed> {
+    fn flush(&mut self) -> Result<(), Failed>
+        ensures adds { Adds (held_behind (O.written self.old.sink) self.old.held) (held_behind (O.written self.new.sink) self.new.held) [] result }
+        ensures flushed { NothingWaits (held_behind (O.written self.new.sink) self.new.held) }
+        ensures cause { HasCause (O.faults self.old.sink) (O.faults self.new.sink) result }
+        ensures empty { self.new.held ≡ [] }
+    {
         self.hand_on()?;
         self.sink.flush()
     }
@@ -108,12 +114,13 @@ struct Held {
 
 impl Model for Held {
     ghost use Rattle.std.specs.Prelude.{◌≤◌, ℕ, List, take};
+    ghost use Rattle.q3_io.specs.Line.{most_held};
 
     ghost Value = { List ℕ };
 
     ghost view = { λ h. take h.length h.bytes };
 
-    ghost invariant = { λ h. h.length ≤ 1024 };
+    ghost invariant = { λ h. h.length ≤ most_held };
 }
 
 impl Held {
@@ -134,7 +141,7 @@ impl Held {
 
     /// Holds the bytes behind the others, where they fit.
     fn keep(&mut self, bytes: &[u8]) -> bool
-        ensures fits { IsTrue result ↔ (length self.old + length bytes.now ≤ 1024) }
+        ensures fits { IsTrue result ↔ (length self.old + length bytes.now ≤ most_held) }
         ensures held { self.new ≡ (if result then self.old ++ bytes.now else self.old) }
     {
         if bytes.len() > ROOM - self.length {

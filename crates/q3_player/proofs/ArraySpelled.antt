@@ -11,15 +11,16 @@ use Rattle.q3_bits.specs.Laws.{ReadWasPut, PutIsRead}
 use Rattle.q3_bits.specs.declared.reader.ReadError.{ReadError}
 use Rattle.q3_fields.specs.declared.kind.Kind.{Kind}
 use Rattle.q3_fields.specs.Kinds.{IsKind}
+use Rattle.q3_fields.specs.Places.{Change, with_changes, AreRising}
 use Rattle.q3_fields.specs.Texts.{player_field_at}
 use Rattle.q3_fields.specs.Laws.{PlayerFieldIsSpelled, PlayerReadIsSpelled, PlayerSpelledIsRead}
-use Rattle.q3_player.specs.Arrays.{Change, changes, mask_of, with_changes, AreRising}
+use Rattle.q3_player.specs.Arrays.{changes, mask_of}
 use Rattle.q3_player.specs.Delta.{values_text, array_text, place_after, places_after, array_after}
 use Rattle.q3_player.specs.Spelling.{SpellsValues, SpellsArray}
 use Rattle.q3_player.proofs.Results.{answer_parts}
 use Rattle.q3_player.proofs.BitsSpelled.{bits_were_put, bits_were}
 use Rattle.q3_player.proofs.Kept.{IsKept}
-use Rattle.q3_player.proofs.Maps.{Rises, rises-from, rises-to, rises-weaker, up, mask_of-up, with_changes-up, rises-up, splits, mask-below, mask-one_up, mask-one_up_and_first, changes-rise, with_changes-changes, values-up, values-down, values-spelled}
+use Rattle.q3_player.proofs.Maps.{rises-weaker, up, mask_of-up, with_changes-up, rises-up, splits, mask-below, mask-one_up, mask-one_up_and_first, changes-rise, with_changes-changes, values-up, values-down, values-spelled}
 use Rattle.q3_player.proofs.PlacesRead.{places_after_none}
 
 -- ---- places that are read
@@ -32,7 +33,7 @@ others_at words kind mask from first = places_after words kind mask from first.1
 pub record ReadPlaces (words : List (List Bool)) (kind : Kind) (mask : ℕ) (from : List ℕ) (bits : List Bool) (found : List ℕ × List Bool) : Type 0 where
   pub changed : List Change
   pub text : List Bool
-  pub rises : Rises (length from) 0 changed
+  pub rises : AreRising (length from) 0 changed
   pub mask_is : mask_of changed ≡ mask
   pub values_are : found.0 ≡ with_changes from changed
   pub parts : bits ≡ text ++ found.1
@@ -104,7 +105,7 @@ places_were_spelled law words code kind allowed mask (x ∷ from) bits found bel
 
 -- places that are spelled so are read
 pub places_are_read : PlayerSpelledIsRead → (words : List (List Bool)) → IsCode words → (kind : Kind) → IsKind kind → (from : List ℕ) (changed : List Change) (text rest : List Bool)
-    → Rises (length from) 0 changed → SpellsValues words kind changed text → places_after words kind (mask_of changed) from (text ++ rest) ≡ Ok (with_changes from changed, rest)
+    → AreRising (length from) 0 changed → SpellsValues words kind changed text → places_after words kind (mask_of changed) from (text ++ rest) ≡ Ok (with_changes from changed, rest)
 unfolding places_after place_after mask_of with_changes
 places_are_read law words code kind allowed [] [] text rest rises spells = rw spells refl
 places_are_read law words code kind allowed [] (change ∷ others) text rest rises spells = absurd (omega (arith, rises.1))
@@ -139,7 +140,7 @@ places_are_read law words code kind allowed (x ∷ from) changed text rest rises
 
 -- a map of what changed, written
 map_is_spelled : PlayerFieldIsSpelled → (words : List (List Bool)) (kind : Kind) → IsKind kind → (from to : List ℕ) → All (IsKept kind) to
-    → (changed : List Change) → changed ≡ changes from to → AreRising 0 changed → with_changes from changed ≡ to → SpellsArray words kind from to (array_text words kind changed)
+    → (changed : List Change) → changed ≡ changes from to → AreRising 16 0 changed → with_changes from changed ≡ to → SpellsArray words kind from to (array_text words kind changed)
 unfolding array_text with_changes
 map_is_spelled law words kind allowed from to kept [] is rising over = inl (sym over, refl)
 map_is_spelled law words kind allowed from to kept (change ∷ others) is rising over =
@@ -156,8 +157,8 @@ map_is_spelled law words kind allowed from to kept (change ∷ others) is rising
 pub array_is_spelled : PlayerFieldIsSpelled → (words : List (List Bool)) (kind : Kind) → IsKind kind → (from to : List ℕ) → length from ≡ 16 → length to ≡ 16 → All (IsKept kind) to
     → SpellsArray words kind from to (array_text words kind (changes from to))
 array_is_spelled law words kind allowed from to long long' kept =
-    let rises = subst (λ (n : ℕ). Rises n 0 (changes from to)) long (changes-rise from to) in
-    map_is_spelled law words kind allowed from to kept (changes from to) refl (rises-to 0 (changes from to) rises) (with_changes-changes from to (long ∙ sym long'))
+    let rises = subst (λ (n : ℕ). AreRising n 0 (changes from to)) long (changes-rise from to) in
+    map_is_spelled law words kind allowed from to kept (changes from to) refl rises (with_changes-changes from to (long ∙ sym long'))
 
 -- an array that is read
 pub record ReadArray (words : List (List Bool)) (kind : Kind) (from : List ℕ) (bits : List Bool) (found : List ℕ × List Bool) : Type 0 where
@@ -219,7 +220,7 @@ array_was_spelled put law words code kind allowed from bits found long kept e =
             spells = inr (
               read.changed,
               read.text,
-              rises-to 0 read.changed (subst (λ (n : ℕ). Rises n 0 read.changed) long read.rises),
+              subst (λ (n : ℕ). AreRising n 0 read.changed) long read.rises,
               read.values_are,
               read.spells,
               ap (λ (m : ℕ). field_bits words 1 1 ++ field_bits words 16 m ++ read.text) (sym read.mask_is),
@@ -238,8 +239,8 @@ array_is_read put law words code kind allowed from to text rest long (inl none) 
 array_is_read put law words code kind allowed from to text rest long (inr some) =
     let changed = some.0 in
     let values = some.1 in
-    let rises = subst (λ (n : ℕ). Rises n 0 changed) (sym long) (rises-from 0 changed some.2) in
-    let below : mask_of changed < 2 ^ 16 = mask-below 16 changed (rises-from 0 changed some.2) in
+    let rises = subst (λ (n : ℕ). AreRising n 0 changed) (sym long) some.2 in
+    let below : mask_of changed < 2 ^ 16 = mask-below 16 changed some.2 in
     let regrouped : text ++ rest ≡ field_bits words 1 1 ++ (field_bits words 16 (mask_of changed) ++ (values ++ rest)) = rw some.5 (simp append_assoc) in
     rw (
       regrouped,

@@ -8,9 +8,10 @@ use Rattle.std.proofs.Math.Nat.{pow-suc}
 use Rattle.std.proofs.lemmas.Nat.{pow_pos}
 use Rattle.q3_bits.specs.Words.{field_bits}
 use Rattle.q3_fields.specs.declared.kind.Kind.{Kind}
+use Rattle.q3_fields.specs.Places.{Change}
 use Rattle.q3_fields.specs.Texts.{player_field}
-use Rattle.q3_player.specs.Arrays.{Change, changes_from, changes, mask_of}
-use Rattle.q3_player.specs.Delta.{place_text, values_text, array_text}
+use Rattle.q3_player.specs.Arrays.{changes_from, changes, mask_of}
+use Rattle.q3_player.specs.Delta.{values_text, array_text}
 
 -- a place more at the end
 changes_from-push : (place : ℕ) (from to : List ℕ) (x y : ℕ) → length from ≡ length to
@@ -79,14 +80,14 @@ array_text_some words kind (change ∷ others) some = rw (eqb-suc-zero (length o
 -- what is left of the values, one place on
 pub values_text-next : (words same : List (List Bool)) (kind : Kind) (k : ℕ) (from to : List ℕ) → same ≡ words → k < length from → k < length to
     → values_text words kind (changes_from k (drop k from) (drop k to))
-    ≡ place_text same kind (get_or from k 0) (get_or to k 0) ++ values_text words kind (changes_from (k + 1) (drop (k + 1) from) (drop (k + 1) to))
+    ≡ values_text same kind (changes (get_or from k 0 ∷ []) (get_or to k 0 ∷ [])) ++ values_text words kind (changes_from (k + 1) (drop (k + 1) from) (drop (k + 1) to))
 unfolding changes_from values_text
 values_text-next words same kind k from to is within within' =
     let others = changes_from (k + 1) (drop (k + 1) from) (drop (k + 1) to) in
     elim (cases_Bool (eqb (get_or from k 0) (get_or to k 0))) [
       | inl as_it_was ↦ rw (is, drop_more from k 0 within, drop_more to k 0 within', as_it_was) refl
       | inr differs ↦
-          rw (is, drop_more from k 0 within, drop_more to k 0 within', differs)
+          rw (is, drop_more from k 0 within, drop_more to k 0 within', differs, append-nil (player_field words kind (get_or to k 0)))
           (flat_map-cons (λ (x : Change). player_field words kind x.1) (k, get_or to k 0) others)
     ]
 
@@ -99,3 +100,13 @@ values_text-end words kind k from to past = rw (drop_all k from past) refl
 -- the next power of two
 pub twice : (k : ℕ) → 2 ^ (k + 1) ≡ 2 ^ k + 2 ^ k
 twice k = rw (add-one, pow-suc 2 k) (omega arith)
+
+-- a place as it was, and one that changed
+pub values_text-same : (words : List (List Bool)) (kind : Kind) (from to : ℕ) → from ≡ to → values_text words kind (changes (from ∷ []) (to ∷ [])) ≡ []
+unfolding changes_from values_text
+values_text-same words kind from to same = rw (eq-eqb from to same) refl
+
+pub values_text-differs : (words : List (List Bool)) (kind : Kind) (from to : ℕ) → from ≢ to
+    → values_text words kind (changes (from ∷ []) (to ∷ [])) ≡ player_field words kind to
+unfolding changes_from values_text
+values_text-differs words kind from to differs = rw (ne_eqb from to differs) (append-nil (player_field words kind to))

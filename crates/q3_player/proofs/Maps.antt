@@ -7,30 +7,18 @@ use Rattle.std.proofs.lemmas.List.Elements.{All-head, All-tail}
 use Rattle.std.specs.List.{All}
 use Rattle.q3_fields.specs.declared.kind.Kind.{Kind}
 use Rattle.q3_fields.specs.Kinds.{IsKind}
+use Rattle.q3_fields.specs.Places.{Change, with_changes, AreRising}
 use Rattle.q3_fields.specs.Texts.{player_field}
 use Rattle.q3_fields.specs.Spelling.{SpellsPlayerField}
 use Rattle.q3_fields.specs.Laws.{PlayerFieldIsSpelled}
-use Rattle.q3_player.specs.Arrays.{Change, changes_from, mask_of, with_changes, AreRising}
+use Rattle.q3_player.specs.Arrays.{changes_from, mask_of}
 use Rattle.q3_player.specs.Spelling.{SpellsValues}
 use Rattle.q3_player.specs.Delta.{values_text}
 use Rattle.q3_player.proofs.Changes.{twice}
 use Rattle.q3_player.proofs.Kept.{IsKept}
 
--- the places rise, from least on, and are below most
-abbrev pub Rises : ℕ → ℕ → List Change → Type 0
-Rises most least [] = Unit {0}
-Rises most least (change ∷ others) = (least ≤ change.0) × (change.0 < most) × Rises most (change.0 + 1) others
-
-pub rises-from : (least : ℕ) (changed : List Change) → AreRising least changed → Rises 16 least changed
-rises-from least [] rising = tt
-rises-from least (change ∷ others) rising = (rising.0, rising.1, rises-from (change.0 + 1) others rising.2)
-
-pub rises-to : (least : ℕ) (changed : List Change) → Rises 16 least changed → AreRising least changed
-rises-to least [] rises = tt
-rises-to least (change ∷ others) rises = (rises.0, rises.1, rises-to (change.0 + 1) others rises.2)
-
 -- from a lower least too
-pub rises-weaker : (most least lower : ℕ) (changed : List Change) → lower ≤ least → Rises most least changed → Rises most lower changed
+pub rises-weaker : (most least lower : ℕ) (changed : List Change) → lower ≤ least → AreRising most least changed → AreRising most lower changed
 rises-weaker most least lower [] below rises = tt
 rises-weaker most least lower (change ∷ others) below rises = (omega (arith, rises.0), rises.1, rises.2)
 
@@ -49,26 +37,26 @@ unfolding with_changes
 with_changes-up x from [] = refl
 with_changes-up x from (change ∷ others) = rw add-one (with_changes-up x (set from change.0 change.1) others)
 
-pub rises-up : (most least : ℕ) (changed : List Change) → Rises most least changed → Rises (suc most) (least + 1) (up changed)
+pub rises-up : (most least : ℕ) (changed : List Change) → AreRising most least changed → AreRising (suc most) (least + 1) (up changed)
 rises-up most least [] rises = tt
 rises-up most least (change ∷ others) rises = (omega (arith, rises.0), omega (arith, rises.1), rises-up most (change.0 + 1) others rises.2)
 
 -- places that rise from 1 are one higher than others
-pub rises-down : (most least : ℕ) (changed : List Change) → Rises (suc most) (least + 1) changed → (lower : List Change) × (changed ≡ up lower) × Rises most least lower
+pub rises-down : (most least : ℕ) (changed : List Change) → AreRising (suc most) (least + 1) changed → (lower : List Change) × (changed ≡ up lower) × AreRising most least lower
 rises-down most least [] rises = ([], refl, tt)
 rises-down most least (change ∷ others) rises =
     let behind = rises-down most change.0 others rises.2 in
     let place : change.0 ≡ change.0 - 1 + 1 = omega (arith, rises.0) in
     let first : change ≡ (change.0 - 1 + 1, change.1) = ap (λ (n : ℕ). (n, change.1)) place in
-    ((change.0 - 1, change.1) ∷ behind.0, rw (behind.1, ← first) refl, (omega (arith, rises.0), omega (arith, rises.0, rises.1), subst (λ (n : ℕ). Rises most n behind.0) place behind.2))
+    ((change.0 - 1, change.1) ∷ behind.0, rw (behind.1, ← first) refl, (omega (arith, rises.0), omega (arith, rises.0, rises.1), subst (λ (n : ℕ). AreRising most n behind.0) place behind.2))
 
 -- places below one more than most: the others are one higher than places below most, with or without the place 0
 pub record Splits (most : ℕ) (changed : List Change) : Type 0 where
   pub lower : List Change
-  pub rises : Rises most 0 lower
+  pub rises : AreRising most 0 lower
   pub is : (changed ≡ up lower) ⊎ ((value : ℕ) × (changed ≡ (0, value) ∷ up lower))
 
-splits-at : (most place value : ℕ) (others : List Change) → Rises (suc most) 0 ((place, value) ∷ others) → Splits most ((place, value) ∷ others)
+splits-at : (most place value : ℕ) (others : List Change) → AreRising (suc most) 0 ((place, value) ∷ others) → Splits most ((place, value) ∷ others)
 splits-at most zero value others rises =
     let behind = rises-down most 0 others rises.2 in
     record { lower = behind.0; rises = behind.2; is = inr (value, ap (λ (xs : List Change). (0, value) ∷ xs) behind.1) }
@@ -76,7 +64,7 @@ splits-at most (suc place) value others rises =
     let whole = rises-down most 0 ((suc place, value) ∷ others) (omega arith, rises.1, rises.2) in
     record { lower = whole.0; rises = whole.2; is = inl whole.1 }
 
-pub splits : (most : ℕ) (changed : List Change) → Rises (suc most) 0 changed → Splits most changed
+pub splits : (most : ℕ) (changed : List Change) → AreRising (suc most) 0 changed → Splits most changed
 splits most [] rises = record { lower = []; rises = tt; is = inl refl }
 splits most (change ∷ others) rises = splits-at most change.0 change.1 others rises
 
@@ -94,7 +82,7 @@ mask-below_next most changed lower below (inl is) = omega (arith, pow-suc 2 most
 mask-below_next most changed lower below (inr is) = omega (arith, pow-suc 2 most, mask-one_up_and_first changed lower is.0 is.1)
 
 -- the mask is below the power of two
-pub mask-below : (most : ℕ) (changed : List Change) → Rises most 0 changed → mask_of changed < 2 ^ most
+pub mask-below : (most : ℕ) (changed : List Change) → AreRising most 0 changed → mask_of changed < 2 ^ most
 unfolding mask_of
 mask-below zero [] rises = omega arith
 mask-below zero (change ∷ others) rises = absurd (omega (arith, rises.1))
@@ -115,12 +103,12 @@ changes_from-up place (x ∷ from) (y ∷ to) =
       | inr differs ↦ rw (differs, others) refl
     ]
 
-pub changes-rise : (from to : List ℕ) → Rises (length from) 0 (changes_from 0 from to)
+pub changes-rise : (from to : List ℕ) → AreRising (length from) 0 (changes_from 0 from to)
 unfolding changes_from
 changes-rise [] to = tt
 changes-rise (x ∷ from) [] = tt
 changes-rise (x ∷ from) (y ∷ to) =
-    let others : Rises (suc (length from)) 1 (changes_from 1 from to) = rw (changes_from-up 0 from to) (rises-up (length from) 0 (changes_from 0 from to) (changes-rise from to)) in
+    let others : AreRising (suc (length from)) 1 (changes_from 1 from to) = rw (changes_from-up 0 from to) (rises-up (length from) 0 (changes_from 0 from to) (changes-rise from to)) in
     elim (cases_Bool (eqb x y)) [
       | inl as_it_was ↦ rw as_it_was (rises-weaker (suc (length from)) 1 0 (changes_from 1 from to) (omega arith) others)
       | inr differs ↦ rw differs (omega arith, omega arith, others)

@@ -12,12 +12,13 @@ use Rattle.q3_bits.specs.declared.reader.ReadError.{ReadError}
 use Rattle.q3_fields.specs.declared.kind.Kind.{Kind}
 use Rattle.q3_fields.specs.declared.kind.Kind.TheVariants.{Unsigned}
 use Rattle.q3_fields.specs.Kinds.{IsKind, AreKinds}
+use Rattle.q3_fields.specs.Places.{Change, with_changes}
 use Rattle.q3_fields.specs.Laws.{PlayerFieldIsSpelled, PlayerReadIsSpelled, PlayerSpelledIsRead}
 use Rattle.q3_player.specs.declared.state.PlayerState.{PlayerState}
 use Rattle.q3_player.specs.declared.reading.PlayerError.{PlayerError}
 use Rattle.q3_player.specs.declared.reading.PlayerError.TheVariants.{Count}
 use Rattle.q3_player.specs.State.{AreWords, IsState, array_kinds, arrays_of, with_arrays, normal_words, normal_player, IsNormal}
-use Rattle.q3_player.specs.Arrays.{Change, changes, with_changes, arrays_changed, player_changes}
+use Rattle.q3_player.specs.Arrays.{changes, arrays_changed, player_changes}
 use Rattle.q3_player.specs.Delta.{is_empty, changed_count, fields_text, array_text, arrays_text, player_delta, fields_after, array_after, arrays_after, each_after, marked_after, bits_read, player_at}
 use Rattle.q3_player.specs.Spelling.{SpellsFields, SpellsArrays, SpellsMarked, SpellsPlayer}
 use Rattle.q3_player.proofs.LastChanged.{last_changed-le}

@@ -1,12 +1,9 @@
 -- The arrays of a player: what changed in one is a finite map from places to values, by rising place.
-use Rattle.std.specs.Prelude.{ℕ, ◌+◌, ◌^◌, ◌<◌, ◌≤◌, ◌==◌, if◌then◌else◌, List, [], ◌∷◌, slice_set}
+use Rattle.std.specs.Prelude.{ℕ, ◌+◌, ◌^◌, ◌==◌, if◌then◌else◌, List, [], ◌∷◌}
+pub use Rattle.q3_fields.specs.Places.{Change}
 use Rattle.q3_fields.specs.declared.kind.Kind.{Kind}
 use Rattle.q3_player.specs.declared.state.PlayerState.{PlayerState}
 use Rattle.q3_player.specs.State.{array_kinds, arrays_of}
-
--- a place that changed, and its value
-abbrev pub Change : Type 0
-Change = ℕ × ℕ
 
 -- what changed, counted from a place on
 unfoldable pub changes_from : ℕ → List ℕ → List ℕ → List Change
@@ -30,13 +27,3 @@ player_changes from to = arrays_changed array_kinds (arrays_of from) (arrays_of 
 unfoldable pub mask_of : List Change → ℕ
 mask_of [] = 0
 mask_of (change ∷ others) = 2 ^ change.0 + mask_of others
-
--- these values put over an array
-unfoldable pub with_changes : List ℕ → List Change → List ℕ
-with_changes values [] = values
-with_changes values (change ∷ others) = with_changes (slice_set values change.0 change.1) others
-
--- the places rise, from least on, and are below 16
-abbrev pub AreRising : ℕ → List Change → Type 0
-AreRising least [] = Unit {0}
-AreRising least (change ∷ others) = (least ≤ change.0) × (change.0 < 16) × AreRising (change.0 + 1) others

@@ -37,10 +37,6 @@ fields_text words kinds from to = []
 abbrev pub is_empty : List Change → Bool
 is_empty changed = length changed == 0
 
--- the value of a place: nothing where it is as it was
-abbrev pub place_text : List (List Bool) → Kind → ℕ → ℕ → List Bool
-place_text words kind from to = if from == to then [] else player_field words kind to
-
 -- the values of the places that changed
 unfoldable pub values_text : List (List Bool) → Kind → List Change → List Bool
 values_text words kind changed = flat_map (λ change. player_field words kind change.1) changed

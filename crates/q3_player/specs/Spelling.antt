@@ -3,10 +3,11 @@
 use Rattle.std.specs.Prelude.{◌≡◌, ◌⊎◌, ℕ, ◌≤◌, Bool, List, [], ◌∷◌, ◌++◌, length, take}
 use Rattle.q3_bits.specs.Words.{field_bits}
 use Rattle.q3_fields.specs.declared.kind.Kind.{Kind}
+use Rattle.q3_fields.specs.Places.{Change, with_changes, AreRising}
 use Rattle.q3_fields.specs.Spelling.{SpellsPlayerField}
 use Rattle.q3_player.specs.declared.state.PlayerState.{PlayerState}
 use Rattle.q3_player.specs.State.{array_kinds, arrays_of}
-use Rattle.q3_player.specs.Arrays.{Change, mask_of, with_changes, AreRising}
+use Rattle.q3_player.specs.Arrays.{mask_of}
 
 -- a field that is as it was, or one that is marked as changed, whatever it was
 abbrev pub SpellsField : List (List Bool) → Kind → ℕ → ℕ → List Bool → Type 0
@@ -31,7 +32,7 @@ SpellsValues words kind (change ∷ others) text =
 abbrev pub SpellsArray : List (List Bool) → Kind → List ℕ → List ℕ → List Bool → Type 0
 SpellsArray words kind from to text =
     ((to ≡ from) × (text ≡ field_bits words 1 0))
-    ⊎ ((changed : List Change) × (values : List Bool) × AreRising 0 changed × (to ≡ with_changes from changed) × SpellsValues words kind changed values
+    ⊎ ((changed : List Change) × (values : List Bool) × AreRising 16 0 changed × (to ≡ with_changes from changed) × SpellsValues words kind changed values
     × (text ≡ field_bits words 1 1 ++ field_bits words 16 (mask_of changed) ++ values))
 
 -- the arrays of these kinds, one after the other

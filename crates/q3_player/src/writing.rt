@@ -1,12 +1,12 @@
 //! Writes the player delta. Keeps the rule "player delta", the engine's `MSG_WriteDeltaPlayerstate`.
 
-ghost use Rattle.std.specs.Prelude.{◌≡◌, ◌≤◌, length, take};
+ghost use Rattle.std.specs.Prelude.{◌≡◌, ◌≤◌, [], ◌∷◌, length, take};
 ghost use Rattle.std.specs.List.{flat_map, list_all};
 ghost use Rattle.q3_bits.specs.Streams.{Writes};
 ghost use Rattle.q3_fields.specs.Kinds.{IsKind};
 ghost use Rattle.q3_player.specs.State.{patterns_of};
 ghost use Rattle.q3_player.specs.Arrays.{changes, mask_of, player_changes};
-ghost use Rattle.q3_player.specs.Delta.{changed_count, field_text, fields_text, is_empty, place_text, values_text, array_text, arrays_text, player_delta};
+ghost use Rattle.q3_player.specs.Delta.{changed_count, field_text, fields_text, is_empty, values_text, array_text, arrays_text, player_delta};
 
 use crate::state::{PlayerState, kind_at, patterns};
 use q3_bits::{Overflow, Writer, laws};
@@ -191,7 +191,7 @@ fn write_values(
 /// Writes the value of a place that changed, and nothing else.
 fn write_place(w: &mut Writer, kind: Kind, from: u32, to: u32) -> Result<(), Overflow>
     requires { IsKind kind }
-    ensures { Writes w.old w.new (place_text w.old.words kind from to) result }
+    ensures { Writes w.old w.new (values_text w.old.words kind (changes (from ∷ []) (to ∷ []))) result }
 {
     laws::texts_are_written();
     if from == to {

@@ -1,11 +1,14 @@
 -- The words of fields and of players against their grammar: what is read was spelled so, and what is spelled so is read.
-use Rattle.std.proofs.Common.{◌≡◌, ℕ, ◌+◌, ◌-◌, ◌^◌, ◌<◌, ◌≤◌, true, false, cond, eqb, List, [], ◌∷◌, ◌++◌, length, map, Option, Some, None, Result, Ok, Err, inl, inr, ◌⊎◌, refl, sym, ap, subst, ◌∙◌, arith, add-one, append_assoc, append-nil}
+use Rattle.std.proofs.Common.{◌≡◌, ℕ, ◌+◌, ◌-◌, ◌^◌, ◌<◌, ◌≤◌, true, false, cond, eqb, List, [], ◌∷◌, ◌++◌, length, Option, Some, None, Result, Ok, Err, inl, inr, ◌⊎◌, refl, sym, ap, subst, ◌∙◌, arith, add-one, append_assoc, append-nil}
 use Rattle.std.specs.Prelude.{codes}
 use Rattle.std.specs.Fmt.{decimal}
 use Rattle.std.specs.List.{list_all}
 use Rattle.std.proofs.lemmas.Bool.{and_parts, ne_eqb, false≢true}
+use Rattle.std.proofs.lemmas.List.Elements.{All-nil, All-cons, All-head, All-tail}
 use Rattle.std.proofs.lemmas.Option.{same_Some}
 use Rattle.std.proofs.lemmas.Fmt.{decimal_nonempty, digits_decimal}
+use Rattle.q3_io.specs.Print.{indexed_text}
+use Rattle.q3_fields.specs.Places.{Change}
 use Rattle.q3_player.specs.declared.state.PlayerState.{PlayerState}
 use Rattle.q3_script.specs.declared.cause.LineCause.{LineCause}
 use Rattle.q3_script.specs.declared.cause.LineCause.TheVariants as causes
@@ -13,7 +16,7 @@ use Rattle.q3_bits.specs.OptionBind.{◌>>=◌}
 use Rattle.q3_script.specs.Words.{cut, behind}
 use Rattle.q3_script.specs.Numbers.{is_digit, number_at}
 use Rattle.q3_script.specs.Fields.{field_at, Fields, fields_at, player_of, player_at}
-use Rattle.q3_script.specs.Grammar.{field_text, AreFields, SpellsPlayer}
+use Rattle.q3_script.specs.Grammar.{field_words, AreFields, SpellsPlayer}
 use Rattle.q3_script.proofs.Cuts.{cut-spelled, cut-again, behind-spelled, behind-again}
 use Rattle.q3_script.proofs.Numerals.{own, number_at-spelled, number_at-again, lacks-decimal}
 use Rattle.q3_script.proofs.Addresses.{bind_some}
@@ -21,26 +24,26 @@ use Rattle.q3_script.proofs.Addresses.{bind_some}
 -- ---- one field
 
 -- a field that is read
-record WasField (letter : List ℕ) (limit least : ℕ) (word : List ℕ) (field : ℕ × ℕ) : Type 0 where
+record WasField (letter : List ℕ) (limit least : ℕ) (word : List ℕ) (field : Change) : Type 0 where
   lower : least ≤ field.0
   upper : field.0 < limit
   small : field.1 < 2 ^ 32
-  whole : word ≡ field_text letter field
+  whole : word ≡ indexed_text letter field.0 field.1
 
-regroup : (letter index value : List ℕ) → letter ++ index ++ codes ":" ++ value ≡ letter ++ (index ++ 58 ∷ value)
-regroup letter index value = simp append_assoc
+regroup : (letter : List ℕ) (index value : ℕ) → indexed_text letter index value ≡ letter ++ (decimal index ++ 58 ∷ decimal value)
+regroup letter index value = ap (λ (text : List ℕ). letter ++ (decimal index ++ 58 ∷ text)) (append-nil (decimal value))
 
-together : (letter word text : List ℕ) (parts : List ℕ × List ℕ) (index value : ℕ) → word ≡ letter ++ text → text ≡ parts.0 ++ 58 ∷ parts.1 → parts.0 ≡ decimal index → parts.1 ≡ decimal value → word ≡ field_text letter (index, value)
-together letter word text parts index value at_letter at_colon index_is value_is = rw (at_letter, at_colon, index_is, value_is) (sym (regroup letter (decimal index) (decimal value)))
+together : (letter word text : List ℕ) (parts : List ℕ × List ℕ) (index value : ℕ) → word ≡ letter ++ text → text ≡ parts.0 ++ 58 ∷ parts.1 → parts.0 ≡ decimal index → parts.1 ≡ decimal value → word ≡ indexed_text letter index value
+together letter word text parts index value at_letter at_colon index_is value_is = rw (at_letter, at_colon, index_is, value_is) (sym (regroup letter index value))
 
-was_field : (letter : List ℕ) (limit least : ℕ) (word : List ℕ) (field : ℕ × ℕ) (text : List ℕ) (parts : List ℕ × List ℕ) (index value : ℕ) → word ≡ letter ++ text → text ≡ parts.0 ++ 58 ∷ parts.1 → parts.0 ≡ decimal index → parts.1 ≡ decimal value
+was_field : (letter : List ℕ) (limit least : ℕ) (word : List ℕ) (field : Change) (text : List ℕ) (parts : List ℕ × List ℕ) (index value : ℕ) → word ≡ letter ++ text → text ≡ parts.0 ++ 58 ∷ parts.1 → parts.0 ≡ decimal index → parts.1 ≡ decimal value
     → least ≤ index → index < limit → value < 2 ^ 32 → Some (index, value) ≡ Some field → WasField letter limit least word field
 was_field letter limit least word field text parts index value at_letter at_colon index_is value_is lower upper small same =
     let was : WasField letter limit least word (index, value) = record { lower = lower; upper = upper; small = small; whole = together letter word text parts index value at_letter at_colon index_is value_is } in
-    subst (λ (x : ℕ × ℕ). WasField letter limit least word x) (same_Some (index, value) field same) was
+    subst (λ (x : Change). WasField letter limit least word x) (same_Some (index, value) field same) was
 
 -- was spelled so
-field_at-spelled : (letter : List ℕ) (limit least : ℕ) (word : List ℕ) (field : ℕ × ℕ) → 1 ≤ limit → limit < 2 ^ 32 → field_at letter limit least word ≡ Some field → WasField letter limit least word field
+field_at-spelled : (letter : List ℕ) (limit least : ℕ) (word : List ℕ) (field : Change) → 1 ≤ limit → limit < 2 ^ 32 → field_at letter limit least word ≡ Some field → WasField letter limit least word field
 unfolding field_at
 field_at-spelled letter limit least word field some few e =
     let text = bind_some (behind letter word) (λ text. cut 58 text >>= λ parts. number_at least (limit - 1) parts.0 >>= λ index. number_at 0 4294967295 parts.1 >>= λ value. Some (index, value)) field e in
@@ -52,14 +55,14 @@ field_at-spelled letter limit least word field some few e =
     was_field letter limit least word field text.0 parts.0 index.0 value.0 (behind-spelled letter word text.0 text.1) (cut-spelled 58 text.0 parts.0 parts.1) index_is.2 value_is.2 index_is.0 (omega arith) (omega arith) value.2
 
 -- and what is spelled so is read
-field_at-again : (letter : List ℕ) (limit least : ℕ) (field : ℕ × ℕ) → limit < 2 ^ 32 → least ≤ field.0 → field.0 < limit → field.1 < 2 ^ 32 → field_at letter limit least (field_text letter field) ≡ Some field
+field_at-again : (letter : List ℕ) (limit least : ℕ) (field : Change) → limit < 2 ^ 32 → least ≤ field.0 → field.0 < limit → field.1 < 2 ^ 32 → field_at letter limit least (indexed_text letter field.0 field.1) ≡ Some field
 unfolding field_at
 field_at-again letter limit least field few lower upper small =
     let text : behind letter (letter ++ (decimal field.0 ++ 58 ∷ decimal field.1)) ≡ Some (decimal field.0 ++ 58 ∷ decimal field.1) = behind-again letter (decimal field.0 ++ 58 ∷ decimal field.1) in
     let parts : cut 58 (decimal field.0 ++ 58 ∷ decimal field.1) ≡ Some (decimal field.0, decimal field.1) = cut-again 58 (decimal field.0) (decimal field.1) (lacks-decimal 58 field.0 refl (omega arith)) in
     let index : number_at least (limit - 1) (decimal field.0) ≡ Some field.0 = number_at-again least (limit - 1) field.0 (omega arith) lower (omega arith) in
     let value : number_at 0 4294967295 (decimal field.1) ≡ Some field.1 = number_at-again 0 4294967295 field.1 (omega arith) (omega arith) (omega arith) in
-    ap (field_at letter limit least) (regroup letter (decimal field.0) (decimal field.1)) ∙ rw (text, parts, index, value) refl
+    ap (field_at letter limit least) (regroup letter field.0 field.1) ∙ rw (text, parts, index, value) refl
 
 -- a word that begins with no digit is no field without a letter
 no_digit : (n : ℕ) (rest : List ℕ) (x : ℕ) (text : List ℕ) → n < 2 ^ 64 → is_digit x ≡ false → x ∷ text ≡ decimal n ++ rest → ⊥
@@ -86,7 +89,7 @@ other_than_digits limit x text some few other least =
       | inl none ↦ none
       | inr (field, read) ↦
           let was = field_at-spelled [] limit least (x ∷ text) field some few read in
-          absurd (no_digit field.0 (58 ∷ decimal field.1) x text (let upper = was.upper in omega arith) other (was.whole ∙ regroup [] (decimal field.0) (decimal field.1)))
+          absurd (no_digit field.0 (58 ∷ decimal field.1) x text (let upper = was.upper in omega arith) other (was.whole ∙ regroup [] field.0 field.1))
     ]
 
 -- ---- fields
@@ -94,21 +97,21 @@ other_than_digits limit x text some few other least =
 -- fields that are read
 record WereFields (letter : List ℕ) (limit least : ℕ) (words : List (List ℕ)) (read : Fields) : Type 0 where
   are : AreFields limit least read.fields
-  whole : words ≡ map (field_text letter) read.fields ++ read.left
+  whole : words ≡ field_words letter read.fields ++ read.left
 
 -- were spelled so
 fields_at-spelled : (letter : List ℕ) (limit least : ℕ) (words : List (List ℕ)) → 1 ≤ limit → limit < 2 ^ 32 → WereFields letter limit least words (fields_at letter limit least words)
 unfolding fields_at
-fields_at-spelled letter limit least [] some few = record { are = tt; whole = refl }
+fields_at-spelled letter limit least [] some few = record { are = (tt, All-nil (λ (field : Change). field.1 < 2 ^ 32)); whole = refl }
 fields_at-spelled letter limit least (word ∷ words) some few =
     elim (option_cases (field_at letter limit least word)) [
-      | inl none ↦ rw none (record { are = tt; whole = refl })
+      | inl none ↦ rw none (record { are = (tt, All-nil (λ (field : Change). field.1 < 2 ^ 32)); whole = refl })
       | inr (field, read) ↦
           let was = field_at-spelled letter limit least word field some few read in
           let others = fields_at-spelled letter limit (field.0 + 1) words some few in
           rw read (record {
-            are = (was.lower, was.upper, was.small, others.are);
-            whole = ap (λ (w : List ℕ). w ∷ words) was.whole ∙ ap (λ (ws : List (List ℕ)). field_text letter field ∷ ws) others.whole;
+            are = ((was.lower, was.upper, others.are.0), All-cons (λ (field : Change). field.1 < 2 ^ 32) field (fields_at letter limit (field.0 + 1) words).fields was.small others.are.1);
+            whole = ap (λ (w : List ℕ). w ∷ words) was.whole ∙ ap (λ (ws : List (List ℕ)). indexed_text letter field.0 field.1 ∷ ws) others.whole;
           })
     ]
 
@@ -117,26 +120,29 @@ abbrev HasNone : List ℕ → ℕ → List (List ℕ) → Type 0
 HasNone letter limit words = (least : ℕ) → fields_at letter limit least words ≡ record { fields = []; left = words }
 
 -- and what is spelled so is read, with whatever follows it
-fields_at-again : (letter : List ℕ) (limit least : ℕ) (fields : List (ℕ × ℕ)) (rest : List (List ℕ)) → limit < 2 ^ 32 → AreFields limit least fields → HasNone letter limit rest
-    → fields_at letter limit least (map (field_text letter) fields ++ rest) ≡ record { fields = fields; left = rest }
+fields_at-again : (letter : List ℕ) (limit least : ℕ) (fields : List Change) (rest : List (List ℕ)) → limit < 2 ^ 32 → AreFields limit least fields → HasNone letter limit rest
+    → fields_at letter limit least (field_words letter fields ++ rest) ≡ record { fields = fields; left = rest }
 unfolding fields_at
 fields_at-again letter limit least [] rest few are none = none least
 fields_at-again letter limit least (field ∷ fields) rest few are none =
-    rw (field_at-again letter limit least field few are.0 are.1 are.2, fields_at-again letter limit (field.0 + 1) fields rest few are.3 none) refl
+    rw (
+      field_at-again letter limit least field few are.0.0 are.0.1 (All-head (λ (field : Change). field.1 < 2 ^ 32) field fields are.1),
+      fields_at-again letter limit (field.0 + 1) fields rest few (are.0.2, All-tail (λ (field : Change). field.1 < 2 ^ 32) field fields are.1) none,
+    ) refl
 
 -- there is none where the words have other letters
-none_of_other : (letter other : List ℕ) (limit : ℕ) (fields : List (ℕ × ℕ)) (rest : List (List ℕ)) → ((field : ℕ × ℕ) → IsOther letter limit (field_text other field)) → HasNone letter limit rest → HasNone letter limit (map (field_text other) fields ++ rest)
+none_of_other : (letter other : List ℕ) (limit : ℕ) (fields : List Change) (rest : List (List ℕ)) → ((field : Change) → IsOther letter limit (indexed_text other field.0 field.1)) → HasNone letter limit rest → HasNone letter limit (field_words other fields ++ rest)
 unfolding fields_at
 none_of_other letter other limit [] rest differs none least = none least
 none_of_other letter other limit (field ∷ fields) rest differs none least = rw (differs field least) refl
 
 -- words of another letter
-other_letter : (x y limit : ℕ) (field : ℕ × ℕ) → eqb y x ≡ false → IsOther (x ∷ []) limit (field_text (y ∷ []) field)
+other_letter : (x y limit : ℕ) (field : Change) → eqb y x ≡ false → IsOther (x ∷ []) limit (indexed_text (y ∷ []) field.0 field.1)
 unfolding field_at behind
 other_letter x y limit field differs least = rw differs refl
 
-letter_other_than_digits : (limit x : ℕ) (field : ℕ × ℕ) → 1 ≤ limit → limit < 2 ^ 32 → is_digit x ≡ false → IsOther [] limit (field_text (x ∷ []) field)
-letter_other_than_digits limit x field some few other = other_than_digits limit x (decimal field.0 ++ codes ":" ++ decimal field.1) some few other
+letter_other_than_digits : (limit x : ℕ) (field : Change) → 1 ≤ limit → limit < 2 ^ 32 → is_digit x ≡ false → IsOther [] limit (indexed_text (x ∷ []) field.0 field.1)
+letter_other_than_digits limit x field some few other = other_than_digits limit x (indexed_text [] field.0 field.1) some few other
 
 none_of_nothing : (letter : List ℕ) (limit : ℕ) → HasNone letter limit []
 unfolding fields_at
@@ -192,7 +198,7 @@ player_at-spelled words player e =
       are_persistant = three.are;
       are_ammo = four.are;
       are_powerups = five.are;
-      whole = behind_each _ _ _ _ _ one.whole two.whole three.whole four.whole (five.whole ∙ ap (λ (ws : List (List ℕ)). map (field_text (codes "u")) powerups.fields ++ ws) ends.0);
+      whole = behind_each _ _ _ _ _ one.whole two.whole three.whole four.whole (five.whole ∙ ap (λ (ws : List (List ℕ)). field_words (codes "u") powerups.fields ++ ws) ends.0);
       state = sym ends.1;
     }
 
@@ -200,10 +206,10 @@ player_at-spelled words player e =
 pub player_at-again : (words : List (List ℕ)) (player : PlayerState) → SpellsPlayer words player → player_at words ≡ Ok player
 unfolding player_at
 player_at-again words player spelled =
-    let stats = map (field_text (codes "s")) spelled.stats in
-    let persistant = map (field_text (codes "p")) spelled.persistant in
-    let ammo = map (field_text (codes "a")) spelled.ammo in
-    let powerups = map (field_text (codes "u")) spelled.powerups in
+    let stats = field_words (codes "s") spelled.stats in
+    let persistant = field_words (codes "p") spelled.persistant in
+    let ammo = field_words (codes "a") spelled.ammo in
+    let powerups = field_words (codes "u") spelled.powerups in
     let fifth = powerups ++ [] in
     let fourth = ammo ++ fifth in
     let third = persistant ++ fourth in

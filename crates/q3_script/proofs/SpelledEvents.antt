@@ -1,5 +1,5 @@
 -- The words of a line against the grammar of events: what is read was spelled so, and what is spelled so is read.
-use Rattle.std.proofs.Common.{◌≡◌, ℕ, ◌+◌, ◌^◌, ◌%◌, ◌<◌, ◌≤◌, Bool, true, false, cond, List, [], ◌∷◌, length, set, replicate, slice_index_or, Option, Some, None, Result, Ok, Err, inl, inr, refl, sym, ap, subst, ◌∙◌, arith}
+use Rattle.std.proofs.Common.{◌≡◌, ℕ, ◌^◌, ◌%◌, ◌<◌, ◌≤◌, Bool, true, false, cond, List, [], ◌∷◌, length, set, replicate, slice_index_or, Option, Some, None, Result, Ok, Err, inl, inr, refl, sym, ap, subst, ◌∙◌, arith}
 use Rattle.std.specs.Prelude.{codes, All}
 use Rattle.std.specs.Fmt.{decimal}
 use Rattle.std.specs.Map.{lookup}
@@ -11,8 +11,9 @@ use Rattle.std.proofs.Math.Facts.{sfits_to_z}
 use Rattle.std.proofs.lemmas.Bool.{cases_Bool}
 use Rattle.std.proofs.lemmas.Int.{ints}
 use Rattle.std.proofs.lemmas.List.{length-map, length-set, length-replicate}
-use Rattle.std.proofs.lemmas.List.Elements.{All-set, All-map, All-replicate}
+use Rattle.std.proofs.lemmas.List.Elements.{All-head, All-tail, All-set, All-map, All-replicate}
 use Rattle.std.proofs.lemmas.Slice.Eq.{bytes_eq-Decides}
+use Rattle.q3_fields.specs.Places.{Change, with_changes}
 use Rattle.q3_player.specs.State.{AreWords, IsShort, AreShorts, IsState, shorts_of}
 use Rattle.q3_player.specs.declared.state.PlayerState.{PlayerState}
 use Rattle.q3_io.specs.declared.address.Address.{Address}
@@ -22,7 +23,7 @@ use Rattle.q3_script.specs.declared.cause.LineCause.{LineCause}
 use Rattle.q3_script.specs.declared.cause.LineCause.TheVariants as causes
 use Rattle.q3_bits.specs.ResultBind.{◌>>=◌, bind_ok}
 use Rattle.q3_script.specs.Numbers.{number_at, address_at}
-use Rattle.q3_script.specs.Fields.{with_fields, values_of, player_of, player_at}
+use Rattle.q3_script.specs.Fields.{values_of, player_of, player_at}
 use Rattle.q3_script.specs.Lines.{last_datagram, number_word, client_word, client_line, player_line, time_line, serve_line, deliver_line, show_line, replay_lines, line_at}
 use Rattle.q3_script.specs.Grammar.{AreFields, SpellsPlayer, SpellsEvent}
 use Rattle.q3_script.proofs.Numerals.{number_at-spelled, number_at-again}
@@ -60,21 +61,25 @@ number_word-again low high n small lower upper = rw (number_at-again low high n 
 
 -- ---- players
 
--- fields put over values keep their number
-length-with_fields : (values : List ℕ) (fields : List (ℕ × ℕ)) → length (with_fields values fields) ≡ length values
-length-with_fields values [] = refl
-length-with_fields values (field ∷ fields) = length-with_fields (set values field.0 field.1) fields ∙ length-set values field.0 field.1
+-- changes put over values keep their number
+length-with_changes : (values : List ℕ) (changes : List Change) → length (with_changes values changes) ≡ length values
+unfolding with_changes
+length-with_changes values [] = refl
+length-with_changes values (change ∷ others) = length-with_changes (set values change.0 change.1) others ∙ length-set values change.0 change.1
 
--- fields put over words of 32 bits are such words
-with_fields-each : (limit least : ℕ) (values : List ℕ) (pairs : List (ℕ × ℕ)) → AreFields limit least pairs → All (λ word. word < 2 ^ 32) values → All (λ word. word < 2 ^ 32) (with_fields values pairs)
-with_fields-each limit least values [] are each = each
-with_fields-each limit least values (pair ∷ pairs) are each = with_fields-each limit (pair.0 + 1) (set values pair.0 pair.1) pairs are.3 (All-set (λ word. word < 2 ^ 32) values pair.0 pair.1 are.2 each)
+-- words of 32 bits put over such words are such words
+with_changes-each : (values : List ℕ) (changes : List Change) → All (λ change. change.1 < 2 ^ 32) changes → All (λ word. word < 2 ^ 32) values → All (λ word. word < 2 ^ 32) (with_changes values changes)
+unfolding with_changes
+with_changes-each values [] small each = each
+with_changes-each values (change ∷ others) small each =
+    with_changes-each (set values change.0 change.1) others (All-tail (λ (change : Change). change.1 < 2 ^ 32) change others small)
+    (All-set (λ word. word < 2 ^ 32) values change.0 change.1 (All-head (λ (change : Change). change.1 < 2 ^ 32) change others small) each)
 
 -- so many zeros, with fields put over them
-words_are : (count : ℕ) (pairs : List (ℕ × ℕ)) → AreFields count 0 pairs → AreWords count (with_fields (replicate count 0) pairs)
-words_are count pairs are = record {
-  count = length-with_fields (replicate count 0) pairs ∙ length-replicate count 0;
-  each = with_fields-each count 0 (replicate count 0) pairs are (All-replicate (λ word. word < 2 ^ 32) count 0 (omega arith));
+words_are : (count : ℕ) (fields : List Change) → AreFields count 0 fields → AreWords count (with_changes (replicate count 0) fields)
+words_are count fields are = record {
+  count = length-with_changes (replicate count 0) fields ∙ length-replicate count 0;
+  each = with_changes-each (replicate count 0) fields are.1 (All-replicate (λ word. word < 2 ^ 32) count 0 (omega arith));
 }
 
 -- a word as a signed value of 16 bits
@@ -95,9 +100,9 @@ is_state : (words : List (List ℕ)) (player : PlayerState) → SpellsPlayer wor
 is_state words player spelled =
     let state : IsState (player_of spelled.fields spelled.stats spelled.persistant spelled.ammo spelled.powerups) = record {
       words = words_are 64 spelled.fields spelled.are_fields;
-      stats = shorts_are (values_of 16 spelled.stats) (length-with_fields (replicate 16 0) spelled.stats);
-      persistant = shorts_are (values_of 16 spelled.persistant) (length-with_fields (replicate 16 0) spelled.persistant);
-      ammo = shorts_are (values_of 16 spelled.ammo) (length-with_fields (replicate 16 0) spelled.ammo);
+      stats = shorts_are (values_of 16 spelled.stats) (length-with_changes (replicate 16 0) spelled.stats);
+      persistant = shorts_are (values_of 16 spelled.persistant) (length-with_changes (replicate 16 0) spelled.persistant);
+      ammo = shorts_are (values_of 16 spelled.ammo) (length-with_changes (replicate 16 0) spelled.ammo);
       powerups = words_are 16 spelled.powerups spelled.are_powerups;
     } in
     subst IsState (sym spelled.state) state

@@ -1,6 +1,7 @@
 -- Fields in a line: words of an index and a value behind the letter of their array, and the player that they make.
-use Rattle.std.specs.Prelude.{ℕ, ◌+◌, ◌-◌, ◌==◌, if◌then◌else◌, List, [], ◌∷◌, length, replicate, codes, slice_set, Option, Some, Result, Ok, Err}
+use Rattle.std.specs.Prelude.{ℕ, ◌+◌, ◌-◌, ◌==◌, if◌then◌else◌, List, [], ◌∷◌, length, replicate, codes, Option, Some, Result, Ok, Err}
 use Rattle.std.specs.Option.{option_map_or}
+use Rattle.q3_fields.specs.Places.{Change, with_changes}
 use Rattle.q3_player.specs.declared.state.PlayerState.{PlayerState}
 use Rattle.q3_player.specs.State.{shorts_of}
 use Rattle.q3_script.specs.declared.cause.LineCause.{LineCause}
@@ -10,7 +11,7 @@ use Rattle.q3_script.specs.Words.{cut, behind}
 use Rattle.q3_script.specs.Numbers.{number_at}
 
 -- the index and the value in a word of this letter: the index is from least up to below the limit
-unfoldable pub field_at : List ℕ → ℕ → ℕ → List ℕ → Option (ℕ × ℕ)
+unfoldable pub field_at : List ℕ → ℕ → ℕ → List ℕ → Option Change
 field_at letter limit least word = do
   text ← behind letter word
   parts ← cut 58 text
@@ -20,7 +21,7 @@ field_at letter limit least word = do
 
 -- fields, and the words behind them
 pub record Fields : Type 0 where
-  pub fields : List (ℕ × ℕ)
+  pub fields : List Change
   pub left : List (List ℕ)
 
 -- the leading words of this letter, by rising index from least on
@@ -30,17 +31,12 @@ fields_at letter limit least (word ∷ words) =
     option_map_or (λ field. (let others = fields_at letter limit (field.0 + 1) words in record { fields = field ∷ others.fields; left = others.left }))
     (field_at letter limit least word) (record { fields = []; left = word ∷ words })
 
--- these fields put over the values
-abbrev pub with_fields : List ℕ → List (ℕ × ℕ) → List ℕ
-with_fields values [] = values
-with_fields values (field ∷ fields) = with_fields (slice_set values field.0 field.1) fields
-
 -- so many values: 0 but for these fields
-abbrev pub values_of : ℕ → List (ℕ × ℕ) → List ℕ
-values_of count fields = with_fields (replicate count 0) fields
+abbrev pub values_of : ℕ → List Change → List ℕ
+values_of count fields = with_changes (replicate count 0) fields
 
 -- the player of its fields and those of its arrays
-abbrev pub player_of : List (ℕ × ℕ) → List (ℕ × ℕ) → List (ℕ × ℕ) → List (ℕ × ℕ) → List (ℕ × ℕ) → PlayerState
+abbrev pub player_of : List Change → List Change → List Change → List Change → List Change → PlayerState
 player_of fields stats persistant ammo powerups = record {
   words = values_of 64 fields;
   stats = shorts_of (values_of 16 stats);

@@ -1,7 +1,9 @@
 -- The grammar of a script: which words spell which event, and which lines which events.
-use Rattle.std.specs.Prelude.{◌≡◌, ℕ, ◌+◌, ◌^◌, ◌<◌, ◌≤◌, Bool, true, false, List, [], ◌∷◌, ◌++◌, length, map, codes, decimal}
+use Rattle.std.specs.Prelude.{◌≡◌, ℕ, ◌^◌, ◌<◌, ◌≤◌, Bool, true, false, List, [], ◌∷◌, ◌++◌, length, map, codes, decimal, All}
+use Rattle.q3_fields.specs.Places.{Change, AreRising}
 use Rattle.q3_player.specs.State.{IsState}
 use Rattle.q3_player.specs.declared.state.PlayerState.{PlayerState}
+use Rattle.q3_io.specs.Print.{indexed_text}
 use Rattle.q3_io.specs.declared.address.Address.{Address}
 use Rattle.q3_script.specs.declared.event.Event.{Event}
 use Rattle.q3_script.specs.declared.event.Event.TheVariants.{Client, Player, Time, Serve, Deliver, Show}
@@ -31,22 +33,21 @@ pub record SpellsAddress (word : List ℕ) (address : Address) : Type 0 where
   pub host : address.host ≡ host_of a b c d
   pub whole : word ≡ decimal a ++ codes "." ++ decimal b ++ codes "." ++ decimal c ++ codes "." ++ decimal d ++ codes ":" ++ decimal address.port
 
--- the word of a field: an index and a value, behind the letter of its array
-abbrev pub field_text : List ℕ → ℕ × ℕ → List ℕ
-field_text letter field = letter ++ decimal field.0 ++ codes ":" ++ decimal field.1
+-- a word for each field: its index and its value, behind the letter of its array
+abbrev pub field_words : List ℕ → List Change → List (List ℕ)
+field_words letter fields = map (λ field. indexed_text letter field.0 field.1) fields
 
 -- the indexes rise, from least on, and stay below a limit; the values have 32 bits
-abbrev pub AreFields : ℕ → ℕ → List (ℕ × ℕ) → Type 0
-AreFields limit least [] = Unit {0}
-AreFields limit least (field ∷ fields) = (least ≤ field.0) × (field.0 < limit) × (field.1 < 2 ^ 32) × AreFields limit (field.0 + 1) fields
+abbrev pub AreFields : ℕ → ℕ → List Change → Type 0
+AreFields limit least fields = AreRising limit least fields × All (λ field. field.1 < 2 ^ 32) fields
 
 -- a player: fields, and behind them those of each array
 pub record SpellsPlayer (words : List (List ℕ)) (player : PlayerState) : Type 0 where
-  pub fields : List (ℕ × ℕ)
-  pub stats : List (ℕ × ℕ)
-  pub persistant : List (ℕ × ℕ)
-  pub ammo : List (ℕ × ℕ)
-  pub powerups : List (ℕ × ℕ)
+  pub fields : List Change
+  pub stats : List Change
+  pub persistant : List Change
+  pub ammo : List Change
+  pub powerups : List Change
   pub are_fields : AreFields 64 0 fields
   pub are_stats : AreFields 16 0 stats
   pub are_persistant : AreFields 16 0 persistant
@@ -54,11 +55,11 @@ pub record SpellsPlayer (words : List (List ℕ)) (player : PlayerState) : Type 
   pub are_powerups : AreFields 16 0 powerups
   pub whole :
       words
-      ≡ map (field_text []) fields
-      ++ map (field_text (codes "s")) stats
-      ++ map (field_text (codes "p")) persistant
-      ++ map (field_text (codes "a")) ammo
-      ++ map (field_text (codes "u")) powerups
+      ≡ field_words [] fields
+      ++ field_words (codes "s") stats
+      ++ field_words (codes "p") persistant
+      ++ field_words (codes "a") ammo
+      ++ field_words (codes "u") powerups
   pub state : player ≡ player_of fields stats persistant ammo powerups
 
 -- the words that an event is spelled by

@@ -1,8 +1,9 @@
 //! Fields in a line, and the player that they make.
 
 ghost use Rattle.std.specs.Prelude.{◌≡◌, ◌≤◌, ◌<◌, ◌^◌, length, IfSome};
+ghost use Rattle.q3_fields.specs.Places.{with_changes};
 ghost use Rattle.q3_script.specs.Words.{words_left};
-ghost use Rattle.q3_script.specs.Fields.{field_at, fields_at, with_fields, player_at};
+ghost use Rattle.q3_script.specs.Fields.{field_at, fields_at, player_at};
 
 use crate::cause::LineCause;
 use crate::number::number;
@@ -27,7 +28,7 @@ fn field(letter: &[u8], limit: u32, least: u32, word: &[u8]) -> Option<(u32, u32
 /// behind them. A field has no letter; the values of an array have one.
 pub fn take_fields<'a>(letter: &[u8], values: &mut [u32], start: &'a [u8]) -> &'a [u8]
     requires { (1 ≤ length values.old) × (length values.old < 2 ^ 32) }
-    ensures values { values.new ≡ with_fields values.old (fields_at letter.now (length values.old) 0 (words_left start.now)).fields }
+    ensures values { values.new ≡ with_changes values.old (fields_at letter.now (length values.old) 0 (words_left start.now)).fields }
     ensures left { words_left result.now ≡ (fields_at letter.now (length values.old) 0 (words_left start.now)).left }
 {
     let limit = values.len() as u32;

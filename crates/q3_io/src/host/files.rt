@@ -1,6 +1,6 @@
 //! Files of the system.
 
-ghost use Rattle.std.specs.Prelude.{◌≡◌, ◌≤◌, None, IfOk, IsErr, length, vec_len};
+ghost use Rattle.std.specs.Prelude.{◌≡◌, ◌+◌, ◌≤◌, None, IfOk, IsErr, length, vec_len};
 ghost use Rattle.q3_io.specs.Faults.{HasCause};
 ghost use Rattle.q3_io.specs.HostCounts.{most_files};
 ghost use Rattle.q3_io.specs.Told.{IsGiven, LooksUp, Creates};
@@ -18,12 +18,19 @@ use std::marker::Model;
 /// How many files there may be at most: a lookup or a create beyond is a fault.
 const MOST_FILES: usize = 32;
 
-/// An open file. One that was created stands behind what was written to it and isn't read; of another it is kept where
-/// it stands, as far as that is known.
+/// What a file is opened for.
+#[derive(Clone, Copy, PartialEq, Eq)]
+enum Purpose {
+    Reading,
+    Writing,
+}
+
+/// An open file. One for writing stands behind what was written to it and isn't read; of one for reading it is kept
+/// where it stands, as far as that is known.
 #[derive(Drop)]
 struct OpenedFile<F> {
     file: F,
-    created: bool,
+    purpose: Purpose,
     place: Option<u64>,
 }
 
@@ -62,25 +69,27 @@ impl<R: std::rt::Files> HostFiles<R> {
     }
 }
 
-/// Opens one more file for reading, or creates an empty one, unless there are as many as there may be. A folder is refused.
+/// Opens one more file for reading, or creates an empty one for writing, unless there are as many as there may be.
+/// A folder is refused.
 fn keep<R: std::rt::Files>(
     rt: &R,
     files: &mut Vec<OpenedFile<R::File>>,
     name: &str,
-    created: bool,
+    purpose: Purpose,
 ) -> Result<usize, Failed>
     ensures given { IsGiven (vec_len files.old) (vec_len files.new) result }
+    ensures next { IfOk result (λ file. (file ≡ vec_len files.old) × (vec_len files.new ≡ file + 1)) }
     ensures most { most_files ≤ vec_len files.old → IsErr result }
 {
     let number = files.len();
     if number >= MOST_FILES {
         return Err(Failed);
     }
-    let Ok(file) = (if created {
-        fs::create(rt, name)
-    } else {
-        fs::open(rt, name)
-    }) else {
+    let opened = match purpose {
+        Purpose::Reading => fs::open(rt, name),
+        Purpose::Writing => fs::create(rt, name),
+    };
+    let Ok(file) = opened else {
         return Err(Failed);
     };
     if !is_no_folder(&file) {
@@ -89,7 +98,7 @@ fn keep<R: std::rt::Files>(
     let place = Some(0);
     match files.push(OpenedFile {
         file,
-        created,
+        purpose,
         place,
     }) {
         Ok(()) => Ok(number),
@@ -111,7 +120,9 @@ fn read_at<F: Read + Seek>(
 {
     let stands = opened.place == Some(at);
     opened.place = None;
-    if opened.created || (!stands && opened.file.seek(SeekFrom::Start(at)).is_err()) {
+    if opened.purpose == Purpose::Writing
+        || (!stands && opened.file.seek(SeekFrom::Start(at)).is_err())
+    {
         return Err(Failed);
     }
     let Ok(count) = opened.file.read(into) else {
@@ -137,9 +148,10 @@ impl<R: std::rt::Files> Files for HostFiles<R> {
         ensures told { LooksUp None None name.now result }
         ensures cause { HasCause self.old.faults self.new.faults result }
         ensures others { self.new.write_faults ≡ self.old.write_faults }
+        ensures next { IfOk result (λ file. (file ≡ self.old.given) × (self.new.given ≡ file + 1)) }
         ensures most { most_files ≤ self.old.given → IsErr result }
     {
-        let kept = keep(&self.rt, &mut self.files, name, false);
+        let kept = keep(&self.rt, &mut self.files, name, Purpose::Reading);
         counted(kept, &mut self.faults)
     }
 
@@ -161,9 +173,10 @@ impl<R: std::rt::Files> Files for HostFiles<R> {
         ensures told { Creates None None name.now result }
         ensures cause { HasCause self.old.write_faults self.new.write_faults result }
         ensures others { self.new.faults ≡ self.old.faults }
+        ensures next { IfOk result (λ file. (file ≡ self.old.given) × (self.new.given ≡ file + 1)) }
         ensures most { most_files ≤ self.old.given → IsErr result }
     {
-        let kept = keep(&self.rt, &mut self.files, name, true);
+        let kept = keep(&self.rt, &mut self.files, name, Purpose::Writing);
         counted(kept, &mut self.write_faults)
     }
 

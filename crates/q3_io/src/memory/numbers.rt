@@ -24,7 +24,13 @@ impl Model for Numbers {
 
     ghost Value = { NumbersState };
 
-    ghost view = { λ n. record { numbers = n.names.texts; asked = n.asked.items; named = named_of n.names.texts n.creates.items; spare = n.names.spare; room = n.names.room } };
+    ghost view = { λ n. record {
+      numbers = n.names.texts;
+      asked = n.asked.items;
+      named = named_of n.names.texts n.creates.items;
+      spare = n.names.spare;
+      room = n.names.room;
+    } };
 
     ghost invariant = { λ n. (length n.creates.items ≡ length n.names.texts) × (length n.asked.items ≡ length n.names.texts)
         × (length n.names.texts + n.names.spare ≤ vec_capacity n.creates) × (length n.names.texts + n.names.spare ≤ vec_capacity n.asked) };

@@ -1,9 +1,9 @@
 //! Files in memory, by their places.
 
-ghost use Rattle.std.specs.Prelude.{◌≡◌, ◌+◌, ◌-◌, ◌≤◌, ◌<◌, [], ◌∷◌, ◌++◌, length, slice_set, slice_index_or, IfOk, MatchOption, None, position};
+ghost use Rattle.std.specs.Prelude.{◌≡◌, ◌+◌, ◌-◌, ◌≤◌, ◌<◌, [], ◌∷◌, ◌++◌, length, IfOk, MatchOption, None, position};
 ghost use Rattle.std.specs.Str.{bytes_eq};
 ghost use Rattle.q3_io.specs.Told.{contents_of};
-ghost use Rattle.q3_io.specs.FileStore.{no_file, StandsAt};
+ghost use Rattle.q3_io.specs.FileStore.{file_at, with_contents_at, StandsAt};
 
 use crate::memory::NoMemory;
 use crate::memory::texts::Texts;
@@ -30,7 +30,7 @@ impl Model for Store {
         × (s.room ≤ s.names.room) × (s.room ≤ s.contents.room) };
 }
 
-#[tactic(auto, using(crate::proofs::ToldPlaces::length_files_of, crate::proofs::ToldPlaces::contents_files_of, crate::proofs::ToldPlaces::set_files_of, crate::proofs::ToldPlaces::push_files_of))]
+#[tactic(auto, using(crate::proofs::ToldPlaces::length_files_of, crate::proofs::ToldPlaces::contents_files_of, crate::proofs::ToldPlaces::set_files_of))]
 impl Store {
     /// No files, with room for so many, and for so many bytes of names and contents.
     #[tactic(auto, unfolding(crate::specs::FileStore::files_of))]
@@ -76,7 +76,7 @@ impl Store {
     /// What the file at a place holds.
     pub fn contents(&self, place: usize) -> &[u8]
         requires { place < length self.now.files }
-        ensures { result.now ≡ (slice_index_or self.now.files place no_file).contents }
+        ensures { result.now ≡ (file_at self.now.files place).contents }
     {
         self.contents.get(place)
     }
@@ -86,7 +86,7 @@ impl Store {
         requires within { place < length self.old.files }
         requires room { count ≤ self.old.room }
         requires count { length bytes.now ≤ count }
-        ensures files { self.new.files ≡ slice_set self.old.files place (record (slice_index_or self.old.files place no_file) { contents = bytes.now }) }
+        ensures files { self.new.files ≡ with_contents_at self.old.files place bytes.now }
         ensures spare { self.new.spare ≡ self.old.spare }
         ensures left { self.new.room ≡ self.old.room - count }
     {
@@ -98,7 +98,7 @@ impl Store {
     pub fn add_at(&mut self, place: usize, bytes: &[u8])
         requires within { place < length self.old.files }
         requires room { length bytes.now ≤ self.old.room }
-        ensures files { self.new.files ≡ slice_set self.old.files place (record (slice_index_or self.old.files place no_file) { contents = (slice_index_or self.old.files place no_file).contents ++ bytes.now }) }
+        ensures files { self.new.files ≡ with_contents_at self.old.files place ((file_at self.old.files place).contents ++ bytes.now) }
         ensures spare { self.new.spare ≡ self.old.spare }
         ensures left { self.new.room ≡ self.old.room - length bytes.now }
     {
@@ -107,6 +107,7 @@ impl Store {
     }
 
     /// Puts a file behind the others, and takes so much room beside its name's.
+    #[tactic(auto, using(crate::proofs::ToldPlaces::push_files_of))]
     pub fn put_new(&mut self, name: &[u8], bytes: &[u8], count: usize)
         requires spare { 0 < self.old.spare }
         requires room { length name.now + count ≤ self.old.room }

@@ -22,7 +22,11 @@ impl Model for Texts {
 
     ghost Value = { TextsState };
 
-    ghost view = { λ t. record { texts = texts_of t.lengths.items t.bytes.items; spare = t.most - length t.lengths.items; room = t.room - length t.bytes.items } };
+    ghost view = { λ t. record {
+      texts = texts_of t.lengths.items t.bytes.items;
+      spare = t.most - length t.lengths.items;
+      room = t.room - length t.bytes.items;
+    } };
 
     ghost invariant = { λ t. LieBehind t.lengths.items t.bytes.items
         × (length t.bytes.items ≤ t.room) × (t.room ≤ vec_capacity t.bytes)

@@ -2,7 +2,8 @@ use Rattle.std.proofs.Common.{◌≡◌, ◌∙◌, ◌++◌, false, List, refl,
 use Rattle.std.specs.List.{flat_map, list_all}
 use Rattle.q3_bits.specs.Words.{field_bits}
 use Rattle.q3_fields.specs.declared.kind.Kind.{Kind}
-use Rattle.q3_player.specs.Arrays.{Change, player_changes}
+use Rattle.q3_fields.specs.Places.{Change}
+use Rattle.q3_player.specs.Arrays.{player_changes}
 use Rattle.q3_player.specs.Delta.{is_empty, array_text, arrays_text}
 use Rattle.q3_player.proofs.writing.write_arrays.Goals as goal
 

@@ -4,9 +4,10 @@ use Rattle.std.proofs.lemmas.Result.{err_from_is_err_and}
 use Rattle.std.proofs.lemmas.List.{append-nil}
 use Rattle.q3_fields.specs.declared.kind.Kind.{Kind}
 use Rattle.q3_fields.specs.declared.kind.Kind.TheVariants.{Unsigned, Signed}
+use Rattle.q3_fields.specs.Places.{Change}
 use Rattle.q3_player.specs.State.{patterns_of}
 use Rattle.q3_player.specs.declared.state.PlayerState.{PlayerState}
-use Rattle.q3_player.specs.Arrays.{Change, changes, arrays_changed, player_changes}
+use Rattle.q3_player.specs.Arrays.{changes, arrays_changed, player_changes}
 use Rattle.q3_player.specs.Delta.{array_text}
 use Rattle.q3_player.proofs.writing.write_each.Goals as goal
 

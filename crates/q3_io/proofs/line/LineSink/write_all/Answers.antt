@@ -5,12 +5,16 @@ use Rattle.q3_io.proofs.line.LineSink.write_all.Goals as goal
 pub returns-in_err-hand_on-clause-adds : goal.returns-in_err-hand_on-clause-adds
 returns-in_err-hand_on-clause-adds g c =
     let p = err_from_is_err_and c.from_residual.result c.from_residual.ensures.1 in
-    rw (p.1, c.in_err-hand_on.ensures.held, ← c.if-hold.ensures) (held_lost _ _ c.hold.new.self.held c.args.bytes.now c.in_err-hand_on.ensures.adds)
+    rw (p.1, c.in_err-hand_on.ensures.held, ← c.self.view_is, ← c.if-keep.ensures.held) (held_lost _ _ c.keep.new.self c.args.bytes.now c.in_err-hand_on.ensures.adds)
 
-pub returns-then-hold-2-clause-adds : goal.returns-then-hold-2-clause-adds
-returns-then-hold-2-clause-adds g c =
-    rw (c.if-hold-2.ensures, c.in_ok-hand_on.ensures.held, ← c.if-hold.ensures) (held_next _ _ c.hold.new.self.held c.args.bytes.now c.in_ok-hand_on.ensures.adds)
+pub returns-then-not-keep-clause-adds : goal.returns-then-not-keep-clause-adds
+returns-then-not-keep-clause-adds g c =
+    let handed = rw (← c.self-2.view_is) at c.in_ok-hand_on.ensures in
+    rw (c.pass_on.ensures.held, c.if-not-keep.ensures.held, handed.held, ← c.self.view_is, ← c.if-keep.ensures.held)
+    (held_passed _ _ _ c.keep.new.self c.args.bytes.now _ handed.adds c.pass_on.ensures.adds)
 
 pub returns-clause-adds : goal.returns-clause-adds
 returns-clause-adds g c =
-    rw (c.pass_on.ensures.held, c.if-hold-2.ensures, c.in_ok-hand_on.ensures.held, ← c.if-hold.ensures) (held_passed _ _ _ c.hold.new.self.held c.args.bytes.now _ c.in_ok-hand_on.ensures.adds (rw c.if-hold-2.ensures at c.pass_on.ensures.adds))
+    let handed = rw (← c.self-2.view_is) at c.in_ok-hand_on.ensures in
+    rw (c.if-not-keep.ensures.held, handed.held, ← c.self.view_is, ← c.if-keep.ensures.held)
+    (held_next _ _ c.keep.new.self c.args.bytes.now handed.adds)
