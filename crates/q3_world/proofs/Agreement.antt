@@ -20,11 +20,11 @@ use Rattle.q3_world.specs.declared.server.Emitted.{Emitted}
 use Rattle.q3_world.specs.declared.server.Emitted.TheVariants as emitted
 use Rattle.q3_world.specs.declared.client.ClientTook.TheVariants.{Old}
 use Rattle.q3_world.specs.Message.{IsHeld, IsBuilt, sequence_end, snapshot_bits, datagram_bytes, snapshot_at}
-use Rattle.q3_world.specs.Server.{MapState, SlotState, ServerState, Emission, SlotEmission, places, fragment_size, slot_at, with_slot, with_player, next_message, built_bits, nothing, emit_bits, emit_slot, emission_at, emit_from, emit_at}
+use Rattle.q3_world.specs.Server.{MapState, SlotState, ServerState, Emission, SlotEmission, places, fragment_size, slot_at, with_slot, with_player, next_message, built_bits, nothing, emit_bits, emit_slot, with_handed_out, emission_at, emit_from, emit_at}
 use Rattle.q3_world.specs.Client.{ClientState, Taken, applied, number_of_datagram, take_at}
 use Rattle.q3_world.specs.Ends.{Ends, EndsStep, client_at, join, set_player, delivered}
-use Rattle.q3_world.specs.Kept.{SentBytes, Kept, KeptStep, kept_ends, datagrams_after, kept_serve, kept_taken, kept_arrive, kept_deliver, kept_step}
-use Rattle.q3_world.specs.World.{Tag, Step, Whole, with_ends, sent_after, serve, snapshot_of, arrive, deliver, step}
+use Rattle.q3_world.specs.Kept.{SentBytes, Kept, KeptStep, kept_ends, kept_serve, kept_taken, kept_arrive, kept_deliver, kept_step}
+use Rattle.q3_world.specs.World.{Tag, Step, Whole, with_ends, serve, snapshot_of, arrive, deliver, step}
 use Rattle.q3_world.specs.StandsFor.{IsSent, StandsFor, bytes_of}
 use Rattle.q3_world.proofs.Events.{Holds, with_new_slot, Holds-new, Holds-player, Holds-map, Holds-begun, Holds-applied, next_tag, tag_was_built, client_by}
 
@@ -91,8 +91,8 @@ Served profile whole c emission = Agree profile (kept_serve (kept_of profile who
 
 -- nothing was begun or sent, and the server is as it was
 quiet : (profile : Profile) (whole : Whole) (c : ℕ) (server : ServerState) (answer : Emitted)
-    → server ≡ whole.ends.server → datagrams_after (map bytes_of whole.sent) c answer [] ≡ map bytes_of whole.sent
-    → sent_after whole.sent c answer [] ≡ whole.sent → Holds profile whole
+    → server ≡ whole.ends.server → with_handed_out (map bytes_of whole.sent) answer (λ number. record { client = c; bytes = [] }) ≡ map bytes_of whole.sent
+    → with_handed_out whole.sent answer (λ number. record { client = c; number = number; bytes = [] }) ≡ whole.sent → Holds profile whole
     → Served profile whole c (record { server = server; answer = answer; began = None; datagram = [] })
 quiet profile whole c server answer same_as none_sent none_tagged holds =
     let count = length-map whole.sent bytes_of in

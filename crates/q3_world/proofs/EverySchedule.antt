@@ -23,7 +23,7 @@ use Rattle.q3_world.specs.Ends.{Ends, Answered, delivered, client_at, newest, jo
 use Rattle.q3_world.specs.Kept.{SentBytes, Kept, KeptStep, opening_kept, kept_step, kept_after, kept_answers}
 use Rattle.q3_world.specs.World.{Tag, Whole, History, history_at, opening, step, after, answers, deliver, arrive, arrive_new, snapshot_of}
 use Rattle.q3_world.specs.StandsFor.{IsClient, WasBuilt, Rise, AreJoined, IsJoined, StandsFor, bytes_of}
-use Rattle.q3_world.specs.Schedules.{StepFollows, BytesFollowTags, IsLegible, AlwaysLegible, AcceptedWereBuilt, ShownWasBuilt, NewerIsAccepted}
+use Rattle.q3_world.specs.Schedules.{StepFollows, kept_then, whole_then, BytesFollowTags, IsLegible, AlwaysLegible, AcceptedWereBuilt, ShownWasBuilt, NewerIsAccepted}
 use Rattle.q3_world.proofs.Events.{Holds, Holds-opening, tag_was_built}
 use Rattle.q3_world.proofs.Agreement.{Cited, stands_of, stands_next, kept_is, is_sent, number_is, delivers_agree}
 use Rattle.q3_world.proofs.Clients.{last_is}
@@ -66,13 +66,7 @@ stands_opening profile codec = stands_of profile (opening profile) (Holds-openin
 pub bytes_follow_tags : StepFollows → BytesFollowTags
 bytes_follow_tags law profile all is are = follow law profile all (opening_kept profile) (opening profile) are (stands_opening profile is)
 
--- the worlds after the events
-abbrev kept_then : Profile → List Event → Kept
-kept_then profile all = kept_after (opening_kept profile) all
-
-abbrev whole_then : Profile → List Event → Whole
-whole_then profile all = after profile (opening profile) all
-
+-- what stands after the events
 abbrev Then : Profile → List Event → Type 0
 Then profile all = StandsFor profile (kept_then profile all) (whole_then profile all)
 

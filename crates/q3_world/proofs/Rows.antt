@@ -1,5 +1,5 @@
 -- Rows of texts, each written behind the last.
-use Rattle.std.proofs.Common.{◌≡◌, Bool, List, ◌++◌, Result, Ok, Err, refl}
+use Rattle.std.proofs.Common.{Bool, List, ◌++◌, Result, Ok, Err, refl}
 use Rattle.q3_bits.specs.declared.writer.Overflow.{Overflow}
 use Rattle.q3_bits.specs.Streams.{Writing, Writes}
 use Rattle.q3_bits.specs.Laws.{TextsAreWritten}

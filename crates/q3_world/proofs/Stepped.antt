@@ -6,17 +6,17 @@ use Rattle.q3_script.specs.declared.event.Event.{Event}
 use Rattle.q3_script.specs.declared.event.Event.TheVariants as events
 use Rattle.q3_world.specs.declared.server.Emitted.{Emitted}
 use Rattle.q3_world.specs.declared.server.Emitted.TheVariants as emitted
-use Rattle.q3_world.specs.Server.{emit_at}
+use Rattle.q3_world.specs.Server.{with_handed_out, emit_at}
 use Rattle.q3_world.specs.Client.{ClientState}
 use Rattle.q3_world.specs.Ends.{client_at}
-use Rattle.q3_world.specs.Kept.{SentBytes, Kept, datagrams_after, kept_arrive, kept_deliver, kept_step}
+use Rattle.q3_world.specs.Kept.{SentBytes, Kept, kept_arrive, kept_deliver, kept_step}
 
-few_served : (datagrams : List SentBytes) (c : ℕ) (answer : Emitted) (datagram : List ℕ)
-    → length (datagrams_after datagrams c answer datagram) ≤ length datagrams + 1
-few_served datagrams c (emitted.Snapshot number base bytes) datagram = omega (arith, length_push datagrams (record { client = c; bytes = datagram }))
-few_served datagrams c emitted.NoClient datagram = omega arith
-few_served datagrams c emitted.SequenceEnd datagram = omega arith
-few_served datagrams c emitted.Overlong datagram = omega arith
+few_served : (datagrams : List SentBytes) (answer : Emitted) (datagram : ℕ → SentBytes)
+    → length (with_handed_out datagrams answer datagram) ≤ length datagrams + 1
+few_served datagrams (emitted.Snapshot number base bytes) datagram = omega (arith, length_push datagrams (datagram number))
+few_served datagrams emitted.NoClient datagram = omega arith
+few_served datagrams emitted.SequenceEnd datagram = omega arith
+few_served datagrams emitted.Overlong datagram = omega arith
 
 few_arrived : (kept : Kept) (number : ℕ) (sent : SentBytes) (client : Option ClientState)
     → length (kept_arrive kept number sent client).kept.datagrams ≤ length kept.datagrams + 1
@@ -33,6 +33,6 @@ unfolding kept_step
 few_more kept (events.Client c challenge qport dup address) = omega arith
 few_more kept (events.Player c player) = omega arith
 few_more kept (events.Time time) = omega arith
-few_more kept (events.Serve c) = few_served kept.datagrams c (emit_at kept.ends.server c).answer (emit_at kept.ends.server c).datagram
+few_more kept (events.Serve c) = few_served kept.datagrams (emit_at kept.ends.server c).answer (λ number. record { client = c; bytes = (emit_at kept.ends.server c).datagram })
 few_more kept (events.Deliver number) = few_delivered kept number (slice_get kept.datagrams (number - 1))
 few_more kept (events.Show c) = omega arith

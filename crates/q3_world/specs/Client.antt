@@ -9,7 +9,8 @@ use Rattle.q3_world.specs.declared.client.ClientTook.{ClientTook}
 use Rattle.q3_world.specs.declared.client.ClientTook.TheVariants.{Runt, Old, Illegible, Applied}
 use Rattle.q3_world.specs.Message.{snapshot_at}
 
--- a client: the newest number taken, 0 for none, and the newest snapshot accepted
+-- a client: by which profile, how it joined, how many old moves it repeats, the newest number taken, 0 for none, and the
+-- newest snapshot accepted
 pub record ClientState : Type 0 where
   pub profile : Profile
   pub challenge : ℕ
@@ -38,6 +39,7 @@ abbrev pub apply_read : ClientState → Result Snapshot cause.Illegible → Take
 apply_read client (Ok snapshot) = applied client snapshot
 apply_read client (Err e) = record { client = client; answer = Illegible e }
 
+-- a message under a number at or below the newest is old, and another is read
 abbrev pub take_message : ClientState → ℕ → List ℕ → Taken
 take_message client number message =
     if nat_le number client.taken then record { client = client; answer = Old }

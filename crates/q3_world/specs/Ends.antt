@@ -22,9 +22,11 @@ pub record Ends : Type 0 where
   pub server : ServerState
   pub clients : List (Option ClientState)
 
+-- a client, by its place
 abbrev pub client_at : Ends → ℕ → Option ClientState
 client_at ends c = slice_index_or ends.clients c None
 
+-- the ends with this client at a place
 abbrev pub with_client : Ends → ℕ → ClientState → Ends
 with_client ends c client = record ends { clients = slice_set ends.clients c (Some client) }
 
@@ -47,6 +49,7 @@ abbrev pub lent : Ends → Answer → Option Snapshot
 lent ends (Show c what) = newest (client_at ends c)
 lent ends other = None
 
+-- an answer, with the snapshot that these ends lend for it
 abbrev pub answered : Ends → Answer → Answered
 answered ends answer = record { answer = answer; snapshot = lent ends answer }
 
@@ -71,14 +74,17 @@ abbrev pub joined : Ends → ℕ → ClientState → Result (Unit {0}) SlotError
 joined ends c client (Ok x) = record { ends = with_client ends c client; answer = Client c handed_in.Ok }
 joined ends c client (Err e) = record { ends = ends; answer = Client c handed_in.Taken }
 
+-- a client asks to join
 abbrev pub join : Profile → Ends → ℕ → ℕ → ℕ → ℕ → Address → EndsStep
 join profile ends c challenge qport dup address =
     let added = add_client_at ends.server c challenge qport address in
     joined (record ends { server = added.server }) c (new_client profile challenge qport dup) added.answer
 
+-- the time, and the player of a client, as the game hands them in
 abbrev pub set_time : Ends → ℕ → EndsStep
 set_time ends time = record { ends = record ends { server = set_time_at ends.server time }; answer = Time }
 
+-- what became of the player
 abbrev pub player_answer : Result (Unit {0}) NoClient → Outcome
 player_answer (Ok x) = handed_in.Ok
 player_answer (Err e) = handed_in.NoClient
@@ -97,5 +103,6 @@ shown_of (Some client) = accepted_shown client.accepted
     accepted_shown None = shown.Nothing
     accepted_shown (Some snapshot) = shown.Newest
 
+-- a client is shown, and nothing changes
 abbrev pub show : Ends → ℕ → EndsStep
 show ends c = record { ends = ends; answer = Show c (shown_of (client_at ends c)) }

@@ -1,11 +1,9 @@
 -- What the program's world keeps, and what an event does to it: datagrams are taken by their bytes.
-use Rattle.std.specs.Prelude.{ℕ, ◌+◌, ◌-◌, List, [], ◌∷◌, ◌++◌, length, Option, Some, None, slice_get}
+use Rattle.std.specs.Prelude.{ℕ, ◌+◌, ◌-◌, ◌^◌, List, [], ◌∷◌, length, Option, Some, None, slice_get}
 use Rattle.q3_profile.specs.declared.profile.Profile.{Profile}
 use Rattle.q3_script.specs.declared.event.Event.{Event}
 use Rattle.q3_script.specs.declared.event.Event.TheVariants as events
-use Rattle.q3_world.specs.declared.server.Emitted.{Emitted}
-use Rattle.q3_world.specs.declared.server.Emitted.TheVariants as emitted
-use Rattle.q3_world.specs.Server.{Emission, emit_at}
+use Rattle.q3_world.specs.Server.{Emission, with_handed_out, emit_at}
 use Rattle.q3_world.specs.Client.{ClientState, Taken, take_at}
 use Rattle.q3_world.specs.Ends.{Ends, EndsStep, Answered, answered, client_at, with_client, new_ends, served, unknown, delivered, join, set_time, set_player, show}
 
@@ -16,7 +14,7 @@ pub record SentBytes : Type 0 where
 
 -- datagrams have numbers of 32 bits
 abbrev pub most_datagrams : ℕ
-most_datagrams = 4294967295
+most_datagrams = 2 ^ 32 - 1
 
 -- by which profile, both ends, and every datagram that was made
 pub record Kept : Type 0 where
@@ -37,21 +35,18 @@ opening_kept profile = record { profile = profile; ends = new_ends profile; data
 abbrev pub kept_ends : Kept → EndsStep → KeptStep
 kept_ends kept step = record { kept = record kept { ends = step.ends }; answer = answered step.ends step.answer }
 
--- the datagram that an emission hands out, if it does
-abbrev pub datagrams_after : List SentBytes → ℕ → Emitted → List ℕ → List SentBytes
-datagrams_after datagrams c (emitted.Snapshot number base bytes) datagram = datagrams ++ record { client = c; bytes = datagram } ∷ []
-datagrams_after datagrams c other datagram = datagrams
-
+-- the server makes a datagram, which is kept if it is handed out
 abbrev pub kept_serve : Kept → ℕ → Emission → KeptStep
 kept_serve kept c emission =
     record {
       kept = record kept {
         ends = record kept.ends { server = emission.server };
-        datagrams = datagrams_after kept.datagrams c emission.answer emission.datagram;
+        datagrams = with_handed_out kept.datagrams emission.answer (λ number. record { client = c; bytes = emission.datagram });
       };
       answer = served c emission.answer (length kept.datagrams + 1);
     }
 
+-- a client took a datagram
 abbrev pub kept_taken : Kept → ℕ → ℕ → Taken → KeptStep
 kept_taken kept number c taken =
     record {
@@ -64,6 +59,7 @@ abbrev pub kept_arrive : Kept → ℕ → SentBytes → Option ClientState → K
 kept_arrive kept number sent None = record { kept = kept; answer = unknown number }
 kept_arrive kept number sent (Some client) = kept_taken kept number sent.client (take_at client sent.bytes)
 
+-- the datagram of a number, if it was made, arrives
 abbrev pub kept_deliver : Kept → ℕ → Option SentBytes → KeptStep
 kept_deliver kept number None = record { kept = kept; answer = unknown number }
 kept_deliver kept number (Some sent) = kept_arrive kept number sent (client_at kept.ends sent.client)

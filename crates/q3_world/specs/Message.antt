@@ -39,8 +39,8 @@ end_byte = 8
 
 -- what stands in front of the player: the number of the last client command executed, and the snapshot's operation, time,
 -- base distance, flags and length of the area
-abbrev pub head_text : List (List Bool) → ℕ → Snapshot → List Bool
-head_text words executed snapshot =
+abbrev pub message_head : List (List Bool) → ℕ → Snapshot → List Bool
+message_head words executed snapshot =
     field_bits words 32 executed
     ++ field_bits words 8 snapshot_byte
     ++ field_bits words 32 snapshot.time
@@ -49,13 +49,13 @@ head_text words executed snapshot =
     ++ field_bits words 8 0
 
 -- what stands behind it: the end mark of no entities, and the end
-abbrev pub tail_text : List (List Bool) → Layout → List Bool
-tail_text words entity = field_bits words entity.number_bits (end_mark entity) ++ field_bits words 8 end_byte
+abbrev pub message_tail : List (List Bool) → Layout → List Bool
+message_tail words entity = field_bits words entity.number_bits (end_mark entity) ++ field_bits words 8 end_byte
 
 -- a message, around the text of its player
 abbrev pub message_text : Profile → ℕ → Snapshot → List Bool → List Bool
 message_text profile executed snapshot player =
-    head_text profile.code executed snapshot ++ player ++ tail_text profile.code profile.entity
+    message_head profile.code executed snapshot ++ player ++ message_tail profile.code profile.entity
 
 -- the message that is built: no client command was executed, and the player goes from zero
 unfoldable pub snapshot_bits : Profile → Snapshot → List Bool

@@ -35,6 +35,7 @@ emitted_text (emitted.Snapshot number base bytes) datagram =
     concat (codes " snapshot " ∷ decimal number ∷ codes " base " ∷ decimal base ∷ codes " bytes " ∷ decimal bytes
     ∷ codes " datagram " ∷ decimal datagram ∷ codes "\n" ∷ [])
 
+-- why a message isn't legible
 abbrev pub cause_text : IllegibleCause → List ℕ
 cause_text Form = codes "form"
 
@@ -72,6 +73,7 @@ lines_of (Deliver datagram c took) lent =
     concat (codes "deliver " ∷ decimal datagram ∷ codes " client " ∷ decimal c ∷ took_text took ∷ [])
 lines_of (Show c what) lent = concat (codes "show " ∷ decimal c ∷ shown_text what lent ∷ [])
 
+-- the lines of an answer, with what is printed with it
 abbrev pub answer_text : Answered → List ℕ
 answer_text given = lines_of given.answer given.snapshot
 

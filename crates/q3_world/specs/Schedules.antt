@@ -14,7 +14,7 @@ use Rattle.q3_world.specs.Server.{places}
 use Rattle.q3_world.specs.Client.{ClientState, number_of_datagram}
 use Rattle.q3_world.specs.Ends.{client_at, delivered}
 use Rattle.q3_world.specs.Kept.{SentBytes, Kept, opening_kept, kept_step, kept_after, kept_answers}
-use Rattle.q3_world.specs.World.{Whole, history_at, opening, step, after, answers}
+use Rattle.q3_world.specs.World.{Whole, History, history_at, opening, step, after, answers}
 use Rattle.q3_world.specs.StandsFor.{StandsFor, WasBuilt, Rise}
 
 -- a step by bytes of what stands for a whole world gives what stands for its step by tags, and answers the same
@@ -23,11 +23,22 @@ StepFollows = (profile : Profile) (kept : Kept) (whole : Whole) (event : Event) 
     → StandsFor profile (kept_step kept event).kept (step profile whole event).whole
     × ((kept_step kept event).answer ≡ (step profile whole event).answer)
 
+-- what is kept after a replay of these events, and the whole world after it
+abbrev pub kept_then : Profile → List Event → Kept
+kept_then profile all = kept_after (opening_kept profile) all
+
+abbrev pub whole_then : Profile → List Event → Whole
+whole_then profile all = after profile (opening profile) all
+
+-- the history of a client then
+abbrev pub history_then : Profile → List Event → ℕ → History
+history_then profile all c = history_at (whole_then profile all).histories c
+
 -- in a replay what is kept after the events, where each datagram is taken by its bytes, stands for the whole world after
 -- them, where each is taken by its tag; and each event answers the same
 abbrev pub BytesFollowTags : Type 0
 BytesFollowTags = (profile : Profile) (all : List Event) → IsCodec profile → AllByRecursion IsReplayEvent all
-    → StandsFor profile (kept_after (opening_kept profile) all) (after profile (opening profile) all)
+    → StandsFor profile (kept_then profile all) (whole_then profile all)
     × (kept_answers (opening_kept profile) all ≡ answers profile (opening profile) all)
 
 -- the answer of a client that could read what arrived
@@ -44,25 +55,24 @@ AlwaysLegible = (profile : Profile) (all : List Event) → IsCodec profile → A
 -- each snapshot that a client accepted is the one that the server built for it under that number, and the numbers rise
 abbrev pub AcceptedWereBuilt : Type 0
 AcceptedWereBuilt = (profile : Profile) (all : List Event) (c : ℕ) → IsCodec profile → AllByRecursion IsReplayEvent all → c < places
-    → ((k : ℕ) (d : Snapshot) → k < length (history_at (after profile (opening profile) all).histories c).accepted
-    → WasBuilt (history_at (after profile (opening profile) all).histories c).built
-    (slice_index_or (history_at (after profile (opening profile) all).histories c).accepted k d))
-    × Rise (history_at (after profile (opening profile) all).histories c).accepted
+    → ((k : ℕ) (d : Snapshot) → k < length (history_then profile all c).accepted
+    → WasBuilt (history_then profile all c).built (slice_index_or (history_then profile all c).accepted k d))
+    × Rise (history_then profile all c).accepted
 
 -- where a client that takes datagrams by their bytes shows a snapshot, it is the one that the server built for it
 -- under that number
 abbrev pub ShownWasBuilt : Type 0
 ShownWasBuilt = (profile : Profile) (all : List Event) (c : ℕ) (snapshot : Snapshot) → IsCodec profile
     → AllByRecursion IsReplayEvent all → c < places
-    → (kept_step (kept_after (opening_kept profile) all) (events.Show c)).answer.snapshot ≡ Some snapshot
-    → WasBuilt (history_at (after profile (opening profile) all).histories c).built snapshot
+    → (kept_step (kept_then profile all) (events.Show c)).answer.snapshot ≡ Some snapshot
+    → WasBuilt (history_then profile all c).built snapshot
 
 -- a datagram whose number is above every number that its client has taken is accepted, by its bytes, when it arrives
 abbrev pub NewerIsAccepted : Type 0
 NewerIsAccepted = (profile : Profile) (all : List Event) (number : ℕ) (sent : SentBytes) (client : ClientState) → IsCodec profile
     → AllByRecursion IsReplayEvent all
-    → slice_get (kept_after (opening_kept profile) all).datagrams (number - 1) ≡ Some sent
-    → client_at (kept_after (opening_kept profile) all).ends sent.client ≡ Some client
+    → slice_get (kept_then profile all).datagrams (number - 1) ≡ Some sent
+    → client_at (kept_then profile all).ends sent.client ≡ Some client
     → client.taken < number_of_datagram sent.bytes
-    → (kept_step (kept_after (opening_kept profile) all) (events.Deliver number)).answer
+    → (kept_step (kept_then profile all) (events.Deliver number)).answer
     ≡ delivered number sent.client (Applied (number_of_datagram sent.bytes) 0)

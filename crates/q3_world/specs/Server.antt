@@ -1,6 +1,6 @@
 -- The server's end: what the game handed in for all clients, and a slot for each of them. Each call gives the server
 -- after it, and its answer.
-use Rattle.std.specs.Prelude.{ℕ, ◌+◌, if◌then◌else◌, Bool, List, [], length, replicate, nat_le, Option, Some, None, slice_set, slice_index_or, Result, Ok, Err}
+use Rattle.std.specs.Prelude.{ℕ, ◌+◌, if◌then◌else◌, Bool, List, [], ◌∷◌, ◌++◌, length, replicate, nat_le, Option, Some, None, slice_set, slice_index_or, Result, Ok, Err}
 use Rattle.q3_profile.specs.declared.profile.Profile.{Profile}
 use Rattle.q3_bits.specs.Bits.{message_bytes, message_length}
 use Rattle.q3_player.specs.declared.state.PlayerState.{PlayerState}
@@ -26,7 +26,7 @@ fragment_size = 1300
 pub record MapState : Type 0 where
   pub time : ℕ
 
--- a client at the server: how many messages were begun for it, and its player in normal form
+-- a client at the server: how it joined and from where, how many messages were begun for it, and its player in normal form
 pub record SlotState : Type 0 where
   pub challenge : ℕ
   pub address : Address
@@ -34,6 +34,7 @@ pub record SlotState : Type 0 where
   pub begun : ℕ
   pub player : PlayerState
 
+-- the server: by which profile, what the game handed in, and each client's slot at its place
 pub record ServerState : Type 0 where
   pub profile : Profile
   pub map : MapState
@@ -43,9 +44,11 @@ pub record ServerState : Type 0 where
 pub record Built : Type 0 where
   pub snapshot : Snapshot
 
+-- a client's slot, by its place
 abbrev pub slot_at : ServerState → ℕ → Option SlotState
 slot_at server c = slice_index_or server.slots c None
 
+-- the server with this slot at a place
 abbrev pub with_slot : ServerState → ℕ → SlotState → ServerState
 with_slot server c slot = record server { slots = slice_set server.slots c (Some slot) }
 
@@ -65,6 +68,7 @@ abbrev pub new_slot : ℕ → ℕ → Address → SlotState
 new_slot challenge qport address =
     record { challenge = challenge; address = address; qport = qport; begun = 0; player = zero_player }
 
+-- a client takes over a place, unless there is one
 abbrev pub add_to : ServerState → ℕ → SlotState → Option SlotState → Handed SlotError
 add_to server c slot (Some old) = record { server = server; answer = Err Taken }
 add_to server c slot None = record { server = with_slot server c slot; answer = Ok tt }
@@ -73,6 +77,7 @@ add_to server c slot None = record { server = with_slot server c slot; answer = 
 abbrev pub add_client_at : ServerState → ℕ → ℕ → ℕ → Address → Handed SlotError
 add_client_at server c challenge qport address = add_to server c (new_slot challenge qport address) (slot_at server c)
 
+-- the time, in milliseconds
 abbrev pub set_time_at : ServerState → ℕ → ServerState
 set_time_at server time = record server { map = record server.map { time = time } }
 
@@ -80,6 +85,7 @@ set_time_at server time = record server { map = record server.map { time = time 
 abbrev pub with_player : Profile → SlotState → PlayerState → SlotState
 with_player profile slot player = record slot { player = normal_player profile.player.kinds player }
 
+-- a player for the client at a place, if there is one
 abbrev pub give_player : ServerState → ℕ → PlayerState → Option SlotState → Handed NoClient
 give_player server c player None = record { server = server; answer = Err (record {}) }
 give_player server c player (Some slot) =
@@ -123,6 +129,7 @@ emit_bits slot built bits =
       datagram = datagram_bytes (slot.begun + 1) (message_bytes bits);
     }
 
+-- the next message of a slot, unless message numbers have ended
 abbrev pub emit_slot : Profile → MapState → SlotState → SlotEmission
 emit_slot profile map slot =
     if nat_le sequence_end (slot.begun + 1) then nothing slot emitted.SequenceEnd
@@ -135,11 +142,17 @@ pub record Emission : Type 0 where
   pub began : Option Built
   pub datagram : List ℕ
 
+-- a list, and behind it what an emission hands out under a message's number, if it does
+abbrev pub with_handed_out : {X : Type 0} → List X → Emitted → (ℕ → X) → List X
+with_handed_out xs (emitted.Snapshot number base bytes) datagram = xs ++ datagram number ∷ []
+with_handed_out xs other datagram = xs
+
 -- the emission of a slot in its place
 abbrev pub emission_at : ServerState → ℕ → SlotEmission → Emission
 emission_at server c emission =
     record { server = with_slot server c emission.slot; answer = emission.answer; began = emission.began; datagram = emission.datagram }
 
+-- an emission for the client at a place, if there is one
 abbrev pub emit_from : ServerState → ℕ → Option SlotState → Emission
 emit_from server c None = record { server = server; answer = emitted.NoClient; began = None; datagram = [] }
 emit_from server c (Some slot) = emission_at server c (emit_slot server.profile server.map slot)

@@ -35,6 +35,7 @@ pub record IsSent (profile : Profile) (histories : List History) (tag : Tag) : T
   pub begun : tag.number ≤ length (history_at histories tag.client).built
   pub bytes : tag.bytes ≡ datagram_bytes tag.number (message_bytes (built_bits profile (built_at (history_at histories tag.client).built tag.number)))
 
+-- what holds of the whole world
 pub record Facts (profile : Profile) (whole : Whole) : Type 0 where
   pub codec : IsCodec profile
   pub by : whole.ends.server.profile ≡ profile
@@ -69,10 +70,12 @@ pub record AreJoined (map : MapState) (slot : SlotState) (client : ClientState) 
   pub newest : client.accepted ≡ last_or None history.accepted
   pub taken : client.taken ≡ number_of_newest client.accepted
 
+-- of a client that is at both ends
 abbrev pub IsJoined : MapState → Option SlotState → Option ClientState → History → Type 0
 IsJoined map (Some slot) (Some client) history = AreJoined map slot client history
 IsJoined map slot client history = Unit {0}
 
+-- of every client
 abbrev pub AllJoined : Whole → Type 0
 AllJoined whole = (c : ℕ) → c < places
     → IsJoined whole.ends.server.map (slot_at whole.ends.server c) (client_at whole.ends c) (history_at whole.histories c)
@@ -83,6 +86,7 @@ AllJoined whole = (c : ℕ) → c < places
 abbrev pub bytes_of : Tag → SentBytes
 bytes_of tag = record { client = tag.client; bytes = tag.bytes }
 
+-- the ends are the same, each datagram has the bytes of its tag, and all of the above holds
 pub record StandsFor (profile : Profile) (kept : Kept) (whole : Whole) : Type 0 where
   pub by : kept.profile ≡ profile
   pub ends : kept.ends ≡ whole.ends

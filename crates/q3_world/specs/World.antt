@@ -6,10 +6,8 @@ use Rattle.q3_player.specs.State.{zero_player}
 use Rattle.q3_script.specs.declared.event.Event.{Event}
 use Rattle.q3_script.specs.declared.event.Event.TheVariants as events
 use Rattle.q3_world.specs.declared.message.Snapshot.{Snapshot}
-use Rattle.q3_world.specs.declared.server.Emitted.{Emitted}
-use Rattle.q3_world.specs.declared.server.Emitted.TheVariants as emitted
 use Rattle.q3_world.specs.declared.client.ClientTook.TheVariants.{Old}
-use Rattle.q3_world.specs.Server.{Built, Emission, places, emit_at}
+use Rattle.q3_world.specs.Server.{Built, Emission, places, with_handed_out, emit_at}
 use Rattle.q3_world.specs.Client.{ClientState, Taken, applied}
 use Rattle.q3_world.specs.Ends.{Ends, EndsStep, Answered, answered, client_at, with_client, new_ends, served, unknown, delivered, join, set_time, set_player, show}
 
@@ -24,21 +22,26 @@ pub record History : Type 0 where
   pub built : List Built
   pub accepted : List Snapshot
 
+-- both ends, each client's history at its place, and every datagram that was made
 pub record Whole : Type 0 where
   pub ends : Ends
   pub histories : List History
   pub sent : List Tag
 
+-- the world after an event, and the answer
 pub record Step : Type 0 where
   pub whole : Whole
   pub answer : Answered
 
+-- of a client that never joined
 abbrev pub no_history : History
 no_history = record { built = []; accepted = [] }
 
+-- the history at a client's place
 abbrev pub history_at : List History → ℕ → History
 history_at histories c = slice_index_or histories c no_history
 
+-- what stands where no message was built
 abbrev pub no_message : Built
 no_message = record { snapshot = record { number = 0; time = 0; flags = 0; player = zero_player } }
 
@@ -68,18 +71,14 @@ abbrev pub histories_after : List History → ℕ → Option Built → List Hist
 histories_after histories c None = histories
 histories_after histories c (Some built) = with_built histories c built
 
--- and its datagram, if it hands one out
-abbrev pub sent_after : List Tag → ℕ → Emitted → List ℕ → List Tag
-sent_after sent c (emitted.Snapshot number base bytes) datagram = sent ++ record { client = c; number = number; bytes = datagram } ∷ []
-sent_after sent c other datagram = sent
-
+-- the server makes a datagram, which gets a tag if it is handed out
 abbrev pub serve : Whole → ℕ → Emission → Step
 serve whole c emission =
     record {
       whole = record whole {
         ends = record whole.ends { server = emission.server };
         histories = histories_after whole.histories c emission.began;
-        sent = sent_after whole.sent c emission.answer emission.datagram;
+        sent = with_handed_out whole.sent emission.answer (λ number. record { client = c; number = number; bytes = emission.datagram });
       };
       answer = served c emission.answer (length whole.sent + 1);
     }
@@ -103,6 +102,7 @@ arrive whole number tag (Some client) =
     if nat_le tag.number client.taken then record { whole = whole; answer = delivered number tag.client Old }
     else arrive_new whole number tag.client (applied client (snapshot_of whole.histories tag)) (snapshot_of whole.histories tag)
 
+-- the datagram of a number, if it was made, arrives
 abbrev pub deliver : Whole → ℕ → Option Tag → Step
 deliver whole number None = record { whole = whole; answer = unknown number }
 deliver whole number (Some tag) = arrive whole number tag (client_at whole.ends tag.client)

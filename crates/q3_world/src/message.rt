@@ -6,7 +6,7 @@ ghost use Rattle.std.specs.Prelude.{◌≡◌, ◌+◌, ◌^◌, ◌<◌, ◌≤
 ghost use Rattle.q3_bits.specs.Bits.{bits_of};
 ghost use Rattle.q3_bits.specs.Words.{field_at};
 ghost use Rattle.q3_bits.specs.Streams.{Reads, Writes};
-ghost use Rattle.q3_world.specs.Message.{head_text, tail_text, snapshot_bits, snapshot_at, form, fixed_at};
+ghost use Rattle.q3_world.specs.Message.{message_head, message_tail, snapshot_bits, snapshot_at, form, fixed_at};
 
 use q3_bits::{Overflow, Reader, Writer, laws};
 use q3_fields::Table;
@@ -20,7 +20,9 @@ pub struct Snapshot {
     pub number: u32,
     /// The server's time, in milliseconds.
     pub time: u32,
+    /// The flags of a snapshot, none of which this stage sets.
     pub flags: u8,
+    /// The client's own player, in the normal form of the profile's table.
     pub player: PlayerState,
 }
 
@@ -55,7 +57,7 @@ pub(crate) fn write_snapshot(
 
 /// Writes what stands in front of the player: no client command was executed, and there is no base and no area.
 fn write_head(w: &mut Writer, snapshot: &Snapshot) -> Result<(), Overflow>
-    ensures { Writes w.old w.new (head_text w.old.words 0 snapshot.now) result }
+    ensures { Writes w.old w.new (message_head w.old.words 0 snapshot.now) result }
 {
     laws::texts_are_written();
     w.put(0, 32)?;
@@ -68,7 +70,7 @@ fn write_head(w: &mut Writer, snapshot: &Snapshot) -> Result<(), Overflow>
 
 /// Writes what stands behind the player: the end mark of no entities, and the end.
 fn write_tail(w: &mut Writer, entity: &Table) -> Result<(), Overflow>
-    ensures { Writes w.old w.new (tail_text w.old.words entity.now) result }
+    ensures { Writes w.old w.new (message_tail w.old.words entity.now) result }
 {
     laws::texts_are_written();
     w.put(u32::from(entity.end()), entity.number_bits())?;

@@ -1,8 +1,7 @@
-use Rattle.std.proofs.Common.{◌≡◌, ◌++◌, append_assoc, refl}
 use Rattle.std.proofs.lemmas.Result.{err_from_is_err_and}
 use Rattle.q3_player.specs.State.{zero_player}
 use Rattle.q3_player.specs.Delta.{player_delta}
-use Rattle.q3_world.specs.Message.{tail_text, snapshot_bits}
+use Rattle.q3_world.specs.Message.{message_tail, snapshot_bits}
 use Rattle.q3_world.proofs.Rows.{next, refused}
 use Rattle.q3_world.proofs.message.write_snapshot.Goals as goal
 
@@ -28,4 +27,4 @@ returns c =
     let law = c.texts_are_written.ensures in
     let written = rw c.zero.ensures at c.in_ok-write_player.ensures in
     let both = next law (λ ws. player_delta ws c.args.profile.now.player.kinds zero_player c.args.snapshot.now.player) c.in_ok-write_head.ensures written in
-    rw (← c.requires) (next law (λ ws. tail_text ws c.args.profile.now.entity) both c.write_tail.ensures)
+    rw (← c.requires) (next law (λ ws. message_tail ws c.args.profile.now.entity) both c.write_tail.ensures)
