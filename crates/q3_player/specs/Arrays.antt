@@ -1,6 +1,6 @@
 -- The arrays of a player: what changed in one is a finite map from places to values, by rising place.
 use Rattle.std.specs.Prelude.{ℕ, ◌+◌, ◌^◌, ◌==◌, if◌then◌else◌, List, [], ◌∷◌}
-pub use Rattle.q3_fields.specs.Places.{Change}
+use Rattle.q3_fields.specs.Places.{Change}
 use Rattle.q3_fields.specs.declared.kind.Kind.{Kind}
 use Rattle.q3_player.specs.declared.state.PlayerState.{PlayerState}
 use Rattle.q3_player.specs.State.{array_kinds, arrays_of}

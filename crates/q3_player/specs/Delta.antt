@@ -12,7 +12,8 @@ use Rattle.q3_player.specs.declared.state.PlayerState.{PlayerState}
 use Rattle.q3_player.specs.declared.reading.PlayerError.{PlayerError}
 use Rattle.q3_player.specs.declared.reading.PlayerError.TheVariants.{Bits, Count}
 use Rattle.q3_player.specs.State.{patterns_of, shorts_of, array_kinds, arrays_of, with_arrays}
-use Rattle.q3_player.specs.Arrays.{Change, mask_of, player_changes}
+use Rattle.q3_fields.specs.Places.{Change}
+use Rattle.q3_player.specs.Arrays.{mask_of, player_changes}
 
 -- one more than the index of the last word that differs, or 0: the least number from which on all words agree
 unfoldable pub last_changed : List ℕ → List ℕ → ℕ
