@@ -63,7 +63,8 @@ mod tests {
         assert_eq!(rt; reader.get(1), Ok(0));
         assert_eq!(rt; reader.get(10), Ok(1023));
         assert_eq!(rt; reader.get(8), Ok(8));
-        assert_eq!(rt; reader.place(), 141);
+        assert_eq!(rt; reader.get(3), Ok(0));
+        assert_eq!(rt; reader.get(1), Err(ReadError::End));
         Ok(())
     }
 
@@ -160,7 +161,8 @@ mod tests {
         let mut reader = Reader::new(&copy, writer.bytes());
         assert_eq!(rt; reader.get(17), Ok(0x1fe03));
         assert_eq!(rt; reader.get(32), Ok(0xff0f_1000));
-        assert_eq!(rt; reader.place(), 92);
+        assert_eq!(rt; reader.get(4), Ok(0));
+        assert_eq!(rt; reader.get(1), Err(ReadError::End));
         Ok(())
     }
 
