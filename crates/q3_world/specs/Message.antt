@@ -39,13 +39,13 @@ end_byte = 8
 
 -- what stands in front of the player: the number of the last client command executed, and the snapshot's operation, time,
 -- base distance, flags and length of the area
-abbrev pub message_head : List (List Bool) → ℕ → Snapshot → List Bool
-message_head words executed snapshot =
+abbrev pub message_head : List (List Bool) → ℕ → ℕ → ℕ → List Bool
+message_head words executed time flags =
     field_bits words 32 executed
     ++ field_bits words 8 snapshot_byte
-    ++ field_bits words 32 snapshot.time
+    ++ field_bits words 32 time
     ++ field_bits words 8 0
-    ++ field_bits words 8 snapshot.flags
+    ++ field_bits words 8 flags
     ++ field_bits words 8 0
 
 -- what stands behind it: the end mark of no entities, and the end
@@ -55,7 +55,7 @@ message_tail words entity = field_bits words entity.number_bits (end_mark entity
 -- a message, around the text of its player
 abbrev pub message_text : Profile → ℕ → Snapshot → List Bool → List Bool
 message_text profile executed snapshot player =
-    message_head profile.code executed snapshot ++ player ++ message_tail profile.code profile.entity
+    message_head profile.code executed snapshot.time snapshot.flags ++ player ++ message_tail profile.code profile.entity
 
 -- the message that is built: no client command was executed, and the player goes from zero
 unfoldable pub snapshot_bits : Profile → Snapshot → List Bool

@@ -2,9 +2,9 @@
 //! Keeps the rule "when a message is old", and an interim rule of this project's own: a message that isn't legible
 //! leaves its number untaken.
 
-ghost use Rattle.std.specs.Prelude.{◌≡◌, ◌<◌, IfOk};
+ghost use Rattle.std.specs.Prelude.{◌≡◌, ◌≢◌, ◌<◌, Some, IfOk};
 ghost use Rattle.std.specs.Option.{option_copied};
-ghost use Rattle.q3_world.specs.Client.{new_client, applied, take_at};
+ghost use Rattle.q3_world.specs.Client.{new_client, take_at};
 
 use crate::message::{Illegible, Snapshot, read_snapshot};
 use q3_bits::NoMemory;
@@ -23,7 +23,8 @@ pub enum ClientTook {
     Applied { number: u32, base: u32 },
 }
 
-/// A client: a copy of the profile, the newest number taken, 0 for none, and the newest snapshot accepted.
+/// A client: a copy of the profile, the newest number taken, 0 for none, and two snapshots.
+/// One of them is the newest accepted, if there is one, and the next message is read into the other.
 #[derive(Drop)]
 pub(crate) struct Client {
     profile: Profile,
@@ -31,10 +32,12 @@ pub(crate) struct Client {
     qport: u16,
     dup: u8,
     taken: u32,
-    accepted: Option<Snapshot>,
+    snapshots: [Snapshot; 2],
+    newest: Option<usize>,
 }
 
 impl Model for Client {
+    ghost use Rattle.std.specs.Prelude.{◌≡◌, ◌<◌, length, slice_get, option_and_then, IfSome};
     ghost use Rattle.q3_world.specs.Client.{ClientState};
 
     ghost Value = { ClientState };
@@ -45,8 +48,10 @@ impl Model for Client {
       qport = c.qport;
       dup = c.dup;
       taken = c.taken;
-      accepted = c.accepted;
+      accepted = option_and_then (slice_get c.snapshots) c.newest;
     } };
+
+    ghost invariant = { λ c. (length c.snapshots ≡ 2) × IfSome c.newest (λ place. place < 2) };
 }
 
 impl Client {
@@ -65,7 +70,8 @@ impl Client {
             qport,
             dup,
             taken: 0,
-            accepted: None,
+            snapshots: [Snapshot::empty(), Snapshot::empty()],
+            newest: None,
         })
     }
 
@@ -82,19 +88,13 @@ impl Client {
         if number <= self.taken {
             return ClientTook::Old;
         }
-        match read_snapshot(&self.profile, number, message) {
-            Err(e) => ClientTook::Illegible(e),
-            Ok(snapshot) => self.apply(snapshot),
+        let place = other(self.newest);
+        let into = &mut self.snapshots[place];
+        if let Err(e) = read_snapshot(&self.profile, number, message, into) {
+            return ClientTook::Illegible(e);
         }
-    }
-
-    /// Applies a message: the client accepts its snapshot.
-    fn apply(&mut self, snapshot: Snapshot) -> ClientTook
-        ensures { applied self.old snapshot ≡ record { client = self.new; answer = result } }
-    {
-        let number = snapshot.number;
         self.taken = number;
-        self.accepted = Some(snapshot);
+        self.newest = Some(place);
         ClientTook::Applied { number, base: 0 }
     }
 
@@ -102,6 +102,17 @@ impl Client {
     pub(crate) fn newest(&self) -> Option<&Snapshot>
         ensures { option_copied result ≡ self.now.accepted }
     {
-        self.accepted.as_ref()
+        Some(&self.snapshots[self.newest?])
+    }
+}
+
+/// The one of two places that isn't this one.
+fn other(place: Option<usize>) -> usize
+    ensures inside { result < 2 }
+    ensures another { place ≢ Some result }
+{
+    match place {
+        Some(0) => 1,
+        _ => 0,
     }
 }

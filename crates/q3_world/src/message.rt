@@ -2,10 +2,10 @@
 //! Keeps the rules "layout of a server message" and "snapshot section", which are the engine's `SV_SendClientSnapshot`
 //! and `CL_ParseServerMessage`.
 
-ghost use Rattle.std.specs.Prelude.{◌≡◌, ◌+◌, ◌^◌, ◌<◌, ◌≤◌, Ok, Err, IfOk, MatchResult};
+ghost use Rattle.std.specs.Prelude.{◌≡◌, ◌^◌, ◌<◌, ◌≤◌, ℕ, Ok, Err, IfOk, OnOk, MatchResult};
 ghost use Rattle.q3_bits.specs.Bits.{bits_of};
 ghost use Rattle.q3_bits.specs.Words.{field_at};
-ghost use Rattle.q3_bits.specs.Streams.{Reads, Writes};
+ghost use Rattle.q3_bits.specs.Streams.{Reads, Writes, holding};
 ghost use Rattle.q3_world.specs.Message.{message_head, message_tail, snapshot_bits, snapshot_at, form, fixed_at};
 
 use q3_bits::{Overflow, Reader, Writer, laws};
@@ -26,6 +26,18 @@ pub struct Snapshot {
     pub player: PlayerState,
 }
 
+impl Snapshot {
+    /// A snapshot with nothing in it, for one to be read into.
+    pub(crate) fn empty() -> Snapshot {
+        Snapshot {
+            number: 0,
+            time: 0,
+            flags: 0,
+            player: PlayerState::zero(),
+        }
+    }
+}
+
 /// Why a message isn't legible.
 #[derive(Clone, Copy, Debug, PartialEq, Eq)]
 pub enum Illegible {
@@ -38,33 +50,36 @@ const SNAPSHOT: u32 = 7;
 
 const END: u32 = 8;
 
-/// Writes a message with a snapshot, by a writer of the profile's code.
+/// Writes a message with the snapshot that has these parts, by a writer of the profile's code. Its number isn't written.
 /// `Overflow` comes exactly where the message doesn't fit the writer's room; a front of it was then written.
 #[tactic(auto, unfolding(crate::specs::Message::snapshot_bits))]
 pub(crate) fn write_snapshot(
     w: &mut Writer,
     profile: &Profile,
-    snapshot: &Snapshot,
+    time: u32,
+    flags: u8,
+    player: &PlayerState,
 ) -> Result<(), Overflow>
     requires { w.old.words ≡ profile.now.code }
-    ensures { Writes w.old w.new (snapshot_bits profile.now snapshot.now) result }
+    ensures { (number : ℕ) → Writes w.old w.new (snapshot_bits profile.now
+        (record { number = number; time = time; flags = flags; player = player.now })) result }
 {
     laws::texts_are_written();
-    write_head(w, snapshot)?;
-    write_player(w, &profile.player, &PlayerState::zero(), &snapshot.player)?;
+    write_head(w, time, flags)?;
+    write_player(w, &profile.player, &PlayerState::zero(), player)?;
     write_tail(w, &profile.entity)
 }
 
 /// Writes what stands in front of the player: no client command was executed, and there is no base and no area.
-fn write_head(w: &mut Writer, snapshot: &Snapshot) -> Result<(), Overflow>
-    ensures { Writes w.old w.new (message_head w.old.words 0 snapshot.now) result }
+fn write_head(w: &mut Writer, time: u32, flags: u8) -> Result<(), Overflow>
+    ensures { Writes w.old w.new (message_head w.old.words 0 time flags) result }
 {
     laws::texts_are_written();
     w.put(0, 32)?;
     w.put(SNAPSHOT, 8)?;
-    w.put(snapshot.time, 32)?;
+    w.put(time, 32)?;
     w.put(0, 8)?;
-    w.put(u32::from(snapshot.flags), 8)?;
+    w.put(u32::from(flags), 8)?;
     w.put(0, 8)
 }
 
@@ -77,25 +92,35 @@ fn write_tail(w: &mut Writer, entity: &Table) -> Result<(), Overflow>
     w.put(END, 8)
 }
 
-/// Reads the message's bytes as a snapshot under its number.
+/// Reads the message's bytes as a snapshot under its number, in place.
 /// `Form` comes exactly where the bits don't begin as such a message; what follows its end isn't read.
+/// After a refusal `into` may hold anything.
 #[tactic(auto, unfolding(crate::specs::Message::snapshot_at))]
 pub(crate) fn read_snapshot(
     profile: &Profile,
     number: u32,
     message: &[u8],
-) -> Result<Snapshot, Illegible>
-    ensures { result ≡ snapshot_at profile.now number (bits_of message.now) }
+    into: &mut Snapshot,
+) -> Result<(), Illegible>
+    ensures snapshot { holding into.new result ≡ snapshot_at profile.now number (bits_of message.now) }
+    ensures number { OnOk result (into.new.number ≡ number) }
 {
     let mut r = Reader::new(&profile.code, message);
-    let mut player = PlayerState::zero();
+    into.number = number;
     read_bits(&mut r, 32)?;
     read_fixed(&mut r, 8, SNAPSHOT)?;
-    let time = read_bits(&mut r, 32)?;
+    into.time = read_bits(&mut r, 32)?;
     read_fixed(&mut r, 8, 0)?;
-    let flags = read_bits(&mut r, 8)? as u8;
+    into.flags = read_bits(&mut r, 8)? as u8;
     read_fixed(&mut r, 8, 0)?;
-    if read_player(&mut r, &profile.player, &PlayerState::zero(), &mut player).is_err() {
+    if read_player(
+        &mut r,
+        &profile.player,
+        &PlayerState::zero(),
+        &mut into.player,
+    )
+    .is_err()
+    {
         return Err(Illegible::Form);
     }
     read_fixed(
@@ -103,13 +128,7 @@ pub(crate) fn read_snapshot(
         profile.entity.number_bits(),
         u32::from(profile.entity.end()),
     )?;
-    read_fixed(&mut r, 8, END)?;
-    Ok(Snapshot {
-        number,
-        time,
-        flags,
-        player,
-    })
+    read_fixed(&mut r, 8, END)
 }
 
 /// Reads a field of so many bits.

@@ -14,7 +14,7 @@ returns-in_err-put-2 c =
 pub returns-in_err-put-3 : goal.returns-in_err-put-3
 returns-in_err-put-3 c =
     let law = c.texts_are_written.ensures in
-    let time = c.args.snapshot.now.time in
+    let time = c.args.time in
     let p = err_from_is_err_and c.from_residual-in_err-put-3.result c.from_residual-in_err-put-3.ensures.1 in
     let two = next law (λ ws. field_bits ws 8 snapshot_byte) c.in_ok-put.ensures.writes c.in_ok-put-2.ensures.writes in
     let three = next law (λ ws. field_bits ws 32 time) two c.in_err-put-3.ensures.writes in
@@ -23,7 +23,7 @@ returns-in_err-put-3 c =
 pub returns-in_err-put-4 : goal.returns-in_err-put-4
 returns-in_err-put-4 c =
     let law = c.texts_are_written.ensures in
-    let time = c.args.snapshot.now.time in
+    let time = c.args.time in
     let p = err_from_is_err_and c.from_residual-in_err-put-4.result c.from_residual-in_err-put-4.ensures.1 in
     let two = next law (λ ws. field_bits ws 8 snapshot_byte) c.in_ok-put.ensures.writes c.in_ok-put-2.ensures.writes in
     let three = next law (λ ws. field_bits ws 32 time) two c.in_ok-put-3.ensures.writes in
@@ -33,8 +33,8 @@ returns-in_err-put-4 c =
 pub returns-in_err-put-5 : goal.returns-in_err-put-5
 returns-in_err-put-5 c =
     let law = c.texts_are_written.ensures in
-    let time = c.args.snapshot.now.time in
-    let flags = c.args.snapshot.now.flags in
+    let time = c.args.time in
+    let flags = c.args.flags in
     let p = err_from_is_err_and c.from_residual-in_err-put-5.result c.from_residual-in_err-put-5.ensures.1 in
     let two = next law (λ ws. field_bits ws 8 snapshot_byte) c.in_ok-put.ensures.writes c.in_ok-put-2.ensures.writes in
     let three = next law (λ ws. field_bits ws 32 time) two c.in_ok-put-3.ensures.writes in
@@ -46,8 +46,8 @@ returns-in_err-put-5 c =
 pub returns : goal.returns
 returns c =
     let law = c.texts_are_written.ensures in
-    let time = c.args.snapshot.now.time in
-    let flags = c.args.snapshot.now.flags in
+    let time = c.args.time in
+    let flags = c.args.flags in
     let two = next law (λ ws. field_bits ws 8 snapshot_byte) c.in_ok-put.ensures.writes c.in_ok-put-2.ensures.writes in
     let three = next law (λ ws. field_bits ws 32 time) two c.in_ok-put-3.ensures.writes in
     let four = next law (λ ws. field_bits ws 8 0) three c.in_ok-put-4.ensures.writes in
