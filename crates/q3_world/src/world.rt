@@ -20,7 +20,7 @@ use crate::laws;
 use crate::message::Snapshot;
 use crate::places::empty_places;
 use crate::report::print_answer;
-use crate::server::{DATAGRAM_ROOM, Datagram, Emitted, NoClient, Server, SlotError};
+use crate::server::{DATAGRAM_ROOM, Datagram, NoClient, Server, SlotError};
 use q3_bits::NoMemory;
 use q3_io::{Address, Failed, Files, Sink};
 use q3_player::PlayerState;
@@ -220,7 +220,7 @@ impl World {
         let mut out = Datagram::new();
         let emitted = self.server.emit(c, &mut out);
         let datagram = self.datagrams.len() as u32 + 1;
-        if let Emitted::Snapshot { .. } = emitted {
+        if !out.is_empty() {
             bytes.extend_from_slice(&out).unwrap();
             bytes.shrink_to_fit();
             self.datagrams.push(Sent { client: c, bytes }).unwrap();
