@@ -14,13 +14,13 @@ ghost use Rattle.q3_world.specs.StandsFor.{StandsFor};
 ghost use Rattle.q3_world.specs.Report.{answer_text};
 ghost use Rattle.q3_world.specs.Outcome.{TakesMemory, Prints, HasStepCause};
 
-use crate::answer::{Answer, HandedIn, Shown};
+use crate::answer::{Answer, Shown};
 use crate::client::Client;
 use crate::laws;
 use crate::message::Snapshot;
 use crate::places::empty_places;
 use crate::report::print_answer;
-use crate::server::{DATAGRAM_ROOM, Datagram, NoClient, Server, SlotError};
+use crate::server::{DATAGRAM_ROOM, Datagram, Server};
 use q3_bits::NoMemory;
 use q3_io::{Address, Failed, Files, Sink};
 use q3_player::PlayerState;
@@ -174,17 +174,11 @@ impl World {
         ensures err { OnErr result (self.new ≡ self.old) }
     {
         let client = Client::new(&self.profile, challenge, qport, dup)?;
-        if let Err(SlotError::Taken) = self.server.add_client(c, challenge, qport, address) {
-            return Ok(Answer::Client {
-                c,
-                outcome: HandedIn::Taken,
-            });
+        let outcome = self.server.add_client(c, challenge, qport, address);
+        if outcome.is_ok() {
+            self.clients[c as usize] = Some(client);
         }
-        self.clients[c as usize] = Some(client);
-        Ok(Answer::Client {
-            c,
-            outcome: HandedIn::Ok,
-        })
+        Ok(Answer::Client { c, outcome })
     }
 
     fn set_player(&mut self, c: u8, player: &PlayerState) -> Answer
@@ -192,11 +186,10 @@ impl World {
         ensures { kept_ends self.old (set_player self.old.ends c player.now)
             ≡ record { kept = self.new; answer = answered self.new.ends result } }
     {
-        let outcome = match self.server.set_player(c, player) {
-            Ok(()) => HandedIn::Ok,
-            Err(NoClient) => HandedIn::NoClient,
-        };
-        Answer::Player { c, outcome }
+        Answer::Player {
+            c,
+            outcome: self.server.set_player(c, player),
+        }
     }
 
     fn set_time(&mut self, time: u32) -> Answer
