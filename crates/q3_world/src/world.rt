@@ -112,6 +112,7 @@ impl World {
         ensures stands { OnOk result ((profile : ProfileValue) (whole : Whole) → StandsFor profile self.old whole
             → StandsFor profile self.new (step_of profile whole event.now).whole) }
         ensures kept { OnOk result (self.new ≡ (kept_step self.old event.now).kept) }
+        ensures printed { Prints (O.written out.old) (O.written out.new) (answer_text (kept_step self.old event.now).answer) result }
         ensures lines { (profile : ProfileValue) (whole : Whole) → StandsFor profile self.old whole
             → Prints (O.written out.old) (O.written out.new) (answer_text (step_of profile whole event.now).answer) result }
         ensures flushed { OnOk result (NothingWaits (O.written out.new)) }
