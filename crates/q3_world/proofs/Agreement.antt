@@ -1,5 +1,5 @@
 -- A step by bytes is a step by tags.
-use Rattle.std.proofs.Common.{◌≡◌, ℕ, ◌+◌, ◌-◌, ◌<◌, false, cond, List, [], length, map, Option, Some, None, Ok, refl, sym, ap, subst, ◌∙◌, inl, inr, arith}
+use Rattle.std.proofs.Common.{◌≡◌, ℕ, ◌+◌, ◌-◌, ◌<◌, false, cond, List, length, map, Option, Some, None, Ok, refl, sym, ap, subst, ◌∙◌, inl, inr, arith}
 use Rattle.std.specs.Prelude.{◌⊎◌, nat_le, nat_lt, slice_get, slice_set}
 use Rattle.std.specs.Int.{w32, to_le_bytes}
 use Rattle.std.specs.Option.{option_map}
@@ -20,7 +20,7 @@ use Rattle.q3_world.specs.declared.server.Emitted.{Emitted}
 use Rattle.q3_world.specs.declared.server.Emitted.TheVariants as emitted
 use Rattle.q3_world.specs.declared.client.ClientTook.TheVariants.{Old}
 use Rattle.q3_world.specs.Message.{IsHeld, IsBuilt, sequence_end, snapshot_bits, datagram_bytes, snapshot_at}
-use Rattle.q3_world.specs.Server.{MapState, SlotState, ServerState, Emission, SlotEmission, places, fragment_size, slot_at, with_slot, with_player, next_message, built_bits, nothing, emit_bits, emit_slot, with_handed_out, emission_at, emit_from, emit_at}
+use Rattle.q3_world.specs.Server.{MapState, SlotState, ServerState, Emission, SlotEmission, places, fragment_size, slot_at, with_slot, with_player, next_message, built_bits, nothing, emit_bits, emit_slot, emission_at, emit_from, emit_at}
 use Rattle.q3_world.specs.Client.{ClientState, Taken, applied, number_of_datagram, take_at}
 use Rattle.q3_world.specs.Ends.{Ends, EndsStep, client_at, join, set_player, delivered}
 use Rattle.q3_world.specs.Kept.{SentBytes, Kept, KeptStep, kept_ends, kept_serve, kept_taken, kept_arrive, kept_deliver, kept_step}
@@ -91,13 +91,12 @@ Served profile whole c emission = Agree profile (kept_serve (kept_of profile who
 
 -- nothing was begun or sent, and the server is as it was
 quiet : (profile : Profile) (whole : Whole) (c : ℕ) (server : ServerState) (answer : Emitted)
-    → server ≡ whole.ends.server → with_handed_out (map bytes_of whole.sent) answer (λ number. record { client = c; bytes = [] }) ≡ map bytes_of whole.sent
-    → with_handed_out whole.sent answer (λ number. record { client = c; number = number; bytes = [] }) ≡ whole.sent → Holds profile whole
-    → Served profile whole c (record { server = server; answer = answer; began = None; datagram = [] })
-quiet profile whole c server answer same_as none_sent none_tagged holds =
+    → server ≡ whole.ends.server → Holds profile whole
+    → Served profile whole c (record { server = server; answer = answer; began = None; piece = None })
+quiet profile whole c server answer same_as holds =
     let count = length-map whole.sent bytes_of in
-    subst (λ (s : ServerState). Served profile whole c (record { server = s; answer = answer; began = None; datagram = [] })) (sym same_as)
-    (record { same = rw (none_sent, none_tagged, count) refl; holds = rw none_tagged holds })
+    subst (λ (s : ServerState). Served profile whole c (record { server = s; answer = answer; began = None; piece = None })) (sym same_as)
+    (record { same = rw count refl; holds = holds })
 
 -- what an emit of a slot may be
 emit_cases : (profile : Profile) (map_state : MapState) (slot : SlotState)
@@ -107,7 +106,7 @@ emit_cases : (profile : Profile) (map_state : MapState) (slot : SlotState)
       slot = record slot { begun = slot.begun + 1 };
       answer = emitted.Snapshot (slot.begun + 1) 0 (message_length (length (built_bits profile (next_message map_state slot))));
       began = Some (next_message map_state slot);
-      datagram = (next_tag profile map_state 0 slot).bytes;
+      piece = Some (record { number = slot.begun + 1; bytes = (next_tag profile map_state 0 slot).bytes });
     })))
 emit_cases profile map_state slot =
     let built = next_message map_state slot in
@@ -116,7 +115,7 @@ emit_cases profile map_state slot =
       slot = record slot { begun = slot.begun + 1 };
       answer = emitted.Snapshot (slot.begun + 1) 0 (message_length (length bits));
       began = Some built;
-      datagram = (next_tag profile map_state 0 slot).bytes;
+      piece = Some (record { number = slot.begun + 1; bytes = (next_tag profile map_state 0 slot).bytes });
     } in
     elim (cases_Bool (nat_le sequence_end (slot.begun + 1))) [
       | inl e ↦ inl (cond-true (nat_le sequence_end (slot.begun + 1)) (nothing slot emitted.SequenceEnd) (emit_bits slot built bits) e)
@@ -143,10 +142,10 @@ served_from profile whole c slot lt is holds =
     let server = whole.ends.server in
     elim (emit_cases profile server.map slot) [
       | inl e ↦ subst (λ (x : SlotEmission). Served profile whole c (emission_at server c x)) (sym e)
-          (quiet profile whole c (with_slot server c slot) emitted.SequenceEnd (same_server server c slot is) refl refl holds)
+          (quiet profile whole c (with_slot server c slot) emitted.SequenceEnd (same_server server c slot is) holds)
       | inr more ↦ elim more [
         | inl e ↦ subst (λ (x : SlotEmission). Served profile whole c (emission_at server c x)) (sym e)
-            (quiet profile whole c (with_slot server c slot) emitted.Overlong (same_server server c slot is) refl refl holds)
+            (quiet profile whole c (with_slot server c slot) emitted.Overlong (same_server server c slot is) holds)
         | inr e ↦ subst (λ (x : SlotEmission). Served profile whole c (emission_at server c x)) (sym e.1)
             (let count = length-map whole.sent bytes_of in
             let pushed = map_push bytes_of whole.sent (next_tag profile server.map c slot) in
@@ -158,7 +157,7 @@ served : (profile : Profile) (whole : Whole) (c : ℕ) → c < places → Holds 
     → Served profile whole c (emit_from whole.ends.server c (slot_at whole.ends.server c))
 served profile whole c lt holds =
     elim (found_or (slot_at whole.ends.server c)) [
-      | inl none ↦ rw none (quiet profile whole c whole.ends.server emitted.NoClient refl refl refl holds)
+      | inl none ↦ rw none (quiet profile whole c whole.ends.server emitted.NoClient refl holds)
       | inr found ↦ rw found.1
           (subst (λ (p : Profile). Served profile whole c (emission_at whole.ends.server c (emit_slot p whole.ends.server.map found.0))) (sym holds.facts.by)
           (served_from profile whole c found.0 lt found.1 holds))

@@ -236,6 +236,17 @@ tag_was_built profile whole tag client is found holds =
     let place : tag.number - 1 + 1 ≡ tag.number = omega arith in
     subst (λ (n : ℕ). IsBuilt profile n (snapshot_of whole.histories tag)) place (had.2.built (tag.number - 1) no_message (omega arith))
 
+-- and so the snapshot that it names is one that was built
+pub names_built : (profile : Profile) (whole : Whole) (tag : Tag) (client : ClientState) → IsSent profile whole.histories tag
+    → client_at whole.ends tag.client ≡ Some client → Holds profile whole
+    → WasBuilt (history_at whole.histories tag.client).built (snapshot_of whole.histories tag)
+names_built profile whole tag client is found holds =
+    let built = tag_was_built profile whole tag client is found holds in
+    let number = built.number in
+    let some = is.some in
+    let begun = is.begun in
+    (omega arith, omega arith, ap (λ (n : ℕ). (built_at (history_at whole.histories tag.client).built n).snapshot) (sym number))
+
 -- a client that is there goes by the profile
 pub client_by : (profile : Profile) (whole : Whole) (c : ℕ) (client : ClientState) → c < places → client_at whole.ends c ≡ Some client → Holds profile whole
     → client.profile ≡ profile
@@ -273,9 +284,7 @@ Holds-applied profile whole tag client is found newer holds =
     (subst (λ (e : Option ClientState). IsJoined map (slot_at whole.ends.server c) e history) found (holds.joined c is.client)) in
     let built = tag_was_built profile whole tag client is found holds in
     let number = built.number in
-    let some = is.some in
-    let begun = is.begun in
-    let was : WasBuilt history.built snapshot = (omega arith, omega arith, ap (λ (n : ℕ). (built_at history.built n).snapshot) (sym number)) in
+    let was : WasBuilt history.built snapshot = names_built profile whole tag client is found holds in
     let client_is = set_there clients c None (Some next) facts.clients is.client in
     let history_is = set_there histories c no_history more facts.histories is.client in
     Holds-at profile c whole (with_applied whole tag client)

@@ -14,19 +14,22 @@ use Rattle.q3_script.specs.Grammar.{IsReplayEvent}
 use Rattle.q3_world.specs.declared.message.Snapshot.{Snapshot}
 use Rattle.q3_world.specs.declared.server.SlotError.{SlotError}
 use Rattle.q3_world.specs.declared.client.ClientTook.TheVariants.{Old, Applied}
+use Rattle.q3_world.specs.declared.client.ClientTook.{ClientTook}
+use Rattle.q3_world.specs.declared.answer.Answer.TheVariants.{Unknown, Deliver}
 use Rattle.q3_bits.specs.Bits.{message_bytes}
 use Rattle.q3_world.specs.Message.{snapshot_bits}
 use Rattle.q3_world.specs.MessageLaws.{BuiltIsRead}
-use Rattle.q3_world.specs.Server.{MapState, SlotState, slot_at, add_client_at}
+use Rattle.q3_world.specs.Server.{MapState, SlotState, Built, places, slot_at, add_client_at}
 use Rattle.q3_world.specs.Client.{ClientState, Taken, new_client, applied, number_of_datagram}
-use Rattle.q3_world.specs.Ends.{Ends, Answered, delivered, client_at, newest, joined}
+use Rattle.q3_world.specs.Ends.{Ends, Answered, unknown, delivered, client_at, with_client, newest, joined}
 use Rattle.q3_world.specs.Kept.{SentBytes, Kept, KeptStep, opening_kept, kept_step, kept_after, kept_answers}
 use Rattle.q3_world.specs.World.{Tag, Whole, History, history_at, opening, step, after, answers, deliver, arrive, arrive_new, snapshot_of}
-use Rattle.q3_world.specs.StandsFor.{IsClient, WasBuilt, Rise, AreJoined, IsJoined, StandsFor, bytes_of}
-use Rattle.q3_world.specs.Schedules.{StepFollows, kept_then, whole_then, BytesFollowTags, IsLegible, AlwaysLegible, AcceptedWereBuilt, ShownWasBuilt, NewerIsAccepted}
-use Rattle.q3_world.proofs.Events.{Holds, Holds-opening, tag_was_built}
-use Rattle.q3_world.proofs.Agreement.{Cited, stands_of, stands_next, kept_is, is_sent, number_is, delivers_agree}
+use Rattle.q3_world.specs.StandsFor.{IsSent, IsClient, WasBuilt, Rise, AreJoined, IsJoined, StandsFor, bytes_of}
+use Rattle.q3_world.specs.Schedules.{StepFollows, kept_then, whole_then, BytesFollowTags, IsLegible, AlwaysLegible, AcceptedWereBuilt, ShownWasBuilt, AppliedWasBuilt, NewerIsAccepted}
+use Rattle.q3_world.proofs.Events.{Holds, Holds-opening, tag_was_built, names_built}
+use Rattle.q3_world.proofs.Agreement.{Cited, seen, stands_of, stands_next, kept_is, is_sent, number_is, delivers_agree}
 use Rattle.q3_world.proofs.Clients.{last_is}
+use Rattle.q3_world.proofs.OnePlace.{set_there}
 
 -- what is cited, of a profile that passed its check
 pub cited_of : BuiltIsRead → NormalIsNormal → ZeroIsNormal → (profile : Profile) → IsCodec profile → Cited profile
@@ -213,3 +216,80 @@ newer_is_accepted law reads normal zero profile all number sent client is are at
     ∙ (answers_tag profile whole number tag.0 client tag.1 client_is (omega (arith, number_there, newer))
     ∙ (ap (λ (n : ℕ). delivered number tag.0.client (Applied n 0)) (built.number ∙ sym number_there)
     ∙ ap (λ (s : SentBytes). delivered number s.client (Applied (number_of_datagram sent.bytes) 0)) tag.2))
+
+-- ---- what is applied
+
+-- the newest snapshot of a client is one that was built, under this number
+abbrev HasBuilt : Ends → ℕ → ℕ → List Built → Type 0
+HasBuilt ends c n built = (s : Snapshot) × (newest (client_at ends c) ≡ Some s) × (s.number ≡ n) × WasBuilt built s
+
+-- two answers of a delivery
+same_delivered : (number c c' : ℕ) (took took' : ClientTook) → delivered number c took ≡ delivered number c' took' → (c ≡ c') × (took ≡ took')
+same_delivered number c c' took took' e =
+    let same : Deliver number c took ≡ Deliver number c' took' = ap (λ (a : Answered). a.answer) e in
+    (cc, cc)
+
+not_delivered : (number c : ℕ) (took : ClientTook) → unknown number ≡ delivered number c took → ⊥
+not_delivered number c took e =
+    let same : Unknown number ≡ Deliver number c took = ap (λ (a : Answered). a.answer) e in
+    absurd cc
+
+-- of what arrives, whether it is old or new
+applied_taken : (whole : Whole) (number c n base : ℕ) (tag : Tag) (client : ClientState) (old : Bool) → length whole.ends.clients ≡ places → tag.client < places
+    → WasBuilt (history_at whole.histories tag.client).built (snapshot_of whole.histories tag)
+    → (cond old (record { whole = whole; answer = delivered number tag.client Old })
+    (arrive_new whole number tag.client (applied client (snapshot_of whole.histories tag)) (snapshot_of whole.histories tag))).answer ≡ delivered number c (Applied n base)
+    → HasBuilt (cond old (record { whole = whole; answer = delivered number tag.client Old })
+    (arrive_new whole number tag.client (applied client (snapshot_of whole.histories tag)) (snapshot_of whole.histories tag))).whole.ends c n (history_at whole.histories c).built
+applied_taken whole number c n base tag client true count lt was e =
+    let took = (same_delivered number tag.client c Old (Applied n base) e).1 in
+    absurd cc
+applied_taken whole number c n base tag client false count lt was e =
+    let snapshot = snapshot_of whole.histories tag in
+    let next = (applied client snapshot).client in
+    let alike = same_delivered number tag.client c (Applied snapshot.number 0) (Applied n base) e in
+    let same = alike.0 in
+    let took = alike.1 in
+    let under : snapshot.number ≡ n = cc in
+    let there = set_there whole.ends.clients tag.client None (Some next) count lt in (
+      snapshot,
+      subst (λ (k : ℕ). newest (client_at (with_client whole.ends tag.client next) k) ≡ Some snapshot) same (ap newest there),
+      under,
+      subst (λ (k : ℕ). WasBuilt (history_at whole.histories k).built snapshot) same was,
+    )
+
+applied_arrive : (profile : Profile) (whole : Whole) (number c n base : ℕ) (tag : Tag) (found : Option ClientState) → client_at whole.ends tag.client ≡ found
+    → IsSent profile whole.histories tag → Holds profile whole → (arrive whole number tag found).answer ≡ delivered number c (Applied n base)
+    → HasBuilt (arrive whole number tag found).whole.ends c n (history_at whole.histories c).built
+applied_arrive profile whole number c n base tag None at is holds e = absurd (not_delivered number c (Applied n base) e)
+applied_arrive profile whole number c n base tag (Some client) at is holds e =
+    applied_taken whole number c n base tag client (nat_le tag.number client.taken) holds.facts.clients is.client
+    (names_built profile whole tag client is at holds) e
+
+applied_deliver : (profile : Profile) (whole : Whole) (number c n base : ℕ) (found : Option Tag) → slice_get whole.sent (number - 1) ≡ found → Holds profile whole
+    → (deliver whole number found).answer ≡ delivered number c (Applied n base)
+    → HasBuilt (deliver whole number found).whole.ends c n (history_at whole.histories c).built
+applied_deliver profile whole number c n base None at holds e = absurd (not_delivered number c (Applied n base) e)
+applied_deliver profile whole number c n base (Some tag) at holds e =
+    applied_arrive profile whole number c n base tag (client_at whole.ends tag.client) refl (is_sent profile whole (number - 1) tag at holds) holds e
+
+-- by tags
+applied_step : (profile : Profile) (whole : Whole) (number c n base : ℕ) → Holds profile whole
+    → (step profile whole (events.Deliver number)).answer ≡ delivered number c (Applied n base)
+    → HasBuilt (step profile whole (events.Deliver number)).whole.ends c n (history_at whole.histories c).built
+unfolding step
+applied_step profile whole number c n base holds e =
+    applied_deliver profile whole number c n base (slice_get whole.sent (number - 1)) refl holds e
+
+-- and by bytes
+pub applied_was_built : BytesFollowTags → BuiltIsRead → NormalIsNormal → ZeroIsNormal → AppliedWasBuilt
+applied_was_built law reads normal zero profile all number c n base is are e =
+    let stands : Then profile all = (law profile all is are).0 in
+    let kept = kept_then profile all in
+    let whole = whole_then profile all in
+    let holds : Holds profile whole = record { facts = stands.facts; joined = stands.joined } in
+    let same : kept_step kept (events.Deliver number) ≡ seen profile (step profile whole (events.Deliver number)) =
+    ap (λ (k : Kept). kept_step k (events.Deliver number)) (kept_is profile kept whole stands)
+    ∙ (delivers_agree profile whole number (cited_of reads normal zero profile is) holds).same in
+    subst (λ (s : KeptStep). HasBuilt s.kept.ends c n (history_at whole.histories c).built) (sym same)
+    (applied_step profile whole number c n base holds (sym (ap (λ (s : KeptStep). s.answer) same) ∙ e))

@@ -4,19 +4,15 @@ use Rattle.std.specs.Prelude.{slice_get}
 use Rattle.std.proofs.lemmas.List.{length_push}
 use Rattle.q3_script.specs.declared.event.Event.{Event}
 use Rattle.q3_script.specs.declared.event.Event.TheVariants as events
-use Rattle.q3_world.specs.declared.server.Emitted.{Emitted}
-use Rattle.q3_world.specs.declared.server.Emitted.TheVariants as emitted
-use Rattle.q3_world.specs.Server.{with_handed_out, emit_at}
+use Rattle.q3_world.specs.Server.{Piece, emit_at}
 use Rattle.q3_world.specs.Client.{ClientState}
 use Rattle.q3_world.specs.Ends.{client_at}
-use Rattle.q3_world.specs.Kept.{SentBytes, Kept, kept_arrive, kept_deliver, kept_step}
+use Rattle.q3_world.specs.Kept.{SentBytes, Kept, datagrams_after, kept_arrive, kept_deliver, kept_step}
 
-few_served : (datagrams : List SentBytes) (answer : Emitted) (datagram : ℕ → SentBytes)
-    → length (with_handed_out datagrams answer datagram) ≤ length datagrams + 1
-few_served datagrams (emitted.Snapshot number base bytes) datagram = omega (arith, length_push datagrams (datagram number))
-few_served datagrams emitted.NoClient datagram = omega arith
-few_served datagrams emitted.SequenceEnd datagram = omega arith
-few_served datagrams emitted.Overlong datagram = omega arith
+few_served : (datagrams : List SentBytes) (c : ℕ) (piece : Option Piece)
+    → length (datagrams_after datagrams c piece) ≤ length datagrams + 1
+few_served datagrams c None = omega arith
+few_served datagrams c (Some piece) = omega (arith, length_push datagrams (record { client = c; bytes = piece.bytes }))
 
 few_arrived : (kept : Kept) (number : ℕ) (sent : SentBytes) (client : Option ClientState)
     → length (kept_arrive kept number sent client).kept.datagrams ≤ length kept.datagrams + 1
@@ -33,6 +29,6 @@ unfolding kept_step
 few_more kept (events.Client c challenge qport dup address) = omega arith
 few_more kept (events.Player c player) = omega arith
 few_more kept (events.Time time) = omega arith
-few_more kept (events.Serve c) = few_served kept.datagrams (emit_at kept.ends.server c).answer (λ number. record { client = c; bytes = (emit_at kept.ends.server c).datagram })
+few_more kept (events.Serve c) = few_served kept.datagrams c (emit_at kept.ends.server c).piece
 few_more kept (events.Deliver number) = few_delivered kept number (slice_get kept.datagrams (number - 1))
 few_more kept (events.Show c) = omega arith

@@ -6,12 +6,9 @@ use Rattle.q3_io.specs.declared.address.Address.{Address}
 use Rattle.q3_world.specs.declared.message.Snapshot.{Snapshot}
 use Rattle.q3_world.specs.declared.server.Emitted.{Emitted}
 use Rattle.q3_world.specs.declared.client.ClientTook.{ClientTook}
-use Rattle.q3_world.specs.declared.server.NoClient.{NoClient}
 use Rattle.q3_world.specs.declared.server.SlotError.{SlotError}
 use Rattle.q3_world.specs.declared.answer.Answer.{Answer}
 use Rattle.q3_world.specs.declared.answer.Answer.TheVariants.{Client, Time, Player, Serve, Unknown, Deliver, Show}
-use Rattle.q3_world.specs.declared.answer.HandedIn.{HandedIn as Outcome}
-use Rattle.q3_world.specs.declared.answer.HandedIn.TheVariants as handed_in
 use Rattle.q3_world.specs.declared.answer.Shown.{Shown}
 use Rattle.q3_world.specs.declared.answer.Shown.TheVariants as shown
 use Rattle.q3_world.specs.Server.{ServerState, places, new_server, add_client_at, set_time_at, set_player_at}
@@ -71,8 +68,8 @@ pub record EndsStep : Type 0 where
 
 -- a client joins, at its own end too where the server took it
 abbrev pub joined : Ends → ℕ → ClientState → Result (Unit {0}) SlotError → EndsStep
-joined ends c client (Ok x) = record { ends = with_client ends c client; answer = Client c handed_in.Ok }
-joined ends c client (Err e) = record { ends = ends; answer = Client c handed_in.Taken }
+joined ends c client (Ok x) = record { ends = with_client ends c client; answer = Client c (Ok tt) }
+joined ends c client (Err e) = record { ends = ends; answer = Client c (Err e) }
 
 -- a client asks to join
 abbrev pub join : Profile → Ends → ℕ → ℕ → ℕ → ℕ → Address → EndsStep
@@ -84,15 +81,10 @@ join profile ends c challenge qport dup address =
 abbrev pub set_time : Ends → ℕ → EndsStep
 set_time ends time = record { ends = record ends { server = set_time_at ends.server time }; answer = Time }
 
--- what became of the player
-abbrev pub player_answer : Result (Unit {0}) NoClient → Outcome
-player_answer (Ok x) = handed_in.Ok
-player_answer (Err e) = handed_in.NoClient
-
 abbrev pub set_player : Ends → ℕ → PlayerState → EndsStep
 set_player ends c player =
     let given = set_player_at ends.server c player in
-    record { ends = record ends { server = given.server }; answer = Player c (player_answer given.answer) }
+    record { ends = record ends { server = given.server }; answer = Player c given.answer }
 
 -- what a client shows
 abbrev pub shown_of : Option ClientState → Shown

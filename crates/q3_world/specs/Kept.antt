@@ -1,9 +1,9 @@
 -- What the program's world keeps, and what an event does to it: datagrams are taken by their bytes.
-use Rattle.std.specs.Prelude.{ℕ, ◌+◌, ◌-◌, ◌^◌, List, [], ◌∷◌, length, Option, Some, None, slice_get}
+use Rattle.std.specs.Prelude.{ℕ, ◌+◌, ◌-◌, ◌^◌, List, [], ◌∷◌, ◌++◌, length, Option, Some, None, slice_get}
 use Rattle.q3_profile.specs.declared.profile.Profile.{Profile}
 use Rattle.q3_script.specs.declared.event.Event.{Event}
 use Rattle.q3_script.specs.declared.event.Event.TheVariants as events
-use Rattle.q3_world.specs.Server.{Emission, with_handed_out, emit_at}
+use Rattle.q3_world.specs.Server.{Piece, Emission, emit_at}
 use Rattle.q3_world.specs.Client.{ClientState, Taken, take_at}
 use Rattle.q3_world.specs.Ends.{Ends, EndsStep, Answered, answered, client_at, with_client, new_ends, served, unknown, delivered, join, set_time, set_player, show}
 
@@ -35,13 +35,18 @@ opening_kept profile = record { profile = profile; ends = new_ends profile; data
 abbrev pub kept_ends : Kept → EndsStep → KeptStep
 kept_ends kept step = record { kept = record kept { ends = step.ends }; answer = answered step.ends step.answer }
 
+-- the datagrams, and behind them what an emission for a client hands out
+abbrev pub datagrams_after : List SentBytes → ℕ → Option Piece → List SentBytes
+datagrams_after datagrams c None = datagrams
+datagrams_after datagrams c (Some piece) = datagrams ++ record { client = c; bytes = piece.bytes } ∷ []
+
 -- the server makes a datagram, which is kept if it is handed out
 abbrev pub kept_serve : Kept → ℕ → Emission → KeptStep
 kept_serve kept c emission =
     record {
       kept = record kept {
         ends = record kept.ends { server = emission.server };
-        datagrams = with_handed_out kept.datagrams emission.answer (λ number. record { client = c; bytes = emission.datagram });
+        datagrams = datagrams_after kept.datagrams c emission.piece;
       };
       answer = served c emission.answer (length kept.datagrams + 1);
     }

@@ -1,5 +1,5 @@
 -- The report of a replay: the lines of each event's answer.
-use Rattle.std.specs.Prelude.{ℕ, List, [], ◌∷◌, codes, decimal, Option, Some}
+use Rattle.std.specs.Prelude.{ℕ, List, [], ◌∷◌, codes, decimal, Option, Some, Result, Ok, Err}
 use Rattle.std.specs.List.{concat, flat_map}
 use Rattle.q3_profile.specs.declared.profile.Profile.{Profile}
 use Rattle.q3_script.specs.declared.event.Event.{Event}
@@ -10,8 +10,9 @@ use Rattle.q3_world.specs.declared.message.Illegible.{Illegible as IllegibleCaus
 use Rattle.q3_world.specs.declared.message.Illegible.TheVariants.{Form}
 use Rattle.q3_world.specs.declared.client.ClientTook.{ClientTook}
 use Rattle.q3_world.specs.declared.client.ClientTook.TheVariants.{Runt, Old, Illegible, Applied}
-use Rattle.q3_world.specs.declared.answer.HandedIn.{HandedIn}
-use Rattle.q3_world.specs.declared.answer.HandedIn.TheVariants as handed_in
+use Rattle.q3_world.specs.declared.server.NoClient.{NoClient}
+use Rattle.q3_world.specs.declared.server.SlotError.{SlotError}
+use Rattle.q3_world.specs.declared.server.SlotError.TheVariants.{Taken}
 use Rattle.q3_world.specs.declared.answer.Shown.{Shown}
 use Rattle.q3_world.specs.declared.answer.Shown.TheVariants as shown
 use Rattle.q3_world.specs.declared.answer.Answer.{Answer}
@@ -20,11 +21,18 @@ use Rattle.q3_player.specs.Report.{player_text}
 use Rattle.q3_world.specs.Ends.{Answered}
 use Rattle.q3_world.specs.World.{opening, answers}
 
--- what stands behind `client C` and `player C`
-abbrev pub handed_in_text : HandedIn → List ℕ
-handed_in_text handed_in.Ok = codes " ok\n"
-handed_in_text handed_in.Taken = codes " refused taken\n"
-handed_in_text handed_in.NoClient = codes " refused noclient\n"
+-- what stands behind that which the game handed in, with the text of each error
+abbrev pub handed_in_text : {E : Type 0} → (E → List ℕ) → Result (Unit {0}) E → List ℕ
+handed_in_text error_text (Ok x) = codes " ok\n"
+handed_in_text error_text (Err e) = concat (codes " refused " ∷ error_text e ∷ codes "\n" ∷ [])
+
+-- why a client can't join
+abbrev pub slot_error_text : SlotError → List ℕ
+slot_error_text Taken = codes "taken"
+
+-- no such client was added
+abbrev pub no_client_text : NoClient → List ℕ
+no_client_text e = codes "noclient"
 
 -- what stands behind `serve C`
 abbrev pub emitted_text : Emitted → ℕ → List ℕ
@@ -64,9 +72,9 @@ shown_text other lent = codes " none\n"
 
 -- the lines of an answer, with the snapshot that is lent to be printed
 unfoldable pub lines_of : Answer → Option Snapshot → List ℕ
-lines_of (Client c outcome) lent = concat (codes "client " ∷ decimal c ∷ handed_in_text outcome ∷ [])
+lines_of (Client c outcome) lent = concat (codes "client " ∷ decimal c ∷ handed_in_text slot_error_text outcome ∷ [])
 lines_of Time lent = codes "time ok\n"
-lines_of (Player c outcome) lent = concat (codes "player " ∷ decimal c ∷ handed_in_text outcome ∷ [])
+lines_of (Player c outcome) lent = concat (codes "player " ∷ decimal c ∷ handed_in_text no_client_text outcome ∷ [])
 lines_of (Serve c emission datagram) lent = concat (codes "serve " ∷ decimal c ∷ emitted_text emission datagram ∷ [])
 lines_of (Unknown datagram) lent = concat (codes "deliver " ∷ decimal datagram ∷ codes " unknown\n" ∷ [])
 lines_of (Deliver datagram c took) lent =

@@ -12,7 +12,7 @@ use Rattle.q3_world.specs.declared.answer.Answer.{Answer}
 use Rattle.q3_world.specs.declared.answer.Answer.TheVariants.{Deliver}
 use Rattle.q3_world.specs.Server.{places}
 use Rattle.q3_world.specs.Client.{ClientState, number_of_datagram}
-use Rattle.q3_world.specs.Ends.{client_at, delivered}
+use Rattle.q3_world.specs.Ends.{client_at, newest, delivered}
 use Rattle.q3_world.specs.Kept.{SentBytes, Kept, opening_kept, kept_step, kept_after, kept_answers}
 use Rattle.q3_world.specs.World.{Whole, History, history_at, opening, step, after, answers}
 use Rattle.q3_world.specs.StandsFor.{StandsFor, WasBuilt, Rise}
@@ -66,6 +66,14 @@ ShownWasBuilt = (profile : Profile) (all : List Event) (c : ℕ) (snapshot : Sna
     → AllByRecursion IsReplayEvent all → c < places
     → (kept_step (kept_then profile all) (events.Show c)).answer.snapshot ≡ Some snapshot
     → WasBuilt (history_then profile all c).built snapshot
+
+-- where a client that takes datagrams by their bytes applies one, its newest snapshot then is the one that the server
+-- built for it under the number that it answers
+abbrev pub AppliedWasBuilt : Type 0
+AppliedWasBuilt = (profile : Profile) (all : List Event) (number c n base : ℕ) → IsCodec profile → AllByRecursion IsReplayEvent all
+    → (kept_step (kept_then profile all) (events.Deliver number)).answer ≡ delivered number c (Applied n base)
+    → (s : Snapshot) × (newest (client_at (kept_step (kept_then profile all) (events.Deliver number)).kept.ends c) ≡ Some s)
+    × (s.number ≡ n) × WasBuilt (history_then profile all c).built s
 
 -- a datagram whose number is above every number that its client has taken is accepted, by its bytes, when it arrives
 abbrev pub NewerIsAccepted : Type 0

@@ -1,6 +1,6 @@
 -- The server's end: what the game handed in for all clients, and a slot for each of them. Each call gives the server
 -- after it, and its answer.
-use Rattle.std.specs.Prelude.{ℕ, ◌+◌, if◌then◌else◌, Bool, List, [], ◌∷◌, ◌++◌, length, replicate, nat_le, Option, Some, None, slice_set, slice_index_or, Result, Ok, Err}
+use Rattle.std.specs.Prelude.{◌≡◌, ℕ, ◌<◌, ◌+◌, if◌then◌else◌, Bool, List, [], length, replicate, nat_le, Option, Some, None, slice_set, slice_index_or, Result, Ok, Err}
 use Rattle.q3_profile.specs.declared.profile.Profile.{Profile}
 use Rattle.q3_bits.specs.Bits.{message_bytes, message_length}
 use Rattle.q3_player.specs.declared.state.PlayerState.{PlayerState}
@@ -106,16 +106,21 @@ next_message map slot =
 abbrev pub built_bits : Profile → Built → List Bool
 built_bits profile built = snapshot_bits profile built.snapshot
 
--- what an emit of a slot gives: the slot after it, the answer, the message that it began, and the datagram
+-- a datagram that is handed out: the number of the message that it carries, and its bytes
+pub record Piece : Type 0 where
+  pub number : ℕ
+  pub bytes : List ℕ
+
+-- what an emit of a slot gives: the slot after it, the answer, the message that it began, and the datagram that it hands out
 pub record SlotEmission : Type 0 where
   pub slot : SlotState
   pub answer : Emitted
   pub began : Option Built
-  pub datagram : List ℕ
+  pub piece : Option Piece
 
--- no message was begun
+-- no message was begun, and nothing is handed out
 abbrev pub nothing : SlotState → Emitted → SlotEmission
-nothing slot answer = record { slot = slot; answer = answer; began = None; datagram = [] }
+nothing slot answer = record { slot = slot; answer = answer; began = None; piece = None }
 
 -- a message of these bits, as long as it goes whole
 abbrev pub emit_bits : SlotState → Built → List Bool → SlotEmission
@@ -126,7 +131,7 @@ emit_bits slot built bits =
       slot = record slot { begun = slot.begun + 1 };
       answer = emitted.Snapshot (slot.begun + 1) 0 (message_length (length bits));
       began = Some built;
-      datagram = datagram_bytes (slot.begun + 1) (message_bytes bits);
+      piece = Some (record { number = slot.begun + 1; bytes = datagram_bytes (slot.begun + 1) (message_bytes bits) });
     }
 
 -- the next message of a slot, unless message numbers have ended
@@ -140,23 +145,23 @@ pub record Emission : Type 0 where
   pub server : ServerState
   pub answer : Emitted
   pub began : Option Built
-  pub datagram : List ℕ
-
--- a list, and behind it what an emission hands out under a message's number, if it does
-abbrev pub with_handed_out : {X : Type 0} → List X → Emitted → (ℕ → X) → List X
-with_handed_out xs (emitted.Snapshot number base bytes) datagram = xs ++ datagram number ∷ []
-with_handed_out xs other datagram = xs
+  pub piece : Option Piece
 
 -- the emission of a slot in its place
 abbrev pub emission_at : ServerState → ℕ → SlotEmission → Emission
 emission_at server c emission =
-    record { server = with_slot server c emission.slot; answer = emission.answer; began = emission.began; datagram = emission.datagram }
+    record { server = with_slot server c emission.slot; answer = emission.answer; began = emission.began; piece = emission.piece }
 
 -- an emission for the client at a place, if there is one
 abbrev pub emit_from : ServerState → ℕ → Option SlotState → Emission
-emit_from server c None = record { server = server; answer = emitted.NoClient; began = None; datagram = [] }
+emit_from server c None = record { server = server; answer = emitted.NoClient; began = None; piece = None }
 emit_from server c (Some slot) = emission_at server c (emit_slot server.profile server.map slot)
 
 -- the server makes a datagram for a client
 unfoldable pub emit_at : ServerState → ℕ → Emission
 emit_at server c = emit_from server c (slot_at server c)
+
+-- what an emission hands out stands in a buffer: nothing, or the datagram's bytes, which aren't none
+abbrev pub HandsOut : Option Piece → List ℕ → Type 0
+HandsOut None bytes = bytes ≡ []
+HandsOut (Some piece) bytes = (bytes ≡ piece.bytes) × (0 < length bytes)

@@ -7,7 +7,7 @@ use Rattle.q3_script.specs.declared.event.Event.{Event}
 use Rattle.q3_script.specs.declared.event.Event.TheVariants as events
 use Rattle.q3_world.specs.declared.message.Snapshot.{Snapshot}
 use Rattle.q3_world.specs.declared.client.ClientTook.TheVariants.{Old}
-use Rattle.q3_world.specs.Server.{Built, Emission, places, with_handed_out, emit_at}
+use Rattle.q3_world.specs.Server.{Built, Emission, Piece, places, emit_at}
 use Rattle.q3_world.specs.Client.{ClientState, Taken, applied}
 use Rattle.q3_world.specs.Ends.{Ends, EndsStep, Answered, answered, client_at, with_client, new_ends, served, unknown, delivered, join, set_time, set_player, show}
 
@@ -71,6 +71,11 @@ abbrev pub histories_after : List History → ℕ → Option Built → List Hist
 histories_after histories c None = histories
 histories_after histories c (Some built) = with_built histories c built
 
+-- the tags, and behind them that of what an emission for a client hands out
+abbrev pub sent_after : List Tag → ℕ → Option Piece → List Tag
+sent_after sent c None = sent
+sent_after sent c (Some piece) = sent ++ record { client = c; number = piece.number; bytes = piece.bytes } ∷ []
+
 -- the server makes a datagram, which gets a tag if it is handed out
 abbrev pub serve : Whole → ℕ → Emission → Step
 serve whole c emission =
@@ -78,7 +83,7 @@ serve whole c emission =
       whole = record whole {
         ends = record whole.ends { server = emission.server };
         histories = histories_after whole.histories c emission.began;
-        sent = with_handed_out whole.sent emission.answer (λ number. record { client = c; number = number; bytes = emission.datagram });
+        sent = sent_after whole.sent c emission.piece;
       };
       answer = served c emission.answer (length whole.sent + 1);
     }

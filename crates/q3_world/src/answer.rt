@@ -1,17 +1,7 @@
 //! What each event answered.
 
 use crate::client::ClientTook;
-use crate::server::Emitted;
-
-/// What became of something that the game handed in.
-#[derive(Clone, Copy, Debug, PartialEq, Eq)]
-pub enum HandedIn {
-    Ok,
-    /// The slot has a client.
-    Taken,
-    /// No such client was added.
-    NoClient,
-}
+use crate::server::{Emitted, NoClient, SlotError};
 
 /// What a client shows.
 #[derive(Clone, Copy, Debug, PartialEq, Eq)]
@@ -29,11 +19,11 @@ pub enum Shown {
 pub enum Answer {
     Client {
         c: u8,
-        outcome: HandedIn,
+        outcome: Result<(), SlotError>,
     },
     Player {
         c: u8,
-        outcome: HandedIn,
+        outcome: Result<(), NoClient>,
     },
     Time,
     /// The datagram's number is used where one was handed out.

@@ -1,7 +1,7 @@
 //! Laws of the messages and of every schedule, each the contract of a call that does nothing but cite the laws below it.
 
 ghost use Rattle.q3_world.specs.MessageLaws.{BuiltIsRead, ReadIsSpelled, SpelledIsRead};
-ghost use Rattle.q3_world.specs.Schedules.{StepFollows, BytesFollowTags, AlwaysLegible, AcceptedWereBuilt, ShownWasBuilt, NewerIsAccepted};
+ghost use Rattle.q3_world.specs.Schedules.{StepFollows, BytesFollowTags, AlwaysLegible, AcceptedWereBuilt, ShownWasBuilt, AppliedWasBuilt, NewerIsAccepted};
 
 use q3_bits::laws as bits;
 use q3_player::laws as player;
@@ -72,6 +72,17 @@ pub fn shown_was_built()
     ensures { ShownWasBuilt }
 {
     bytes_follow_tags();
+}
+
+/// Whatever came before, where a client applies a datagram, its newest snapshot then is the one that the server built for
+/// it under the number that it answers.
+pub fn applied_was_built()
+    ensures { AppliedWasBuilt }
+{
+    bytes_follow_tags();
+    built_is_read();
+    player::normal_is_normal();
+    player::zero_is_normal();
 }
 
 /// Whatever came before, a datagram whose number is above every number that its client has taken is accepted.

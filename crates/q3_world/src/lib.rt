@@ -12,7 +12,7 @@ mod server;
 mod tests;
 pub mod world;
 
-pub use answer::{Answer, HandedIn, Shown};
+pub use answer::{Answer, Shown};
 pub use client::ClientTook;
 pub use message::{Illegible, Snapshot};
 pub use server::{Emitted, NoClient, SlotError};

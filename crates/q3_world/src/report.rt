@@ -5,12 +5,12 @@ ghost use Rattle.std.specs.Option.{option_copied};
 ghost use Rattle.std.specs.List.{concat};
 ghost use Rattle.q3_io.specs.Faults.{HasCause};
 ghost use Rattle.q3_io.specs.Written.{Adds, NothingWaits};
-ghost use Rattle.q3_world.specs.Report.{lines_of, handed_in_text, emitted_text, took_text, shown_text, head_text, snapshot_text};
+ghost use Rattle.q3_world.specs.Report.{lines_of, handed_in_text, slot_error_text, no_client_text, emitted_text, took_text, shown_text, head_text, snapshot_text};
 
-use crate::answer::{Answer, HandedIn, Shown};
+use crate::answer::{Answer, Shown};
 use crate::client::ClientTook;
 use crate::message::{Illegible, Snapshot};
-use crate::server::Emitted;
+use crate::server::{Emitted, NoClient, SlotError};
 use q3_io::{Failed, Piece, Sink, laws, print_all};
 use q3_player::print_words;
 
@@ -41,7 +41,7 @@ fn print_lines<O: Sink>(answer: &Answer, lent: Option<&Snapshot>, out: &mut O) -
             &[
                 Piece::Text(b"client "),
                 Piece::Number(u64::from(*c)),
-                Piece::Text(handed_in(*outcome)),
+                Piece::Text(joined(*outcome)),
             ],
             out,
         ),
@@ -49,7 +49,7 @@ fn print_lines<O: Sink>(answer: &Answer, lent: Option<&Snapshot>, out: &mut O) -
             &[
                 Piece::Text(b"player "),
                 Piece::Number(u64::from(*c)),
-                Piece::Text(handed_in(*outcome)),
+                Piece::Text(given(*outcome)),
             ],
             out,
         ),
@@ -217,12 +217,20 @@ fn print_head<O: Sink>(c: u8, snapshot: &Snapshot, out: &mut O) -> Result<(), Fa
     )
 }
 
-fn handed_in(outcome: HandedIn) -> &'static [u8]
-    ensures { result.now ≡ handed_in_text outcome }
+fn joined(outcome: Result<(), SlotError>) -> &'static [u8]
+    ensures { result.now ≡ handed_in_text slot_error_text outcome }
 {
     match outcome {
-        HandedIn::Ok => b" ok\n",
-        HandedIn::Taken => b" refused taken\n",
-        HandedIn::NoClient => b" refused noclient\n",
+        Ok(()) => b" ok\n",
+        Err(SlotError::Taken) => b" refused taken\n",
+    }
+}
+
+fn given(outcome: Result<(), NoClient>) -> &'static [u8]
+    ensures { result.now ≡ handed_in_text no_client_text outcome }
+{
+    match outcome {
+        Ok(()) => b" ok\n",
+        Err(NoClient) => b" refused noclient\n",
     }
 }

@@ -3,7 +3,7 @@
 
 ghost use Rattle.std.specs.Prelude.{◌≡◌, ◌<◌, [], IfOk, length};
 ghost use Rattle.q3_world.specs.Message.{datagram_bytes};
-ghost use Rattle.q3_world.specs.Server.{places, fragment_size, new_slot, new_server, with_player, add_client_at, set_time_at, set_player_at, emit_slot, emit_at};
+ghost use Rattle.q3_world.specs.Server.{places, fragment_size, new_slot, new_server, with_player, add_client_at, set_time_at, set_player_at, emit_slot, emit_at, HandsOut};
 
 use crate::message::write_snapshot;
 use crate::places::empty_places;
@@ -128,12 +128,9 @@ impl Slot {
     /// Begins the next message, with a whole snapshot, and hands out its datagram.
     fn emit(&mut self, profile: &Profile, map: &Map, out: &mut Datagram) -> Emitted
         requires { out.old.items ≡ [] }
-        ensures { emit_slot profile.now map.now self.old ≡ record {
-          slot = self.new;
-          answer = result;
-          began = (emit_slot profile.now map.now self.old).began;
-          datagram = out.new.items;
-        } }
+        ensures slot { self.new ≡ (emit_slot profile.now map.now self.old).slot }
+        ensures answer { result ≡ (emit_slot profile.now map.now self.old).answer }
+        ensures piece { HandsOut (emit_slot profile.now map.now self.old).piece out.new.items }
     {
         let number = self.begun + 1;
         if number >= SEQUENCE_END {
@@ -231,16 +228,13 @@ impl Server {
         Ok(())
     }
 
-    /// Makes the next datagram for a client: it is empty, but where the answer is `Snapshot`.
+    /// Makes the next datagram for a client: it is empty where nothing is handed out.
     #[tactic(auto, unfolding(crate::specs::Server::emit_at))]
     pub(crate) fn emit(&mut self, slot: u8, out: &mut Datagram) -> Emitted
         requires { slot < places }
-        ensures { emit_at self.old slot ≡ record {
-          server = self.new;
-          answer = result;
-          began = (emit_at self.old slot).began;
-          datagram = out.new.items;
-        } }
+        ensures server { self.new ≡ (emit_at self.old slot).server }
+        ensures answer { result ≡ (emit_at self.old slot).answer }
+        ensures piece { HandsOut (emit_at self.old slot).piece out.new.items }
     {
         out.clear();
         let Some(found) = &mut self.slots[slot as usize] else {

@@ -14,13 +14,13 @@ ghost use Rattle.q3_world.specs.StandsFor.{StandsFor};
 ghost use Rattle.q3_world.specs.Report.{answer_text};
 ghost use Rattle.q3_world.specs.Outcome.{TakesMemory, Prints, HasStepCause};
 
-use crate::answer::{Answer, HandedIn, Shown};
+use crate::answer::{Answer, Shown};
 use crate::client::Client;
 use crate::laws;
 use crate::message::Snapshot;
 use crate::places::empty_places;
 use crate::report::print_answer;
-use crate::server::{DATAGRAM_ROOM, Datagram, Emitted, NoClient, Server, SlotError};
+use crate::server::{DATAGRAM_ROOM, Datagram, Server};
 use q3_bits::NoMemory;
 use q3_io::{Address, Failed, Files, Sink};
 use q3_player::PlayerState;
@@ -112,6 +112,7 @@ impl World {
         ensures stands { OnOk result ((profile : ProfileValue) (whole : Whole) → StandsFor profile self.old whole
             → StandsFor profile self.new (step_of profile whole event.now).whole) }
         ensures kept { OnOk result (self.new ≡ (kept_step self.old event.now).kept) }
+        ensures printed { Prints (O.written out.old) (O.written out.new) (answer_text (kept_step self.old event.now).answer) result }
         ensures lines { (profile : ProfileValue) (whole : Whole) → StandsFor profile self.old whole
             → Prints (O.written out.old) (O.written out.new) (answer_text (step_of profile whole event.now).answer) result }
         ensures flushed { OnOk result (NothingWaits (O.written out.new)) }
@@ -174,17 +175,11 @@ impl World {
         ensures err { OnErr result (self.new ≡ self.old) }
     {
         let client = Client::new(&self.profile, challenge, qport, dup)?;
-        if let Err(SlotError::Taken) = self.server.add_client(c, challenge, qport, address) {
-            return Ok(Answer::Client {
-                c,
-                outcome: HandedIn::Taken,
-            });
+        let outcome = self.server.add_client(c, challenge, qport, address);
+        if outcome.is_ok() {
+            self.clients[c as usize] = Some(client);
         }
-        self.clients[c as usize] = Some(client);
-        Ok(Answer::Client {
-            c,
-            outcome: HandedIn::Ok,
-        })
+        Ok(Answer::Client { c, outcome })
     }
 
     fn set_player(&mut self, c: u8, player: &PlayerState) -> Answer
@@ -192,11 +187,10 @@ impl World {
         ensures { kept_ends self.old (set_player self.old.ends c player.now)
             ≡ record { kept = self.new; answer = answered self.new.ends result } }
     {
-        let outcome = match self.server.set_player(c, player) {
-            Ok(()) => HandedIn::Ok,
-            Err(NoClient) => HandedIn::NoClient,
-        };
-        Answer::Player { c, outcome }
+        Answer::Player {
+            c,
+            outcome: self.server.set_player(c, player),
+        }
     }
 
     fn set_time(&mut self, time: u32) -> Answer
@@ -220,7 +214,7 @@ impl World {
         let mut out = Datagram::new();
         let emitted = self.server.emit(c, &mut out);
         let datagram = self.datagrams.len() as u32 + 1;
-        if let Emitted::Snapshot { .. } = emitted {
+        if !out.is_empty() {
             bytes.extend_from_slice(&out).unwrap();
             bytes.shrink_to_fit();
             self.datagrams.push(Sent { client: c, bytes }).unwrap();
