@@ -53,7 +53,16 @@ fn files_of_the_system_are_written_and_read(rt: HostRuntime) -> Result<(), Fail>
     assert_eq!(rt; files.read_at(file, 4, &mut into), Ok(4));
     assert_eq!(rt; into, *b"two!");
     assert_eq!(rt; files.read_at(file, 8, &mut into), Ok(0));
+    numbers_end_at_32(&rt, &mut files, 2);
     Ok(())
+}
+
+/// The file `log` gets each number from this one to 31, and no other.
+fn numbers_end_at_32(rt: &impl std::process::Abort, files: &mut impl Files, first: usize) {
+    for number in first..32 {
+        assert_eq!(rt; files.lookup("log"), Ok(number));
+    }
+    assert_eq!(rt; files.lookup("log"), Err(Failed));
 }
 
 #[test]

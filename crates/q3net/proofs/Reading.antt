@@ -1,10 +1,10 @@
 -- Reading a file piece by piece.
-use Rattle.std.proofs.Common.{◌≡◌, ℕ, ◌+◌, ◌<◌, ◌≤◌, List, [], ◌++◌, length, take, drop, Option, Some, None, Result, Ok, Err, refl, sym, ap, subst, ◌∙◌, inl, inr, arith}
+use Rattle.std.proofs.Common.{◌≡◌, ℕ, ◌+◌, ◌<◌, ◌≤◌, List, [], ◌∷◌, ◌++◌, length, take, drop, Option, Some, None, Result, Ok, Err, refl, sym, ap, subst, ◌∙◌, inl, inr, arith}
 use Rattle.std.specs.Prelude.{◌⊎◌, true, false, IsSome, unwrap_or}
 use Rattle.std.proofs.lemmas.List.{take_all, take-append-drop, length-take, length-drop, length-append, take_at, append-nil}
 use Rattle.std.proofs.Math.Seq.{take-add, get_or-append_seam}
 use Rattle.q3_io.specs.Told.{Told, Lookup, LooksUp, Gives, ReadsAt, contents_of, contents_at, after_asked, after_given, after_named}
-use Rattle.q3net.specs.Input.{ReadsFile, ReadsPieces, ReadsWhole}
+use Rattle.q3net.specs.Input.{ReadsFile, ReadsPieces, ReadsWhole, LooksUpTold}
 use Rattle.q3net.specs.declared.fault.Fault.{Fault}
 
 -- what was read is the front of the file, and only what was asked for has changed
@@ -116,3 +116,12 @@ file_read most (Some told) (Some mid) now file name result looks reads =
     let contents : contents_at mid file ≡ unwrap_or (contents_of told.files name) [] =
     ap (λ (t : Told). contents_at t file) is ∙ (ap (λ (n : ℕ). contents_at (after_given (after_named told name Lookup) name) n) looks.1 ∙ given_name told name) in
     read_told most told file name result looks.0 (subst (λ (c : List ℕ). ReadsWhole most c result) contents reads.2)
+
+pub file_given : (most : ℕ) (told mid now : Option Told) (file : ℕ) (name : List ℕ) (result : Result (List ℕ) Fault) → LooksUp told mid name (Ok file)
+    → ReadsPieces most file mid now result → LooksUpTold told now (name ∷ [])
+file_given most None None now file name result looks reads = reads.0
+file_given most None (Some mid) now file name result looks reads = absurd cc
+file_given most (Some told) None now file name result looks reads = absurd (let e = looks.2 in cc)
+file_given most (Some told) (Some mid) now file name result looks reads =
+    let is : mid ≡ after_given (after_named told name Lookup) name = same_told mid (after_given (after_named told name Lookup) name) looks.2 in
+    (record mid { asked = reads.0 }, reads.1, record { files = ap (λ (t : Told). t.files) is; named = ap (λ (t : Told). t.named) is })

@@ -28,14 +28,8 @@ pub fn read_file<F: Files>(
     let Ok(file) = files.lookup(name) else {
         return Err(Fault::Read);
     };
-    read_pieces(alloc, file, most, files, &mut zeros::<PIECE>())
-}
-
-/// So many zeros.
-fn zeros<const N: usize>() -> [u8; N]
-    ensures { length result ≡ N }
-{
-    [0; N]
+    let mut piece = vec![in alloc; 0; PIECE]?;
+    read_pieces(alloc, file, most, files, &mut piece)
 }
 
 /// Reads a file piece by piece, each into the same buffer, until it ends or more than the limit was read.

@@ -11,6 +11,11 @@ const FIRST: &[u8] =
 const FIRST_REPORT: &[u8] =
     b"client 0 ok\ntime ok\nplayer 0 ok\nserve 0 snapshot 1 base 0 bytes 22 datagram 1\ndeliver 1 client 0 applied 1\n+ accepted 1 base 0\ndeliver 1 client 0 old\nshow 0 snapshot 1 time 1000 flags 0 area -\n+ player 0:1065353216 s3:4294967295\n";
 
+/// A client is asked for before anything was delivered to it.
+const NEVER: &[u8] = b"client 0 17 5000 1 10.0.0.1:27960\nshow 0\n";
+
+const NEVER_REPORT: &[u8] = b"client 0 ok\nshow 0 none\n";
+
 /// The lines of a profile before its code.
 const TABLES: &str =
     "protocol = 68\nserver_ring = 4096\nparse_ring = 8192\nentity = [0, 8, -16]\nplayer = [0, 16]\n";
@@ -66,7 +71,7 @@ fn one_run_for_each_end(rt: HostRuntime) -> Result<(), Fail> {
     let good = profile.as_bytes();
     let bad: &[u8] = b"protocol = 71";
     let table: [(&str, (&[u8], &[u8]), u8, &[u8]); 9] = [
-        ("replay p s", (good, FIRST), 0, FIRST_REPORT),
+        ("replay p s", (good, NEVER), 0, NEVER_REPORT),
         ("replay p s", (good, b""), 0, b""),
         ("--version", (bad, b""), 0, b"q3net 0.1.0\n"),
         ("replay p s s", (good, FIRST), 2, b"usage\n"),
@@ -98,10 +103,26 @@ fn one_run_for_each_end(rt: HostRuntime) -> Result<(), Fail> {
 fn faults_of_the_outside(rt: HostRuntime) -> Result<(), Fail> {
     let profile = plain_profile(rt.alloc())?;
     let stored = (profile.as_bytes(), FIRST);
-    // The second event's lines aren't taken, and nothing is written behind them.
-    let (status, printed) = ran(&rt, rt.alloc(), "replay p s", stored, (&[], &[2]))?;
-    assert_eq!(rt; status, 4);
-    assert_eq!(rt; printed.as_slice(), b"client 0 ok\n".as_slice());
+    // Each event is one write: where one isn't taken, the lines of the events before it stand there, and nothing behind.
+    let table: [(u64, u8, usize); 8] = [
+        (1, 4, 0),
+        (2, 4, 12),
+        (3, 4, 20),
+        (4, 4, 32),
+        (5, 4, 78),
+        (6, 4, 127),
+        (7, 4, 150),
+        (8, 0, 229),
+    ];
+    for (fails, wanted, length) in table {
+        let (status, printed) = ran(&rt, rt.alloc(), "replay p s", stored, (&[], &[fails]))?;
+        assert_eq!(rt; status, wanted, "write {fails}");
+        assert_eq!(rt;
+            Some(printed.as_slice()),
+            FIRST_REPORT.get(..length),
+            "write {fails}"
+        );
+    }
     // A read of the profile fails, and one of the script.
     for fails in [2, 5] {
         let (status, printed) = ran(&rt, rt.alloc(), "replay p s", stored, (&[fails], &[]))?;

@@ -1,8 +1,14 @@
+use Rattle.std.proofs.Common.{inl}
 use Rattle.q3net.specs.Input.{with_items}
-use Rattle.q3net.proofs.Reading.{file_read}
+use Rattle.q3net.proofs.Reading.{file_read, file_given}
 use Rattle.q3net.proofs.input.read_file.Goals as goal
 
 pub returns-clause-reads : goal.returns-clause-reads
 returns-clause-reads g c =
     file_read c.args.most (g.F.Files.told c.args.files.now) (g.F.Files.told c.lookup.new.self) (g.F.Files.told c.read_pieces.new.files) c.in-Ok.file c.args.name.now
     (with_items c.read_pieces.result) c.in-Ok.ensures.told c.read_pieces.ensures.reads
+
+pub returns-clause-gives : goal.returns-clause-gives
+returns-clause-gives g c =
+    inl (file_given c.args.most (g.F.Files.told c.args.files.now) (g.F.Files.told c.lookup.new.self) (g.F.Files.told c.read_pieces.new.files) c.in-Ok.file c.args.name.now
+    (with_items c.read_pieces.result) c.in-Ok.ensures.told c.read_pieces.ensures.reads)
