@@ -70,7 +70,7 @@ impl Client {
             qport,
             dup,
             taken: 0,
-            snapshots: [Snapshot::empty(), Snapshot::empty()],
+            snapshots: [Snapshot::new(), Snapshot::new()],
             newest: None,
         })
     }

@@ -28,7 +28,7 @@ pub struct Snapshot {
 
 impl Snapshot {
     /// A snapshot with nothing in it, for one to be read into.
-    pub(crate) fn empty() -> Snapshot {
+    pub(crate) fn new() -> Snapshot {
         Snapshot {
             number: 0,
             time: 0,
@@ -36,6 +36,14 @@ impl Snapshot {
             player: PlayerState::zero(),
         }
     }
+}
+
+/// A snapshot as a message tells it: its parts, and not its number. What is large is lent.
+#[derive(Drop)]
+pub(crate) struct SnapshotParts<'a> {
+    pub(crate) time: u32,
+    pub(crate) flags: u8,
+    pub(crate) player: &'a PlayerState,
 }
 
 /// Why a message isn't legible.
@@ -50,23 +58,21 @@ const SNAPSHOT: u32 = 7;
 
 const END: u32 = 8;
 
-/// Writes a message with the snapshot that has these parts, by a writer of the profile's code. Its number isn't written.
+/// Writes a message with the snapshot that has these parts, whatever its number, by a writer of the profile's code.
 /// `Overflow` comes exactly where the message doesn't fit the writer's room; a front of it was then written.
 #[tactic(auto, unfolding(crate::specs::Message::snapshot_bits))]
 pub(crate) fn write_snapshot(
     w: &mut Writer,
     profile: &Profile,
-    time: u32,
-    flags: u8,
-    player: &PlayerState,
+    snapshot: &SnapshotParts,
 ) -> Result<(), Overflow>
     requires { w.old.words ≡ profile.now.code }
     ensures { (number : ℕ) → Writes w.old w.new (snapshot_bits profile.now
-        (record { number = number; time = time; flags = flags; player = player.now })) result }
+        (record { number = number; time = snapshot.now.time; flags = snapshot.now.flags; player = snapshot.now.player.now })) result }
 {
     laws::texts_are_written();
-    write_head(w, time, flags)?;
-    write_player(w, &profile.player, &PlayerState::zero(), player)?;
+    write_head(w, snapshot.time, snapshot.flags)?;
+    write_player(w, &profile.player, &PlayerState::zero(), snapshot.player)?;
     write_tail(w, &profile.entity)
 }
 

@@ -5,7 +5,7 @@ ghost use Rattle.std.specs.Prelude.{◌≡◌, ◌<◌, [], IfOk, length};
 ghost use Rattle.q3_world.specs.Message.{datagram_bytes};
 ghost use Rattle.q3_world.specs.Server.{places, fragment_size, new_slot, new_server, with_player, add_client_at, set_time_at, set_player_at, emit_slot, emit_at, HandsOut};
 
-use crate::message::write_snapshot;
+use crate::message::{SnapshotParts, write_snapshot};
 use crate::places::empty_places;
 use arrayvec::ArrayVec;
 use q3_bits::{NoMemory, Writer};
@@ -136,8 +136,13 @@ impl Slot {
         if number >= SEQUENCE_END {
             return Emitted::SequenceEnd;
         }
+        let snapshot = SnapshotParts {
+            time: map.time,
+            flags: 0,
+            player: &self.player,
+        };
         let mut w = Writer::new(&profile.code, FRAGMENT_SIZE - 1);
-        if write_snapshot(&mut w, profile, map.time, 0, &self.player).is_err() {
+        if write_snapshot(&mut w, profile, &snapshot).is_err() {
             return Emitted::Overlong;
         }
         self.begun = number;

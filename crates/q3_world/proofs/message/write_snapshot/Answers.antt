@@ -18,7 +18,7 @@ returns-in_err-write_player c number =
     let law = c.texts_are_written.ensures in
     let p = err_from_is_err_and c.from_residual-in_err-write_player.result c.from_residual-in_err-write_player.ensures.1 in
     let refusal = rw c.zero.ensures at c.in_err-write_player.ensures in
-    let both = next law (λ ws. player_delta ws c.args.profile.now.player.kinds zero_player c.args.player.now) c.in_ok-write_head.ensures refusal in
+    let both = next law (λ ws. player_delta ws c.args.profile.now.player.kinds zero_player c.args.snapshot.now.player.now) c.in_ok-write_head.ensures refusal in
     rw (p.1, p.2, ← c.requires) (refused law _ both)
 
 pub returns : goal.returns
@@ -26,5 +26,5 @@ unfolding snapshot_bits
 returns c number =
     let law = c.texts_are_written.ensures in
     let written = rw c.zero.ensures at c.in_ok-write_player.ensures in
-    let both = next law (λ ws. player_delta ws c.args.profile.now.player.kinds zero_player c.args.player.now) c.in_ok-write_head.ensures written in
+    let both = next law (λ ws. player_delta ws c.args.profile.now.player.kinds zero_player c.args.snapshot.now.player.now) c.in_ok-write_head.ensures written in
     rw (← c.requires) (next law (λ ws. message_tail ws c.args.profile.now.entity) both c.write_tail.ensures)
