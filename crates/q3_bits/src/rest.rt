@@ -1,4 +1,4 @@
-//! What is left of a message to be read.
+//! What is left of a message to be read. Keeps the rule "bit order of a field".
 
 ghost use Rattle.std.specs.Prelude.{◌≡◌, ◌*◌, ◌<◌, ◌≤◌, length, take, drop};
 ghost use Rattle.q3_bits.specs.Bits.{bits_of, number_of};

@@ -1,4 +1,5 @@
-//! Reads the player delta, in every spelling that is accepted.
+//! Reads the player delta, in every spelling that is accepted. Keeps the rules "player delta" and "spellings that a
+//! reader accepts", the engine's `MSG_ReadDeltaPlayerstate`.
 
 ghost use Rattle.std.specs.Prelude.{◌≡◌, ◌≤◌, length, take};
 ghost use Rattle.q3_bits.specs.Streams.{Reads, holding};

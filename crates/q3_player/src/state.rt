@@ -10,10 +10,15 @@ use q3_fields::{Kind, Table, norm};
 /// and four arrays of 16 values, of which the first three hold signed values.
 #[derive(Clone, Copy, Debug, PartialEq, Eq)]
 pub struct PlayerState {
+    /// The word of each field of the table, at its place; a float is its pattern.
     pub words: [u32; 64],
+    /// Health, armor and the like, by the game's own places.
     pub stats: [i16; 16],
+    /// What outlives a death: score, captures and the like.
     pub persistant: [i16; 16],
+    /// How much ammunition there is for each weapon.
     pub ammo: [i16; 16],
+    /// Until when each powerup lasts, in milliseconds of the server's time.
     pub powerups: [u32; 16],
 }
 

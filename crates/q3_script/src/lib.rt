@@ -1,4 +1,4 @@
-//! The script language: each line of a script is an event of a replay.
+//! The script language, this project's own: each line of a script is an event of a replay.
 #![tactic(auto)]
 
 pub mod cause;
