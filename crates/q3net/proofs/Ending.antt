@@ -15,14 +15,14 @@ use Rattle.q3net.specs.Run.{Executes, PrintsAll, Took, Prints}
 -- ---- a command that reads nothing
 
 pub none_executes : (follow : TextsFollow) (told : Option Told) (old : Option Written) → Executes None told old old (Err faults.Usage)
-none_executes follow told old = (settled (Err faults.Usage), refl, inl ([], inl (refl, refl), follow.none))
+none_executes follow told old = (settled [] (Err faults.Usage), refl, inl ([], inl (refl, refl), follow.none))
 
 pub text_executes : (command : Option Command) (told : Option Told) (old now : Option Written) (text : List ℕ) (ended : Result (Unit {0}) Fault)
-    → IsVerdict told command (settled (Ok text)) → PrintsAll text old now ended → Executes command told old now ended
+    → IsVerdict told command (settled [] (Ok text)) → PrintsAll text old now ended → Executes command told old now ended
 text_executes command told old now text ended is prints =
     elim prints [
-      | inl all ↦ (settled (Ok text), is, inl (text, inl (all.0, refl), all.1))
-      | inr front ↦ (settled (Ok text), is, inr front)
+      | inl all ↦ (settled [] (Ok text), is, inl (text, inl (all.0, refl), all.1))
+      | inr front ↦ (settled [] (Ok text), is, inr front)
     ]
 
 -- ---- after a sink has failed

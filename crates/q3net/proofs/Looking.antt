@@ -1,22 +1,18 @@
 -- Which names a run gives to the files.
 use Rattle.std.proofs.Common.{◌≡◌, ℕ, List, [], ◌∷◌, ◌++◌, map, Option, Some, None, Result, Ok, Err, refl, sym, ap, subst, ◌∙◌, append_assoc, inl, inr}
 use Rattle.std.specs.Prelude.{◌⊎◌}
-use Rattle.std.specs.Result.{result_map_both}
 use Rattle.std.proofs.lemmas.List.{append-nil}
 use Rattle.q3_profile.specs.declared.profile.Profile.{Profile}
-use Rattle.q3_profile.specs.declared.error.ProfileError.{ProfileError}
-use Rattle.q3_profile.specs.Profile.{checked}
-use Rattle.q3_script.specs.declared.event.Event.{Event}
-use Rattle.q3_script.specs.declared.cause.ScriptKind.TheVariants as kinds
-use Rattle.q3_script.specs.Script.{BadLine, script_at}
 use Rattle.q3_io.specs.Told.{Told, Named}
 use Rattle.q3net.specs.declared.fault.Fault.{Fault}
 use Rattle.q3net.specs.declared.fault.Fault.TheVariants as faults
-use Rattle.q3_world.specs.declared.world.StepError.{StepError}
-use Rattle.q3_world.specs.declared.world.StepError.TheVariants as step
-use Rattle.q3net.specs.Faults.{Gets, IsEarly, step_fault}
-use Rattle.q3net.specs.Input.{looked_up, LooksUp, LooksUpTold, LooksUpFirst, names_given, Gives}
-use Rattle.q3net.specs.Verdict.{profile_in, events_in}
+use Rattle.q3net.specs.Command.{Command, Help, Version, Replay, files_of}
+use Rattle.q3net.specs.Faults.{Gets, IsEarly}
+use Rattle.q3net.specs.Input.{IsFront, Holds, looked_up, LooksUp, LooksUpTold, LooksUpFirst, Gives}
+use Rattle.q3net.specs.Lines.{ending_status}
+use Rattle.q3net.specs.Verdict.{Verdict, IsVerdict, settled, names_by, replayed, profile_in, GetsFrom}
+use Rattle.q3net.specs.Run.{GivesNames, HasGiven}
+use Rattle.q3net.proofs.Loading.{held}
 
 -- no name was given
 pub looks_none : (told : Option Told) → LooksUpTold told told []
@@ -48,7 +44,7 @@ first_more : (told now : Option Told) (names more : List (List ℕ)) → LooksUp
 first_more told now names more first =
     (first.0, (first.1.0 ++ more, sym (append_assoc first.0 first.1.0 more) ∙ ap (λ (z : List (List ℕ)). z ++ more) first.1.1), first.2)
 
--- ---- a replay
+-- ---- the parts of a replay
 
 -- an early end of one part is an early end of the run
 early_as : {A B : Type 0} (e : Fault) → IsEarly {A = A} (Err e) → IsEarly {A = B} (Err e)
@@ -73,79 +69,128 @@ gave x names told now gives =
 gave_first : {A : Type 0} (ended : Result A Fault) (names : List (List ℕ)) (told now : Option Told) → Gives ended names told now → LooksUpFirst told now names
 gave_first ended names told now gives = elim gives [ inl all ↦ (names, ([], append-nil names), all) | inr early ↦ early.1 ]
 
--- why no profile was read, and why no script
-checked_ends : (says : Result Profile ProfileError) (e : Fault) → Err e ≡ result_map_both (λ (profile : Profile). profile) faults.Profile says
-    → (d : ProfileError) × (e ≡ faults.Profile d)
-checked_ends (Ok profile) e is = absurd cc
-checked_ends (Err d) e is = (d, (cc))
+-- the answer of a part and that of the run have other types
+gives_as : {A B : Type 0} (e : Fault) (names : List (List ℕ)) (told now : Option Told) → Gives {A = A} (Err e) names told now → Gives {A = B} (Err e) names told now
+gives_as e names told now gives = elim gives [ inl all ↦ inl all | inr early ↦ inr (early_as e early.0, early.1) ]
 
-said_ends : (file : Option (List ℕ)) (e : Fault) → Err e ≡ profile_in file → (e ≡ faults.Read) ⊎ ((d : ProfileError) × (e ≡ faults.Profile d))
-said_ends None e is = inl (cc)
-said_ends (Some bytes) e is = inr (checked_ends (checked bytes) e is)
+-- a part that answered well answered what its input says
+pub got_ok : {A : Type 0} (said : Result A Fault) (x : A) → Gets said (Ok x) → said ≡ Ok x
+got_ok said x gets = elim gets [ inl is ↦ sym is | inr outside ↦ absurd (elim outside [ inl e ↦ (cc) | inr e ↦ (cc) ]) ]
 
-profile_ends : (file : Option (List ℕ)) (e : Fault) → Gets (profile_in file) (Err e) → ((e ≡ faults.NoMemory) ⊎ (e ≡ faults.Read)) ⊎ ((d : ProfileError) × (e ≡ faults.Profile d))
-profile_ends file e gets =
-    elim gets [
-      | inl said ↦ elim (said_ends file e said) [ inl read ↦ inl (inr read) | inr d ↦ inr d ]
-      | inr outside ↦ elim outside [ inl memory ↦ inl (inl (cc)) | inr read ↦ inl (inr (cc)) ]
+-- ---- the names of a verdict
+
+settled_names : (names : List (List ℕ)) (answer : Result (List ℕ) Fault) → names ≡ (settled names answer).names
+settled_names names (Ok text) = refl
+settled_names names (Err cause) = refl
+
+names_front : (says : Result Profile Fault) (profile script : List ℕ) → IsFront (names_by says profile script) (profile ∷ script ∷ [])
+names_front (Ok by) profile script = ([], refl)
+names_front (Err cause) profile script = (script ∷ [], refl)
+
+verdict_front : (told : Option Told) (command : Option Command) (verdict : Verdict) → IsVerdict told command verdict → IsFront verdict.names (files_of command)
+verdict_front told None verdict is = ([], ap (λ (v : Verdict). v.names ++ []) is)
+verdict_front told (Some Help) verdict is = ([], ap (λ (v : Verdict). v.names ++ []) is)
+verdict_front told (Some Version) verdict is = ([], ap (λ (v : Verdict). v.names ++ []) is)
+verdict_front told (Some (Replay profile script)) verdict is =
+    let names = names_by (profile_in is.0) profile script in
+    let front = names_front (profile_in is.0) profile script in (
+      front.0,
+      ap (λ (v : Verdict). v.names ++ front.0) is.4
+          ∙ (ap (λ (n : List (List ℕ)). n ++ front.0) (sym (settled_names names (replayed is.0 is.1))) ∙ front.1),
+    )
+
+-- they are the first of those that the command names
+pub touches : (command : Option Command) (told now : Option Told) (ended : Result (Unit {0}) Fault) → GivesNames command told now ended → LooksUpFirst told now (files_of command)
+touches command told now ended given =
+    let front = verdict_front told command given.0 given.1 in
+    subst (λ (names : List (List ℕ)). LooksUpFirst told now names) front.1
+    (first_more told now given.0.names front.0 (gave_first ended given.0.names told now given.2))
+
+-- the status of an early end
+early_status : (ended : Result (Unit {0}) Fault) → IsEarly ended → (ending_status ended ≡ 1) ⊎ ((ending_status ended ≡ 3) ⊎ (ending_status ended ≡ 4))
+early_status ended early =
+    elim early [
+      | inl memory ↦ inl (ap ending_status memory)
+      | inr others ↦ elim others [ inl read ↦ inr (inl (ap ending_status read)) | inr write ↦ inr (inr (ap ending_status write)) ]
     ]
 
-script_ends : (says : Result (List Event) BadLine) (d : ProfileError)
-    → Err (faults.Profile d) ≡ result_map_both (λ (events : List Event). events) (λ (bad : BadLine). faults.Script bad.line bad.cause) says → ⊥
-script_ends (Ok events) d is = cc
-script_ends (Err bad) d is = cc
+pub has_given : (command : Option Command) (told now : Option Told) (ended : Result (Unit {0}) Fault) (status : ℕ) → GivesNames command told now ended
+    → (status ≡ ending_status ended) ⊎ (status ≡ 4) → HasGiven command told now status
+has_given command told now ended status given is = (
+  given.0,
+  given.1,
+  elim given.2 [
+    | inl all ↦ inl all
+    | inr early ↦ inr (
+      elim is [
+        | inl same ↦ subst (λ (s : ℕ). (s ≡ 1) ⊎ ((s ≡ 3) ⊎ (s ≡ 4))) (sym same) (early_status ended early.0)
+        | inr write ↦ inr (inr write)
+      ],
+      early.1,
+    )
+  ],
+)
 
-script_said : (file : Option (List ℕ)) (d : ProfileError) → Err (faults.Profile d) ≡ events_in file → ⊥
-script_said None d is = cc
-script_said (Some bytes) d is = script_ends (script_at kinds.Replay bytes) d is
+-- ---- of each command
 
-no_profile_error : (file : Option (List ℕ)) (d : ProfileError) → Gets (events_in file) (Err (faults.Profile d)) → ⊥
-no_profile_error file d gets =
-    elim gets [ inl said ↦ script_said file d said | inr outside ↦ elim outside [ inl memory ↦ (cc) | inr read ↦ (cc) ] ]
+pub none_given : (told : Option Told) → GivesNames None told told (Err faults.Usage)
+none_given told = (settled [] (Err faults.Usage), refl, inl (looks_none told))
 
--- an end that isn't decided by a profile
-stopped_gives : (e : Fault) (one two : List ℕ) (told now : Option Told) → (e ≡ faults.NoMemory) ⊎ (e ≡ faults.Read) → LooksUpFirst told now (one ∷ [])
-    → Gives {A = Unit {0}} (Err e) (names_given {A = Unit {0}} (Err e) (one ∷ two ∷ [])) told now
-stopped_gives faults.NoMemory one two told now is first = inr (inl refl, first_more told now (one ∷ []) (two ∷ []) first)
-stopped_gives faults.Read one two told now is first = inr (inr (inl refl), first_more told now (one ∷ []) (two ∷ []) first)
-stopped_gives other one two told now is first = absurd (elim is [ inl e ↦ (cc) | inr e ↦ (cc) ])
+pub text_given : (command : Option Command) (told : Option Told) (text : List ℕ) (ended : Result (Unit {0}) Fault)
+    → IsVerdict told command (settled [] (Ok text)) → GivesNames command told told ended
+text_given command told text ended is = (settled [] (Ok text), is, inl (looks_none told))
 
--- a profile that breaks a rule was read
-rule_gives : (d : ProfileError) (one : List ℕ) (told now : Option Told) → Gives {A = Profile} (Err (faults.Profile d)) (one ∷ []) told now → LooksUpTold told now (one ∷ [])
-rule_gives d one told now gives =
-    elim gives [
-      | inl all ↦ all
-      | inr early ↦ absurd (elim early.0 [ inl e ↦ (cc) | inr others ↦ elim others [ inl e ↦ (cc) | inr e ↦ (cc) ] ])
-    ]
+replay_given : (told now : Option Told) (profile script : List ℕ) (file : Option (List ℕ)) (ended : Result (Unit {0}) Fault) → Holds told profile file
+    → Gives ended (names_by (profile_in file) profile script) told now → GivesNames (Some (Replay profile script)) told now ended
+replay_given told now profile script file ended holds gives =
+    let other = held told script in
+    let names = names_by (profile_in file) profile script in (
+      settled names (replayed file other.0),
+      (file, other.0, holds, other.1, refl),
+      subst (λ (n : List (List ℕ)). Gives ended n told now) (settled_names names (replayed file other.0)) gives,
+    )
 
 -- no profile was read
-pub profile_gives : (file : Option (List ℕ)) (e : Fault) (one two : List ℕ) (told now : Option Told) → Gets (profile_in file) (Err e)
-    → Gives {A = Profile} (Err e) (one ∷ []) told now → Gives {A = Unit {0}} (Err e) (names_given {A = Unit {0}} (Err e) (one ∷ two ∷ [])) told now
-profile_gives file e one two told now gets gives =
-    elim (profile_ends file e gets) [
-      | inl outside ↦ stopped_gives e one two told now outside (gave_first (Err e) (one ∷ []) told now gives)
-      | inr rule ↦ subst (λ (d : Fault). Gives {A = Unit {0}} (Err d) (names_given {A = Unit {0}} (Err d) (one ∷ two ∷ [])) told now) (sym rule.1)
-          (inl (rule_gives rule.0 one told now (subst (λ (d : Fault). Gives {A = Profile} (Err d) (one ∷ []) told now) rule.1 gives)))
+first_names : (says : Result Profile Fault) (profile script : List ℕ) (told now : Option Told) → LooksUpFirst told now (profile ∷ []) → LooksUpFirst told now (names_by says profile script)
+first_names (Ok by) profile script told now first = first_more told now (profile ∷ []) (script ∷ []) first
+first_names (Err cause) profile script told now first = first
+
+profile_names : (file : Option (List ℕ)) (e : Fault) (profile script : List ℕ) (told now : Option Told) → Gets (profile_in file) (Err e)
+    → Gives {A = Profile} (Err e) (profile ∷ []) told now → Gives {A = Unit {0}} (Err e) (names_by (profile_in file) profile script) told now
+profile_names file e profile script told now gets gives =
+    elim gets [
+      | inl said ↦ subst (λ (says : Result Profile Fault). Gives {A = Unit {0}} (Err e) (names_by says profile script) told now) said (gives_as e (profile ∷ []) told now gives)
+      | inr outside ↦ inr (
+        early_as e (elim outside [ inl memory ↦ inl memory | inr read ↦ inr (inl read) ]),
+        first_names (profile_in file) profile script told now (gave_first (Err e) (profile ∷ []) told now gives),
+      )
     ]
 
--- a profile was read, and no script
-pub script_gives : {B : Type 0} (profile : Profile) (file : Option (List ℕ)) (e : Fault) (one two : List ℕ) (told mid now : Option Told) → Gets (events_in file) (Err e)
-    → Gives (Ok profile) (one ∷ []) told mid → Gives {A = B} (Err e) (two ∷ []) mid now
-    → Gives {A = Unit {0}} (Err e) (names_given {A = Unit {0}} (Err e) (one ∷ two ∷ [])) told now
-script_gives profile file (faults.Profile d) one two told mid now gets first second = absurd (no_profile_error file d gets)
-script_gives profile file e one two told mid now gets first second =
-    elim second [
-      | inl all ↦ inl (looks_then told mid now one (two ∷ []) (gave profile (one ∷ []) told mid first) all)
-      | inr early ↦ inr (early_as e early.0, first_then told mid now one (two ∷ []) (gave profile (one ∷ []) told mid first) early.1)
-    ]
+pub profile_gives : (told now : Option Told) (profile script : List ℕ) (e : Fault) → GetsFrom profile_in told profile (Err e)
+    → Gives {A = Profile} (Err e) (profile ∷ []) told now → GivesNames (Some (Replay profile script)) told now (Err e)
+profile_gives told now profile script e gets gives =
+    replay_given told now profile script gets.0 (Err e) gets.1 (profile_names gets.0 e profile script told now gets.2 gives)
 
--- both were read
-pub both_given : {B : Type 0} (profile : Profile) (events : B) (one two : List ℕ) (told mid now : Option Told) → Gives (Ok profile) (one ∷ []) told mid
-    → Gives (Ok events) (two ∷ []) mid now → LooksUpTold told now (one ∷ two ∷ [])
-both_given profile events one two told mid now first second =
-    looks_then told mid now one (two ∷ []) (gave profile (one ∷ []) told mid first) (gave events (two ∷ []) mid now second)
+-- a profile was read
+passed_given : (told now : Option Told) (profile script : List ℕ) (by : Profile) (ended : Result (Unit {0}) Fault) → GetsFrom profile_in told profile (Ok by)
+    → Gives ended (profile ∷ script ∷ []) told now → GivesNames (Some (Replay profile script)) told now ended
+passed_given told now profile script by ended passes gives =
+    replay_given told now profile script passes.0 ended passes.1
+    (subst (λ (says : Result Profile Fault). Gives ended (names_by says profile script) told now) (sym (got_ok (profile_in passes.0) by passes.2)) gives)
 
-pub step_gives : (e : StepError) (names : List (List ℕ)) (told now : Option Told) → LooksUpTold told now names
-    → Gives {A = Unit {0}} (Err (step_fault e)) (names_given {A = Unit {0}} (Err (step_fault e)) names) told now
-step_gives step.NoMemory names told now all = inl all
-step_gives step.WriteFault names told now all = inl all
+-- and no script
+pub script_gives : {B : Type 0} (told mid now : Option Told) (profile script : List ℕ) (by : Profile) (e : Fault) → GetsFrom profile_in told profile (Ok by)
+    → Gives (Ok by) (profile ∷ []) told mid → Gives {A = B} (Err e) (script ∷ []) mid now → GivesNames (Some (Replay profile script)) told now (Err e)
+script_gives told mid now profile script by e passes first second =
+    passed_given told now profile script by (Err e) passes (elim second [
+      | inl all ↦ inl (looks_then told mid now profile (script ∷ []) (gave by (profile ∷ []) told mid first) all)
+      | inr early ↦ inr (early_as e early.0, first_then told mid now profile (script ∷ []) (gave by (profile ∷ []) told mid first) early.1)
+    ])
+
+-- and a script
+pub both_given : {B : Type 0} (told mid now : Option Told) (profile script : List ℕ) (by : Profile) (events : B) (ended : Result (Unit {0}) Fault)
+    → GetsFrom profile_in told profile (Ok by) → Gives (Ok by) (profile ∷ []) told mid → Gives (Ok events) (script ∷ []) mid now
+    → GivesNames (Some (Replay profile script)) told now ended
+both_given told mid now profile script by events ended passes first second =
+    passed_given told now profile script by ended passes
+    (inl (looks_then told mid now profile (script ∷ []) (gave by (profile ∷ []) told mid first) (gave events (script ∷ []) mid now second)))

@@ -18,15 +18,11 @@ use Rattle.q3net.specs.declared.fault.Fault.TheVariants as faults
 use Rattle.q3net.specs.Command.{Replay}
 use Rattle.q3net.specs.Faults.{Gets, step_fault}
 use Rattle.q3net.specs.Input.{Holds, LooksUpTold, Gives}
-use Rattle.q3net.specs.Verdict.{IsVerdict, settled, profile_in, events_in, replayed, GetsFrom}
+use Rattle.q3net.specs.Verdict.{IsVerdict, settled, profile_in, events_in, replayed, names_by, GetsFrom}
 use Rattle.q3net.specs.Run.{AddsLines, Stops, Executes}
 use Rattle.q3net.proofs.Loading.{held}
-use Rattle.q3net.proofs.Looking.{gave}
+use Rattle.q3net.proofs.Looking.{got_ok, gave}
 use Rattle.q3net.proofs.Stepping.{lines_of}
-
--- a part that answered well answered what its input says
-got_ok : {A : Type 0} (said : Result A Fault) (x : A) → Gets said (Ok x) → said ≡ Ok x
-got_ok said x gets = elim gets [ inl is ↦ sym is | inr outside ↦ absurd (elim outside [ inl e ↦ (cc) | inr e ↦ (cc) ]) ]
 
 -- the first part that its input ends, or the text
 no_profile : (profile script : Option (List ℕ)) (e : Fault) → profile_in profile ≡ Err e → replayed profile script ≡ Err e
@@ -47,20 +43,22 @@ all_said profile script by events passes is =
 refused : (follow : TextsFollow) (told : Option Told) (profile script : List ℕ) (old : Option Written) (p s : Option (List ℕ)) (e : Fault) → Holds told profile p → Holds told script s
     → replayed p s ≡ Err e → Executes (Some (Replay profile script)) told old old (Err e)
 refused follow told profile script old p s e of_p of_s says =
-    (settled (Err e), (p, s, of_p, of_s, sym (ap settled says)), inl ([], inl (refl, refl), follow.none))
+    let names = names_by (profile_in p) profile script in
+    (settled names (Err e), (p, s, of_p, of_s, sym (ap (settled names) says)), inl ([], inl (refl, refl), follow.none))
 
-stops : (e : Fault) (text : List ℕ) → (e ≡ faults.NoMemory) ⊎ (e ≡ faults.Read) → Stops e [] text
-stops e text outside =
+stops : (profile script : List ℕ) (e : Fault) (text : List ℕ) → (e ≡ faults.NoMemory) ⊎ (e ≡ faults.Read) → Stops (Some (Replay profile script)) e [] text
+stops profile script e text outside =
     elim outside [
-      | inl memory ↦ subst (λ (d : Fault). Stops d [] text) (sym memory) (text, refl)
-      | inr read ↦ subst (λ (d : Fault). Stops d [] text) (sym read) refl
+      | inl memory ↦ subst (λ (d : Fault). Stops (Some (Replay profile script)) d [] text) (sym memory) (text, refl)
+      | inr read ↦ subst (λ (d : Fault). Stops (Some (Replay profile script)) d [] text) (sym read) refl
     ]
 
 -- something from outside did
 stopped : (follow : TextsFollow) (told : Option Told) (profile script : List ℕ) (old : Option Written) (p s : Option (List ℕ)) (e : Fault) → Holds told profile p → Holds told script s
     → (e ≡ faults.NoMemory) ⊎ (e ≡ faults.Read) → Executes (Some (Replay profile script)) told old old (Err e)
 stopped follow told profile script old p s e of_p of_s outside =
-    (settled (replayed p s), (p, s, of_p, of_s, refl), inl ([], inr (tt, e, refl, stops e (settled (replayed p s)).text outside), follow.none))
+    let verdict = settled (names_by (profile_in p) profile script) (replayed p s) in
+    (verdict, (p, s, of_p, of_s, refl), inl ([], inr (tt, e, refl, stops profile script e verdict.text outside), follow.none))
 
 -- a part ended it early
 part_ended : {A : Type 0} (follow : TextsFollow) (told : Option Told) (profile script : List ℕ) (old : Option Written) (p s : Option (List ℕ)) (e : Fault) (said : Result A Fault)
@@ -99,6 +97,7 @@ pub record BothRead (told : Option Told) (profile script : List ℕ) (by : Profi
   pub holds_profile : Holds told profile of_profile
   pub holds_script : Holds told script of_script
   pub says : replayed of_profile of_script ≡ Ok (report by events)
+  pub names : names_by (profile_in of_profile) profile script ≡ profile ∷ script ∷ []
 
 pub both_read : (told mid : Option Told) (profile script : List ℕ) (by : Profile) (events : List Event) → GetsFrom profile_in told profile (Ok by)
     → Gives (Ok by) (profile ∷ []) told mid → GetsFrom events_in mid script (Ok events) → BothRead told profile script by events
@@ -108,33 +107,41 @@ both_read told mid profile script by events passes gives gets = record {
   holds_profile = passes.1;
   holds_script = same_held told mid (profile ∷ []) script gets.0 (gave by (profile ∷ []) told mid gives) gets.1;
   says = all_said passes.0 gets.0 by events (got_ok (profile_in passes.0) by passes.2) (got_ok (events_in gets.0) events gets.2);
+  names = ap (λ (says : Result Profile Fault). names_by says profile script) (got_ok (profile_in passes.0) by passes.2);
 }
 
 -- the verdict of what was read
 verdict_of : (told : Option Told) (profile script : List ℕ) (by : Profile) (events : List Event) → BothRead told profile script by events
-    → IsVerdict told (Some (Replay profile script)) (settled (Ok (report by events)))
-verdict_of told profile script by events read = (read.of_profile, read.of_script, read.holds_profile, read.holds_script, ap settled (sym read.says))
+    → IsVerdict told (Some (Replay profile script)) (settled (profile ∷ script ∷ []) (Ok (report by events)))
+verdict_of told profile script by events read = (
+  read.of_profile,
+  read.of_script,
+  read.holds_profile,
+  read.holds_script,
+  ap (λ (names : List (List ℕ)). settled names (Ok (report by events))) (sym read.names)
+      ∙ ap (settled (names_by (profile_in read.of_profile) profile script)) (sym read.says),
+)
 
 pub memory_ended : (follow : TextsFollow) (told : Option Told) (profile script : List ℕ) (by : Profile) (events : List Event) (old : Option Written) → BothRead told profile script by events
     → Executes (Some (Replay profile script)) told old old (Err faults.NoMemory)
 memory_ended follow told profile script by events old read =
-    (settled (Ok (report by events)), verdict_of told profile script by events read, inl ([], inr (tt, faults.NoMemory, refl, (report by events, refl)), follow.none))
+    (settled (profile ∷ script ∷ []) (Ok (report by events)), verdict_of told profile script by events read, inl ([], inr (tt, faults.NoMemory, refl, (report by events, refl)), follow.none))
 
 pub steps_ended : (told : Option Told) (profile script : List ℕ) (by : Profile) (events : List Event) (old now : Option Written) (e : StepError)
     → BothRead told profile script by events → AddsLines (lines_of by (opening by) events) old now (Err e)
     → Executes (Some (Replay profile script)) told old now (Err (step_fault e))
 unfolding report
 steps_ended told profile script by events old now step.NoMemory read adds =
-    (settled (Ok (report by events)), verdict_of told profile script by events read, inl (adds.0, inr (tt, faults.NoMemory, refl, adds.1), adds.2))
+    (settled (profile ∷ script ∷ []) (Ok (report by events)), verdict_of told profile script by events read, inl (adds.0, inr (tt, faults.NoMemory, refl, adds.1), adds.2))
 steps_ended told profile script by events old now step.WriteFault read adds =
-    (settled (Ok (report by events)), verdict_of told profile script by events read, inr (refl, adds))
+    (settled (profile ∷ script ∷ []) (Ok (report by events)), verdict_of told profile script by events read, inr (refl, adds))
 
 pub steps_done : (told : Option Told) (profile script : List ℕ) (by : Profile) (events : List Event) (old now : Option Written)
     → BothRead told profile script by events → AddsLines (lines_of by (opening by) events) old now (Ok tt)
     → Executes (Some (Replay profile script)) told old now (Ok tt)
 unfolding report
 steps_done told profile script by events old now read adds =
-    (settled (Ok (report by events)), verdict_of told profile script by events read, inl (report by events, inl (refl, refl), adds))
+    (settled (profile ∷ script ∷ []) (Ok (report by events)), verdict_of told profile script by events read, inl (report by events, inl (refl, refl), adds))
 
 -- a new world has sent nothing
 pub nothing_sent : (profile : Profile) (kept : Kept) → StandsFor profile kept (opening profile) → length kept.datagrams ≡ 0

@@ -1,9 +1,9 @@
 -- The files that a run reads: what it reads of each, and which names it gives.
-use Rattle.std.specs.Prelude.{◌≡◌, ◌⊎◌, ℕ, ◌≤◌, List, [], ◌++◌, length, map, take, Option, Some, None, Result, Ok, Err}
+use Rattle.std.specs.Prelude.{◌≡◌, ◌⊎◌, ℕ, ◌≤◌, List, [], ◌++◌, length, map, Option, Some, None, Result, Ok, Err}
 use Rattle.std.specs.Global.{Vec}
 use Rattle.q3_io.specs.Told.{Told, Named, Lookup, contents_of, contents_at}
 use Rattle.q3net.specs.declared.fault.Fault.{Fault}
-use Rattle.q3net.specs.declared.fault.Fault.TheVariants.{NoMemory, Read, Profile}
+use Rattle.q3net.specs.declared.fault.Fault.TheVariants.{NoMemory, Read}
 use Rattle.q3net.specs.Faults.{IsEarly}
 
 abbrev pub IsFront : {A : Type 0} → List A → List A → Type 0
@@ -58,11 +58,6 @@ LooksUpTold (Some told) now names = (after : Told) × (now ≡ Some after) × Lo
 -- only the first of the names, so many, maybe none
 abbrev pub LooksUpFirst : Option Told → Option Told → List (List ℕ) → Type 0
 LooksUpFirst told now names = (first : List (List ℕ)) × IsFront first names × LooksUpTold told now first
-
--- of its names, those that a run has given when its input has decided its end: a profile is checked before another file is looked up
-abbrev pub names_given : {A : Type 0} → Result A Fault → List (List ℕ) → List (List ℕ)
-names_given (Err (Profile e)) names = take 1 names
-names_given ended names = names
 
 -- these names were given, or, where something from outside ended a part early, the first of them
 abbrev pub Gives : {A : Type 0} → Result A Fault → List (List ℕ) → Option Told → Option Told → Type 0

@@ -4,8 +4,8 @@ use Rattle.q3_io.specs.Told.{Told}
 use Rattle.q3_io.specs.Written.{Written, Wrote, NothingWaits}
 use Rattle.q3_world.specs.declared.world.StepError.{StepError}
 use Rattle.q3_world.specs.declared.world.StepError.TheVariants as step
-use Rattle.q3net.specs.Command.{Command, Help, Version, files_of}
-use Rattle.q3net.specs.Input.{IsFront, LooksUpTold, names_given}
+use Rattle.q3net.specs.Command.{Command, Help, Version, Replay}
+use Rattle.q3net.specs.Input.{IsFront, LooksUpTold, LooksUpFirst, Gives}
 use Rattle.q3net.specs.Lines.{ending_line, ending_status}
 use Rattle.q3net.specs.Verdict.{Verdict, IsVerdict}
 use Rattle.q3net.specs.declared.fault.Fault.{Fault}
@@ -24,17 +24,22 @@ MayStop (Some Help) = ⊥
 MayStop (Some Version) = ⊥
 MayStop command = Unit {0}
 
--- what stops a command early, and what of its text was printed by then: every file is read before the first line
-abbrev pub Stops : Fault → List ℕ → List ℕ → Type 0
-Stops NoMemory printed text = IsFront printed text
-Stops Read printed text = printed ≡ []
-Stops other printed text = ⊥
+-- what a command has printed where a read fails: a replay reads every file before its first line
+abbrev pub StopsReading : Option Command → List ℕ → List ℕ → Type 0
+StopsReading (Some (Replay profile script)) printed text = printed ≡ []
+StopsReading other printed text = ⊥
+
+-- what stops a command early, and what of its text was printed by then
+abbrev pub Stops : Option Command → Fault → List ℕ → List ℕ → Type 0
+Stops command NoMemory printed text = IsFront printed text
+Stops command Read printed text = StopsReading command printed text
+Stops command other printed text = ⊥
 
 -- how a command ends, and what it printed before any fault line: as its verdict says, or stopped early
 abbrev pub Ends : Option Command → Verdict → Result (Unit {0}) Fault → List ℕ → Type 0
 Ends command verdict ended printed =
     ((ended ≡ verdict.ending) × (printed ≡ verdict.text))
-    ⊎ (MayStop command × (fault : Fault) × (ended ≡ Err fault) × Stops fault printed verdict.text)
+    ⊎ (MayStop command × (fault : Fault) × (ended ≡ Err fault) × Stops command fault printed verdict.text)
 
 -- what the sink took of a command by then; where it failed, a front of the verdict's text
 abbrev pub Executes : Option Command → Option Told → Option Written → Option Written → Result (Unit {0}) Fault → Type 0
@@ -42,6 +47,10 @@ Executes command told old now ended =
     (verdict : Verdict) × IsVerdict told command verdict
     × (((printed : List ℕ) × Ends command verdict ended printed × Wrote old now printed true)
     ⊎ ((ended ≡ Err Write) × Wrote old now verdict.text false))
+
+-- the names that a command has given by then: those of its verdict, or the first of them
+abbrev pub GivesNames : Option Command → Option Told → Option Told → Result (Unit {0}) Fault → Type 0
+GivesNames command told now ended = (verdict : Verdict) × IsVerdict told command verdict × Gives ended verdict.names told now
 
 -- a text of the program's own
 abbrev pub PrintsAll : List ℕ → Option Written → Option Written → Result (Unit {0}) Fault → Type 0
@@ -78,11 +87,11 @@ abbrev pub IsComplete : Option Command → Option Told → ℕ → Type 0
 IsComplete command told status =
     (verdict : Verdict) × IsVerdict told command verdict × ((status ≡ ending_status verdict.ending) ⊎ (status ≡ 1))
 
--- the names that the run gave are those of its verdict, unless something from outside ended it early
+-- the names that the run gave are those of its verdict, or the first of them, where something from outside ended it early
 abbrev pub HasGiven : Option Command → Option Told → Option Told → ℕ → Type 0
 HasGiven command told now status =
     (verdict : Verdict) × IsVerdict told command verdict
-    × (LooksUpTold told now (names_given verdict.ending (files_of command)) ⊎ ((status ≡ 1) ⊎ ((status ≡ 3) ⊎ (status ≡ 4))))
+    × (LooksUpTold told now verdict.names ⊎ (((status ≡ 1) ⊎ ((status ≡ 3) ⊎ (status ≡ 4))) × LooksUpFirst told now verdict.names))
 
 -- ---- of the steps
 

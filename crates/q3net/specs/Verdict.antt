@@ -1,5 +1,5 @@
 -- What the input of a run decides: what is printed, and how the run ends.
-use Rattle.std.specs.Prelude.{◌≡◌, ℕ, List, [], Option, Some, None, Result, Ok, Err, ok_or}
+use Rattle.std.specs.Prelude.{◌≡◌, ℕ, List, [], ◌∷◌, Option, Some, None, Result, Ok, Err, ok_or}
 use Rattle.std.specs.Result.{result_map_both}
 use Rattle.std.specs.Global.{Vec}
 use Rattle.q3_profile.specs.declared.profile.Profile.{Profile as ProfileValue}
@@ -17,15 +17,16 @@ use Rattle.q3net.specs.Lines.{help_text, version_text}
 use Rattle.q3net.specs.declared.fault.Fault.{Fault}
 use Rattle.q3net.specs.declared.fault.Fault.TheVariants.{Usage, Read, Profile, Script}
 
--- what a command prints, and how it ends: done, or by the first cause that its input decides
+-- what a command prints, how it ends, done or by the first cause that its input decides, and the names that it gives to the files
 pub record Verdict : Type 0 where
   pub text : List ℕ
   pub ending : Result (Unit {0}) Fault
+  pub names : List (List ℕ)
 
 -- a text and nothing more, or a cause and no text
-abbrev pub settled : Result (List ℕ) Fault → Verdict
-settled (Ok text) = record { text = text; ending = Ok tt }
-settled (Err cause) = record { text = []; ending = Err cause }
+abbrev pub settled : List (List ℕ) → Result (List ℕ) Fault → Verdict
+settled names (Ok text) = record { text = text; ending = Ok tt; names = names }
+settled names (Err cause) = record { text = []; ending = Err cause; names = names }
 
 -- the profile that a file spells, or its first broken rule; a file that isn't there doesn't read
 abbrev pub profile_in : Option (List ℕ) → Result ProfileValue Fault
@@ -46,14 +47,19 @@ replayed profile script = do
   events ← events_in script
   Ok (report by events)
 
+-- the names that a replay gives: its script's only where the profile passed
+abbrev pub names_by : Result ProfileValue Fault → List ℕ → List ℕ → List (List ℕ)
+names_by (Ok by) profile script = profile ∷ script ∷ []
+names_by (Err cause) profile script = profile ∷ []
+
 -- the verdict of a command, by what the files hold that it names
 abbrev pub IsVerdict : Option Told → Option Command → Verdict → Type 0
-IsVerdict told None verdict = verdict ≡ settled (Err Usage)
-IsVerdict told (Some Help) verdict = verdict ≡ settled (Ok help_text)
-IsVerdict told (Some Version) verdict = verdict ≡ settled (Ok version_text)
+IsVerdict told None verdict = verdict ≡ settled [] (Err Usage)
+IsVerdict told (Some Help) verdict = verdict ≡ settled [] (Ok help_text)
+IsVerdict told (Some Version) verdict = verdict ≡ settled [] (Ok version_text)
 IsVerdict told (Some (Replay profile script)) verdict =
     (of_profile : Option (List ℕ)) × (of_script : Option (List ℕ)) × Holds told profile of_profile × Holds told script of_script
-    × (verdict ≡ settled (replayed of_profile of_script))
+    × (verdict ≡ settled (names_by (profile_in of_profile) profile script) (replayed of_profile of_script))
 
 -- what a part of a run answers by the file of a name
 abbrev pub GetsFrom : {A : Type 0} → (Option (List ℕ) → Result A Fault) → Option Told → List ℕ → Result A Fault → Type 0

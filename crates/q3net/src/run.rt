@@ -17,9 +17,9 @@ ghost use Rattle.q3_world.specs.Report.{answer_text};
 ghost use Rattle.q3net.specs.Command.{Replay, command_of, files_of};
 ghost use Rattle.q3net.specs.Faults.{ReadCause, WriteCause};
 ghost use Rattle.q3net.specs.Lines.{ending_line, ending_status};
-ghost use Rattle.q3net.specs.Input.{Gives, LooksUpFirst, names_given};
+ghost use Rattle.q3net.specs.Input.{Gives, LooksUpFirst};
 ghost use Rattle.q3net.specs.Verdict.{GetsFrom, profile_in, events_in, with_events};
-ghost use Rattle.q3net.specs.Run.{PrintsAll, Executes, Took, Prints, Reports, IsDecided, IsComplete, HasGiven, AddsLines};
+ghost use Rattle.q3net.specs.Run.{PrintsAll, Executes, Took, Prints, Reports, IsDecided, IsComplete, HasGiven, GivesNames, AddsLines};
 
 use crate::command::{Command, parse};
 use crate::fault::Fault;
@@ -85,7 +85,7 @@ fn execute<F: Files, O: Sink>(
     out: &mut O,
 ) -> Result<(), Fault>
     ensures executes { Executes (command_of (map string_bytes words.now)) (F.told files.old) (O.written out.old) (O.written out.new) result }
-    ensures gives { Gives result (names_given result (files_of (command_of (map string_bytes words.now)))) (F.told files.old) (F.told files.new) }
+    ensures gives { GivesNames (command_of (map string_bytes words.now)) (F.told files.old) (F.told files.new) result }
     ensures writes { F.write_faults files.new ≡ F.write_faults files.old }
     ensures read_cause { ReadCause (F.faults files.old) (F.faults files.new) result }
     ensures write_cause { WriteCause (O.faults out.old) (O.faults out.new) result }
@@ -144,7 +144,7 @@ fn replay<F: Files, O: Sink>(
     out: &mut O,
 ) -> Result<(), Fault>
     ensures executes { Executes (Some (Replay profile.now script.now)) (F.told files.old) (O.written out.old) (O.written out.new) result }
-    ensures gives { Gives result (names_given result (profile.now ∷ script.now ∷ [])) (F.told files.old) (F.told files.new) }
+    ensures gives { GivesNames (Some (Replay profile.now script.now)) (F.told files.old) (F.told files.new) result }
     ensures writes { F.write_faults files.new ≡ F.write_faults files.old }
     ensures read_cause { ReadCause (F.faults files.old) (F.faults files.new) result }
     ensures write_cause { WriteCause (O.faults out.old) (O.faults out.new) result }

@@ -2,6 +2,7 @@ use Rattle.std.proofs.Common.{Some, refl}
 use Rattle.q3net.specs.Command.{Help, Version}
 use Rattle.q3net.specs.Lines.{help_text, version_text}
 use Rattle.q3net.proofs.Ending.{none_executes, text_executes}
+use Rattle.q3net.proofs.Looking.{none_given, text_given}
 use Rattle.q3net.proofs.run.execute.Goals as goal
 
 pub returns-in-None-clause-executes : goal.returns-in-None-clause-executes
@@ -20,3 +21,18 @@ returns-in-Some-Version-clause-executes g c =
     let e = rw c.in-Some-Version.field-0-is at c.in-Some-Version.ensures in
     rw (← e) (text_executes (Some Version) (g.F.Files.told c.args.files.now) (g.O.Sink.written c.args.out.now) (g.O.Sink.written c.print-in-Some-Version.new.out) version_text c.print-in-Some-Version.result refl
     c.print-in-Some-Version.ensures.prints)
+
+pub returns-in-None-clause-gives : goal.returns-in-None-clause-gives
+returns-in-None-clause-gives g c = rw (← c.in-None.ensures) (none_given (g.F.Files.told c.args.files.now))
+
+pub returns-in-Some-Help-clause-gives : goal.returns-in-Some-Help-clause-gives
+unfolding help_text
+returns-in-Some-Help-clause-gives g c =
+    let e = rw c.in-Some-Help.field-0-is at c.in-Some-Help.ensures in
+    rw (← e) (text_given (Some Help) (g.F.Files.told c.args.files.now) help_text c.print.result refl)
+
+pub returns-in-Some-Version-clause-gives : goal.returns-in-Some-Version-clause-gives
+unfolding version_text
+returns-in-Some-Version-clause-gives g c =
+    let e = rw c.in-Some-Version.field-0-is at c.in-Some-Version.ensures in
+    rw (← e) (text_given (Some Version) (g.F.Files.told c.args.files.now) version_text c.print-in-Some-Version.result refl)

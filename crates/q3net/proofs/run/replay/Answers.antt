@@ -1,10 +1,10 @@
-use Rattle.std.proofs.Common.{List, [], ◌∷◌, Err, inl, subst, arith}
+use Rattle.std.proofs.Common.{List, Err, subst, arith}
 use Rattle.std.proofs.lemmas.Result.{err_from_is_err_and}
 use Rattle.q3_script.specs.declared.event.Event.{Event}
 use Rattle.q3_world.specs.World.{opening}
 use Rattle.q3net.specs.Run.{AddsLines}
 use Rattle.q3net.proofs.Stepping.{lines_of}
-use Rattle.q3net.proofs.Looking.{profile_gives, script_gives, both_given, step_gives}
+use Rattle.q3net.proofs.Looking.{profile_gives, script_gives, both_given}
 use Rattle.q3net.proofs.Replaying.{profile_ended, events_ended, both_read, memory_ended, steps_ended, steps_done, nothing_sent}
 use Rattle.q3net.proofs.run.replay.Goals as goal
 
@@ -16,8 +16,8 @@ returns-in_err-profile-clause-executes g c =
 pub returns-in_err-profile-clause-gives : goal.returns-in_err-profile-clause-gives
 returns-in_err-profile-clause-gives g c =
     let p = err_from_is_err_and c.from_residual.result c.from_residual.ensures.1 in
-    rw (p.1, p.2) (profile_gives c.in_err-profile.ensures.gets.0 c.in_err-profile.field-0.0 c.args.profile.now c.args.script.now (g.F.Files.told c.args.files.now) (g.F.Files.told c.load_profile.new.files)
-    c.in_err-profile.ensures.gets.2 c.in_err-profile.ensures.gives)
+    rw (p.1, p.2) (profile_gives (g.F.Files.told c.args.files.now) (g.F.Files.told c.load_profile.new.files) c.args.profile.now c.args.script.now c.in_err-profile.field-0.0
+    c.in_err-profile.ensures.gets c.in_err-profile.ensures.gives)
 
 pub returns-in_err-events-clause-executes : goal.returns-in_err-events-clause-executes
 returns-in_err-events-clause-executes g c =
@@ -28,8 +28,8 @@ returns-in_err-events-clause-executes g c =
 pub returns-in_err-events-clause-gives : goal.returns-in_err-events-clause-gives
 returns-in_err-events-clause-gives g c =
     let p = err_from_is_err_and c.from_residual-in_err-events.result c.from_residual-in_err-events.ensures.1 in
-    rw (p.1, p.2) (script_gives c.in_ok-profile.profile c.in_err-events.ensures.gets.0 c.in_err-events.field-0.0 c.args.profile.now c.args.script.now (g.F.Files.told c.args.files.now) (g.F.Files.told c.load_profile.new.files) (g.F.Files.told c.load_events.new.files)
-    c.in_err-events.ensures.gets.2 c.in_ok-profile.ensures.gives c.in_err-events.ensures.gives)
+    rw (p.1, p.2) (script_gives (g.F.Files.told c.args.files.now) (g.F.Files.told c.load_profile.new.files) (g.F.Files.told c.load_events.new.files) c.args.profile.now c.args.script.now c.in_ok-profile.profile c.in_err-events.field-0.0
+    c.in_ok-profile.ensures.gets c.in_ok-profile.ensures.gives c.in_err-events.ensures.gives)
 
 pub returns-in_err-world-clause-executes : goal.returns-in_err-world-clause-executes
 returns-in_err-world-clause-executes g c =
@@ -58,14 +58,17 @@ returns-clause-executes g c =
     steps_done (g.F.Files.told c.args.files.now) c.args.profile.now c.args.script.now c.in_ok-profile.profile c.in_ok-events.events.items (g.O.Sink.written c.args.out.now)
     (g.O.Sink.written c.step_all.new.out) read (rw c.deref.ensures.value at (c.in_ok-step_all.ensures.adds c.in_ok-profile.profile (opening c.in_ok-profile.profile) c.in_ok-world.ensures.stands))
 
+pub returns-in_err-world-clause-gives : goal.returns-in_err-world-clause-gives
+returns-in_err-world-clause-gives g c =
+    both_given (g.F.Files.told c.args.files.now) (g.F.Files.told c.load_profile.new.files) (g.F.Files.told c.load_events.new.files) c.args.profile.now c.args.script.now c.in_ok-profile.profile c.in_ok-events.events _
+    c.in_ok-profile.ensures.gets c.in_ok-profile.ensures.gives c.in_ok-events.ensures.gives
+
 pub returns-in_err-step_all-clause-gives : goal.returns-in_err-step_all-clause-gives
 returns-in_err-step_all-clause-gives g c =
-    let p = err_from_is_err_and c.from_residual-in_err-step_all.result c.from_residual-in_err-step_all.ensures.1 in
-    rw (p.1, p.2, c.in_err-step_all.ensures.files) (step_gives c.in_err-step_all.field-0.0 (c.args.profile.now ∷ c.args.script.now ∷ []) (g.F.Files.told c.args.files.now) (g.F.Files.told c.load_events.new.files)
-    (both_given c.in_ok-profile.profile c.in_ok-events.events c.args.profile.now c.args.script.now (g.F.Files.told c.args.files.now) (g.F.Files.told c.load_profile.new.files) (g.F.Files.told c.load_events.new.files)
-    c.in_ok-profile.ensures.gives c.in_ok-events.ensures.gives))
+    rw c.in_err-step_all.ensures.files (both_given (g.F.Files.told c.args.files.now) (g.F.Files.told c.load_profile.new.files) (g.F.Files.told c.load_events.new.files) c.args.profile.now c.args.script.now c.in_ok-profile.profile
+    c.in_ok-events.events _ c.in_ok-profile.ensures.gets c.in_ok-profile.ensures.gives c.in_ok-events.ensures.gives)
 
 pub returns-clause-gives : goal.returns-clause-gives
 returns-clause-gives g c =
-    rw c.in_ok-step_all.ensures.files (inl (both_given c.in_ok-profile.profile c.in_ok-events.events c.args.profile.now c.args.script.now (g.F.Files.told c.args.files.now) (g.F.Files.told c.load_profile.new.files) (g.F.Files.told c.load_events.new.files)
-    c.in_ok-profile.ensures.gives c.in_ok-events.ensures.gives))
+    rw c.in_ok-step_all.ensures.files (both_given (g.F.Files.told c.args.files.now) (g.F.Files.told c.load_profile.new.files) (g.F.Files.told c.load_events.new.files) c.args.profile.now c.args.script.now c.in_ok-profile.profile
+    c.in_ok-events.events _ c.in_ok-profile.ensures.gets c.in_ok-profile.ensures.gives c.in_ok-events.ensures.gives)
