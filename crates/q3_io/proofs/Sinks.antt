@@ -3,7 +3,7 @@ use Rattle.std.proofs.Common.{◌≡◌, ℕ, ◌+◌, ◌<◌, Bool, true, fals
 use Rattle.std.proofs.lemmas.List.{append-nil, take_more, take-append-drop}
 use Rattle.std.proofs.lemmas.List.Concat.{flat_map-append}
 use Rattle.std.specs.List.{flat_map}
-use Rattle.q3_io.specs.Written.{Written, Wrote, all_sent}
+use Rattle.q3_io.specs.Written.{Written, Wrote}
 use Rattle.q3_io.specs.Line.{held_behind}
 
 some_is : (x y : Written) → Some x ≡ Some y → x ≡ y
@@ -35,15 +35,6 @@ ends_early {front} rest wrote is = record {
   told = λ had e.
       let was = wrote.told had e in
       (was.0, was.1 ++ rest, sym (append_assoc was.0 was.1 rest) ∙ (ap (λ (z : List ℕ). z ++ rest) was.2 ∙ (append_assoc had.waits front rest ∙ ap (λ (z : List ℕ). had.waits ++ z) (sym is))), was.3);
-}
-
--- bytes behind those of a sink that holds nothing back
-pub sent_more : (sent now text : List ℕ) → now ≡ sent ++ text → Wrote (Some (all_sent sent)) (Some (all_sent now)) text true
-sent_more sent now text is = record {
-  untold = λ e. absurd cc;
-  told = λ had e.
-      let same : all_sent sent ≡ had = some_is (all_sent sent) had e in
-      (text, [], append-nil text ∙ ap (λ (w : Written). w.waits ++ text) same, rw is (ap (λ (w : Written). Some (all_sent (w.sent ++ text))) same));
 }
 
 -- the bytes that were held, and a text, went through the sink behind

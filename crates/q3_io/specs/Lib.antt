@@ -3,12 +3,6 @@ pub mod Written
 pub mod Line
 pub mod Laws
 pub mod Told
-pub mod MemoryCalls
-pub mod MemorySink
-pub mod Texts
-pub mod FileStore
-pub mod FileNumbers
-pub mod MemoryFiles
 pub mod HostCounts
 pub mod Quoted
 pub mod Print

@@ -1,5 +1,5 @@
-//! The outside: files and a sink for bytes, as traits whose contracts say what each call changes, their memory
-//! and host implementations, a line buffer in front of a sink, addresses, and texts that are put together from pieces.
+//! The outside: files and a sink for bytes, as traits whose contracts say what each call changes, those of the system,
+//! a line buffer in front of a sink, addresses, and texts that are put together from pieces.
 #![tactic(auto)]
 
 pub mod address;
@@ -7,7 +7,6 @@ pub mod files;
 pub mod host;
 pub mod laws;
 pub mod line;
-pub mod memory;
 pub mod print;
 pub mod sink;
 #[cfg(test)]
@@ -17,6 +16,10 @@ pub use address::Address;
 pub use files::Files;
 pub use host::{HostFiles, HostSink};
 pub use line::Line;
-pub use memory::{MemFiles, MemSink, NoMemory, NullSink};
 pub use print::{Piece, print_all, print_indexed, print_number, print_text};
-pub use sink::{Failed, Sink};
+pub use sink::{Failed, NullSink, Sink};
+
+use std::alloc::AllocError;
+
+/// Want of memory, and nothing else.
+pub type NoMemory = AllocError;

@@ -1,6 +1,6 @@
 //! Where bytes are written to.
 
-ghost use Rattle.std.specs.Prelude.{ℕ, [], Option};
+ghost use Rattle.std.specs.Prelude.{◌≡◌, ℕ, [], Option, None, is_ok, true};
 ghost use Rattle.q3_io.specs.Faults.{HasCause};
 ghost use Rattle.q3_io.specs.Written.{Written, Adds, NothingWaits};
 
@@ -27,4 +27,31 @@ pub trait Sink {
         ensures adds { Adds (written self.old) (written self.new) [] result }
         ensures flushed { NothingWaits (written self.new) }
         ensures cause { HasCause (faults self.old) (faults self.new) result };
+}
+
+/// Takes every write and keeps nothing.
+#[derive(Clone, Copy, Debug, PartialEq, Eq)]
+pub struct NullSink;
+
+impl Sink for NullSink {
+    ghost faults = { λ s. 0 };
+
+    ghost written = { λ s. None };
+
+    fn write_all(&mut self, bytes: &[u8]) -> Result<(), Failed>
+        ensures adds { Adds None None bytes.now result }
+        ensures cause { HasCause 0 0 result }
+        ensures ok { is_ok result ≡ true }
+    {
+        Ok(())
+    }
+
+    fn flush(&mut self) -> Result<(), Failed>
+        ensures adds { Adds None None [] result }
+        ensures flushed { NothingWaits None }
+        ensures cause { HasCause 0 0 result }
+        ensures ok { is_ok result ≡ true }
+    {
+        Ok(())
+    }
 }

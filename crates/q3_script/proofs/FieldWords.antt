@@ -161,7 +161,7 @@ grouped : (a b c d e : List (List ℕ)) → a ++ b ++ c ++ d ++ e ≡ a ++ (b ++
 grouped a b c d e = simp (append_assoc, append-nil)
 
 -- words that are read in five parts
-behind_each : {words : List (List ℕ)} {r1 r2 r3 r4 : List (List ℕ)} (a b c d e : List (List ℕ)) → words ≡ a ++ r1 → r1 ≡ b ++ r2 → r2 ≡ c ++ r3 → r3 ≡ d ++ r4 → r4 ≡ e ++ [] → words ≡ a ++ b ++ c ++ d ++ e
+behind_each : {words : List (List ℕ)} {behind_a behind_b behind_c behind_d : List (List ℕ)} (a b c d e : List (List ℕ)) → words ≡ a ++ behind_a → behind_a ≡ b ++ behind_b → behind_b ≡ c ++ behind_c → behind_c ≡ d ++ behind_d → behind_d ≡ e ++ [] → words ≡ a ++ b ++ c ++ d ++ e
 behind_each a b c d e at_a at_b at_c at_d at_e = rw (at_a, at_b, at_c, at_d, at_e) (sym (grouped a b c d e))
 
 -- what is left is nothing

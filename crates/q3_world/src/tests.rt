@@ -6,7 +6,7 @@ ghost use Rattle.q3_profile.specs.Profile.{IsProfile};
 use super::*;
 use q3_bits::Code;
 use q3_fields::Table;
-use q3_io::{MemFiles, MemSink};
+use q3_memory::{MemFiles, MemSink};
 use q3_profile::Profile;
 use q3_script::{ScriptKind, read_script};
 use std::alloc::Global;

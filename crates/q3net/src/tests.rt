@@ -1,7 +1,8 @@
 //! The top call over files and a line buffer in memory, with ample memory.
 
 use crate::run::run;
-use q3_io::{Line, MemFiles, MemSink};
+use q3_io::Line;
+use q3_memory::{MemFiles, MemSink};
 use std::alloc::{AllocError, Global};
 use std::test::Fail;
 

@@ -7,7 +7,7 @@ ghost use Rattle.q3_io.specs.Told.{IsGiven, LooksUp, Creates};
 
 use super::counted;
 use crate::files::Files;
-use crate::memory::NoMemory;
+use crate::NoMemory;
 use crate::sink::Failed;
 use std::alloc::Global;
 use std::fs;

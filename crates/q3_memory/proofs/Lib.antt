@@ -1,0 +1,5 @@
+pub mod ToldPlaces
+pub mod ToldHeld
+pub mod TextPlaces
+pub mod Numbered
+pub mod Sent
