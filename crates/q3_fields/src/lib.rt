@@ -1,6 +1,7 @@
 //! Kinds of fields, tables of them, and the text of a changed field.
 #![tactic(auto)]
 
+pub mod delta;
 pub mod float;
 pub mod kind;
 pub mod laws;
@@ -8,6 +9,7 @@ pub mod reading;
 pub mod table;
 pub mod writing;
 
+pub use delta::{DeltaError, StateKind, changed_count, normalize, read_counted, write_counted};
 pub use float::{pattern_of, small_of};
 pub use kind::{Kind, norm};
 pub use reading::{read_entity_field, read_player_field};
