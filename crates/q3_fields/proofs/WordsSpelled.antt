@@ -1,19 +1,17 @@
 -- The spellings of a delta of words: what is written is one of them, and a reader takes each of them and no other text.
-use Rattle.std.proofs.Common.{◌≡◌, ℕ, ◌^◌, ◌≤◌, ◌<◌, Bool, false, cond, ltb, List, ◌++◌, length, take, drop, Result, Ok, Err, refl, sym, ap, ◌∙◌, append_assoc, arith}
+use Rattle.std.proofs.Common.{◌≡◌, ℕ, ◌^◌, ◌≤◌, ◌<◌, Bool, false, cond, ltb, List, ◌++◌, length, take, Result, Err, refl, sym, ◌∙◌, append_assoc, arith}
 use Rattle.std.proofs.lemmas.Bool.{ltb-false, le-ltb}
 use Rattle.std.proofs.lemmas.List.{length-take-le}
 use Rattle.std.proofs.lemmas.List.Elements.{All-take}
-use Rattle.q3_bits.specs.ResultBind.{◌>>=◌, bind_ok}
-use Rattle.q3_bits.specs.Words.{IsCode, field_bits, field_at}
+use Rattle.q3_bits.specs.ResultBind.{bind_ok}
+use Rattle.q3_bits.specs.Words.{field_bits, field_at}
 use Rattle.q3_bits.specs.Laws.{ReadWasPut, PutIsRead}
 use Rattle.q3_fields.specs.declared.kind.Kind.{Kind}
 use Rattle.q3_fields.specs.declared.delta.StateKind.{StateKind}
 use Rattle.q3_fields.specs.declared.delta.DeltaError.{DeltaError}
 use Rattle.q3_fields.specs.declared.delta.DeltaError.TheVariants.{Count}
-use Rattle.q3_fields.specs.Kinds.{IsKind, AreKinds}
-use Rattle.q3_fields.specs.States.{AreWords, normal_words}
+use Rattle.q3_fields.specs.Kinds.{IsKind}
 use Rattle.q3_fields.specs.Deltas.{changed_count, fields_text, words_delta, fields_after, bits_read, words_after}
-use Rattle.q3_fields.specs.Spelling.{SpellsWords}
 use Rattle.q3_fields.specs.Laws.{NormIsNormal, NormalWordsAreNormal, WordsAreSpelled, UnchangedIsNormal, WordsReadAreSpelled, WordsSpelledAreRead}
 use Rattle.q3_fields.proofs.LastChanged.{last_changed-agrees, last_changed-le}
 use Rattle.q3_fields.proofs.NormalWords.{normal_words-twice, normal_words-fit, length-normal_words, normal_words-front}
