@@ -3,4 +3,12 @@ pub mod Magnitudes
 pub mod SmallFloats
 pub mod FieldBits
 pub mod Normal
+pub mod Results
 pub mod Spelled
+pub mod LastChanged
+pub mod NormalWords
+pub mod Changed
+pub mod FieldTexts
+pub mod FieldsRead
+pub mod FieldSpelled
+pub mod WordsSpelled

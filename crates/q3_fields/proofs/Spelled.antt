@@ -14,35 +14,10 @@ use Rattle.q3_fields.specs.Floats.{pattern, small_float}
 use Rattle.q3_fields.specs.Texts.{biased, unbiased, float_bits, player_field, entity_field, float_at, integer_at, player_field_at, entity_field_at}
 use Rattle.q3_fields.specs.Spelling.{SpellsFloat, SpellsInteger}
 use Rattle.q3_fields.specs.Laws.{IsSmall, PlayerFieldIsSpelled, EntityFieldIsSpelled, PlayerReadIsSpelled, EntityReadIsSpelled, PlayerSpelledIsRead, EntitySpelledIsRead}
+use Rattle.q3_fields.proofs.Results.{answer_parts, bits_were_put, bits_were, behind_mark}
 use Rattle.q3_fields.proofs.FieldBits.{field_bits-cut}
 use Rattle.q3_fields.proofs.SmallFloats.{pattern-fits, pattern-no_negative_zero, unbiased-small, unbiased-biased, biased-fits, small_float-some, small_float-within, small_float-negative_zero}
 use Rattle.q3_fields.proofs.Normal.{norm-below, norm-twice, norm-zero, norm-float, norm-negative_zero, norm-unsigned_cut, norm-signed_cut}
-
--- ---- steps that did not fail
-
--- an answer of a reader
-abbrev answer : ℕ → List Bool → Result (ℕ × List Bool) ReadError
-answer x rest = Ok (x, rest)
-
--- the parts of an answer
-answer_parts : (x x' : ℕ) (rest rest' : List Bool) → answer x rest ≡ answer x' rest' → (x ≡ x') × (rest ≡ rest')
-answer_parts x x' rest rest' e =
-    let whole : (λ (p : ℕ × List Bool). p) (x, rest) ≡ (x', rest') = cc in
-    (ap (λ (p : ℕ × List Bool). p.0) whole, ap (λ (p : ℕ × List Bool). p.1) whole)
-
--- bits that are read were put
-bits_were_put : ReadWasPut → (words : List (List Bool)) → IsCode words → (width : ℕ) (bits : List Bool) (found : ℕ × List Bool) → field_at words width bits ≡ Ok found
-    → (found.0 < 2 ^ width) × (bits ≡ field_bits words width found.0 ++ found.1)
-bits_were_put law words code width bits found e = law words width found.0 bits found.1 code e
-
--- they are the text of the value, and the rest
-bits_were : (words : List (List Bool)) (width : ℕ) (bits : List Bool) (found : ℕ × List Bool) (value : ℕ) (rest : List Bool) → bits ≡ field_bits words width found.0 ++ found.1
-    → found.0 ≡ value → found.1 ≡ rest → bits ≡ field_bits words width value ++ rest
-bits_were words width bits found value rest put is left = rw (← is, ← left) put
-
--- a text behind a mark, and what is behind both
-behind_mark : (bits mark text left rest : List Bool) → bits ≡ mark ++ left → left ≡ text ++ rest → bits ≡ mark ++ text ++ rest
-behind_mark bits mark text left rest whole part = whole ∙ ap (λ (ys : List Bool). mark ++ ys) part ∙ sym (append_assoc mark text rest)
 
 -- a mark is 0 or 1
 mark_is_one : (mark : ℕ) → mark < 2 → eqb mark 0 ≡ false → mark ≡ 1

@@ -1,11 +1,14 @@
--- Laws of small floats, of the normal form and of field texts.
-use Rattle.std.specs.Prelude.{◌≡◌, ◌≢◌, ℕ, ◌^◌, ◌<◌, Bool, List, ◌++◌, Ok, Some, ℤ, pos, neg_ℤ, ◌≤ℤ◌}
+-- Laws of small floats, of the normal form, of field texts and of the delta of words.
+use Rattle.std.specs.Prelude.{◌≡◌, ◌≢◌, ℕ, ◌^◌, ◌<◌, ◌≤◌, Bool, List, ◌++◌, length, drop, Ok, Some, ℤ, pos, neg_ℤ, ◌≤ℤ◌}
 use Rattle.q3_bits.specs.Words.{IsCode}
 use Rattle.q3_fields.specs.declared.kind.Kind.{Kind}
-use Rattle.q3_fields.specs.Kinds.{IsKind, norm}
+use Rattle.q3_fields.specs.declared.delta.StateKind.{StateKind}
+use Rattle.q3_fields.specs.Kinds.{IsKind, AreKinds, norm}
+use Rattle.q3_fields.specs.States.{AreWords, normal_words}
+use Rattle.q3_fields.specs.Deltas.{last_changed, changed_count, words_delta, words_after}
 use Rattle.q3_fields.specs.Floats.{pattern, small_float}
 use Rattle.q3_fields.specs.Texts.{player_field, entity_field, player_field_at, entity_field_at}
-use Rattle.q3_fields.specs.Spelling.{SpellsPlayerField, SpellsEntityField}
+use Rattle.q3_fields.specs.Spelling.{SpellsPlayerField, SpellsEntityField, SpellsWords}
 
 -- a whole number whose pattern is a small float
 pub record IsSmall (k : ℤ) : Type 0 where
@@ -65,3 +68,38 @@ PlayerWrittenIsRead = (words : List (List Bool)) (kind : Kind) (word : ℕ) (res
 abbrev pub EntityWrittenIsRead : Type 0
 EntityWrittenIsRead = (words : List (List Bool)) (kind : Kind) (word : ℕ) (rest : List Bool) → IsCode words → IsKind kind → word < 2 ^ 32
     → entity_field_at words kind (entity_field words kind word ++ rest) ≡ Ok (norm kind word, rest)
+
+-- the normal form of words is words, in normal form
+abbrev pub NormalWordsAreNormal : Type 0
+NormalWordsAreNormal = (table : List Kind) (words : List ℕ) → AreKinds table → AreWords 64 words
+    → AreWords 64 (normal_words table words) × (normal_words table (normal_words table words) ≡ normal_words table words)
+
+-- the count is the least number from which on the words agree
+abbrev pub LastChangedIsLeast : Type 0
+LastChangedIsLeast = (from to : List ℕ) → length from ≡ length to
+    → (drop (last_changed from to) from ≡ drop (last_changed from to) to)
+    × ((n : ℕ) → drop n from ≡ drop n to → last_changed from to ≤ n)
+
+-- what is written against normal words spells the normal form of the others, and its count is in the table
+abbrev pub WordsAreSpelled : Type 0
+WordsAreSpelled = (state : StateKind) (words : List (List Bool)) (table : List Kind) (from to : List ℕ) → IsCode words → AreKinds table
+    → AreWords 64 from → normal_words table from ≡ from → AreWords 64 to
+    → SpellsWords state words table from (normal_words table to) (words_delta state words table from to)
+
+-- where no field changed, the normal form is what was there
+abbrev pub UnchangedIsNormal : Type 0
+UnchangedIsNormal = (table : List Kind) (from to : List ℕ) → AreKinds table → AreWords 64 from → normal_words table from ≡ from → AreWords 64 to
+    → changed_count table from to ≡ 0 → normal_words table to ≡ from
+
+-- what is read was spelled so, and is words, in normal form where the others are
+abbrev pub WordsReadAreSpelled : Type 0
+WordsReadAreSpelled = (state : StateKind) (words : List (List Bool)) (table : List Kind) (from to : List ℕ) (bits rest : List Bool) → IsCode words
+    → AreKinds table → AreWords 64 from → words_after state words table from bits ≡ Ok (to, rest)
+    → AreWords 64 to × (normal_words table from ≡ from → normal_words table to ≡ to)
+    × (text : List Bool) × (bits ≡ text ++ rest) × SpellsWords state words table from to text
+
+-- what is spelled so is read, with whatever follows it
+abbrev pub WordsSpelledAreRead : Type 0
+WordsSpelledAreRead = (state : StateKind) (words : List (List Bool)) (table : List Kind) (from to : List ℕ) (text rest : List Bool) → IsCode words
+    → AreKinds table → AreWords 64 from → SpellsWords state words table from to text
+    → words_after state words table from (text ++ rest) ≡ Ok (to, rest)

@@ -3,5 +3,7 @@ pub mod Kinds
 pub mod Rows
 pub mod Floats
 pub mod Texts
+pub mod States
+pub mod Deltas
 pub mod Spelling
 pub mod Laws

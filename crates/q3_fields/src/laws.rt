@@ -1,7 +1,7 @@
-//! Laws of small floats, of the normal form and of field texts, each the contract of a call that does nothing but cite
+//! Laws of small floats, of the normal form, of field texts and of the delta of words, each the contract of a call that does nothing but cite
 //! the laws below it.
 
-ghost use Rattle.q3_fields.specs.Laws.{SmallOfPattern, PatternOfSmall, NormIsNormal, NormHasItsText, PlayerFieldIsSpelled, EntityFieldIsSpelled, PlayerReadIsSpelled, EntityReadIsSpelled, PlayerSpelledIsRead, EntitySpelledIsRead, PlayerWrittenIsRead, EntityWrittenIsRead};
+ghost use Rattle.q3_fields.specs.Laws.{SmallOfPattern, PatternOfSmall, NormIsNormal, NormHasItsText, PlayerFieldIsSpelled, EntityFieldIsSpelled, PlayerReadIsSpelled, EntityReadIsSpelled, PlayerSpelledIsRead, EntitySpelledIsRead, PlayerWrittenIsRead, EntityWrittenIsRead, NormalWordsAreNormal, LastChangedIsLeast, WordsAreSpelled, UnchangedIsNormal, WordsReadAreSpelled, WordsSpelledAreRead};
 
 use q3_bits::laws;
 
@@ -80,5 +80,48 @@ pub fn entity_written_is_read()
     ensures { EntityWrittenIsRead }
 {
     entity_field_is_spelled();
+    entity_spelled_is_read();
+}
+
+/// The normal form of a state's words is words, in normal form.
+pub fn normal_words_are_normal()
+    ensures { NormalWordsAreNormal }
+{
+    norm_is_normal();
+}
+
+/// The count of fields in a delta is the least number from which on all words agree.
+pub fn last_changed_is_least()
+    ensures { LastChangedIsLeast }
+{}
+
+/// What is written against normal words spells the normal form of the others.
+pub fn words_are_spelled()
+    ensures { WordsAreSpelled }
+{
+    player_field_is_spelled();
+    entity_field_is_spelled();
+}
+
+/// Where no field changed, the normal form of the words is what was there.
+pub fn unchanged_is_normal()
+    ensures { UnchangedIsNormal }
+{}
+
+/// Words that are read were spelled so, and are in normal form where the others are.
+pub fn words_read_are_spelled()
+    ensures { WordsReadAreSpelled }
+{
+    laws::read_was_put();
+    player_read_is_spelled();
+    entity_read_is_spelled();
+}
+
+/// Words that are spelled so are read, with whatever follows them.
+pub fn words_spelled_are_read()
+    ensures { WordsSpelledAreRead }
+{
+    laws::put_is_read();
+    player_spelled_is_read();
     entity_spelled_is_read();
 }

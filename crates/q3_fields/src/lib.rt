@@ -1,6 +1,7 @@
 //! Kinds of fields, tables of them, and the text of a changed field.
 #![tactic(auto)]
 
+pub mod delta;
 pub mod float;
 pub mod kind;
 pub mod laws;
@@ -8,6 +9,7 @@ pub mod reading;
 pub mod table;
 pub mod writing;
 
+pub use delta::{DeltaError, StateKind, changed_count, normalize, read_counted, write_counted};
 pub use float::{pattern_of, small_of};
 pub use kind::{Kind, norm};
 pub use reading::{read_entity_field, read_player_field};
@@ -96,6 +98,39 @@ mod tests {
         assert_eq!(rt; table.kind(3), None);
         assert_eq!(rt; table.number_bits(), 10);
         assert_eq!(rt; table.end(), 1023);
+        Ok(())
+    }
+
+    #[test]
+    fn words_are_written_and_read_back(rt: HostRuntime) -> Result<(), Fail> {
+        let code = Code::plain(rt.alloc())?;
+        let table = Table::of(&[16, 16]).expect(&rt, "a table");
+        let mut words = [0; 64];
+        words[0] = 5;
+        let from = words;
+        let mut to = [0; 64];
+        to[1] = 0x1_0007;
+        to[2] = 9;
+        let count = changed_count(&table, &from, &to);
+        assert_eq!(rt; count, 2);
+        let mut writer = Writer::new(&code, 8);
+        assert_eq!(rt;
+            write_counted(&mut writer, StateKind::Entity, &table, count, &from, &to),
+            Ok(())
+        );
+        assert_eq!(rt; writer.bytes(), [0x02, 0x7d, 0x00, 0x00].as_slice());
+        let mut reader = Reader::new(&code, &[0x02, 0x7d, 0x00, 0x00]);
+        assert_eq!(rt;
+            read_counted(&mut reader, StateKind::Entity, &table, &mut words),
+            Ok(())
+        );
+        normalize(&table, &mut to);
+        assert_eq!(rt; words, to);
+        let mut many = Reader::new(&code, &[0x03, 0x00]);
+        assert_eq!(rt;
+            read_counted(&mut many, StateKind::Player, &table, &mut words),
+            Err(DeltaError::Count(3))
+        );
         Ok(())
     }
 }

@@ -1,8 +1,8 @@
 use Rattle.std.proofs.Common.{refl, sym, ◌∙◌, arith}
-use Rattle.q3_player.specs.Delta.{last_changed}
-use Rattle.q3_player.proofs.LastChanged.{last_changed-differs, last_changed-same}
-use Rattle.q3_player.proofs.writing.changed_fields.Goals as goal
-use Rattle.q3_player.proofs.writing.changed_fields.Goals.{then-from-k, else-from-k}
+use Rattle.q3_fields.specs.Deltas.{last_changed}
+use Rattle.q3_fields.proofs.LastChanged.{last_changed-differs, last_changed-same}
+use Rattle.q3_fields.proofs.delta.changed_count.Goals as goal
+use Rattle.q3_fields.proofs.delta.changed_count.Goals.{then-from-k, else-from-k}
 
 pub loop-k-init : goal.loop-k-init
 unfolding last_changed
@@ -10,8 +10,8 @@ loop-k-init c = record { is = refl; few = omega arith }
 
 pub loop-k-preserved : goal.loop-k-preserved
 loop-k-preserved c =
-    let from = c.args.from.now.words in
-    let to = c.args.to.now.words in
+    let from = c.args.from.now in
+    let to = c.args.to.now in
     elim c.if-from-k.branch [
       | then-from-k w ↦ record {
         is = w.count-is ∙ sym (last_changed-differs from to c.loop-k.k (omega arith) (omega arith) w.if-from-k.true);

@@ -2,7 +2,7 @@
 use Rattle.std.proofs.Common.{◌≡◌, ◌≢◌, ℕ, zero, suc, ◌+◌, ◌≤◌, ◌<◌, false, cond, eqb, ◌&&◌, List, [], ◌∷◌, ◌++◌, length, take, drop, get_or, refl, sym, ap, ◌∙◌, add-one, arith, inl, inr}
 use Rattle.std.proofs.lemmas.Bool.{cases_Bool, eqb-true, ne_eqb, eq-eqb, and_parts}
 use Rattle.std.proofs.lemmas.List.{take_more, length-take-le}
-use Rattle.q3_player.specs.Delta.{last_changed}
+use Rattle.q3_fields.specs.Deltas.{last_changed}
 
 -- a word more at the end counts all before it where it differs, and else none
 last_changed-push : (from to : List ℕ) (x y : ℕ) → length from ≡ length to

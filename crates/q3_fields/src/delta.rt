@@ -1,0 +1,217 @@
+//! The delta of a state's words over a table: how many fields follow, and each of them. Keeps the rules "entity delta"
+//! and "player delta" for the words, the engine's `MSG_WriteDeltaEntity` and `MSG_WriteDeltaPlayerstate` and their
+//! readers.
+
+ghost use Rattle.std.specs.Prelude.{◌≡◌, ◌≤◌, ◌<◌, [], ◌∷◌, length, take, drop, slice_get, Some};
+ghost use Rattle.q3_bits.specs.Streams.{Reads, Writes, holding};
+ghost use Rattle.q3_fields.specs.Kinds.{IsKind};
+ghost use Rattle.q3_fields.specs.States.{normal_words};
+ghost use Rattle.q3_fields.specs.declared.delta.DeltaError.TheVariants.{Bits};
+ghost use Rattle.q3_fields.specs.Deltas.{changed_count as changed_of, changed_text, field_text, fields_text, counted_text, changed_at, field_after, fields_after, words_after};
+
+use crate::kind::{Kind, norm};
+use crate::reading::{read_entity_field, read_player_field};
+use crate::table::Table;
+use crate::writing::{write_entity_field, write_player_field};
+use q3_bits::{Overflow, ReadError, Reader, Writer, laws};
+
+/// Whose words they are. Of an entity a field that changed to zero takes one bit.
+#[derive(Clone, Copy, Debug, PartialEq, Eq)]
+pub enum StateKind {
+    Entity,
+    Player,
+}
+
+/// Why no words could be read: the first fault in reading order.
+#[derive(Clone, Copy, Debug, PartialEq, Eq)]
+pub enum DeltaError {
+    /// The bits don't read.
+    Bits(ReadError),
+    /// The count of fields is above the table's.
+    Count(u8),
+}
+
+impl From<ReadError> for DeltaError {
+    ghost from_gives = { λ e f. f ≡ Bits e };
+
+    fn from(e: ReadError) -> DeltaError {
+        DeltaError::Bits(e)
+    }
+}
+
+/// Puts each word into the normal form of its field, and 0 behind the table's fields.
+pub fn normalize(table: &Table, words: &mut [u32; 64])
+    ensures { words.new ≡ normal_words table.now.kinds words.old }
+{
+    for k in 0..64 {
+        words[k] = normal_word(table, k, words[k]);
+    }
+}
+
+/// A word in the normal form of the table's field at its place, and 0 where the table has none.
+#[tactic(auto, using(crate::proofs::NormalWords::normal_word_of_field, crate::proofs::NormalWords::normal_word_of_none))]
+fn normal_word(table: &Table, k: usize, word: u32) -> u32
+    ensures { normal_words (drop k table.now.kinds) (word ∷ []) ≡ result ∷ [] }
+{
+    match table.kind(k) {
+        Some(kind) => norm(kind, word),
+        None => 0,
+    }
+}
+
+/// The index of the last field of the table whose words differ, plus one; 0 where all agree.
+pub fn changed_count(table: &Table, from: &[u32; 64], to: &[u32; 64]) -> usize
+    ensures count { result ≡ changed_of table.now.kinds from.now to.now }
+    ensures in_table { result ≤ length table.now.kinds }
+    ensures few { result ≤ 64 }
+{
+    let mut count = 0;
+    for k in 0..table.count() {
+        if from[k] != to[k] {
+            count = k + 1;
+        }
+    }
+    count
+}
+
+/// Writes a count, and the first fields, so many: for each a mark, and behind a mark of change its text.
+/// `Overflow` comes exactly where the text doesn't fit the writer's room; a front of it was then written.
+pub fn write_counted(
+    w: &mut Writer,
+    state: StateKind,
+    table: &Table,
+    count: usize,
+    from: &[u32; 64],
+    to: &[u32; 64],
+) -> Result<(), Overflow>
+    requires in_table { count ≤ length table.now.kinds }
+    requires few { count ≤ 64 }
+    ensures { Writes w.old w.new (counted_text state w.old.words table.now.kinds count from.now to.now) result }
+{
+    laws::texts_are_written();
+    w.put(count as u32, 8)?;
+    write_fields(w, state, table, count, from, to)
+}
+
+/// Writes the first fields, so many.
+fn write_fields(
+    w: &mut Writer,
+    state: StateKind,
+    table: &Table,
+    count: usize,
+    from: &[u32; 64],
+    to: &[u32; 64],
+) -> Result<(), Overflow>
+    requires in_table { count ≤ length table.now.kinds }
+    requires few { count ≤ 64 }
+    ensures { Writes w.old w.new (fields_text state w.old.words (take count table.now.kinds) from.now to.now) result }
+{
+    laws::texts_are_written();
+    // what stands there fits the room
+    prove!(w.length() > 0);
+    for k in 0..count {
+        write_field(w, state, kind_at(table, k), from[k], to[k])?;
+    }
+    Ok(())
+}
+
+/// Writes a mark, and behind a mark of change the field.
+fn write_field(
+    w: &mut Writer,
+    state: StateKind,
+    kind: Kind,
+    from: u32,
+    to: u32,
+) -> Result<(), Overflow>
+    requires { IsKind kind }
+    ensures { Writes w.old w.new (field_text state w.old.words kind from to) result }
+{
+    laws::texts_are_written();
+    if from == to {
+        return w.put(0, 1);
+    }
+    w.put(1, 1)?;
+    write_changed(w, state, kind, to)
+}
+
+/// Writes a changed field.
+fn write_changed(w: &mut Writer, state: StateKind, kind: Kind, word: u32) -> Result<(), Overflow>
+    requires { IsKind kind }
+    ensures { Writes w.old w.new (changed_text state w.old.words kind word) result }
+{
+    match state {
+        StateKind::Entity => write_entity_field(w, kind, word),
+        StateKind::Player => write_player_field(w, kind, word),
+    }
+}
+
+/// Reads a count and as many fields over the words that stand there. After a refusal these may be any.
+/// `Count` comes exactly where the count is above the table's, before any field is read; `Bits` where the bits don't
+/// read.
+#[tactic(auto, unfolding(crate::specs::Deltas::words_after))]
+pub fn read_counted(
+    r: &mut Reader,
+    state: StateKind,
+    table: &Table,
+    words: &mut [u32; 64],
+) -> Result<(), DeltaError>
+    ensures { Reads r.old r.new (words_after state r.old.words table.now.kinds words.old r.old.left) (holding words.new result) }
+{
+    let count = r.get(8)? as usize;
+    if count > table.count() {
+        return Err(DeltaError::Count(count as u8));
+    }
+    read_fields(r, state, table, count, words)?;
+    Ok(())
+}
+
+/// Reads the first fields, so many, over the words that stand there.
+fn read_fields(
+    r: &mut Reader,
+    state: StateKind,
+    table: &Table,
+    count: usize,
+    words: &mut [u32; 64],
+) -> Result<(), ReadError>
+    requires in_table { count ≤ length table.now.kinds }
+    requires few { count ≤ 64 }
+    ensures { Reads r.old r.new (fields_after state r.old.words (take count table.now.kinds) words.old r.old.left) (holding words.new result) }
+{
+    laws::lists_are_read();
+    for k in 0..count {
+        words[k] = read_field(r, state, kind_at(table, k), words[k])?;
+    }
+    Ok(())
+}
+
+/// Reads a mark, and behind a mark of change the field.
+#[tactic(auto, unfolding(crate::specs::Deltas::field_after))]
+fn read_field(r: &mut Reader, state: StateKind, kind: Kind, from: u32) -> Result<u32, ReadError>
+    requires { IsKind kind }
+    ensures { Reads r.old r.new (field_after state r.old.words kind from r.old.left) result }
+{
+    if r.get(1)? == 0 {
+        return Ok(from);
+    }
+    read_changed(r, state, kind)
+}
+
+/// Reads a changed field.
+fn read_changed(r: &mut Reader, state: StateKind, kind: Kind) -> Result<u32, ReadError>
+    requires { IsKind kind }
+    ensures { Reads r.old r.new (changed_at state r.old.words kind r.old.left) result }
+{
+    match state {
+        StateKind::Entity => read_entity_field(r, kind),
+        StateKind::Player => read_player_field(r, kind),
+    }
+}
+
+/// The kind of a field that the table has.
+fn kind_at(table: &Table, k: usize) -> Kind
+    requires { k < length table.now.kinds }
+    ensures kind { slice_get table.now.kinds k ≡ Some result }
+    ensures allowed { IsKind result }
+{
+    table.kind(k).unwrap()
+}
