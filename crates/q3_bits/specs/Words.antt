@@ -1,6 +1,6 @@
 -- Code words: each byte has a word of bits, and a field is written as raw bits and words.
 use Rattle.std.specs.Prelude.{◌≡◌, ℕ, zero, suc, ◌+◌, ◌*◌, ◌/◌, ◌%◌, ◌^◌, ◌<◌, if◌then◌else◌, Bool, true, false, List, [], ◌∷◌, ◌++◌, length, map, take, drop, slice_index_or, Option, Some, None, nat_lt, Result, Ok, Err}
-use Rattle.std.specs.List.{range_with_len, list_any}
+use Rattle.std.specs.List.{range_with_len, list_any, flat_map}
 use Rattle.std.specs.Option.{is_some, ok_or, option_or, option_map}
 use Rattle.q3_bits.specs.ResultBind.{◌>>=◌}
 use Rattle.q3_bits.specs.declared.reader.ReadError.{ReadError}
@@ -28,6 +28,10 @@ bytes_bits words (suc count) value = word_of words (value % 256) ++ bytes_bits w
 -- a field of so many bits: those over whole bytes go first, raw, and then the bytes as their words
 unfoldable pub field_bits : List (List Bool) → ℕ → ℕ → List Bool
 field_bits words width value = low_bits (width % 8) value ++ bytes_bits words (width / 8) (value / 2 ^ (width % 8))
+
+-- a row of fields, each a value and its width, one behind the other
+unfoldable pub row_bits : List (List Bool) → List (ℕ × ℕ) → List Bool
+row_bits words fields = flat_map (λ field. field_bits words field.1 field.0) fields
 
 -- so many raw bits from the front, as a number, and what is behind them
 unfoldable pub raw_at : ℕ → List Bool → Result (ℕ × List Bool) ReadError
