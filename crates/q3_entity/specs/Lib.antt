@@ -1,0 +1,7 @@
+pub mod Entities
+pub mod Baselines
+pub mod Delta
+pub mod Lists
+pub mod Spelling
+pub mod Laws
+pub mod Report
