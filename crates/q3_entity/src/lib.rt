@@ -1,0 +1,14 @@
+//! Entities over a table of fields: the delta in which a message carries one, and lists of them.
+#![tactic(auto)]
+
+pub mod baselines;
+pub mod error;
+pub mod print;
+pub mod reading;
+pub mod state;
+
+pub use baselines::Baselines;
+pub use error::EntityError;
+pub use print::print_fields;
+pub use reading::{Entry, read_entity};
+pub use state::{EntityState, List, Run};
