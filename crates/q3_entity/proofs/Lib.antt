@@ -1,0 +1,4 @@
+pub mod Binds
+pub mod Numbers
+pub mod Turns
+pub mod Skipping

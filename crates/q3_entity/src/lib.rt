@@ -2,11 +2,13 @@
 #![tactic(auto)]
 
 pub mod error;
+pub mod list_reading;
 pub mod print;
 pub mod reading;
 pub mod state;
 
 pub use error::EntityError;
+pub use list_reading::skip_list;
 pub use print::print_fields;
 pub use reading::{Entry, read_entity};
 pub use state::{EntityState, List, Run};
