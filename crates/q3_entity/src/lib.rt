@@ -6,9 +6,11 @@ pub mod error;
 pub mod print;
 pub mod reading;
 pub mod state;
+pub mod writing;
 
 pub use baselines::Baselines;
 pub use error::EntityError;
 pub use print::print_fields;
 pub use reading::{Entry, read_entity};
 pub use state::{EntityState, List, Run};
+pub use writing::{write_entity, write_removal};
