@@ -16,7 +16,7 @@ use Rattle.q3_bits.specs.declared.code.Word.{Word}
 use Rattle.q3_bits.specs.Words.{word_of, IsCode, plain_words, bytes_bits, field_bits, raw_at, behind, byte_from, byte_at, bytes_at, field_at, begins_word, IsCutShort}
 use Rattle.q3_bits.specs.Table.{bits_of_word, words_of}
 use Rattle.q3_bits.proofs.Numbers.{length-low_bits, number_of-low_bits, low_bits-number_of, low_bits-mod, low_bits-add, low_bits-low, low_bits-number_of_more}
-use Rattle.q3_bits.proofs.CodeText.{answer, bytes_at-zero, bytes_bits-suc, behind_some, behind-append, behind_none, byte_from_some, byte_again, byte_at-is, byte_at_ok, same_word, begins_longer, raw_at_some, field_bits-is, plain_is_code, plain_reads, plain_front}
+use Rattle.q3_bits.proofs.CodeText.{answer, bytes_bits-suc, behind_some, behind-append, behind_none, byte_from_some, byte_again, byte_at-is, byte_at_ok, same_word, begins_longer, raw_at_some, field_bits-is, plain_is_code, plain_reads, plain_front}
 
 -- ---- bits that begin a word
 

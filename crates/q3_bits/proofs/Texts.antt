@@ -1,9 +1,8 @@
 -- Texts that are written one after the other.
-use Rattle.std.proofs.Common.{◌≡◌, ◌+◌, ◌≤◌, ◌<◌, Bool, List, [], ◌++◌, length, Result, Ok, Err, refl, sym, ap, subst, ◌∙◌, append_assoc, arith, rules}
+use Rattle.std.proofs.Common.{◌≡◌, ◌+◌, ◌≤◌, ◌<◌, ℕ, Bool, List, [], ◌++◌, length, drop, get_or, Result, Ok, Err, refl, sym, ap, subst, ◌∙◌, append_assoc, arith}
 use Rattle.std.proofs.lemmas.Bool.{false≢true}
-use Rattle.std.proofs.lemmas.Grind.{common_steps}
-use Rattle.std.proofs.lemmas.List.{append-nil, length-append}
-use Rattle.q3_bits.specs.Bits.{message_length}
+use Rattle.std.proofs.lemmas.List.{append-nil, length-append, drop_more, drop_all}
+use Rattle.q3_bits.specs.Words.{field_bits, row_bits}
 use Rattle.q3_bits.specs.Streams.{Writing, IsOverlong, Extends, Writes, HasWritten}
 use Rattle.q3_bits.specs.declared.writer.Overflow.{Overflow}
 
@@ -67,6 +66,17 @@ Writes-early start now first others whole e is one =
       front = (front.0, front.1 ++ others, sym (append_assoc front.0 front.1 others) ∙ ap (λ (x : List Bool). x ++ others) front.2, front.3);
     })
 
+-- ---- a row, whose text grows at its end
+
+pub Writes-next : {start mid now : Writing} {first : List Bool} {result : Result (Unit {0}) Overflow} (second : List (List Bool) → List Bool)
+    → Writes start mid first (Ok tt) → Writes mid now (second mid.words) result → Writes start now (first ++ second start.words) result
+Writes-next {start = start} {mid = mid} {now = now} {first = first} {result = result} second written more =
+    Writes-then start mid now first (first ++ second start.words) second result refl written more
+
+pub Writes-refused : {start now : Writing} {first : List Bool} {e : Overflow} (others : List Bool)
+    → Writes start now first (Err e) → Writes start now (first ++ others) (Err e)
+Writes-refused {start = start} {now = now} {first = first} {e = e} others written = Writes-early start now first others (first ++ others) e refl written
+
 -- ---- a whole, text by text
 
 pub HasWritten-begin : (start : Writing) (whole : List Bool) → (IsOverlong start [] → ⊥) → HasWritten start start whole whole
@@ -91,3 +101,16 @@ HasWritten-all start now whole h = subst (λ (text : List Bool). Writes start no
 
 pub HasWritten-words : (start now : Writing) (left whole : List Bool) → HasWritten start now left whole → now.words ≡ start.words
 HasWritten-words start now left whole h = ap (λ (w : Writing). w.words) h.writes.ok
+
+-- ---- a row of fields
+
+-- what is left of the row, one field on
+pub row_bits-next : (words same : List (List Bool)) (fields : List (ℕ × ℕ)) (k : ℕ) → same ≡ words → k < length fields
+    → row_bits words (drop k fields) ≡ field_bits same (get_or fields k (0, 0)).1 (get_or fields k (0, 0)).0 ++ row_bits words (drop (k + 1) fields)
+unfolding row_bits
+row_bits-next words same fields k is more = rw (is, drop_more fields k (0, 0) more) refl
+
+-- nothing is left at the end
+pub row_bits-end : (words : List (List Bool)) (fields : List (ℕ × ℕ)) (k : ℕ) → length fields ≤ k → row_bits words (drop k fields) ≡ []
+unfolding row_bits
+row_bits-end words fields k past = rw (drop_all k fields past) refl

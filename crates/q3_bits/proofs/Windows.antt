@@ -1,10 +1,9 @@
 -- The bits at the front of what is left, as numbers.
-use Rattle.std.proofs.Common.{◌≡◌, ℕ, zero, suc, ◌+◌, ◌-◌, ◌*◌, ◌/◌, ◌%◌, ◌^◌, ◌<◌, ◌≤◌, Bool, List, [], ◌∷◌, ◌++◌, length, get_or, take, drop, refl, sym, ap, subst, ◌∙◌, append_assoc, arith, inl, inr}
-use Rattle.std.proofs.lemmas.Bool.{cases_lt}
-use Rattle.std.proofs.lemmas.List.{length-append, length-drop, take-take, drop-take, drop-drop, drop_at}
+use Rattle.std.proofs.Common.{◌≡◌, ℕ, zero, suc, ◌+◌, ◌-◌, ◌*◌, ◌/◌, ◌%◌, ◌^◌, ◌<◌, ◌≤◌, Bool, List, [], ◌∷◌, ◌++◌, length, get_or, take, drop, refl, sym, ap, subst, ◌∙◌, arith}
+use Rattle.std.proofs.lemmas.List.{length-drop, take-take, drop-take, drop-drop, drop_at}
 use Rattle.std.proofs.Math.Seq.{take-append-add, take-nil, drop-nil}
 use Rattle.std.proofs.Math.Nat.{mod-eq_of_lt, pow-suc}
-use Rattle.q3_bits.specs.Bits.{bit, low_bits, number_of, bits_of}
+use Rattle.q3_bits.specs.Bits.{low_bits, number_of, bits_of}
 use Rattle.q3_bits.proofs.Numbers.{number_of-nil, number_of-cons, bits_of-nil, bits_of-cons, length-low_bits, length-bits_of, number_of-low_bits, number_of-drop, number_of-mod}
 
 -- what two texts spell together

@@ -1,5 +1,5 @@
 -- Values that are read one after the other over those of a list.
-use Rattle.std.specs.Prelude.{◌≡◌, ℕ, ◌+◌, Bool, List, ◌∷◌, ◌++◌, length, take, drop, Result, Ok, Err}
+use Rattle.std.specs.Prelude.{◌≡◌, ℕ, ◌+◌, Bool, List, ◌∷◌, ◌++◌, length, take, drop, Result, Ok}
 use Rattle.q3_bits.specs.ResultBind.{◌>>=◌}
 use Rattle.q3_bits.specs.Streams.{Reading}
 use Rattle.q3_bits.specs.declared.reader.ReadError.{ReadError}

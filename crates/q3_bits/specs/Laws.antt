@@ -41,6 +41,12 @@ pub record TextsAreWritten : Type 0 where
   -- where a text is refused, so is one that begins with it
   pub early : (start now : Writing) (first others whole : List Bool) (e : Overflow) → whole ≡ first ++ others
       → Writes start now first (Err e) → Writes start now whole (Err e)
+  -- the same for rows, whose text grows at its end: a text more, given as a function of the words
+  pub next : {start mid now : Writing} {first : List Bool} {result : Result (Unit {0}) Overflow} (second : List (List Bool) → List Bool)
+      → Writes start mid first (Ok tt) → Writes mid now (second mid.words) result → Writes start now (first ++ second start.words) result
+  -- and where a text is refused, so is the row that goes on behind it
+  pub refused : {start now : Writing} {first : List Bool} {e : Overflow} (others : List Bool)
+      → Writes start now first (Err e) → Writes start now (first ++ others) (Err e)
   -- a whole is written text by text
   pub begin : (start : Writing) (whole : List Bool) → ¬ IsOverlong start [] → HasWritten start start whole whole
   pub more : (start now next : Writing) (left whole piece others : List Bool) → HasWritten start now left whole → left ≡ piece ++ others

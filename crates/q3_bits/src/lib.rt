@@ -47,6 +47,21 @@ mod tests {
     }
 
     #[test]
+    fn rows_of_fields_are_written(rt: HostRuntime) -> Result<(), Fail> {
+        let code = Code::plain(rt.alloc())?;
+        let mut writer = Writer::new(&code, 6);
+        let width = writer.length() as u32 + 9;
+        assert_eq!(rt; writer.put_all(&[]), Ok(()));
+        assert_eq!(rt; writer.put_all(&[(0x5a, 8), (1, 1), (1023, width)]), Ok(()));
+        assert_eq!(rt; writer.put_all(&[(0, 5), (7, 16), (1, 8)]), Err(Overflow));
+        assert_eq!(rt;
+            writer.bytes(),
+            [0x5a, 0xff, 0x07, 0x07, 0x00, 0x00].as_slice()
+        );
+        Ok(())
+    }
+
+    #[test]
     fn plain_fields_are_read(rt: HostRuntime) -> Result<(), Fail> {
         let code = Code::plain(rt.alloc())?;
         let mut reader = Reader::new(&code, &MESSAGE);

@@ -2,7 +2,7 @@
 
 ghost use Rattle.std.specs.Prelude.{◌≡◌, ◌+◌, ◌*◌, ◌/◌, ◌%◌, ◌^◌, ◌<◌, ◌≤◌, ◌↔◌, ◌++◌, ℕ, [], length, take, IsTrue, OnErr, slice_index, All};
 ghost use Rattle.q3_bits.specs.Bits.{low_bits, message_bytes, message_length};
-ghost use Rattle.q3_bits.specs.Words.{field_bits, bytes_bits};
+ghost use Rattle.q3_bits.specs.Words.{field_bits, row_bits, bytes_bits};
 ghost use Rattle.q3_bits.specs.Streams.{Writes};
 ghost use Rattle.q3_bits.specs.Buffer.{bits_within, IsClear};
 
@@ -88,6 +88,21 @@ impl<'a> Writer<'a> {
             raw + low.count,
         );
         self.push(high.bits, high.count);
+        Ok(())
+    }
+
+    /// Writes a row of fields, each a value and its width, one behind the other, each as `put` writes it.
+    /// `Overflow` comes exactly where the message would be longer than its room; the fields in front of the one that
+    /// doesn't fit then stand there.
+    pub fn put_all(&mut self, fields: &[(u32, u32)]) -> Result<(), Overflow>
+        requires widths { All (λ field. (1 ≤ field.1) × (field.1 ≤ 32)) fields.now }
+        ensures { Writes self.old self.new (row_bits self.old.words fields.now) result }
+    {
+        // what stands there fits the room
+        prove!(self.length() > 0);
+        for (value, width) in fields {
+            self.put(*value, *width)?;
+        }
         Ok(())
     }
 

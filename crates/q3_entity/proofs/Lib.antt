@@ -1,3 +1,5 @@
+pub mod Lines
+pub mod DeltaTexts
 pub mod Binds
 pub mod Numbers
 pub mod Turns

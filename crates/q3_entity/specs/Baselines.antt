@@ -1,6 +1,5 @@
 -- Baselines: a state for some of the numbers, from which an entity is written that is new.
-use Rattle.std.specs.Prelude.{◌≡◌, ℕ, ◌<◌, Bool, true, false, List, [], ◌∷◌, length, replicate, Option, Some, None, slice_index_or, slice_set, unwrap_or, IfSome}
-use Rattle.std.specs.Option.{is_some}
+use Rattle.std.specs.Prelude.{◌≡◌, ℕ, List, length, replicate, Option, Some, None, slice_index_or, slice_set, unwrap_or, IfSome}
 use Rattle.q3_fields.specs.States.{AreWords}
 use Rattle.q3_fields.specs.Kinds.{Layout}
 use Rattle.q3_entity.specs.declared.state.EntityState.{EntityState}

@@ -1,5 +1,6 @@
 pub mod Entities
 pub mod Baselines
+pub mod KeptLines
 pub mod Delta
 pub mod Lists
 pub mod Walking

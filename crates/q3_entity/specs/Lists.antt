@@ -7,7 +7,7 @@ use Rattle.q3_bits.specs.Words.{field_bits, field_at}
 use Rattle.q3_fields.specs.Kinds.{Layout, end_mark}
 use Rattle.q3_entity.specs.declared.state.EntityState.{EntityState}
 use Rattle.q3_entity.specs.declared.reading.Entry.{Entry}
-use Rattle.q3_entity.specs.declared.reading.Entry.TheVariants.{Removed, Changed, Same}
+use Rattle.q3_entity.specs.declared.reading.Entry.TheVariants.{Removed}
 use Rattle.q3_entity.specs.declared.error.EntityError.{EntityError}
 use Rattle.q3_entity.specs.declared.error.EntityError.TheVariants.{Order, Many, Removes}
 use Rattle.q3_entity.specs.Entities.{most_entities, with_number}

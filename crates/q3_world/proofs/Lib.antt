@@ -1,4 +1,3 @@
-pub mod Rows
 pub mod MessageText
 pub mod Delivering
 pub mod OnePlace

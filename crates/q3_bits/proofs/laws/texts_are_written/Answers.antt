@@ -1,4 +1,4 @@
-use Rattle.q3_bits.proofs.Texts.{Writes-nothing, Writes-then, Writes-early, HasWritten-begin, HasWritten-more, HasWritten-stops, HasWritten-all, HasWritten-words}
+use Rattle.q3_bits.proofs.Texts.{Writes-nothing, Writes-then, Writes-early, Writes-next, Writes-refused, HasWritten-begin, HasWritten-more, HasWritten-stops, HasWritten-all, HasWritten-words}
 use Rattle.q3_bits.proofs.laws.texts_are_written.Goals as goal
 
 pub returns : goal.returns
@@ -6,6 +6,8 @@ returns c = record {
   nothing = Writes-nothing;
   then = Writes-then;
   early = Writes-early;
+  next = Writes-next;
+  refused = Writes-refused;
   begin = HasWritten-begin;
   more = HasWritten-more;
   stops = HasWritten-stops;

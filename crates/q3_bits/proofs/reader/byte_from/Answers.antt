@@ -1,4 +1,4 @@
-use Rattle.std.proofs.Common.{◌≡◌, ◌∙◌, Some, None, refl, sym, ap}
+use Rattle.std.proofs.Common.{refl}
 use Rattle.q3_bits.specs.Unread.{rest_bits}
 use Rattle.q3_bits.proofs.CodeText.{byte_at-is}
 use Rattle.q3_bits.proofs.reader.byte_from.Goals as goal

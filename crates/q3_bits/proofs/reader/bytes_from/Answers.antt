@@ -1,6 +1,5 @@
-use Rattle.std.proofs.Common.{◌≡◌, ◌∙◌, ◌+◌, ◌^◌, ◌<◌, ◌-◌, refl, sym, arith}
+use Rattle.std.proofs.Common.{◌≡◌, ◌∙◌, ◌+◌, ◌^◌, ◌<◌, ◌-◌, sym, arith}
 use Rattle.std.proofs.lemmas.Result.{err_from_is_err_and}
-use Rattle.q3_bits.specs.Words.{bytes_at}
 use Rattle.q3_bits.specs.Unread.{rest_bits}
 use Rattle.q3_bits.proofs.CodeText.{bytes_more, bytes_stop, bytes_end, byte_shifted}
 use Rattle.q3_bits.proofs.reader.bytes_from.Goals as goal

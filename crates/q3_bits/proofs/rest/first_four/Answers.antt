@@ -1,4 +1,4 @@
-use Rattle.std.proofs.Common.{◌≡◌, get_or, arith}
+use Rattle.std.proofs.Common.{arith}
 use Rattle.std.proofs.lemmas.List.{get_or_past}
 use Rattle.q3_bits.proofs.Windows.{first_four-bytes}
 use Rattle.q3_bits.proofs.rest.first_four.Goals as goal

@@ -1,4 +1,4 @@
-use Rattle.std.proofs.Common.{◌≡◌, ◌%◌, ◌*◌, ◌^◌, sym, ◌∙◌, ap, arith}
+use Rattle.std.proofs.Common.{arith}
 use Rattle.q3_bits.proofs.Written.{HasGathered-none, HasGathered-more, HasGathered-all, gathered-fits}
 use Rattle.q3_bits.proofs.writer.gather.Goals as goal
 

@@ -1,5 +1,5 @@
-use Rattle.std.proofs.Common.{◌≡◌, ◌+◌, ◌*◌, ◌/◌, ◌%◌, ◌^◌, get_or, refl, sym, arith}
-use Rattle.q3_bits.proofs.Written.{HasStored-none, HasStored-more, stored-bits, stored-clear, stored-fits}
+use Rattle.std.proofs.Common.{◌/◌, get_or, refl, arith}
+use Rattle.q3_bits.proofs.Written.{HasStored-none, HasStored-more, stored-fits}
 use Rattle.q3_bits.proofs.writer.store.Goals as goal
 
 pub overflow_add-rest : goal.overflow_add-rest

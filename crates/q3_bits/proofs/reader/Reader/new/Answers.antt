@@ -1,4 +1,4 @@
-use Rattle.std.proofs.Common.{◌≡◌, ◌*◌, ◌-◌, length, refl, ap, arith}
+use Rattle.std.proofs.Common.{◌≡◌, ◌*◌, ◌-◌, length, refl, arith}
 use Rattle.q3_bits.specs.Bits.{bits_of}
 use Rattle.q3_bits.proofs.Numbers.{length-bits_of}
 use Rattle.q3_bits.proofs.reader.Reader.new.Goals as goal

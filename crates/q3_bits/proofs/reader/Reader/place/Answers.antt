@@ -1,4 +1,4 @@
-use Rattle.std.proofs.Common.{◌≡◌, ◌+◌, ◌-◌, ◌*◌, length, sym, ◌∙◌, ap, arith}
+use Rattle.std.proofs.Common.{arith}
 use Rattle.q3_bits.proofs.Windows.{length-rest}
 use Rattle.q3_bits.proofs.reader.Reader.place.Goals as goal
 
