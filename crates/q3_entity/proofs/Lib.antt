@@ -3,4 +3,5 @@ pub mod DeltaTexts
 pub mod Binds
 pub mod Numbers
 pub mod Turns
+pub mod Listed
 pub mod Skipping

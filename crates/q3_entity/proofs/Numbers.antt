@@ -1,5 +1,5 @@
 -- The entities of a rising list, by their numbers.
-use Rattle.std.proofs.Common.{◌≡◌, ◌≢◌, ℕ, ◌+◌, ◌<◌, ◌≤◌, List, [], ◌∷◌, Option, Some, None, Result, Ok, Err, refl, ap, ◌∙◌, arith, eqb, ltb, cond}
+use Rattle.std.proofs.Common.{◌≡◌, ◌≢◌, ℕ, ◌+◌, ◌<◌, ◌≤◌, List, [], ◌∷◌, Option, Some, None, Result, Ok, Err, refl, ap, ◌∙◌, arith, eqb, ltb, cond, false, true, Bool, subst, inl, inr}
 use Rattle.std.proofs.lemmas.Bool.{cases_eq, cases_lt, eq-eqb, ne_eqb, lt-ltb, le-ltb}
 use Rattle.q3_bits.specs.ResultBind.{◌>>=◌, bind_ok}
 use Rattle.q3_entity.specs.declared.state.EntityState.{EntityState}
@@ -40,12 +40,16 @@ pub kept_below-more : (number : ℕ) (entities : List EntityState) (x : EntitySt
 unfolding kept_below
 kept_below-more number entities x xs below = rw (lt-ltb x.number number below) refl
 
+-- the value of an answer
+ok_value : (x y : List EntityState × List EntityState) → (let r : Result (List EntityState × List EntityState) EntityError = Ok x in r) ≡ Ok y → x ≡ y
+ok_value x y e = cc
+
 -- those that are left rise from the number on
 pub kept_below-rises : (limit least number : ℕ) (entities base : List EntityState) (kept : List EntityState × List EntityState) → RiseFrom limit least base
     → kept_below number entities base ≡ Ok kept → RiseFrom limit number kept.1
 unfolding kept_below
 kept_below-rises limit least number entities [] kept rise e =
-    let left : [] ≡ kept.1 = ? in
+    let left : [] ≡ kept.1 = ap (λ (k : List EntityState × List EntityState). k.1) (ok_value (entities, []) kept e) in
     subst (RiseFrom limit number) left tt
 kept_below-rises limit least number entities (x ∷ xs) kept rise e =
     elim (cases_lt x.number number) [
@@ -53,7 +57,7 @@ kept_below-rises limit least number entities (x ∷ xs) kept rise e =
           let more = bind_ok (one_more entities x) (λ more. kept_below number more xs) kept (rw (lt-ltb x.number number below) at e) in
           kept_below-rises limit (x.number + 1) number more.0 xs kept rise.2 more.2
       | inr above ↦
-          let left : x ∷ xs ≡ kept.1 = ? in
+          let left : x ∷ xs ≡ kept.1 = ap (λ (k : List EntityState × List EntityState). k.1) (ok_value (entities, x ∷ xs) kept (rw (le-ltb x.number number above) at e)) in
           subst (RiseFrom limit number) left (above, rise.1, rise.2)
     ]
 

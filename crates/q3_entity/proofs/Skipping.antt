@@ -1,5 +1,5 @@
 -- A list that is passed over, turn by turn.
-use Rattle.std.proofs.Common.{◌≡◌, ◌≢◌, ℕ, zero, suc, ◌+◌, ◌-◌, ◌<◌, ◌≤◌, Bool, List, Result, Ok, Err, refl, sym, ap, ◌∙◌, arith, eqb, cond, replicate}
+use Rattle.std.proofs.Common.{◌≡◌, ◌≢◌, ℕ, zero, suc, ◌+◌, ◌-◌, ◌<◌, ◌≤◌, Bool, List, Result, Ok, Err, refl, sym, ap, ◌∙◌, arith, eqb, cond, replicate, inl, inr, true, false}
 use Rattle.std.proofs.lemmas.Bool.{cases_eq, eq-eqb, ne_eqb}
 use Rattle.q3_bits.specs.ResultBind.{◌>>=◌}
 use Rattle.q3_fields.specs.Kinds.{Layout, end_mark}
@@ -54,3 +54,27 @@ skip_turns words table next bits below =
             bind_same (number_at words table (next + 1) entry.1) (λ more. numbers_skipped words table rest (next + 1) more.0 more.1) (skipped_from words table)
             (λ more is'. skip_jump words table rest (next + 1) more.0 more.1 (omega arith) (number_at-least words table (next + 1) entry.1 more is')))
         ∙ sym (bind_assoc read (λ entry. number_at words table (next + 1) entry.1) (skipped_from words table)))
+
+-- what the code passes over, as a whole list is passed over: its beginning
+pub skip_begun : (words : List (List Bool)) (table : Layout) (bits : List Bool) (next : ℕ) (left : List Bool) → Ok (next, left) ≡ number_at words table 0 bits
+    → skipped_from words table (next, left) ≡ list_skipped words table bits
+skip_begun words table bits next left e = rw (skip_begins words table bits, ← e) refl
+
+pub skip_refused : (words : List (List Bool)) (table : Layout) (bits : List Bool) (e : EntityError) → Err e ≡ number_at words table 0 bits → Err e ≡ list_skipped words table bits
+skip_refused words table bits e is = rw (skip_begins words table bits, ← is) refl
+
+-- a turn
+pub skip_goes_on : (words same : List (List Bool)) (table : Layout) (from : List ℕ) (next : ℕ) (bits : List Bool) (more : ℕ) (left : List Bool) → same ≡ words → from ≡ replicate 64 0
+    → next < end_mark table → Ok (more, left) ≡ skipped_at same table from next bits → skipped_from words table (more, left) ≡ skipped_from words table (next, bits)
+skip_goes_on words same table from next bits more left is all below e = rw (skip_turns words table next bits below, ← is, ← all, ← e) refl
+
+pub skip_stops : (words same : List (List Bool)) (table : Layout) (from : List ℕ) (next : ℕ) (bits : List Bool) (e : EntityError) → same ≡ words → from ≡ replicate 64 0
+    → next < end_mark table → Err e ≡ skipped_at same table from next bits → Err e ≡ skipped_from words table (next, bits)
+skip_stops words same table from next bits e is all below stop = rw (skip_turns words table next bits below, ← is, ← all, ← stop) refl
+
+-- and its end
+pub skip_ends : (words : List (List Bool)) (table : Layout) (next : ℕ) (bits : List Bool) → end_mark table ≤ next → skipped_from words table (next, bits) ≡ Ok (tt, bits)
+unfolding numbers_skipped
+skip_ends words table next bits past =
+    let none : end_mark table - next ≡ 0 = omega arith in
+    rw none refl

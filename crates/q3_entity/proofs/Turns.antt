@@ -1,5 +1,5 @@
 -- The entities after a list, turn by turn: up to the next entry the base's entities stay, and then the entry is read.
-use Rattle.std.proofs.Common.{◌≡◌, ◌≢◌, ℕ, zero, suc, ◌+◌, ◌-◌, ◌<◌, ◌≤◌, Bool, List, [], ◌∷◌, Option, Some, None, Result, Ok, Err, refl, sym, ap, subst, ◌∙◌, arith, eqb, ltb, cond}
+use Rattle.std.proofs.Common.{◌≡◌, ◌≢◌, ◌⊎◌, ℕ, zero, suc, ◌+◌, ◌-◌, ◌<◌, ◌≤◌, Bool, List, [], ◌∷◌, Option, Some, None, Result, Ok, Err, refl, sym, ap, subst, ◌∙◌, arith, eqb, ltb, cond, inl, inr, true, false}
 use Rattle.std.proofs.lemmas.Bool.{cases_eq, eq-eqb, ne_eqb, cases_Bool, ltb-false}
 use Rattle.std.specs.Option.{is_some}
 use Rattle.q3_bits.specs.ResultBind.{◌>>=◌, bind_ok}
@@ -15,6 +15,9 @@ use Rattle.q3_entity.specs.Walking.{kept_below, taken, Reached, next_at, entry_a
 use Rattle.q3_entity.proofs.Binds.{bind_same, bind_assoc}
 use Rattle.q3_entity.proofs.Numbers.{rise-less, with_number-below, with_number-first, with_number-others, kept_below-none, kept_below-more, kept_below-rises, taken-found, taken-rises}
 use Rattle.q3_bits.specs.Words.{field_at}
+use Rattle.q3_bits.specs.Streams.{holding, with_rest}
+use Rattle.q3_entity.specs.declared.reading.Entry.{Entry}
+use Rattle.q3_entity.specs.declared.reading.Entry.TheVariants.{Changed, Same}
 
 abbrev pub Answer : Type 0
 Answer = Result (List EntityState × List Bool) EntityError
@@ -225,7 +228,7 @@ next_rises words table least base entities bits at limit from rise e =
     let kept = bind_ok (kept_below number.0.0 entities base) (λ kept. let at : Reached = record { next = number.0.0; base = kept.1; entities = kept.0 } in Ok (at, number.0.1)) at number.2 in
     let made : Reached = record { next = number.0.0; base = kept.0.1; entities = kept.0.0 } in
     let is : (made, number.0.1) ≡ at = cc in
-    subst (λ (a : Reached × List Bool). RiseFrom limit a.0.next a.0.base) is (kept_below-rises limit from number.0.0 entities base kept.0 rise kept.1)
+    subst (λ (a : Reached × List Bool). RiseFrom limit a.0.next a.0.base) {x = (made, number.0.1)} is (kept_below-rises limit from number.0.0 entities base kept.0 rise kept.1)
 
 pub turn_rises : (words : List (List Bool)) (table : Layout) (lines : Lines) (at : Reached) (bits : List Bool) (now : Reached × List Bool) (limit : ℕ) → RiseFrom limit at.next at.base
     → turn_at words table lines at bits ≡ Ok now → RiseFrom limit now.0.next now.0.base
@@ -234,3 +237,57 @@ turn_rises words table lines at bits now limit rise e =
     let found = taken at.next at.base in
     let read = bind_ok (entry_at words table (words_from lines at.next found.0) (is_some found.0) at.next at.entities bits) (λ entry. next_at words table (at.next + 1) found.1 entry.0 entry.1) now e in
     next_rises words table (at.next + 1) found.1 read.0.0 read.0.1 now limit (at.next + 1) (taken-rises limit at.next at.base rise) read.2
+
+-- what the code reads, as a whole list is read: its beginning
+pub list_begun : (words : List (List Bool)) (table : Layout) (lines : Lines) (base none : List EntityState) (bits : List Bool) (at : Reached) (left : List Bool) → RiseFrom (end_mark table) 0 base → none ≡ []
+    → Ok (at, left) ≡ next_at words table 0 base none bits → from_reached words table lines (at, left) ≡ list_after words table lines base bits
+list_begun words table lines base none bits at left rise empty e = rw (list_begins words table lines base bits rise, ← empty, ← e) refl
+
+pub list_refused : (words : List (List Bool)) (table : Layout) (lines : Lines) (base none : List EntityState) (bits : List Bool) (e : EntityError) → RiseFrom (end_mark table) 0 base → none ≡ []
+    → Err e ≡ next_at words table 0 base none bits → Err e ≡ list_after words table lines base bits
+list_refused words table lines base none bits e rise empty is = rw (list_begins words table lines base bits rise, ← empty, ← is) refl
+
+-- a turn
+pub list_goes_on : (words same : List (List Bool)) (table : Layout) (lines : Lines) (at : Reached) (bits : List Bool) (now : Reached) (left : List Bool) → same ≡ words
+    → at.next < end_mark table → RiseFrom (end_mark table) at.next at.base → Ok (now, left) ≡ turn_at same table lines at bits
+    → from_reached words table lines (now, left) ≡ from_reached words table lines (at, bits)
+list_goes_on words same table lines at bits now left is below rise e = rw (list_turns words table lines at bits below rise, ← is, ← e) refl
+
+pub list_stops : (words same : List (List Bool)) (table : Layout) (lines : Lines) (at : Reached) (bits : List Bool) (e : EntityError) → same ≡ words
+    → at.next < end_mark table → RiseFrom (end_mark table) at.next at.base → Err e ≡ turn_at same table lines at bits
+    → Err e ≡ from_reached words table lines (at, bits)
+list_stops words same table lines at bits e is below rise stop = rw (list_turns words table lines at bits below rise, ← is, ← stop) refl
+
+-- and its end
+pub list_ends : (words : List (List Bool)) (table : Layout) (lines : Lines) (at : Reached) (bits : List Bool) → end_mark table ≤ at.next
+    → from_reached words table lines (at, bits) ≡ Ok (at.entities, bits)
+unfolding numbers_after
+list_ends words table lines at bits past =
+    let none : end_mark table - at.next ≡ 0 = omega arith in
+    rw none refl
+
+-- an entity that was read stands behind the others
+with_added : (now : List EntityState) (left : List Bool) (result : Result (Unit {0}) EntityError) (all : Result (List EntityState) EntityError) → holding now result ≡ all
+    → with_rest left (holding now result) ≡ (all >>= λ now. Ok (now, left))
+with_added now left (Ok done) all e = rw (← e) refl
+with_added now left (Err d) all e = rw (← e) refl
+
+-- the state of a number and words
+named : (state : EntityState) (number : ℕ) → state.number ≡ number → (let made : EntityState = record { number = number; words = state.words } in made) ≡ state
+named state number same = rw (← same) refl
+
+pub entry_changed : (words : List (List Bool)) (table : Layout) (from : List ℕ) (in_base : Bool) (number : ℕ) (entities : List EntityState) (bits left : List Bool) (state : EntityState)
+    (now : List EntityState) (result : Result (Unit {0}) EntityError) → state.number ≡ number → Ok ((Changed, state.words), left) ≡ entity_at words table from bits
+    → holding now result ≡ one_more entities state → with_rest left (holding now result) ≡ entry_at words table from in_base number entities bits
+unfolding entry_at
+entry_changed words table from in_base number entities bits left state now result same e added =
+    let all = added ∙ ap (one_more entities) (sym (named state number same)) in
+    rw (← e) (with_added now left result _ all)
+
+pub entry_same : (words : List (List Bool)) (table : Layout) (from : List ℕ) (in_base : Bool) (number : ℕ) (entities : List EntityState) (bits left : List Bool) (state : EntityState)
+    (now : List EntityState) (result : Result (Unit {0}) EntityError) → state.number ≡ number → Ok ((Same, state.words), left) ≡ entity_at words table from bits
+    → holding now result ≡ one_more entities state → with_rest left (holding now result) ≡ entry_at words table from in_base number entities bits
+unfolding entry_at
+entry_same words table from in_base number entities bits left state now result same e added =
+    let all = added ∙ ap (one_more entities) (sym (named state number same)) in
+    rw (← e) (with_added now left result _ all)

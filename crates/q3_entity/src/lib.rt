@@ -11,7 +11,7 @@ pub mod writing;
 
 pub use baselines::Baselines;
 pub use error::EntityError;
-pub use list_reading::skip_list;
+pub use list_reading::{read_list, skip_list};
 pub use print::print_fields;
 pub use reading::{Entry, read_entity};
 pub use state::{EntityState, List, Run};

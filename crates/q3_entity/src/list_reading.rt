@@ -10,6 +10,7 @@ ghost use Rattle.q3_entity.specs.Baselines.{most_lines};
 ghost use Rattle.q3_entity.specs.Lists.{one_more, number_at, list_after, list_skipped};
 ghost use Rattle.q3_entity.specs.Walking.{kept_below, taken, next_at, entry_at, turn_at, skipped_at, with_kept, reached};
 
+use crate::baselines::Baselines;
 use crate::error::EntityError;
 use crate::reading::{Entry, read_entity};
 use crate::state::{EntityState, List, Run};
@@ -17,9 +18,57 @@ use q3_bits::Reader;
 use q3_fields::Table;
 
 /// Where a list stands: the number that comes next, and the entities of the base from it on.
+#[derive(Clone, Copy)]
 struct Cursor<'a> {
     next: u16,
     base: Run<'a>,
+}
+
+/// Reads a list against a base. The base's entities that have no entry stay, each copied once, and a new one changes
+/// from its baseline. After a refusal `into` may hold anything.
+///
+/// `Err` is the first fault in reading order: `Bits` where the bits don't read; `Count` where a count of fields is above
+/// the table's; `Order` where a number isn't above the one before; `Removes` where an entity is removed that the base
+/// doesn't have; `Many` where there would be a 257th entity.
+pub fn read_list(
+    r: &mut Reader,
+    table: &Table,
+    baselines: &Baselines,
+    base: Run,
+    into: &mut List,
+) -> Result<(), EntityError>
+    requires base { IsList table.now (run_of base) }
+    requires lines { end_mark table.now ≤ most_lines }
+    ensures reads { Reads r.old r.new (list_after r.old.words table.now baselines.now (run_of base.entry) r.old.left) (holding into.new.items result) }
+    ensures list { OnOk result (IsList table.now into.new.items) }
+{
+    into.clear();
+    let mut cursor = read_next(r, table, 0, base, into)?;
+    while cursor.next < table.end() {
+        cursor = read_turn(r, table, baselines, cursor, into)?;
+    }
+    Ok(())
+}
+
+/// Reads the entry of the next number, and the number behind it.
+#[tactic(auto, unfolding(crate::specs::Walking::turn_at))]
+fn read_turn<'a>(
+    r: &mut Reader,
+    table: &Table,
+    baselines: &Baselines,
+    cursor: Cursor<'a>,
+    into: &mut List,
+) -> Result<Cursor<'a>, EntityError>
+    requires line { cursor.next < most_lines }
+    ensures reads { Reads r.old r.new (turn_at r.old.words table.now baselines.now (record { next = cursor.entry.next; base = run_of cursor.entry.base; entities = into.old.items }) r.old.left) (reached into.new.items result) }
+    ensures rises { IfOk result (λ now. cursor.entry.next < now.next) }
+    ensures most { IfOk result (λ now. now.next ≤ end_mark table.now) }
+{
+    let number = cursor.next;
+    let (found, others) = take_number(cursor.base, number);
+    let from = found.unwrap_or(baselines.get(number));
+    read_entry(r, table, from, found.is_some(), number, into)?;
+    read_next(r, table, number + 1, others, into)
 }
 
 /// Passes over a list whose base isn't there. Its bits, its counts of fields and that its numbers rise are looked at
