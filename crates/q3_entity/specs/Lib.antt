@@ -3,6 +3,7 @@ pub mod Baselines
 pub mod KeptLines
 pub mod Delta
 pub mod Lists
+pub mod Walking
 pub mod Spelling
 pub mod Laws
 pub mod Report
