@@ -1,0 +1,13 @@
+//! Server messages: what one says, how it is written, and what is read of one.
+#![tactic(auto)]
+
+pub mod bases;
+pub mod error;
+pub mod lists;
+pub mod message;
+pub mod reading;
+
+pub use bases::{BaseView, Bases};
+pub use error::Illegible;
+pub use message::{Section, ServerMessage};
+pub use reading::read_ack;
