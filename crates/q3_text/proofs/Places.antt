@@ -1,5 +1,5 @@
 -- The first place at which a byte passes a test, and the parts of a text that is cut at each such place.
-use Rattle.std.proofs.Common.{◌≡◌, ℕ, ◌+◌, ◌<◌, ◌≤◌, Bool, false, ltb, List, [], ◌∷◌, length, get_or, take, drop, Option, Some, None, refl, sym, ◌∙◌, arith, inl, inr}
+use Rattle.std.proofs.Common.{◌≡◌, ℕ, ◌+◌, ◌≤◌, Bool, false, ltb, List, [], ◌∷◌, length, take, drop, Option, Some, None, refl, sym, ◌∙◌, arith, inl, inr}
 use Rattle.std.specs.List.{All, position, position_or_len, slice_split}
 use Rattle.std.proofs.lemmas.Bool.{cases_Bool, ltb-true, ltb-false, le-ltb}
 use Rattle.std.proofs.lemmas.List.Sums.{fails_before_first, position_or_len_is}

@@ -1,13 +1,12 @@
 -- Texts: what comes of bytes is one, and it stays as it is.
-use Rattle.std.proofs.Common.{◌≡◌, ◌≢◌, ℕ, ◌<◌, ◌≤◌, Bool, true, false, eqb, ltb, List, length, get_or, map, Option, Some, None, Ok, refl, sym, ◌∙◌, arith, inl, inr}
-use Rattle.std.specs.Prelude.{◌||◌}
-use Rattle.std.specs.List.{All, position}
-use Rattle.std.proofs.lemmas.Bool.{cases_Bool, ltb-true, ltb-false, le-ltb, eqb-true, eqb-false, ne_eqb}
+use Rattle.std.proofs.Common.{◌≡◌, ◌≢◌, ℕ, ◌≤◌, Bool, false, eqb, ltb, List, length, get_or, map, Option, Some, None, Ok, refl, sym, arith, inl, inr}
+use Rattle.std.specs.List.{position}
+use Rattle.std.proofs.lemmas.Bool.{cases_Bool, ltb-false, le-ltb, eqb-false, ne_eqb}
 use Rattle.std.proofs.lemmas.List.{length-map}
 use Rattle.std.proofs.lemmas.List.Folds.{map_fixed}
 use Rattle.std.proofs.lemmas.List.Elements.{All-map, All-get_or, All-from_get_or}
 use Rattle.q3_text.specs.declared.text.TextError.{TextError}
-use Rattle.q3_text.specs.declared.text.TextError.TheVariants.{Long, Zero}
+use Rattle.q3_text.specs.declared.text.TextError.TheVariants.{Long}
 use Rattle.q3_text.specs.Texts.{most_bytes, translated, IsTextByte, IsText, zero_fault, text_fault, text_or, text_of}
 use Rattle.q3_text.proofs.Places.{no_place, none_pass, none_passes}
 

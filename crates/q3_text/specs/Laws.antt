@@ -1,5 +1,5 @@
 -- Laws of texts.
-use Rattle.std.specs.Prelude.{◌≡◌, ℕ, List, Result, Ok}
+use Rattle.std.specs.Prelude.{◌≡◌, ℕ, List, Ok}
 use Rattle.q3_text.specs.Texts.{IsText, text_of}
 
 -- what comes of bytes is a text

@@ -11,3 +11,6 @@ pub use info::info_value;
 pub use key::hash_key;
 pub use number::{decimal, decimal_within};
 pub use text::{Command, Text, TextError, translate};
+
+#[cfg(test)]
+mod tests;

@@ -20,7 +20,7 @@ pub enum TextError {
 }
 
 /// A string of a message: at most 1,023 bytes, each 1 to 127 and none a `%`. To a caller it is the list of its bytes.
-#[derive(Debug, Drop)]
+#[derive(Debug, PartialEq, Eq, Drop)]
 pub struct Text {
     bytes: ArrayVec<u8, MOST_BYTES>,
 }
@@ -34,10 +34,12 @@ impl Model for Text {
     ghost view = { λ text. text.bytes.items };
 
     ghost invariant = { λ text. IsText text.bytes.items };
+
+    ghost inverse = { λ bytes. record { bytes = record { items = bytes } } };
 }
 
 /// A command of the server or of a client, with its number in the row of those that its end issued.
-#[derive(Debug, Drop)]
+#[derive(Debug, PartialEq, Eq, Drop)]
 pub struct Command {
     pub number: u32,
     pub text: Text,

@@ -1,4 +1,4 @@
-use Rattle.std.proofs.Common.{◌+◌, ◌∙◌, ◌∷◌, eqb, take, ap}
+use Rattle.std.proofs.Common.{◌+◌, eqb}
 use Rattle.std.proofs.lemmas.List.{take_rest}
 use Rattle.q3_text.proofs.Places.{parts_at, one_part}
 use Rattle.q3_text.proofs.info.first_part.Goals as goal

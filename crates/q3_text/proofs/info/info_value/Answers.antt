@@ -1,6 +1,6 @@
-use Rattle.std.proofs.Common.{◌≡◌, ◌∷◌, [], cond, List, ℕ, length, true, false, Some, option_map, refl, sym, ◌∙◌, arith}
+use Rattle.std.proofs.Common.{length, option_map, refl, sym, ◌∙◌, arith}
 use Rattle.std.proofs.lemmas.Bool.{cond-true, cond-false}
-use Rattle.q3_text.specs.Info.{parts_of, parts_behind, info_pairs, paired, value_in, info_of}
+use Rattle.q3_text.specs.Info.{parts_behind, info_pairs, info_of}
 use Rattle.q3_text.proofs.Pairs.{found-next, found-last, value-none, size-le}
 use Rattle.q3_text.proofs.info.info_value.Goals as goal
 
