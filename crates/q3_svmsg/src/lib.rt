@@ -1,13 +1,15 @@
-//! Server messages: what one says, how it is written, and what is read of one.
+//! Server messages. A stand-in.
 #![tactic(auto)]
 
 pub mod bases;
 pub mod error;
-pub mod lists;
 pub mod message;
+pub mod never;
 pub mod reading;
+pub mod writing;
 
 pub use bases::{BaseView, Bases};
 pub use error::Illegible;
 pub use message::{Section, ServerMessage};
-pub use reading::read_ack;
+pub use reading::read_server_message;
+pub use writing::write_snap;

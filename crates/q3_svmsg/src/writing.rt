@@ -1,0 +1,26 @@
+//! A stand-in.
+
+ghost use Rattle.std.specs.Prelude.{◌≡◌, ◌≤◌, ◌<◌, ◌+◌, ℕ, length, option_map, Option, Some, None};
+ghost use Rattle.q3_bits.specs.Streams.{Fills};
+ghost use Rattle.q3_svmsg.specs.Values.{told_of, base_of};
+ghost use Rattle.q3_svmsg.specs.Texts.{message_text};
+
+use crate::bases::BaseView;
+use crate::message::ServerMessage;
+use q3_bits::Overflow;
+use q3_entity::Baselines;
+use q3_profile::Profile;
+
+pub fn write_snap(
+    profile: &Profile,
+    message: &ServerMessage,
+    baselines: &Baselines,
+    base: Option<BaseView>,
+    into: &mut [u8],
+) -> Result<usize, Overflow>
+    ensures { Fills into.old into.new (message_text profile.now baselines.now (option_map base_of base.entry) (told_of message.now)) result }
+{
+    let _ = (profile, baselines, base, into);
+    message.never.absurd();
+    Ok(0)
+}
