@@ -1,3 +1,5 @@
 pub mod Lines
 pub mod DeltaTexts
 pub mod Gone
+pub mod Risen
+pub mod ListTexts

@@ -29,7 +29,7 @@ returns-in_err-write_removal-clause-writes c =
     let p = err_from_is_err_and c.from_residual.result c.from_residual.ensures.1 in
     let same = law.words _ _ _ _ c.loop-gone.invariant.written in
     let next = ap (removals words table c.args.number) c.in-Some.ensures ∙ removals-next words table c.args.number c.in-Some.gone.now (run_of c.in-Some.others) c.if-gone-number.false
-        ∙ ap (λ ws. removal ws table c.in-Some.gone.now.number ++ removals words table c.args.number (run_of c.in-Some.others)) (sym same) in
+    ∙ ap (λ ws. removal ws table c.in-Some.gone.now.number ++ removals words table c.args.number (run_of c.in-Some.others)) (sym same) in
     rw (p.1, p.2) (law.stops _ _ _ _ _ _ _ _ c.loop-gone.invariant.written next c.in_err-write_removal.ensures)
 
 pub loop-gone-preserved : goal.loop-gone-preserved
@@ -39,7 +39,7 @@ loop-gone-preserved c =
     let words = c.args.w.now.words in
     let same = law.words _ _ _ _ c.loop-gone.invariant.written in
     let next = ap (removals words table c.args.number) c.in-Some.ensures ∙ removals-next words table c.args.number c.in-Some.gone.now (run_of c.in-Some.others) c.if-gone-number.false
-        ∙ ap (λ ws. removal ws table c.in-Some.gone.now.number ++ removals words table c.args.number (run_of c.in-Some.others)) (sym same) in
+    ∙ ap (λ ws. removal ws table c.in-Some.gone.now.number ++ removals words table c.args.number (run_of c.in-Some.others)) (sym same) in
     record {
       written = law.more _ _ _ _ _ _ _ c.loop-gone.invariant.written next c.in_ok-write_removal.ensures;
       left = sym (from_number-next c.args.number c.in-Some.gone.now (run_of c.in-Some.others) c.if-gone-number.false) ∙ ap (from_number c.args.number) (sym c.in-Some.ensures) ∙ c.loop-gone.invariant.left;
