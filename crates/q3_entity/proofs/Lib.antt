@@ -5,3 +5,6 @@ pub mod Numbers
 pub mod Turns
 pub mod Listed
 pub mod Skipping
+pub mod Results
+pub mod EntrySpelled
+pub mod EntriesSpelled
