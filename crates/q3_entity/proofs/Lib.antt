@@ -3,3 +3,12 @@ pub mod DeltaTexts
 pub mod Gone
 pub mod Risen
 pub mod ListTexts
+pub mod Binds
+pub mod Numbers
+pub mod Turns
+pub mod Listed
+pub mod Skipping
+pub mod Results
+pub mod EntrySpelled
+pub mod EntriesSpelled
+pub mod WrittenSpelled

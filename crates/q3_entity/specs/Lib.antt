@@ -5,6 +5,7 @@ pub mod Delta
 pub mod Lists
 pub mod Runs
 pub mod Merging
+pub mod Walking
 pub mod Spelling
 pub mod Laws
 pub mod Report

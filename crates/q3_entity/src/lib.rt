@@ -3,6 +3,8 @@
 
 pub mod baselines;
 pub mod error;
+pub mod laws;
+pub mod list_reading;
 pub mod list_writing;
 pub mod print;
 pub mod reading;
@@ -12,6 +14,7 @@ pub mod writing;
 
 pub use baselines::Baselines;
 pub use error::EntityError;
+pub use list_reading::{read_list, skip_list};
 pub use list_writing::write_list;
 pub use print::print_fields;
 pub use reading::{Entry, read_entity};
