@@ -12,3 +12,4 @@ pub mod Results
 pub mod EntrySpelled
 pub mod EntriesSpelled
 pub mod WrittenSpelled
+pub mod ListWritten

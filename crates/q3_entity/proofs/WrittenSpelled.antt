@@ -1,7 +1,7 @@
 -- What is written of an entity is a spelling of its entry, and is read back.
-use Rattle.std.proofs.Common.{◌≡◌, ◌≢◌, inl, inr, ℕ, ◌+◌, ◌^◌, ◌<◌, Bool, true, false, List, [], ◌∷◌, ◌++◌, Option, Some, None, Ok, refl, sym, ap, subst, ◌∙◌, append_assoc, arith}
+use Rattle.std.proofs.Common.{◌≡◌, ◌≢◌, inl, inr, ℕ, ◌^◌, ◌<◌, Bool, true, false, List, [], ◌∷◌, ◌++◌, Some, Ok, refl, ap, ◌∙◌, append_assoc, arith}
 use Rattle.std.proofs.lemmas.Bool.{cases_eq}
-use Rattle.std.proofs.lemmas.Nat.{pow_pos}
+use Rattle.std.proofs.lemmas.List.{append-nil}
 use Rattle.q3_bits.specs.Words.{IsCode, field_bits, field_at, row_bits}
 use Rattle.q3_bits.specs.Laws.{PutIsRead}
 use Rattle.q3_fields.specs.Kinds.{Layout, IsTable, end_mark}
@@ -12,13 +12,13 @@ use Rattle.q3_fields.specs.Laws.{WordsAreSpelled, UnchangedIsNormal, WordsSpelle
 use Rattle.q3_entity.specs.declared.state.EntityState.{EntityState}
 use Rattle.q3_entity.specs.declared.reading.Entry.{Entry}
 use Rattle.q3_entity.specs.declared.reading.Entry.TheVariants.{Removed, Changed, Same}
-use Rattle.q3_entity.specs.Entities.{zero_entity, normal_entity, IsNormal}
+use Rattle.q3_entity.specs.Entities.{zero_entity, IsNormal}
 use Rattle.q3_entity.specs.Delta.{opening, removal, entity_delta, entity_at}
 use Rattle.q3_entity.specs.Spelling.{Entered, SpellsEntry}
 use Rattle.q3_entity.specs.Laws.{NormalIsNormal, ZeroIsNormal, EntityWrittenIsRead, RemovalIsRead}
 use Rattle.q3_fields.specs.Laws.{NormalWordsAreNormal, ZerosAreNormal}
 use Rattle.q3_entity.proofs.DeltaTexts.{entity_delta-changed, entity_delta-unchanged}
-use Rattle.q3_entity.proofs.EntrySpelled.{words_there, SpellsMarks, marks_of_entry, TakenMarks, marks_are_read}
+use Rattle.q3_entity.proofs.EntrySpelled.{words_there, marks_of_entry, TakenMarks, marks_are_read}
 
 -- ---- normal forms
 
@@ -102,15 +102,24 @@ there Removed to words e = absurd cc
 there Changed to words e = cc
 there Same to words e = cc
 
--- and one that is gone is removed
-gone : (kind : Entry) (to : List ℕ) → words_there kind to ≡ None → kind ≡ Removed
-gone Removed to e = refl
-gone Changed to e = absurd cc
-gone Same to e = absurd cc
-
 pub entity_is_read : PutIsRead → WordsAreSpelled → UnchangedIsNormal → WordsSpelledAreRead → EntityWrittenIsRead
 entity_is_read put law same read words table from to force rest code is_table are normal are' within some =
     let entry = present table to.number to in
     let back = read_back put read words table from.words entry (entity_delta words table from to force) rest code is_table are within
-          (entity_is_spelled law same words table from to force code is_table are normal are' some) in
+    (entity_is_spelled law same words table from to force code is_table are normal are' some) in
     (back.own ++ rest, back.marks.kind, back.number, back.marks.reads ∙ ap (λ (ws : List ℕ). Ok ((back.marks.kind, ws), rest)) (there back.marks.kind back.marks.to (normal_words table.kinds to.words) back.marks.is))
+
+-- a removal
+removed_text : (words : List (List Bool)) (table : Layout) (number : ℕ) (rest : List Bool) → removal words table number ++ rest ≡ field_bits words table.number_bits number ++ (field_bits words 1 1 ++ rest)
+unfolding removal row_bits
+removed_text words table number rest = simp (append_assoc, append-nil)
+
+pub removal_is_read : PutIsRead → RemovalIsRead
+unfolding entity_at
+removal_is_read put words table number from rest code is_table within =
+    let fits : number < 2 ^ table.number_bits = omega (arith, within) in
+    let behind = field_bits words 1 1 ++ rest in (
+      behind,
+      ap (field_at words table.number_bits) (removed_text words table number rest) ∙ put words table.number_bits number behind code fits,
+      rw (put words 1 1 rest code (omega arith)) refl,
+    )

@@ -35,7 +35,6 @@ pub fn removal_is_read()
     ensures { RemovalIsRead }
 {
     bits::put_is_read();
-    fields::words_spelled_are_read();
 }
 
 /// What is written of a list against a base and baselines in normal form spells the entities in normal form.
