@@ -8,3 +8,7 @@ pub mod Skipping
 pub mod Results
 pub mod EntrySpelled
 pub mod EntriesSpelled
+pub mod OneNumber
+pub mod ListSpelled
+pub mod ListRead
+pub mod ListSkipped
