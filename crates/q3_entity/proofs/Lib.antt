@@ -12,3 +12,6 @@ pub mod OneNumber
 pub mod ListSpelled
 pub mod ListRead
 pub mod ListSkipped
+pub mod Gone
+pub mod Risen
+pub mod ListTexts

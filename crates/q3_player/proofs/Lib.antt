@@ -1,9 +1,6 @@
-pub mod LastChanged
-pub mod FieldTexts
 pub mod Changes
 pub mod Normal
 pub mod Same
-pub mod FieldsRead
 pub mod PlacesRead
 pub mod Results
 pub mod ArraysRead
@@ -11,5 +8,4 @@ pub mod Kept
 pub mod Maps
 pub mod BitsSpelled
 pub mod ArraySpelled
-pub mod FieldSpelled
 pub mod PlayerSpelled

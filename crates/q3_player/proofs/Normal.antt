@@ -1,6 +1,6 @@
--- Normal words, as a loop makes them.
-use Rattle.std.proofs.Common.{◌≡◌, ℕ, zero, suc, ◌+◌, ◌^◌, ◌<◌, List, [], ◌∷◌, length, take, replicate, get_or, set, Some, slice_get, refl, ap, ◌∙◌, add-one, arith, inl, inr}
-use Rattle.std.proofs.lemmas.List.Elements.{All-cons, All-head, All-tail, All-replicate}
+-- The normal form of a state, and the state with nothing in it.
+use Rattle.std.proofs.Common.{◌≡◌, ℕ, zero, suc, ◌^◌, ◌<◌, List, [], ◌∷◌, replicate, refl, ap, arith, inl, inr}
+use Rattle.std.proofs.lemmas.List.Elements.{All-head, All-tail, All-replicate}
 use Rattle.std.proofs.lemmas.List.{length-replicate}
 use Rattle.std.proofs.lemmas.Int.{ints}
 use Rattle.std.proofs.Math.Nat.{zero-mod}
@@ -9,80 +9,18 @@ use Rattle.q3_fields.specs.declared.kind.Kind.{Kind}
 use Rattle.q3_fields.specs.declared.kind.Kind.TheVariants.{Float, Unsigned, Signed}
 use lib.IntN.{pos}
 use Rattle.q3_fields.specs.Kinds.{IsKind, AreKinds, norm}
-use Rattle.q3_fields.specs.Laws.{NormIsNormal}
+use Rattle.q3_fields.specs.Laws.{NormalWordsAreNormal}
 use Rattle.q3_player.specs.declared.state.PlayerState.{PlayerState}
-use Rattle.q3_player.specs.State.{IsState, IsNormal, AreWords, AreShorts, IsShort, zero_player, normal_player, normal_words}
-
--- no words are normal yet
-pub normal_words-none : (words : List ℕ) → normal_words [] words ≡ replicate (length words) 0
-unfolding normal_words
-normal_words-none [] = refl
-normal_words-none (word ∷ words) = ap (λ (ys : List ℕ). 0 ∷ ys) (normal_words-none words)
-
--- one word more is
-normal_words-next : (table : List Kind) (k : ℕ) (kind : Kind) (words : List ℕ) → slice_get table k ≡ Some kind → k < length words
-    → set (normal_words (take k table) words) k (norm kind (get_or words k 0)) ≡ normal_words (take (suc k) table) words
-unfolding normal_words
-normal_words-next [] k kind words here within = absurd cc
-normal_words-next (first ∷ table) k kind [] here within = absurd (omega arith)
-normal_words-next (first ∷ table) zero kind (word ∷ words) here within =
-    let is : first ≡ kind = cc in
-    rw is refl
-normal_words-next (first ∷ table) (suc k) kind (word ∷ words) here within =
-    ap (λ (ys : List ℕ). norm first word ∷ ys) (normal_words-next table k kind words here (omega arith))
-
-pub normal_words-more : (table : List Kind) (k : ℕ) (kind : Kind) (words : List ℕ) → slice_get table k ≡ Some kind → k < length words
-    → set (normal_words (take k table) words) k (norm kind (get_or words k 0)) ≡ normal_words (take (k + 1) table) words
-normal_words-more table k kind words here within = rw add-one (normal_words-next table k kind words here within)
-
--- ---- the normal form
-
--- the words of a table's fields
-pub normal_words-twice : NormIsNormal → (table : List Kind) (words : List ℕ) → All IsKind table → All (λ word. word < 2 ^ 32) words
-    → normal_words table (normal_words table words) ≡ normal_words table words
-unfolding normal_words
-normal_words-twice law [] [] allowed fits = refl
-normal_words-twice law [] (word ∷ words) allowed fits =
-    ap (λ (ys : List ℕ). 0 ∷ ys) (normal_words-twice law [] words allowed (All-tail (λ word. word < 2 ^ 32) word words fits))
-normal_words-twice law (kind ∷ table) [] allowed fits = refl
-normal_words-twice law (kind ∷ table) (word ∷ words) allowed fits =
-    let here = law kind word (All-head IsKind kind table allowed) (All-head (λ word. word < 2 ^ 32) word words fits) in
-    rw (here.1, normal_words-twice law table words (All-tail IsKind kind table allowed) (All-tail (λ word. word < 2 ^ 32) word words fits)) refl
-
--- have 32 bits, and are as many
-pub normal_words-fit : NormIsNormal → (table : List Kind) (words : List ℕ) → All IsKind table → All (λ word. word < 2 ^ 32) words → All (λ word. word < 2 ^ 32) (normal_words table words)
-unfolding normal_words
-normal_words-fit law [] [] allowed fits = fits
-normal_words-fit law [] (word ∷ words) allowed fits =
-    All-cons (λ word. word < 2 ^ 32) 0 (normal_words [] words) (omega arith) (normal_words-fit law [] words allowed (All-tail (λ word. word < 2 ^ 32) word words fits))
-normal_words-fit law (kind ∷ table) [] allowed fits = fits
-normal_words-fit law (kind ∷ table) (word ∷ words) allowed fits =
-    let here = law kind word (All-head IsKind kind table allowed) (All-head (λ word. word < 2 ^ 32) word words fits) in
-    All-cons (λ word. word < 2 ^ 32) (norm kind word) (normal_words table words) here.0
-    (normal_words-fit law table words (All-tail IsKind kind table allowed) (All-tail (λ word. word < 2 ^ 32) word words fits))
-
-pub length-normal_words : (table : List Kind) (words : List ℕ) → length (normal_words table words) ≡ length words
-unfolding normal_words
-length-normal_words [] [] = refl
-length-normal_words [] (word ∷ words) = ap suc (length-normal_words [] words)
-length-normal_words (kind ∷ table) [] = refl
-length-normal_words (kind ∷ table) (word ∷ words) = ap suc (length-normal_words table words)
+use Rattle.q3_fields.specs.States.{AreWords, normal_words}
+use Rattle.q3_player.specs.State.{IsState, IsNormal, AreShorts, IsShort, zero_player, normal_player}
 
 -- the normal form of a state is a state, in normal form
-pub normal_player-normal : NormIsNormal → (table : List Kind) (player : PlayerState) → AreKinds table → IsState player → IsState (normal_player table player) × IsNormal table (normal_player table player)
-normal_player-normal law table player is_table state = (
-  record {
-    words = record {
-      count = length-normal_words table player.words ∙ state.words.count;
-      each = normal_words-fit law table player.words is_table.each state.words.each;
-    };
-    stats = state.stats;
-    persistant = state.persistant;
-    ammo = state.ammo;
-    powerups = state.powerups;
-  },
-  ap (λ (ws : List ℕ). record player { words = ws }) (normal_words-twice law table player.words is_table.each state.words.each),
-)
+pub normal_player-normal : NormalWordsAreNormal → (table : List Kind) (player : PlayerState) → AreKinds table → IsState player → IsState (normal_player table player) × IsNormal table (normal_player table player)
+normal_player-normal law table player is_table state =
+    let words = law table player.words is_table state.words in (
+      record { words = words.0; stats = state.stats; persistant = state.persistant; ammo = state.ammo; powerups = state.powerups },
+      ap (λ (ws : List ℕ). record player { words = ws }) words.1,
+    )
 
 -- a word of 0
 norm-zero : (kind : Kind) → IsKind kind → norm kind 0 ≡ 0

@@ -1,9 +1,8 @@
 -- The spellings of a delta: what is written is one of them, and a reader takes each of them and no other text.
-use Rattle.std.proofs.Common.{◌≡◌, ℕ, ◌^◌, ◌≤◌, ◌<◌, Bool, true, false, cond, eqb, ltb, List, [], ◌∷◌, ◌++◌, length, take, Result, Ok, Err, refl, sym, ap, subst, ◌∙◌, append_assoc, arith, inl, inr}
-use Rattle.std.proofs.lemmas.Bool.{cases_Bool, eqb-true, eqb-false, and_parts, ltb-false, le-ltb}
-use Rattle.std.proofs.lemmas.List.{length-take-le, nil_from_length}
+use Rattle.std.proofs.Common.{◌≡◌, ℕ, Bool, true, cond, eqb, List, [], ◌∷◌, ◌++◌, length, Result, Ok, refl, sym, ap, subst, ◌∙◌, append_assoc, arith, inl, inr}
+use Rattle.std.proofs.lemmas.Bool.{cases_Bool, eqb-true, eqb-false, and_parts}
+use Rattle.std.proofs.lemmas.List.{nil_from_length}
 use Rattle.std.proofs.lemmas.List.Concat.{flat_map-cons}
-use Rattle.std.proofs.lemmas.List.Elements.{All-take}
 use Rattle.std.specs.List.{All, flat_map, list_all}
 use Rattle.q3_bits.specs.ResultBind.{◌>>=◌, bind_ok}
 use Rattle.q3_bits.specs.Words.{IsCode, field_bits, field_at}
@@ -13,21 +12,22 @@ use Rattle.q3_fields.specs.declared.kind.Kind.{Kind}
 use Rattle.q3_fields.specs.declared.kind.Kind.TheVariants.{Unsigned}
 use Rattle.q3_fields.specs.Kinds.{IsKind, AreKinds}
 use Rattle.q3_fields.specs.Places.{Change, with_changes}
-use Rattle.q3_fields.specs.Laws.{PlayerFieldIsSpelled, PlayerReadIsSpelled, PlayerSpelledIsRead}
+use Rattle.q3_fields.specs.declared.delta.StateKind.TheVariants.{Player}
+use Rattle.q3_fields.specs.declared.delta.DeltaError.{DeltaError}
+use Rattle.q3_fields.specs.States.{normal_words}
+use Rattle.q3_fields.specs.Deltas.{words_delta, bits_read, words_after}
+use Rattle.q3_fields.specs.Spelling.{SpellsWords}
+use Rattle.q3_fields.specs.Laws.{PlayerFieldIsSpelled, PlayerReadIsSpelled, PlayerSpelledIsRead, WordsAreSpelled, WordsReadAreSpelled, WordsSpelledAreRead}
 use Rattle.q3_player.specs.declared.state.PlayerState.{PlayerState}
-use Rattle.q3_player.specs.declared.reading.PlayerError.{PlayerError}
-use Rattle.q3_player.specs.declared.reading.PlayerError.TheVariants.{Count}
-use Rattle.q3_player.specs.State.{AreWords, IsState, array_kinds, arrays_of, with_arrays, normal_words, normal_player, IsNormal}
+use Rattle.q3_player.specs.State.{IsState, array_kinds, arrays_of, with_arrays, normal_player, IsNormal}
 use Rattle.q3_player.specs.Arrays.{changes, arrays_changed, player_changes}
-use Rattle.q3_player.specs.Delta.{is_empty, changed_count, fields_text, array_text, arrays_text, player_delta, fields_after, array_after, arrays_after, each_after, marked_after, bits_read, player_at}
-use Rattle.q3_player.specs.Spelling.{SpellsFields, SpellsArrays, SpellsMarked, SpellsPlayer}
-use Rattle.q3_player.proofs.LastChanged.{last_changed-le}
-use Rattle.q3_player.proofs.Results.{bits_ok, guard_ok, answer_parts}
+use Rattle.q3_player.specs.Delta.{is_empty, array_text, arrays_text, player_delta, array_after, arrays_after, each_after, marked_after, player_at}
+use Rattle.q3_player.specs.Spelling.{SpellsArrays, SpellsMarked, SpellsPlayer}
+use Rattle.q3_player.proofs.Results.{bits_ok, answer_parts}
 use Rattle.q3_player.proofs.BitsSpelled.{bits_were_put, bits_were}
 use Rattle.q3_player.proofs.Kept.{IsKept, patterns-kept, powerups-kept, kept-fits, shorts-back, patterns-back, are-shorts, length-patterns}
 use Rattle.q3_player.proofs.Maps.{with_changes-changes}
 use Rattle.q3_player.proofs.ArraySpelled.{array_is_spelled, array_was_spelled, array_is_read}
-use Rattle.q3_player.proofs.FieldSpelled.{fields_are_spelled, fields_were_spelled, fields_are_normal, fields_are_read}
 
 -- ---- the arrays
 
@@ -192,31 +192,20 @@ over-arrays over to state same = rw (shorts-back to.stats state.stats.each, shor
 -- ---- the state
 
 -- a state that is written against a normal one is spelled in its normal form
-pub delta_is_spelled : PlayerFieldIsSpelled → (words : List (List Bool)) (table : List Kind) (from to : PlayerState) → AreKinds table → IsState from → IsNormal table from → IsState to
+pub delta_is_spelled : WordsAreSpelled → PlayerFieldIsSpelled → (words : List (List Bool)) (table : List Kind) (from to : PlayerState) → IsCode words → AreKinds table → IsState from → IsNormal table from → IsState to
     → SpellsPlayer words table from (normal_player table to) (player_delta words table from to)
 unfolding player_delta
-delta_is_spelled law words table from to is_table state normal state' =
-    let count = changed_count table from to in
-    let long : length from.words ≡ length to.words = state.words.count ∙ sym state'.words.count in
-    let within : length table ≤ length from.words = omega (arith, is_table.few, state.words.count) in
-    let front : length (take (length table) from.words) ≡ length table = length-take-le (length table) from.words within in
-    record {
-      count = count;
-      fields = fields_text words (take count table) from.words to.words;
-      arrays = arrays_text words (player_changes from to);
-      in_table = omega (arith, last_changed-le (take (length table) from.words) (take (length table) to.words), front);
-      of_fields = fields_are_spelled law words table is_table.each from.words to.words long state'.words.each (ap (λ (p : PlayerState). p.words) normal);
-      of_arrays = marked_is_spelled law words from to state state';
-      whole = refl;
-    }
+delta_is_spelled spelled law words table from to code is_table state normal state' = record {
+  fields = words_delta Player words table from.words to.words;
+  arrays = arrays_text words (player_changes from to);
+  of_words = spelled Player words table from.words to.words code is_table state.words (ap (λ (p : PlayerState). p.words) normal) state'.words;
+  of_arrays = marked_is_spelled law words from to state state';
+  whole = refl;
+}
 
--- the fields, where the table has so many
-abbrev some_fields : List (List Bool) → List Kind → PlayerState → ℕ × List Bool → Result (List ℕ × List Bool) PlayerError
-some_fields words table from count = cond (ltb (length table) count.0) (Err (Count count.0)) (bits_read (fields_after words (take count.0 table) from.words count.1))
-
--- the answer behind the fields
-abbrev at_fields : List (List Bool) → PlayerState → List ℕ × List Bool → Result (PlayerState × List Bool) PlayerError
-at_fields words from fields = bits_read (marked_after words (record from { words = fields.0 }) fields.1)
+-- the answer behind the words
+abbrev at_words : List (List Bool) → PlayerState → List ℕ × List Bool → Result (PlayerState × List Bool) DeltaError
+at_words words from fields = bits_read (marked_after words (record from { words = fields.0 }) fields.1)
 
 -- how the arrays go on behind their mark
 abbrev behind_mark : List (List Bool) → PlayerState → ℕ × List Bool → Result (PlayerState × List Bool) ReadError
@@ -278,59 +267,46 @@ marked_is_read put law words code over to text rest state state' same (inr (arra
       arrays_are_read put law words code array_kinds (arrays_of over) (arrays_of to) arrays rest (are_arrays over state) spelled,
     ) (ap (λ (p : PlayerState). Ok (p, rest)) (over-arrays over to state' same))
 
--- the count, the fields and the arrays, and what is behind them
-in_three : (bits one two three rest left1 left2 : List Bool) → bits ≡ one ++ left1 → left1 ≡ two ++ left2 → left2 ≡ three ++ rest → bits ≡ (one ++ two ++ three) ++ rest
-in_three bits one two three rest left1 left2 a b c = rw (a, b, c) (simp append_assoc)
+-- a text behind another, and what is behind both
+in_two : (bits one two left rest : List Bool) → bits ≡ one ++ left → left ≡ two ++ rest → bits ≡ (one ++ two) ++ rest
+in_two bits one two left rest whole part = whole ∙ ap (λ (ys : List Bool). one ++ ys) part ∙ sym (append_assoc one two rest)
 
 -- a state that is read was spelled so
-pub player_was_spelled : ReadWasPut → PlayerReadIsSpelled → (words : List (List Bool)) (table : List Kind) (from to : PlayerState) (bits rest : List Bool) → IsCode words → AreKinds table
+pub player_was_spelled : WordsReadAreSpelled → ReadWasPut → PlayerReadIsSpelled → (words : List (List Bool)) (table : List Kind) (from to : PlayerState) (bits rest : List Bool) → IsCode words → AreKinds table
     → IsState from → player_at words table from bits ≡ Ok (to, rest)
     → IsState to × (IsNormal table from → IsNormal table to) × (text : List Bool) × (bits ≡ text ++ rest) × SpellsPlayer words table from to text
 unfolding player_at
-player_was_spelled put law words table from to bits rest code is_table state e =
-    let count = bind_ok (bits_read (field_at words 8 bits)) (λ count. some_fields words table from count >>= at_fields words from) (to, rest) e in
-    let fields = bind_ok (some_fields words table from count.0) (at_fields words from) (to, rest) count.2 in
-    let kinds = take count.0.0 table in
-    let few = guard_ok (ltb (length table) count.0.0) (Count count.0.0) (bits_read (fields_after words kinds from.words count.0.1)) fields.0 fields.1 in
-    let reads = bits_ok (fields_after words kinds from.words count.0.1) fields.0 few.1 in
-    let spelled = fields_were_spelled put law words code kinds (All-take IsKind count.0.0 table is_table.each) from.words count.0.1 fields.0 reads in
+player_was_spelled read put law words table from to bits rest code is_table state e =
+    let fields = bind_ok (words_after Player words table from.words bits) (at_words words from) (to, rest) e in
+    let spelled = read Player words table from.words fields.0.0 bits fields.0.1 code is_table state.words fields.1 in
     let over = record from { words = fields.0.0 } in
-    let are_words : AreWords 64 fields.0.0 = record { count = spelled.long ∙ state.words.count; each = spelled.fits state.words.each } in
-    let over_state : IsState over = record { words = are_words; stats = state.stats; persistant = state.persistant; ammo = state.ammo; powerups = state.powerups } in
-    let arrays = marked_was_spelled put law words code over fields.0.1 to rest over_state (bits_ok (marked_after words over fields.0.1) (to, rest) fields.2) in
-    let eight = field_bits words 8 count.0.0 in
-    let first : bits ≡ eight ++ count.0.1 = bits_were put words code 8 bits count.0 count.0.0 count.0.1 (bits_ok (field_at words 8 bits) count.0 count.1) refl refl in (
+    let over_state : IsState over = record { words = spelled.0; stats = state.stats; persistant = state.persistant; ammo = state.ammo; powerups = state.powerups } in
+    let arrays = marked_was_spelled put law words code over fields.0.1 to rest over_state (bits_ok (marked_after words over fields.0.1) (to, rest) fields.2) in (
       arrays.state,
       λ normal.
-          let words_are = fields_are_normal put law words code count.0.0 table is_table.each from.words count.0.1 fields.0 reads (ap (λ (p : PlayerState). p.words) normal) in
+          let words_are = spelled.1 (ap (λ (p : PlayerState). p.words) normal) in
           ap (λ (ws : List ℕ). record to { words = ws }) (subst (λ (ws : List ℕ). normal_words table ws ≡ ws) (sym arrays.others) words_are),
-      eight ++ spelled.text ++ arrays.text,
-      in_three bits eight spelled.text arrays.text rest count.0.1 fields.0.1 first spelled.parts arrays.parts,
+      spelled.2 ++ arrays.text,
+      in_two bits spelled.2 arrays.text fields.0.1 rest spelled.3 arrays.parts,
       record {
-        count = count.0.0;
-        fields = spelled.text;
+        fields = spelled.2;
         arrays = arrays.text;
-        in_table = ltb-false (length table) count.0.0 few.0;
-        of_fields = subst (λ (ys : List ℕ). SpellsFields words kinds from.words ys spelled.text) (sym arrays.others) spelled.spells;
+        of_words = subst (λ (ys : List ℕ). SpellsWords Player words table from.words ys spelled.2) (sym arrays.others) spelled.4;
         of_arrays = arrays.spells;
-        whole = refl {a = eight ++ spelled.text ++ arrays.text};
+        whole = refl {a = spelled.2 ++ arrays.text};
       },
     )
 
 -- a state that is spelled so is read
-pub player_is_read : PutIsRead → PlayerSpelledIsRead → (words : List (List Bool)) (table : List Kind) (from to : PlayerState) (text rest : List Bool) → IsCode words → AreKinds table
+pub player_is_read : WordsSpelledAreRead → PutIsRead → PlayerSpelledIsRead → (words : List (List Bool)) (table : List Kind) (from to : PlayerState) (text rest : List Bool) → IsCode words → AreKinds table
     → IsState from → IsState to → SpellsPlayer words table from to text → player_at words table from (text ++ rest) ≡ Ok (to, rest)
 unfolding player_at
-player_is_read put law words table from to text rest code is_table state state' s =
-    let few : s.count < 2 ^ 8 = omega (arith, s.in_table, is_table.few) in
-    let within : ltb (length table) s.count ≡ false = le-ltb (length table) s.count s.in_table in
-    let regrouped : text ++ rest ≡ field_bits words 8 s.count ++ (s.fields ++ (s.arrays ++ rest)) = rw s.whole (simp append_assoc) in
+player_is_read read put law words table from to text rest code is_table state state' s =
+    let regrouped : text ++ rest ≡ s.fields ++ (s.arrays ++ rest) = rw s.whole (append_assoc s.fields s.arrays rest) in
     let over = record from { words = to.words } in
     let over_state : IsState over = record { words = state'.words; stats = state.stats; persistant = state.persistant; ammo = state.ammo; powerups = state.powerups } in
     rw (
       regrouped,
-      put words 8 s.count (s.fields ++ (s.arrays ++ rest)) code few,
-      within,
-      fields_are_read put law words code (take s.count table) (All-take IsKind s.count table is_table.each) from.words to.words s.fields (s.arrays ++ rest) s.of_fields,
+      read Player words table from.words to.words s.fields (s.arrays ++ rest) code is_table state.words s.of_words,
       marked_is_read put law words code over to s.arrays rest over_state state' refl s.of_arrays,
     ) refl

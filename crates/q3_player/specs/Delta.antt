@@ -1,38 +1,19 @@
 -- The player delta: the one text that is written, and what a reader answers.
-use Rattle.std.specs.Prelude.{ℕ, ◌+◌, ◌/◌, ◌%◌, ◌==◌, ◌&&◌, Bool, if◌then◌else◌, List, [], ◌∷◌, ◌++◌, length, take, nat_lt, ℤ, Result, Ok, Err}
+use Rattle.std.specs.Prelude.{ℕ, ◌/◌, ◌%◌, ◌==◌, Bool, if◌then◌else◌, List, [], ◌∷◌, ◌++◌, length, ℤ, Result, Ok}
 use Rattle.std.specs.List.{flat_map, list_all}
-use Rattle.std.specs.Result.{result_map_both}
 use Rattle.q3_bits.specs.ResultBind.{◌>>=◌}
 use Rattle.q3_bits.specs.Words.{field_bits, field_at}
 use Rattle.q3_bits.specs.declared.reader.ReadError.{ReadError}
 use Rattle.q3_fields.specs.declared.kind.Kind.{Kind}
 use Rattle.q3_fields.specs.declared.kind.Kind.TheVariants.{Signed}
+use Rattle.q3_fields.specs.declared.delta.StateKind.TheVariants.{Player}
+use Rattle.q3_fields.specs.declared.delta.DeltaError.{DeltaError}
 use Rattle.q3_fields.specs.Texts.{player_field, player_field_at}
+use Rattle.q3_fields.specs.Deltas.{words_delta, bits_read, words_after}
 use Rattle.q3_player.specs.declared.state.PlayerState.{PlayerState}
-use Rattle.q3_player.specs.declared.reading.PlayerError.{PlayerError}
-use Rattle.q3_player.specs.declared.reading.PlayerError.TheVariants.{Bits, Count}
 use Rattle.q3_player.specs.State.{patterns_of, shorts_of, array_kinds, arrays_of, with_arrays}
 use Rattle.q3_fields.specs.Places.{Change}
 use Rattle.q3_player.specs.Arrays.{mask_of, player_changes}
-
--- one more than the index of the last word that differs, or 0: the least number from which on all words agree
-unfoldable pub last_changed : List ℕ → List ℕ → ℕ
-last_changed (x ∷ from) (y ∷ to) = if (last_changed from to == 0) && (x == y) then 0 else last_changed from to + 1
-last_changed from to = 0
-
--- the index of the last field of the table that changed, plus one
-abbrev pub changed_count : List Kind → PlayerState → PlayerState → ℕ
-changed_count table from to = last_changed (take (length table) from.words) (take (length table) to.words)
-
--- a field: bit 0 where it is as it was, else bit 1 and its text
-abbrev pub field_text : List (List Bool) → Kind → ℕ → ℕ → List Bool
-field_text words kind from to =
-    if from == to then field_bits words 1 0 else field_bits words 1 1 ++ player_field words kind to
-
--- the fields of these kinds
-unfoldable pub fields_text : List (List Bool) → List Kind → List ℕ → List ℕ → List Bool
-fields_text words (kind ∷ kinds) (x ∷ from) (y ∷ to) = field_text words kind x y ++ fields_text words kinds from to
-fields_text words kinds from to = []
 
 -- whether nothing changed
 abbrev pub is_empty : List Change → Bool
@@ -54,26 +35,10 @@ arrays_text words arrays =
     if list_all (λ array. is_empty array.1) arrays then field_bits words 1 0
     else field_bits words 1 1 ++ flat_map (λ array. array_text words array.0 array.1) arrays
 
--- how many fields follow, the fields, and the arrays
+-- the words, and the arrays
 unfoldable pub player_delta : List (List Bool) → List Kind → PlayerState → PlayerState → List Bool
 player_delta words table from to =
-    field_bits words 8 (changed_count table from to)
-    ++ fields_text words (take (changed_count table from to) table) from.words to.words
-    ++ arrays_text words (player_changes from to)
-
--- a field that is read: a mark, and behind a mark of change its text
-unfoldable pub field_after : List (List Bool) → Kind → ℕ → List Bool → Result (ℕ × List Bool) ReadError
-field_after words kind from bits = do
-  mark ← field_at words 1 bits
-  if mark.0 == 0 then Ok (from, mark.1) else player_field_at words kind mark.1
-
--- the words after the fields of these kinds were read
-unfoldable pub fields_after : List (List Bool) → List Kind → List ℕ → List Bool → Result (List ℕ × List Bool) ReadError
-fields_after words (kind ∷ kinds) (x ∷ from) bits = do
-  first ← field_after words kind x bits
-  others ← fields_after words kinds from first.1
-  Ok (first.0 ∷ others.0, others.1)
-fields_after words kinds from bits = Ok (from, bits)
+    words_delta Player words table from.words to.words ++ arrays_text words (player_changes from to)
 
 -- a place that is read: its value where the mask's next bit is 1
 unfoldable pub place_after : List (List Bool) → Kind → ℕ → ℕ → List Bool → Result (ℕ × List Bool) ReadError
@@ -120,13 +85,8 @@ marked_after words from bits = do
   mark ← field_at words 1 bits
   if mark.0 == 0 then Ok (from, mark.1) else each_after words from mark.1
 
--- a fault of bits
-abbrev pub bits_read : {A : Type 0} → Result A ReadError → Result A PlayerError
-bits_read {A = A} r = result_map_both (λ (x : A). x) Bits r
-
 -- the state that the bits spell against another, and what is behind it, or the first fault
-unfoldable pub player_at : List (List Bool) → List Kind → PlayerState → List Bool → Result (PlayerState × List Bool) PlayerError
+unfoldable pub player_at : List (List Bool) → List Kind → PlayerState → List Bool → Result (PlayerState × List Bool) DeltaError
 player_at words table from bits = do
-  count ← bits_read (field_at words 8 bits)
-  fields ← if nat_lt (length table) count.0 then Err (Count count.0) else bits_read (fields_after words (take count.0 table) from.words count.1)
+  fields ← words_after Player words table from.words bits
   bits_read (marked_after words (record from { words = fields.0 }) fields.1)

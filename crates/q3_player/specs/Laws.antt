@@ -1,23 +1,17 @@
 -- Laws of the player delta.
-use Rattle.std.specs.Prelude.{◌≡◌, ◌≤◌, ℕ, Bool, List, ◌++◌, length, drop, Ok}
+use Rattle.std.specs.Prelude.{◌≡◌, Bool, List, ◌++◌, Ok}
 use Rattle.q3_bits.specs.Words.{IsCode}
 use Rattle.q3_fields.specs.declared.kind.Kind.{Kind}
 use Rattle.q3_fields.specs.Kinds.{AreKinds}
 use Rattle.q3_player.specs.declared.state.PlayerState.{PlayerState}
 use Rattle.q3_player.specs.State.{zero_player, normal_player, IsState, IsNormal}
-use Rattle.q3_player.specs.Delta.{last_changed, player_delta, player_at}
+use Rattle.q3_player.specs.Delta.{player_delta, player_at}
 use Rattle.q3_player.specs.Spelling.{SpellsPlayer}
 
 -- the normal form of a state is a state, in normal form
 abbrev pub NormalIsNormal : Type 0
 NormalIsNormal = (table : List Kind) (player : PlayerState) → AreKinds table → IsState player
     → IsState (normal_player table player) × IsNormal table (normal_player table player)
-
--- the count is the least number from which on the words agree
-abbrev pub LastChangedIsLeast : Type 0
-LastChangedIsLeast = (from to : List ℕ) → length from ≡ length to
-    → (drop (last_changed from to) from ≡ drop (last_changed from to) to)
-    × ((n : ℕ) → drop n from ≡ drop n to → last_changed from to ≤ n)
 
 -- what is written against a normal state spells the normal form of the other
 abbrev pub WrittenIsSpelled : Type 0

@@ -1,26 +1,14 @@
--- The spellings of a player delta that a reader accepts: also a larger count, a field or a place that is marked as
--- changed and isn't, and arrays that are marked as changed without a changed place.
-use Rattle.std.specs.Prelude.{◌≡◌, ◌⊎◌, ℕ, ◌≤◌, Bool, List, [], ◌∷◌, ◌++◌, length, take}
+-- The spellings of a player delta that a reader accepts: those of its words, and of its arrays also a place that is
+-- marked as changed and isn't, and arrays that are marked as changed without a changed place.
+use Rattle.std.specs.Prelude.{◌≡◌, ◌⊎◌, ℕ, Bool, List, [], ◌∷◌, ◌++◌}
 use Rattle.q3_bits.specs.Words.{field_bits}
 use Rattle.q3_fields.specs.declared.kind.Kind.{Kind}
 use Rattle.q3_fields.specs.Places.{Change, with_changes, AreRising}
-use Rattle.q3_fields.specs.Spelling.{SpellsPlayerField}
+use Rattle.q3_fields.specs.declared.delta.StateKind.TheVariants.{Player}
+use Rattle.q3_fields.specs.Spelling.{SpellsPlayerField, SpellsWords}
 use Rattle.q3_player.specs.declared.state.PlayerState.{PlayerState}
 use Rattle.q3_player.specs.State.{array_kinds, arrays_of}
 use Rattle.q3_player.specs.Arrays.{mask_of}
-
--- a field that is as it was, or one that is marked as changed, whatever it was
-abbrev pub SpellsField : List (List Bool) → Kind → ℕ → ℕ → List Bool → Type 0
-SpellsField words kind from to text =
-    ((to ≡ from) × (text ≡ field_bits words 1 0))
-    ⊎ ((field : List Bool) × SpellsPlayerField words kind to field × (text ≡ field_bits words 1 1 ++ field))
-
--- the fields of these kinds are spelled, and the words behind them stay
-abbrev pub SpellsFields : List (List Bool) → List Kind → List ℕ → List ℕ → List Bool → Type 0
-SpellsFields words (kind ∷ kinds) (x ∷ from) to text =
-    (y : ℕ) × (others : List ℕ) × (first : List Bool) × (rest : List Bool) × (to ≡ y ∷ others) × (text ≡ first ++ rest)
-    × SpellsField words kind x y first × SpellsFields words kinds from others rest
-SpellsFields words kinds from to text = (to ≡ from) × (text ≡ [])
 
 -- the values of these places are spelled one after the other
 abbrev pub SpellsValues : List (List Bool) → Kind → List Change → List Bool → Type 0
@@ -50,10 +38,8 @@ SpellsMarked words from to text =
 
 -- the text spells the state `to` against the state `from`
 pub record SpellsPlayer (words : List (List Bool)) (table : List Kind) (from to : PlayerState) (text : List Bool) : Type 0 where
-  pub count : ℕ
   pub fields : List Bool
   pub arrays : List Bool
-  pub in_table : count ≤ length table
-  pub of_fields : SpellsFields words (take count table) from.words to.words fields
+  pub of_words : SpellsWords Player words table from.words to.words fields
   pub of_arrays : SpellsMarked words (arrays_of from) (arrays_of to) arrays
-  pub whole : text ≡ field_bits words 8 count ++ fields ++ arrays
+  pub whole : text ≡ fields ++ arrays

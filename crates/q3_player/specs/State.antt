@@ -1,16 +1,12 @@
 -- Player states: what the program's type holds, the zero state, and the normal form that a state is kept in.
-use Rattle.std.specs.Prelude.{◌≡◌, ℕ, ◌%◌, ◌^◌, ◌<◌, List, [], ◌∷◌, length, map, replicate, All, ℤ, pos, neg_ℤ, ◌≤ℤ◌}
+use Rattle.std.specs.Prelude.{◌≡◌, ℕ, ◌%◌, ◌^◌, List, [], ◌∷◌, length, map, replicate, All, ℤ, pos, neg_ℤ, ◌≤ℤ◌}
 use Rattle.std.specs.Int.{w16, w32, cast_unsigned, cast_signed}
 use Rattle.q3_fields.specs.declared.kind.Kind.{Kind}
 use Rattle.q3_fields.specs.declared.kind.Kind.TheVariants.{Unsigned, Signed}
-use Rattle.q3_fields.specs.Kinds.{norm}
+use Rattle.q3_fields.specs.States.{AreWords, normal_words}
 use Rattle.q3_player.specs.declared.state.PlayerState.{PlayerState}
 
--- so many words of 32 bits
-pub record AreWords (places : ℕ) (words : List ℕ) : Type 0 where
-  pub count : length words ≡ places
-  pub each : All (λ word. word < 2 ^ 32) words
-
+-- a signed value of 16 bits
 abbrev pub IsShort : ℤ → Type 0
 IsShort value = (neg_ℤ (pos 32768) ≤ℤ value) × (value ≤ℤ pos 32767)
 
@@ -58,12 +54,6 @@ abbrev pub with_arrays : PlayerState → List (List ℕ) → PlayerState
 with_arrays player (stats ∷ persistant ∷ ammo ∷ powerups ∷ []) =
     record player { stats = shorts_of stats; persistant = shorts_of persistant; ammo = shorts_of ammo; powerups = powerups }
 with_arrays player arrays = player
-
--- each word in the normal form of its field, and 0 behind the table's fields
-unfoldable pub normal_words : List Kind → List ℕ → List ℕ
-normal_words (kind ∷ table) (word ∷ words) = norm kind word ∷ normal_words table words
-normal_words [] (word ∷ words) = 0 ∷ normal_words [] words
-normal_words table [] = []
 
 -- a state in normal form; the arrays' values have no other
 abbrev pub normal_player : List Kind → PlayerState → PlayerState

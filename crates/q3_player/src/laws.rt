@@ -1,23 +1,19 @@
 //! Laws of the player delta, each the contract of a call that does nothing but cite the laws below it.
 
-ghost use Rattle.q3_player.specs.Laws.{NormalIsNormal, LastChangedIsLeast, WrittenIsSpelled, ReadIsSpelled, SpelledIsRead, WrittenIsRead, ZeroIsNormal};
+ghost use Rattle.q3_player.specs.Laws.{NormalIsNormal, WrittenIsSpelled, ReadIsSpelled, SpelledIsRead, WrittenIsRead, ZeroIsNormal};
 
 /// The normal form of a state is a state, in normal form.
 pub fn normal_is_normal()
     ensures { NormalIsNormal }
 {
-    q3_fields::laws::norm_is_normal();
+    q3_fields::laws::normal_words_are_normal();
 }
-
-/// The count of fields in a delta is the least number from which on all words agree.
-pub fn last_changed_is_least()
-    ensures { LastChangedIsLeast }
-{}
 
 /// What is written against a normal state spells the normal form of the other.
 pub fn written_is_spelled()
     ensures { WrittenIsSpelled }
 {
+    q3_fields::laws::words_are_spelled();
     q3_fields::laws::player_field_is_spelled();
 }
 
@@ -26,6 +22,7 @@ pub fn read_is_spelled()
     ensures { ReadIsSpelled }
 {
     q3_bits::laws::read_was_put();
+    q3_fields::laws::words_read_are_spelled();
     q3_fields::laws::player_read_is_spelled();
 }
 
@@ -34,6 +31,7 @@ pub fn spelled_is_read()
     ensures { SpelledIsRead }
 {
     q3_bits::laws::put_is_read();
+    q3_fields::laws::words_spelled_are_read();
     q3_fields::laws::player_spelled_is_read();
 }
 

@@ -1,32 +1,18 @@
 //! Reads the player delta, in every spelling that is accepted. Keeps the rules "player delta" and "spellings that a
 //! reader accepts", the engine's `MSG_ReadDeltaPlayerstate`.
 
-ghost use Rattle.std.specs.Prelude.{◌≡◌, ◌≤◌, length, take};
+ghost use Rattle.std.specs.Prelude.{◌≡◌};
 ghost use Rattle.q3_bits.specs.Streams.{Reads, holding};
 ghost use Rattle.q3_fields.specs.Kinds.{IsKind};
-ghost use Rattle.q3_player.specs.declared.reading.PlayerError.TheVariants.{Bits};
-ghost use Rattle.q3_player.specs.Delta.{field_after, fields_after, place_after, places_after, array_after, shorts_after, each_after, marked_after, player_at};
+ghost use Rattle.q3_player.specs.Delta.{place_after, places_after, array_after, shorts_after, each_after, marked_after, player_at};
 
-use crate::state::{PlayerState, kind_at, patterns, shorts};
+use crate::state::{PlayerState, patterns, shorts};
 use q3_bits::{ReadError, Reader, laws};
-use q3_fields::{Kind, Table, read_player_field};
+use q3_fields::{DeltaError, Kind, StateKind, Table, read_counted, read_player_field};
 
-/// Why no player could be read: the first fault in reading order.
-#[derive(Clone, Copy, Debug, PartialEq, Eq)]
-pub enum PlayerError {
-    /// The bits don't read.
-    Bits(ReadError),
-    /// The count of fields is above the table's.
-    Count(u8),
-}
-
-impl From<ReadError> for PlayerError {
-    ghost from_gives = { λ e f. f ≡ Bits e };
-
-    fn from(e: ReadError) -> PlayerError {
-        PlayerError::Bits(e)
-    }
-}
+/// Why no player could be read: the first fault in reading order. `Bits` where the bits don't read, also those of the
+/// arrays; `Count` where the count of fields is above the table's.
+pub type PlayerError = DeltaError;
 
 /// Reads a state against another. After a refusal `into` may hold anything.
 #[tactic(auto, unfolding(crate::specs::Delta::player_at))]
@@ -38,44 +24,10 @@ pub fn read_player(
 ) -> Result<(), PlayerError>
     ensures { Reads r.old r.new (player_at r.old.words table.now.kinds from.now r.old.left) (holding into.new result) }
 {
-    let count = r.get(8)? as usize;
-    if count > table.count() {
-        return Err(PlayerError::Count(count as u8));
-    }
     *into = *from;
-    read_fields(r, table, count, &mut into.words)?;
+    read_counted(r, StateKind::Player, table, &mut into.words)?;
     read_arrays(r, into)?;
     Ok(())
-}
-
-/// Reads the first fields, so many, over the words that stand there.
-fn read_fields(
-    r: &mut Reader,
-    table: &Table,
-    count: usize,
-    words: &mut [u32; 64],
-) -> Result<(), ReadError>
-    requires in_table { count ≤ length table.now.kinds }
-    requires few { count ≤ 64 }
-    ensures { Reads r.old r.new (fields_after r.old.words (take count table.now.kinds) words.old r.old.left) (holding words.new result) }
-{
-    laws::lists_are_read();
-    for k in 0..count {
-        words[k] = read_field(r, kind_at(table, k), words[k])?;
-    }
-    Ok(())
-}
-
-/// Reads a mark, and behind a mark of change the field.
-#[tactic(auto, unfolding(crate::specs::Delta::field_after))]
-fn read_field(r: &mut Reader, kind: Kind, from: u32) -> Result<u32, ReadError>
-    requires { IsKind kind }
-    ensures { Reads r.old r.new (field_after r.old.words kind from r.old.left) result }
-{
-    if r.get(1)? == 0 {
-        return Ok(from);
-    }
-    read_player_field(r, kind)
 }
 
 /// Reads a mark for all arrays, and behind a mark of change each of them.

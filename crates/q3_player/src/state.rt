@@ -1,10 +1,9 @@
 //! The state of a player. Keeps the rule "normal form".
 
-ghost use Rattle.std.specs.Prelude.{◌≡◌, ◌<◌, length, replicate, slice_get, Some};
-ghost use Rattle.q3_fields.specs.Kinds.{IsKind};
+ghost use Rattle.std.specs.Prelude.{◌≡◌, length};
 ghost use Rattle.q3_player.specs.State.{patterns_of, shorts_of};
 
-use q3_fields::{Kind, Table, norm};
+use q3_fields::{Table, normalize};
 
 /// A player as the game hands it in and as a snapshot carries it: the words of the table's fields,
 /// and four arrays of 16 values, of which the first three hold signed values.
@@ -43,28 +42,10 @@ impl PlayerState {
     pub fn normal(&self, table: &Table) -> PlayerState
         ensures { result ≡ normal_player table.now.kinds self.now }
     {
-        let mut words = zeros();
-        for k in 0..table.count() {
-            words[k] = norm(kind_at(table, k), self.words[k]);
-        }
-        PlayerState { words, ..*self }
+        let mut normal = *self;
+        normalize(table, &mut normal.words);
+        normal
     }
-}
-
-/// So many zeros.
-fn zeros<const N: usize>() -> [u32; N]
-    ensures { result ≡ replicate N 0 }
-{
-    [0; N]
-}
-
-/// The kind of a field that the table has.
-pub(crate) fn kind_at(table: &Table, k: usize) -> Kind
-    requires { k < length table.now.kinds }
-    ensures kind { slice_get table.now.kinds k ≡ Some result }
-    ensures allowed { IsKind result }
-{
-    table.kind(k).unwrap()
 }
 
 /// Signed values as words of 32 bits.

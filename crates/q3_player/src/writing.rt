@@ -1,16 +1,16 @@
 //! Writes the player delta. Keeps the rule "player delta", the engine's `MSG_WriteDeltaPlayerstate`.
 
-ghost use Rattle.std.specs.Prelude.{◌≡◌, ◌≤◌, [], ◌∷◌, length, take};
+ghost use Rattle.std.specs.Prelude.{◌≡◌, [], ◌∷◌};
 ghost use Rattle.std.specs.List.{flat_map, list_all};
 ghost use Rattle.q3_bits.specs.Streams.{Writes};
 ghost use Rattle.q3_fields.specs.Kinds.{IsKind};
 ghost use Rattle.q3_player.specs.State.{patterns_of};
 ghost use Rattle.q3_player.specs.Arrays.{changes, mask_of, player_changes};
-ghost use Rattle.q3_player.specs.Delta.{changed_count, field_text, fields_text, is_empty, values_text, array_text, arrays_text, player_delta};
+ghost use Rattle.q3_player.specs.Delta.{is_empty, values_text, array_text, arrays_text, player_delta};
 
-use crate::state::{PlayerState, kind_at, patterns};
+use crate::state::{PlayerState, patterns};
 use q3_bits::{Overflow, Writer, laws};
-use q3_fields::{Kind, Table, write_player_field};
+use q3_fields::{Kind, StateKind, Table, changed_count, write_counted, write_player_field};
 
 /// Writes what changed from one state to another: a byte for how many fields follow, a mark for each of them and the
 /// field behind a mark of change, and the four arrays, each with a mask of the places that changed and their values.
@@ -25,59 +25,9 @@ pub fn write_player(
     ensures { Writes w.old w.new (player_delta w.old.words table.now.kinds from.now to.now) result }
 {
     laws::texts_are_written();
-    let count = changed_fields(table, from, to);
-    w.put(count as u32, 8)?;
-    write_fields(w, table, count, from, to)?;
+    let count = changed_count(table, &from.words, &to.words);
+    write_counted(w, StateKind::Player, table, count, &from.words, &to.words)?;
     write_arrays(w, from, to)
-}
-
-/// The index of the last field of the table that changed, plus one.
-fn changed_fields(table: &Table, from: &PlayerState, to: &PlayerState) -> usize
-    ensures count { result ≡ changed_count table.now.kinds from.now to.now }
-    ensures in_table { result ≤ length table.now.kinds }
-    ensures few { result ≤ 64 }
-{
-    let mut count = 0;
-    for k in 0..table.count() {
-        if from.words[k] != to.words[k] {
-            count = k + 1;
-        }
-    }
-    count
-}
-
-/// Writes the first fields, so many.
-fn write_fields(
-    w: &mut Writer,
-    table: &Table,
-    count: usize,
-    from: &PlayerState,
-    to: &PlayerState,
-) -> Result<(), Overflow>
-    requires in_table { count ≤ length table.now.kinds }
-    requires few { count ≤ 64 }
-    ensures { Writes w.old w.new (fields_text w.old.words (take count table.now.kinds) from.now.words to.now.words) result }
-{
-    laws::texts_are_written();
-    // what stands there fits the room
-    prove!(w.length() > 0);
-    for k in 0..count {
-        write_field(w, kind_at(table, k), from.words[k], to.words[k])?;
-    }
-    Ok(())
-}
-
-/// Writes a mark, and behind a mark of change the field.
-fn write_field(w: &mut Writer, kind: Kind, from: u32, to: u32) -> Result<(), Overflow>
-    requires { IsKind kind }
-    ensures { Writes w.old w.new (field_text w.old.words kind from to) result }
-{
-    laws::texts_are_written();
-    if from == to {
-        return w.put(0, 1);
-    }
-    w.put(1, 1)?;
-    write_player_field(w, kind, to)
 }
 
 /// Writes a mark for all arrays, and behind a mark of change each of them.

@@ -1,5 +1,0 @@
-use Rattle.q3_player.proofs.LastChanged.{last_changed-agrees, last_changed-least}
-use Rattle.q3_player.proofs.laws.last_changed_is_least.Goals as goal
-
-pub returns : goal.returns
-returns c = λ from to same. (last_changed-agrees from to same, last_changed-least from to same)
