@@ -13,3 +13,7 @@ pub mod EntrySpelled
 pub mod EntriesSpelled
 pub mod WrittenSpelled
 pub mod ListWritten
+pub mod OneNumber
+pub mod ListSpelled
+pub mod ListRead
+pub mod ListSkipped

@@ -6,7 +6,8 @@ use Rattle.q3_entity.specs.declared.state.EntityState.{EntityState}
 use Rattle.q3_entity.specs.declared.error.EntityError.{EntityError}
 use Rattle.q3_entity.specs.Entities.{RiseFrom, with_number}
 use Rattle.q3_entity.specs.Lists.{one_more}
-use Rattle.q3_entity.specs.Walking.{kept_below, taken}
+use Rattle.q3_entity.specs.Walking.{kept_below}
+use Rattle.q3_entity.specs.Runs.{taken}
 
 -- numbers that rise from a larger one on
 pub rise-less : (limit least less : ℕ) (xs : List EntityState) → less ≤ least → RiseFrom limit least xs → RiseFrom limit less xs

@@ -11,7 +11,8 @@ use Rattle.q3_entity.specs.Entities.{RiseFrom, with_number}
 use Rattle.q3_entity.specs.Baselines.{Lines}
 use Rattle.q3_entity.specs.Delta.{bits_read, entity_at}
 use Rattle.q3_entity.specs.Lists.{number_at, one_more, stays, entered, words_from, numbers_after, list_after}
-use Rattle.q3_entity.specs.Walking.{kept_below, taken, Reached, next_at, entry_at, turn_at}
+use Rattle.q3_entity.specs.Runs.{taken}
+use Rattle.q3_entity.specs.Walking.{kept_below, Reached, next_at, entry_at, turn_at}
 use Rattle.q3_entity.proofs.Binds.{bind_same, bind_assoc}
 use Rattle.q3_entity.proofs.Numbers.{with_number-below, with_number-first, with_number-others, kept_below-none, kept_below-more, kept_below-rises, taken-found, taken-rises}
 use Rattle.q3_bits.specs.Words.{field_at}

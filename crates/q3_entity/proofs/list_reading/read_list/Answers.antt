@@ -11,7 +11,7 @@ returns-in_err-cursor-clause-reads c =
     let p = err_from_is_err_and c.from_residual.result c.from_residual.ensures.1 in
     let reads = c.in_err-cursor.ensures.reads in
     rw (p.1, p.2) (record {
-      value = list_refused c.args.r.now.words c.args.table.now c.args.baselines.now (run_of c.args.base) c.clear.new.self.items c.args.r.now.left _ c.requires.base.rise c.clear.ensures reads.value;
+      value = list_refused c.args.r.now.words c.args.table.now c.args.baselines.now (run_of c.args.base) c.clear.new.self.items c.args.r.now.left _ c.requires.rise c.clear.ensures reads.value;
       words = reads.words;
       place = reads.place;
     })
@@ -23,8 +23,8 @@ loop-cursor-init c =
       words = all.reads.words;
       place = all.reads.place;
       most = all.most;
-      rise = next_rises c.args.r.now.words c.args.table.now 0 (run_of c.args.base) c.clear.new.self.items c.args.r.now.left _ (end_mark c.args.table.now) 0 c.requires.base.rise (sym all.reads.value);
-      reads = list_begun c.args.r.now.words c.args.table.now c.args.baselines.now (run_of c.args.base) c.clear.new.self.items c.args.r.now.left _ _ c.requires.base.rise c.clear.ensures all.reads.value;
+      rise = next_rises c.args.r.now.words c.args.table.now 0 (run_of c.args.base) c.clear.new.self.items c.args.r.now.left _ (end_mark c.args.table.now) 0 c.requires.rise (sym all.reads.value);
+      reads = list_begun c.args.r.now.words c.args.table.now c.args.baselines.now (run_of c.args.base) c.clear.new.self.items c.args.r.now.left _ _ c.requires.rise c.clear.ensures all.reads.value;
     }
 
 pub returns-in_err-cursor-2-clause-reads : goal.returns-in_err-cursor-2-clause-reads
