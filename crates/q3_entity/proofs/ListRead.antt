@@ -1,26 +1,23 @@
 -- A list that is spelled so is read.
-use Rattle.std.proofs.Common.{◌≡◌, ◌≢◌, ◌⊎◌, ℕ, zero, suc, ◌+◌, ◌<◌, ◌≤◌, Bool, true, false, cond, eqb, List, [], ◌∷◌, ◌++◌, length, Option, Some, None, IsSome, Result, Ok, Err, refl, sym, ap, subst, ◌∙◌, append_assoc, arith, inl, inr}
+use Rattle.std.proofs.Common.{◌≡◌, ◌≢◌, ℕ, zero, suc, ◌+◌, ◌≤◌, Bool, true, List, [], ◌∷◌, ◌++◌, length, Option, None, Ok, refl, sym, ap, subst, ◌∙◌, append_assoc, arith, inl, inr}
 use Rattle.std.proofs.lemmas.Bool.{cases_eq, eq-eqb, ne_eqb}
 use Rattle.std.proofs.lemmas.List.{append-nil}
 use Rattle.std.specs.Option.{is_some}
-use Rattle.q3_bits.specs.ResultBind.{◌>>=◌}
 use Rattle.q3_bits.specs.Words.{IsCode, field_bits}
 use Rattle.q3_bits.specs.Laws.{PutIsRead}
 use Rattle.q3_fields.specs.Kinds.{Layout, IsTable, end_mark}
 use Rattle.q3_fields.specs.Laws.{WordsSpelledAreRead}
 use Rattle.q3_entity.specs.declared.state.EntityState.{EntityState}
-use Rattle.q3_entity.specs.declared.error.EntityError.{EntityError}
-use Rattle.q3_entity.specs.Entities.{RiseFrom, IsList, AreStates, most_entities, with_number}
+use Rattle.q3_entity.specs.Entities.{RiseFrom, AreStates, most_entities, with_number}
 use Rattle.q3_entity.specs.Baselines.{Lines, AreLines}
-use Rattle.q3_entity.specs.Delta.{entity_at}
-use Rattle.q3_entity.specs.Lists.{number_at, stays, entered, words_from, numbers_after, list_after}
+use Rattle.q3_entity.specs.Lists.{words_from, numbers_after, list_after}
 use Rattle.q3_entity.specs.Laws.{ZeroIsNormal, ListSpelledIsRead}
-use Rattle.q3_entity.specs.Spelling.{Entered, EntriesRise, RemoveFrom, state_after, SpellsList}
+use Rattle.q3_entity.specs.Spelling.{Entered, EntriesRise, RemoveFrom, state_after}
 use Rattle.q3_entity.proofs.Results.{number_is_read}
-use Rattle.q3_entity.proofs.EntrySpelled.{words_there, SpellsMarks, TakenMarks, marks_are_read}
+use Rattle.q3_entity.proofs.EntrySpelled.{words_there, SpellsMarks, marks_are_read}
 use Rattle.q3_entity.proofs.EntriesSpelled.{first_number, SpellsBehind, behind_of_entries}
-use Rattle.q3_entity.proofs.OneNumber.{with_first, IsCut, cut, entry_of, entry_of-below, entry_of-first, entry_of-others, entries_rise-less, state_there, pushed, pushed-first, stays-is, entered-is}
-use Rattle.q3_entity.proofs.ListSpelled.{FromWords, from_words}
+use Rattle.q3_entity.proofs.OneNumber.{with_first, cut, entry_of, entry_of-below, entry_of-first, entry_of-others, state_there, pushed, pushed-first, stays-is, entered-is}
+use Rattle.q3_entity.proofs.ListSpelled.{from_words}
 
 -- the entities that are still to come at a number
 record ToCome (table : Layout) (base : List EntityState) (number : ℕ) (entities added : List EntityState) (entries : List Entered) : Type 0 where
@@ -94,13 +91,13 @@ read_entry put law law' words table lines base code is_table are states left num
     let took = marks_are_read put law words table changed entry.words own (field ++ (behind ++ rest)) code is_table (from_words table lines base number law' is_table are states).are spells in
     let o = state_there number (words_there took.kind took.to) in
     let here : with_number number added ≡ o =
-        come.states number (omega arith) ∙ ap (λ (e : Option Entered). state_after from number e) (entry_of-first entry entries number same) ∙ ap (state_there number) (sym took.is) in
+    come.states number (omega arith) ∙ ap (λ (e : Option Entered). state_after from number e) (entry_of-first entry entries number same) ∙ ap (state_there number) (sym took.is) in
     let removes = come.removes in
     let held : (words_there took.kind took.to ≡ None) → is_some from ≡ true = λ gone. subst (λ (n : ℕ). is_some (with_number n base) ≡ true) same (removes.0 (sym took.is ∙ gone)) in
     let rise = come.rise in
     let risen : EntriesRise (end_mark table) (number + 1) entries = subst (λ (n : ℕ). EntriesRise (end_mark table) (n + 1) entries) same rise.2 in
     let off = cut_off table base number entities added entries o here come.risen come.few risen removes.1
-        (λ n more. come.states n (omega arith) ∙ ap (λ (e : Option Entered). state_after (with_number n base) n e) (entry_of-others entry entries n (λ is. omega arith))) in
+    (λ n more. come.states n (omega arith) ∙ ap (λ (e : Option Entered). state_after (with_number n base) n e) (entry_of-others entry entries n (λ is. omega arith))) in
     let regrouped : text ++ rest ≡ own ++ (field ++ (behind ++ rest)) = rw whole (simp append_assoc) in
     rw (
       eq-eqb number number refl,
@@ -130,7 +127,7 @@ numbers_are_read put law law' words table lines base code is_table are states (s
           let risen : EntriesRise (end_mark table) (number + 1) entries = subst (λ (n : ℕ). EntriesRise (end_mark table) (n + 1) entries) same rise.2 in
           let least = first-least table (number + 1) entries (omega (arith, rise.1)) risen in
           let all = read_entry put law law' words table lines base code is_table are states left number next entry entries text s.0 s.1 rest same least.0 least.1 s.2 s.3
-              (numbers_are_read put law law' words table lines base code is_table are states left (number + 1) entries s.1 rest (omega arith) risen s.4) in
+          (numbers_are_read put law law' words table lines base code is_table are states left (number + 1) entries s.1 rest (omega arith) risen s.4) in
           subst (λ (n : ℕ). AreRead words table lines base (suc left) number n (entry ∷ entries) (text ++ rest) rest) (sym same) all entities added come
       | inr later ↦
           let risen : EntriesRise (end_mark table) (number + 1) (entry ∷ entries) = (omega (arith, rise.0, later), rise.1, rise.2) in

@@ -1,13 +1,12 @@
 -- What is read of a list was spelled so.
-use Rattle.std.proofs.Common.{◌≡◌, ◌≢◌, ◌⊎◌, ℕ, zero, suc, ◌+◌, ◌<◌, ◌≤◌, Bool, true, false, cond, eqb, List, [], ◌∷◌, ◌++◌, length, replicate, Option, Some, None, IsSome, IfSome, unwrap_or, Result, Ok, Err, refl, sym, ap, subst, ◌∙◌, append_assoc, arith, inl, inr}
+use Rattle.std.proofs.Common.{◌≡◌, ℕ, zero, suc, ◌+◌, ◌<◌, ◌≤◌, Bool, true, eqb, List, [], ◌∷◌, ◌++◌, Option, Some, None, IfSome, unwrap_or, Ok, refl, sym, ap, subst, ◌∙◌, append_assoc, arith, inl, inr}
 use Rattle.std.proofs.lemmas.Bool.{cases_eq, cases_Bool, eqb-true, eqb-false}
 use Rattle.std.proofs.lemmas.List.{append-nil}
 use Rattle.std.proofs.lemmas.List.Elements.{All-nil}
-use Rattle.std.specs.List.{All}
 use Rattle.std.specs.Option.{is_some}
 use Rattle.q3_bits.specs.ResultBind.{◌>>=◌, bind_ok}
 use Rattle.q3_bits.specs.Words.{IsCode, field_bits}
-use Rattle.q3_bits.specs.Laws.{ReadWasPut, PutIsRead}
+use Rattle.q3_bits.specs.Laws.{ReadWasPut}
 use Rattle.q3_fields.specs.Kinds.{Layout, IsTable, end_mark}
 use Rattle.q3_fields.specs.States.{AreWords, normal_words}
 use Rattle.q3_fields.specs.Laws.{WordsReadAreSpelled}
@@ -17,11 +16,11 @@ use Rattle.q3_entity.specs.declared.reading.Entry.TheVariants.{Removed, Changed,
 use Rattle.q3_entity.specs.Entities.{zero_entity, IsNormal, RiseFrom, IsList, AreStates, AreNormal, with_number}
 use Rattle.q3_entity.specs.Baselines.{Lines, set_at, line_of, AreLines}
 use Rattle.q3_entity.specs.Delta.{entity_at}
-use Rattle.q3_entity.specs.Lists.{number_at, one_more, stays, entered, words_from, numbers_after, list_after}
+use Rattle.q3_entity.specs.Lists.{number_at, stays, entered, words_from, numbers_after, list_after}
 use Rattle.q3_entity.specs.Laws.{ZeroIsNormal, ListReadIsSpelled}
-use Rattle.q3_entity.specs.Spelling.{Entered, SpellsEntries, EntriesRise, RemoveFrom, state_after, SpellsList}
+use Rattle.q3_entity.specs.Spelling.{Entered, SpellsEntries, EntriesRise, RemoveFrom, state_after}
 use Rattle.q3_entity.proofs.Results.{number_was_read}
-use Rattle.q3_entity.proofs.EntrySpelled.{words_there, SpellsMarks, ReadMarks, marks_were_spelled}
+use Rattle.q3_entity.proofs.EntrySpelled.{words_there, ReadMarks, marks_were_spelled}
 use Rattle.q3_entity.proofs.EntriesSpelled.{first_number, SpellsBehind, entries_of_behind}
 use Rattle.q3_entity.proofs.OneNumber.{with_first, IsNamed, first-rises, first-found, first-others, first-all, with_number-past, with_number-all, entry_of, entry_of-below, entry_of-first, entry_of-others, entries_rise-less, state_there, pushed, pushed-first, stays-was, entered-was}
 use Rattle.q3_entity.proofs.Listed.{with_number-number, list_is_listed}
@@ -183,7 +182,7 @@ behind_number words table lines base number next entities now bits left behind k
           elim (cases_eq n number) [
             | inl here ↦
                 let found_here = first-found (end_mark table) number o read.added named read.risen
-                    ∙ ap (λ (e : Option Entered). state_after (with_number number base) number e) (sym (entry_of-first entry read.entries number refl)) in
+                ∙ ap (λ (e : Option Entered). state_after (with_number number base) number e) (sym (entry_of-first entry read.entries number refl)) in
                 subst (λ (m : ℕ). with_number m (with_first o read.added) ≡ state_after (with_number m base) m (entry_of m (entry ∷ read.entries))) (sym here) found_here
             | inr other ↦
                 first-others number n o read.added named other ∙ read.states n (omega (arith, least, other))
@@ -209,10 +208,10 @@ numbers_were_spelled put law law' words table lines base code is_table are list 
     elim (cases_Bool (eqb number next)) [
       | inl here ↦
           let entry = bind_ok (entity_at words table (words_from lines number from) bits)
-              (λ entry. entered entities (is_some from) number entry.0.0 entry.0.1 >>= λ now. (number_at words table (number + 1) entry.1 >>= λ more. numbers_after words table lines base left (number + 1) more.0 now more.1))
-              found (rw here at e) in
+          (λ entry. entered entities (is_some from) number entry.0.0 entry.0.1 >>= λ now. (number_at words table (number + 1) entry.1 >>= λ more. numbers_after words table lines base left (number + 1) more.0 now more.1))
+          found (rw here at e) in
           let now = bind_ok (entered entities (is_some from) number entry.0.0.0 entry.0.0.1)
-              (λ now. number_at words table (number + 1) entry.0.1 >>= λ more. numbers_after words table lines base left (number + 1) more.0 now more.1) found entry.2 in
+          (λ now. number_at words table (number + 1) entry.0.1 >>= λ more. numbers_after words table lines base left (number + 1) more.0 now more.1) found entry.2 in
           let more = bind_ok (number_at words table (number + 1) entry.0.1) (λ more. numbers_after words table lines base left (number + 1) more.0 now.0 more.1) found now.2 in
           let fw = from_words table lines base number law' is_table are states in
           let marks = marks_were_spelled put law words table (words_from lines number from) bits entry.0 code is_table fw.are entry.1 in

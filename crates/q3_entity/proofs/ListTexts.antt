@@ -11,7 +11,7 @@ use Rattle.q3_entity.specs.Baselines.{Lines}
 use Rattle.q3_entity.specs.Delta.{removal}
 use Rattle.q3_entity.specs.Lists.{piece, list_text}
 use Rattle.q3_entity.specs.Runs.{taken, from_number}
-use Rattle.q3_entity.specs.Merging.{removals, entry_text, left_behind}
+use Rattle.q3_entity.specs.Merging.{removals, end_text, entry_text, left_behind}
 use Rattle.q3_entity.proofs.Gone.{removals-next, removals-stay, removals-none, from_number-next, from_number-stay, from_number-none}
 use Rattle.q3_entity.proofs.Risen.{rise-lower, with_number-first, with_number-behind, with_number-below, from_number-rises, from_number-limit, is_taken}
 
@@ -107,7 +107,7 @@ module _ (words : List (List Bool)) (table : Layout) (lines : Lines) where
 
   -- where nothing is there now, all that is left is gone
   pub list_text-ends : (base : List EntityState) → RiseFrom (end_mark table) 0 base
-      → list_text words table lines base [] ≡ removals words table (end_mark table) base ++ field_bits words table.number_bits (end_mark table)
+      → list_text words table lines base [] ≡ end_text words table base
   list_text-ends base rise =
       list_text-gone (end_mark table) 0 base [] rise tt
       ∙ ap (λ left. removals words table (end_mark table) base ++ list_text words table lines left []) (from_number-limit (end_mark table) 0 base rise)

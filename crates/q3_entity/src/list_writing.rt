@@ -7,7 +7,7 @@ ghost use Rattle.q3_entity.specs.Entities.{IsList, run_of};
 ghost use Rattle.q3_entity.specs.Baselines.{most_lines};
 ghost use Rattle.q3_entity.specs.Lists.{piece, list_text};
 ghost use Rattle.q3_entity.specs.Runs.{from_number};
-ghost use Rattle.q3_entity.specs.Merging.{removals, entry_text, left_behind, done};
+ghost use Rattle.q3_entity.specs.Merging.{removals, end_text, entry_text, left_behind, done};
 
 use crate::baselines::Baselines;
 use crate::run::{split_first, take_number};
@@ -31,14 +31,23 @@ pub fn write_list(
     ensures { Writes w.old w.new (list_text w.old.words table.now baselines.now (run_of base.entry) now.now) result }
 {
     laws::texts_are_written();
-    let end = table.end();
-    // what stands there fits the room
+    // what stands there fits the room, and each number may have a baseline
     prove!(w.length() > 0);
+    prove!(table.end() <= 1023);
     let mut left = base;
     for entity in now {
         left = write_entry(w, table, baselines, left, entity)?;
     }
-    write_gone(w, table, left, end)?;
+    write_end(w, table, left)
+}
+
+/// Writes that what is left of the base is gone, and the end mark.
+fn write_end(w: &mut Writer, table: &Table, base: Run) -> Result<(), Overflow>
+    ensures { Writes w.old w.new (end_text w.old.words table.now (run_of base.entry)) result }
+{
+    laws::texts_are_written();
+    let end = table.end();
+    write_gone(w, table, base, end)?;
     w.put(u32::from(end), table.number_bits())
 }
 

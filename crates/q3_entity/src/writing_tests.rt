@@ -39,10 +39,16 @@ fn entities_are_written(rt: HostRuntime) -> Result<(), Fail> {
     let table = Table::of(&[0, 8, -16]).expect(&rt, "a table");
     let zero = EntityState::zero(5);
     let mut none = Writer::new(&code, 8);
-    assert_eq!(rt; write_entity(&mut none, &table, &zero, &zero, false), Ok(()));
+    assert_eq!(rt;
+        write_entity(&mut none, &table, &zero, &zero, false),
+        Ok(())
+    );
     assert_eq!(rt; none.bytes(), [0x00].as_slice());
     let mut forced = Writer::new(&code, 8);
-    assert_eq!(rt; write_entity(&mut forced, &table, &zero, &zero, true), Ok(()));
+    assert_eq!(rt;
+        write_entity(&mut forced, &table, &zero, &zero, true),
+        Ok(())
+    );
     assert_eq!(rt; forced.bytes(), [0x05, 0x00].as_slice());
     let mut changed = Writer::new(&code, 8);
     assert_eq!(rt;
@@ -69,7 +75,10 @@ fn list_is_written(rt: HostRuntime) -> Result<(), Fail> {
     };
     let now = [entity(1, 5), entity(3, 8), entity(4, 9)];
     let mut writer = Writer::new(&code, 9);
-    assert_eq!(rt; write_list(&mut writer, &table, &baselines, base, &now), Ok(()));
+    assert_eq!(rt;
+        write_list(&mut writer, &table, &baselines, base, &now),
+        Ok(())
+    );
     assert_eq!(rt;
         writer.bytes(),
         [0x03, 0x28, 0x60, 0x04, 0x02, 0x30, 0xe0, 0xff, 0x00].as_slice()

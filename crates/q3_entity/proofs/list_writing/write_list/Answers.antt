@@ -1,11 +1,9 @@
 use Rattle.std.proofs.Common.{◌++◌, [], sym, ap, ◌∙◌, arith}
 use Rattle.std.proofs.lemmas.Result.{err_from_is_err_and}
 use Rattle.std.proofs.lemmas.List.{drop_all}
-use Rattle.q3_bits.specs.Words.{field_bits}
-use Rattle.q3_fields.specs.Kinds.{end_mark}
 use Rattle.q3_entity.specs.Entities.{run_of}
 use Rattle.q3_entity.specs.Lists.{list_text}
-use Rattle.q3_entity.specs.Merging.{removals}
+use Rattle.q3_entity.specs.Merging.{end_text}
 use Rattle.q3_entity.proofs.ListTexts.{is_turn, list_text-ends}
 use Rattle.q3_entity.proofs.list_writing.write_list.Goals as goal
 
@@ -38,32 +36,13 @@ returns-in_err-left c =
     (law.words _ _ _ _ h.written) c.loop-entity-test.true h.base h.now in
     rw (p.1, p.2) (law.stops _ _ _ _ _ _ _ _ h.written t.text c.in_err-left.ensures.writes)
 
-pub returns-in_err-write_gone : goal.returns-in_err-write_gone
-returns-in_err-write_gone c =
-    let law = c.texts_are_written.ensures in
-    let h = c.loop-entity.invariant in
-    let table = c.args.table.now in
-    let words = c.args.w.now.words in
-    let left = run_of c.loop-entity.left in
-    let end = end_mark table in
-    let p = err_from_is_err_and c.from_residual-in_err-write_gone.result c.from_residual-in_err-write_gone.ensures.1 in
-    let ends = ap (list_text words table c.args.baselines.now left) (drop_all c.loop-entity.entity-index c.args.now.now c.loop-entity-test.false) ∙ list_text-ends words table c.args.baselines.now left h.base in
-    let gone = law.refused (field_bits c.loop-entity.w.words table.number_bits end) (rw c.end-end.ensures.mark at c.in_err-write_gone.ensures.writes) in
-    rw (p.1, p.2)
-    (law.then _ _ _ h.written.written (list_text words table c.args.baselines.now (run_of c.args.base) c.args.now.now)
-    (λ ws. removals ws table end left ++ field_bits ws table.number_bits end) _ (sym h.written.parts ∙ ap (λ t. h.written.written ++ t) ends) h.written.writes gone)
-
 pub returns : goal.returns
 returns c =
-    let law = c.texts_are_written.ensures in
     let h = c.loop-entity.invariant in
     let table = c.args.table.now in
     let words = c.args.w.now.words in
+    let lines = c.args.baselines.now in
     let left = run_of c.loop-entity.left in
-    let end = end_mark table in
-    let ends = ap (list_text words table c.args.baselines.now left) (drop_all c.loop-entity.entity-index c.args.now.now c.loop-entity-test.false) ∙ list_text-ends words table c.args.baselines.now left h.base in
-    let gone = rw c.end-end.ensures.mark at c.in_ok-write_gone.ensures.writes in
-    let mark = rw (c.from.ensures, c.number_bits.ensures.bits, c.end-end.ensures.mark) at c.put.ensures.writes in
-    law.then _ _ _ h.written.written (list_text words table c.args.baselines.now (run_of c.args.base) c.args.now.now)
-    (λ ws. removals ws table end left ++ field_bits ws table.number_bits end) _ (sym h.written.parts ∙ ap (λ t. h.written.written ++ t) ends) h.written.writes
-    (law.next (λ ws. field_bits ws table.number_bits end) gone mark)
+    let ends = ap (list_text words table lines left) (drop_all c.loop-entity.entity-index c.args.now.now c.loop-entity-test.false) ∙ list_text-ends words table lines left h.base in
+    c.texts_are_written.ensures.then _ _ _ h.written.written (list_text words table lines (run_of c.args.base) c.args.now.now)
+    (λ ws. end_text ws table left) _ (sym h.written.parts ∙ ap (λ t. h.written.written ++ t) ends) h.written.writes c.write_end.ensures
