@@ -1,6 +1,6 @@
 -- The text of an entity delta, by whether a field changed.
-use Rattle.std.proofs.Common.{◌≡◌, ◌≢◌, ℕ, ◌+◌, ◌==◌, Bool, true, false, eqb, List, [], ◌∷◌, ◌++◌, refl}
-use Rattle.std.proofs.lemmas.Bool.{ne_eqb, eq-eqb}
+use Rattle.std.proofs.Common.{◌≡◌, ◌≢◌, Bool, List, [], ◌∷◌, ◌++◌, refl}
+use Rattle.std.proofs.lemmas.Bool.{ne_eqb}
 use Rattle.q3_fields.specs.Kinds.{Layout}
 use Rattle.q3_fields.specs.Deltas.{changed_count, counted_text, words_delta}
 use Rattle.q3_fields.specs.declared.delta.StateKind.TheVariants.{Entity}

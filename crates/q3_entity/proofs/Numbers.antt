@@ -1,12 +1,13 @@
 -- The entities of a rising list, by their numbers.
-use Rattle.std.proofs.Common.{◌≡◌, ◌≢◌, ℕ, ◌+◌, ◌<◌, ◌≤◌, List, [], ◌∷◌, Option, Some, None, Result, Ok, Err, refl, ap, ◌∙◌, arith, eqb, ltb, cond, false, true, Bool, subst, inl, inr}
+use Rattle.std.proofs.Common.{◌≡◌, ◌≢◌, ℕ, ◌+◌, ◌<◌, ◌≤◌, List, [], ◌∷◌, Some, None, Result, Ok, refl, ap, arith, eqb, false, subst, inl, inr}
 use Rattle.std.proofs.lemmas.Bool.{cases_eq, cases_lt, eq-eqb, ne_eqb, lt-ltb, le-ltb}
 use Rattle.q3_bits.specs.ResultBind.{◌>>=◌, bind_ok}
 use Rattle.q3_entity.specs.declared.state.EntityState.{EntityState}
 use Rattle.q3_entity.specs.declared.error.EntityError.{EntityError}
 use Rattle.q3_entity.specs.Entities.{RiseFrom, with_number}
 use Rattle.q3_entity.specs.Lists.{one_more}
-use Rattle.q3_entity.specs.Walking.{kept_below, taken}
+use Rattle.q3_entity.specs.Walking.{kept_below}
+use Rattle.q3_entity.specs.Runs.{taken}
 
 -- numbers that rise from a larger one on
 pub rise-less : (limit least less : ℕ) (xs : List EntityState) → less ≤ least → RiseFrom limit least xs → RiseFrom limit less xs

@@ -1,5 +1,5 @@
 -- The entities after a list, turn by turn: up to the next entry the base's entities stay, and then the entry is read.
-use Rattle.std.proofs.Common.{◌≡◌, ◌≢◌, ◌⊎◌, ℕ, zero, suc, ◌+◌, ◌-◌, ◌<◌, ◌≤◌, Bool, List, [], ◌∷◌, Option, Some, None, Result, Ok, Err, refl, sym, ap, subst, ◌∙◌, arith, eqb, ltb, cond, inl, inr, true, false}
+use Rattle.std.proofs.Common.{◌≡◌, ◌≢◌, ℕ, zero, suc, ◌+◌, ◌-◌, ◌<◌, ◌≤◌, Bool, List, [], ◌∷◌, Option, Result, Ok, Err, refl, sym, ap, subst, ◌∙◌, arith, ltb, cond, inl, inr}
 use Rattle.std.proofs.lemmas.Bool.{cases_eq, eq-eqb, ne_eqb, cases_Bool, ltb-false}
 use Rattle.std.specs.Option.{is_some}
 use Rattle.q3_bits.specs.ResultBind.{◌>>=◌, bind_ok}
@@ -11,12 +11,12 @@ use Rattle.q3_entity.specs.Entities.{RiseFrom, with_number}
 use Rattle.q3_entity.specs.Baselines.{Lines}
 use Rattle.q3_entity.specs.Delta.{bits_read, entity_at}
 use Rattle.q3_entity.specs.Lists.{number_at, one_more, stays, entered, words_from, numbers_after, list_after}
-use Rattle.q3_entity.specs.Walking.{kept_below, taken, Reached, next_at, entry_at, turn_at}
+use Rattle.q3_entity.specs.Runs.{taken}
+use Rattle.q3_entity.specs.Walking.{kept_below, Reached, next_at, entry_at, turn_at}
 use Rattle.q3_entity.proofs.Binds.{bind_same, bind_assoc}
-use Rattle.q3_entity.proofs.Numbers.{rise-less, with_number-below, with_number-first, with_number-others, kept_below-none, kept_below-more, kept_below-rises, taken-found, taken-rises}
+use Rattle.q3_entity.proofs.Numbers.{with_number-below, with_number-first, with_number-others, kept_below-none, kept_below-more, kept_below-rises, taken-found, taken-rises}
 use Rattle.q3_bits.specs.Words.{field_at}
 use Rattle.q3_bits.specs.Streams.{holding, with_rest}
-use Rattle.q3_entity.specs.declared.reading.Entry.{Entry}
 use Rattle.q3_entity.specs.declared.reading.Entry.TheVariants.{Changed, Same}
 
 abbrev pub Answer : Type 0
@@ -49,8 +49,8 @@ behind_entry-same words table lines number from entities bits go go' same =
     (λ now. number_at words table (number + 1) now.1 >>= λ more. go more.0 now.0 more.1)
     (λ now. number_at words table (number + 1) now.1 >>= λ more. go' more.0 now.0 more.1)
     (λ now is.
-        bind_same (number_at words table (number + 1) now.1) (λ more. go more.0 now.0 more.1) (λ more. go' more.0 now.0 more.1)
-        (λ more is'. same more.0 now.0 more.1 (number_at-least words table (number + 1) now.1 more is')))
+    bind_same (number_at words table (number + 1) now.1) (λ more. go more.0 now.0 more.1) (λ more. go' more.0 now.0 more.1)
+    (λ more is'. same more.0 now.0 more.1 (number_at-least words table (number + 1) now.1 more is')))
 
 -- at the number of the next entry
 numbers_after-here : (words : List (List Bool)) (table : Layout) (lines : Lines) (base : List EntityState) (left number : ℕ) (entities : List EntityState) (bits : List Bool)
@@ -63,9 +63,9 @@ numbers_after-here words table lines base left number entities bits =
     let read = entity_at words table (words_from lines number from) bits in
     rw (eq-eqb number number refl)
     (sym (bind_assoc read (λ entry. entered entities (is_some from) number entry.0.0 entry.0.1 >>= λ now. Ok (now, entry.1)) others
-        ∙ bind_same read (λ entry. (entered entities (is_some from) number entry.0.0 entry.0.1 >>= λ now. Ok (now, entry.1)) >>= others)
-        (λ entry. entered entities (is_some from) number entry.0.0 entry.0.1 >>= λ now. others (now, entry.1))
-        (λ entry is. bind_assoc (entered entities (is_some from) number entry.0.0 entry.0.1) (λ now. Ok (now, entry.1)) others)))
+    ∙ bind_same read (λ entry. (entered entities (is_some from) number entry.0.0 entry.0.1 >>= λ now. Ok (now, entry.1)) >>= others)
+    (λ entry. entered entities (is_some from) number entry.0.0 entry.0.1 >>= λ now. others (now, entry.1))
+    (λ entry is. bind_assoc (entered entities (is_some from) number entry.0.0 entry.0.1) (λ now. Ok (now, entry.1)) others)))
 
 -- at a number that has no entry
 numbers_after-there : (words : List (List Bool)) (table : Layout) (lines : Lines) (base : List EntityState) (left number next : ℕ) (entities : List EntityState) (bits : List Bool) → number ≢ next
@@ -86,10 +86,10 @@ forget words table lines x base (suc left) number next entities bits below =
       | inl same ↦
           rw (← same)
           (numbers_after-here words table lines (x ∷ base) left number entities bits
-              ∙ ap (λ (from : Option EntityState). behind_entry words table lines number from entities bits (λ next now left'. numbers_after words table lines (x ∷ base) left (number + 1) next now left')) gone
-              ∙ behind_entry-same words table lines number (with_number number base) entities bits _ _
-              (λ next now left' more. forget words table lines x base left (number + 1) next now left' (omega arith))
-              ∙ sym (numbers_after-here words table lines base left number entities bits))
+          ∙ ap (λ (from : Option EntityState). behind_entry words table lines number from entities bits (λ next now left'. numbers_after words table lines (x ∷ base) left (number + 1) next now left')) gone
+          ∙ behind_entry-same words table lines number (with_number number base) entities bits _ _
+          (λ next now left' more. forget words table lines x base left (number + 1) next now left' (omega arith))
+          ∙ sym (numbers_after-here words table lines base left number entities bits))
       | inr other ↦
           numbers_after-there words table lines (x ∷ base) left number next entities bits other
           ∙ ap (λ (from : Option EntityState). stays entities from >>= λ kept. numbers_after words table lines (x ∷ base) left (number + 1) next kept bits) gone
@@ -142,8 +142,8 @@ jump words table lines (x ∷ xs) (suc left) number next entities bits rise sum 
                 ∙ bind_same (one_more entities x) (λ kept. numbers_after words table lines base left (number + 1) next kept bits)
                 (λ kept. kept_below next kept xs >>= λ kept'. from_next words table lines next kept'.1 kept'.0 bits)
                 (λ kept is.
-                    forget words table lines x xs left (number + 1) next kept bits (omega arith)
-                    ∙ jump words table lines xs left (number + 1) next kept bits risen (omega arith) (omega arith))
+                forget words table lines x xs left (number + 1) next kept bits (omega arith)
+                ∙ jump words table lines xs left (number + 1) next kept bits risen (omega arith) (omega arith))
                 ∙ sym (bind_assoc (one_more entities x) (λ more. kept_below next more xs) (λ kept'. from_next words table lines next kept'.1 kept'.0 bits))
                 ∙ ap (λ (r : Result (List EntityState × List EntityState) EntityError). r >>= λ kept'. from_next words table lines next kept'.1 kept'.0 bits)
                 (sym (kept_below-more next entities x xs (omega arith)))
@@ -212,8 +212,8 @@ list_turns words table lines at bits below rise =
     (λ next now left. numbers_after words table lines at.base rest (at.next + 1) next now left)
     (λ next now left. kept_below next now found.1 >>= λ kept. from_next words table lines next kept.1 kept.0 left)
     (λ next now left more.
-        behind_taken words table lines at.base rest at.next next now left
-        ∙ jump words table lines found.1 rest (at.next + 1) next now left (taken-rises (end_mark table) at.next at.base rise) (omega arith) more)
+    behind_taken words table lines at.base rest at.next next now left
+    ∙ jump words table lines found.1 rest (at.next + 1) next now left (taken-rises (end_mark table) at.next at.base rise) (omega arith) more)
     ∙ bind_same read (λ now. number_at words table (at.next + 1) now.1 >>= λ more. (kept_below more.0 now.0 found.1 >>= λ kept. from_next words table lines more.0 kept.1 kept.0 more.1))
     (λ now. behind now >>= from_reached words table lines)
     (λ now is. sym (next_goes_on words table lines (at.next + 1) found.1 now.0 now.1))

@@ -1,18 +1,18 @@
 //! Reads a list of entities against a base, or passes over one whose base isn't there. Keeps the rules "entity list"
 //! and "spellings that a reader accepts", the engine's `CL_ParsePacketEntities`. The refusals are this project's own.
 
-ghost use Rattle.std.specs.Prelude.{◌≡◌, ◌+◌, ◌^◌, ◌<◌, ◌≤◌, Bool, List, [], ◌∷◌, replicate, MatchOption, IfOk, OnOk};
-ghost use Rattle.std.specs.Option.{option_copied};
+ghost use Rattle.std.specs.Prelude.{◌≡◌, ◌+◌, ◌^◌, ◌<◌, ◌≤◌, IfOk, OnOk};
 ghost use Rattle.q3_bits.specs.Streams.{Reads, holding};
 ghost use Rattle.q3_fields.specs.Kinds.{end_mark};
 ghost use Rattle.q3_entity.specs.Entities.{IsList, run_of};
 ghost use Rattle.q3_entity.specs.Baselines.{most_lines};
 ghost use Rattle.q3_entity.specs.Lists.{one_more, number_at, list_after, list_skipped};
-ghost use Rattle.q3_entity.specs.Walking.{kept_below, taken, next_at, entry_at, turn_at, skipped_at, with_kept, reached};
+ghost use Rattle.q3_entity.specs.Walking.{kept_below, next_at, entry_at, turn_at, skipped_at, with_kept, reached};
 
 use crate::baselines::Baselines;
 use crate::error::EntityError;
 use crate::reading::{Entry, read_entity};
+use crate::run::{split_first, take_number};
 use crate::state::{EntityState, List, Run};
 use q3_bits::Reader;
 use q3_fields::Table;
@@ -37,8 +37,7 @@ pub fn read_list(
     base: Run,
     into: &mut List,
 ) -> Result<(), EntityError>
-    requires base { IsList table.now (run_of base) }
-    requires lines { end_mark table.now ≤ most_lines }
+    requires { IsList table.now (run_of base) }
     ensures reads { Reads r.old r.new (list_after r.old.words table.now baselines.now (run_of base.entry) r.old.left) (holding into.new.items result) }
     ensures list { OnOk result (IsList table.now into.new.items) }
 {
@@ -169,39 +168,6 @@ fn keep_below<'a>(base: Run<'a>, number: u16, into: &mut List) -> Result<Run<'a>
         left = others;
     }
     Ok(left)
-}
-
-/// The entity of a number, where it is the first, and those behind it.
-fn take_number<'a>(base: Run<'a>, number: u16) -> (Option<&'a EntityState>, Run<'a>)
-    ensures { (option_copied result.0, run_of result.1) ≡ taken number (run_of base.entry) }
-{
-    match split_first(base) {
-        Some((entity, others)) if entity.number == number => (Some(entity), others),
-        _ => (None, base),
-    }
-}
-
-/// The first entity of a run, and those behind it.
-fn split_first<'a>(run: Run<'a>) -> Option<(&'a EntityState, Run<'a>)>
-    ensures { MatchOption result (run_of run.entry ≡ []) (λ found. run_of run.entry ≡ found.0.now ∷ run_of found.1) }
-{
-    if let Some((entity, head)) = run.head.split_first() {
-        return Some((
-            entity,
-            Run {
-                head,
-                tail: run.tail,
-            },
-        ));
-    }
-    let (entity, tail) = run.tail.split_first()?;
-    Some((
-        entity,
-        Run {
-            head: run.head,
-            tail,
-        },
-    ))
 }
 
 /// Puts an entity behind the others. `Many` comes where there are 256.

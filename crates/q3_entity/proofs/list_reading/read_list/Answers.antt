@@ -1,8 +1,7 @@
-use Rattle.std.proofs.Common.{sym, ◌∙◌, ◌≡◌, Ok, arith}
+use Rattle.std.proofs.Common.{sym, ◌∙◌, arith}
 use Rattle.std.proofs.lemmas.Result.{err_from_is_err_and}
 use Rattle.q3_fields.specs.Kinds.{end_mark}
 use Rattle.q3_entity.specs.Entities.{run_of}
-use Rattle.q3_entity.specs.Lists.{list_after}
 use Rattle.q3_entity.proofs.Turns.{list_begun, list_refused, list_goes_on, list_stops, list_ends, next_rises, turn_rises}
 use Rattle.q3_entity.proofs.Listed.{list_is_listed}
 use Rattle.q3_entity.proofs.list_reading.read_list.Goals as goal
@@ -12,7 +11,7 @@ returns-in_err-cursor-clause-reads c =
     let p = err_from_is_err_and c.from_residual.result c.from_residual.ensures.1 in
     let reads = c.in_err-cursor.ensures.reads in
     rw (p.1, p.2) (record {
-      value = list_refused c.args.r.now.words c.args.table.now c.args.baselines.now (run_of c.args.base) c.clear.new.self.items c.args.r.now.left _ c.requires.base.rise c.clear.ensures reads.value;
+      value = list_refused c.args.r.now.words c.args.table.now c.args.baselines.now (run_of c.args.base) c.clear.new.self.items c.args.r.now.left _ c.requires.rise c.clear.ensures reads.value;
       words = reads.words;
       place = reads.place;
     })
@@ -24,8 +23,8 @@ loop-cursor-init c =
       words = all.reads.words;
       place = all.reads.place;
       most = all.most;
-      rise = next_rises c.args.r.now.words c.args.table.now 0 (run_of c.args.base) c.clear.new.self.items c.args.r.now.left _ (end_mark c.args.table.now) 0 c.requires.base.rise (sym all.reads.value);
-      reads = list_begun c.args.r.now.words c.args.table.now c.args.baselines.now (run_of c.args.base) c.clear.new.self.items c.args.r.now.left _ _ c.requires.base.rise c.clear.ensures all.reads.value;
+      rise = next_rises c.args.r.now.words c.args.table.now 0 (run_of c.args.base) c.clear.new.self.items c.args.r.now.left _ (end_mark c.args.table.now) 0 c.requires.rise (sym all.reads.value);
+      reads = list_begun c.args.r.now.words c.args.table.now c.args.baselines.now (run_of c.args.base) c.clear.new.self.items c.args.r.now.left _ _ c.requires.rise c.clear.ensures all.reads.value;
     }
 
 pub returns-in_err-cursor-2-clause-reads : goal.returns-in_err-cursor-2-clause-reads
@@ -35,8 +34,8 @@ returns-in_err-cursor-2-clause-reads c =
     let before = c.loop-cursor.invariant in
     rw (p.1, p.2) (record {
       value =
-        list_stops c.args.r.now.words c.loop-cursor.r.words c.args.table.now c.args.baselines.now _ c.loop-cursor.r.left _ before.words (omega arith) before.rise reads.value
-        ∙ before.reads;
+          list_stops c.args.r.now.words c.loop-cursor.r.words c.args.table.now c.args.baselines.now _ c.loop-cursor.r.left _ before.words (omega arith) before.rise reads.value
+          ∙ before.reads;
       words = reads.words ∙ before.words;
       place = reads.place ∙ before.place;
     })
@@ -51,8 +50,8 @@ loop-cursor-preserved c =
       most = all.most;
       rise = turn_rises c.loop-cursor.r.words c.args.table.now c.args.baselines.now _ c.loop-cursor.r.left _ (end_mark c.args.table.now) before.rise (sym all.reads.value);
       reads =
-        list_goes_on c.args.r.now.words c.loop-cursor.r.words c.args.table.now c.args.baselines.now _ c.loop-cursor.r.left _ _ before.words (omega arith) before.rise all.reads.value
-        ∙ before.reads;
+          list_goes_on c.args.r.now.words c.loop-cursor.r.words c.args.table.now c.args.baselines.now _ c.loop-cursor.r.left _ _ before.words (omega arith) before.rise all.reads.value
+          ∙ before.reads;
     }
 
 pub returns-clause-reads : goal.returns-clause-reads
