@@ -67,6 +67,7 @@ impl Table {
     pub fn copy(&self) -> Table
         ensures copy { result ≡ self.now }
         ensures is_table { IsTable self.now }
+        ensures numbers { self.now.number_bits ≡ 10 }
     {
         Table {
             count: self.count,

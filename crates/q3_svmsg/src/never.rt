@@ -21,5 +21,6 @@ impl Never {
     pub fn absurd(&self)
         ensures { ⊥ }
     {
+        let _ = &self.number;
     }
 }

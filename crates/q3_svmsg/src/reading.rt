@@ -21,7 +21,10 @@ pub fn read_server_message<B: Bases>(
     requires { HoldsLists profile.now.entity (B.context bases.now) }
     ensures { holding (told_of into.new) result ≡ message_at profile.now (B.context bases.now) number (bits_of bytes.now) }
 {
-    let _ = (profile, number, bytes, bases);
+    let _ = profile;
+    let _ = number;
+    let _ = bytes;
+    let _ = bases;
     into.never.absurd();
     Ok(())
 }

@@ -20,7 +20,10 @@ pub fn write_snap(
 ) -> Result<usize, Overflow>
     ensures { Fills into.old into.new (message_text profile.now baselines.now (option_map base_of base.entry) (told_of message.now)) result }
 {
-    let _ = (profile, baselines, base, into);
+    let _ = profile;
+    let _ = baselines;
+    let _ = base;
+    let _ = into.len();
     message.never.absurd();
     Ok(0)
 }

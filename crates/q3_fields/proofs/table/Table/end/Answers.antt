@@ -6,6 +6,6 @@ use Rattle.q3_fields.proofs.table.Table.end.Goals as goal
 pub returns-clause-most : goal.returns-clause-most
 returns-clause-most c =
     let bits = c.self.inside.number_bits in
-    let few : bits ≤ 10 = c.self.invariant.numbers in
+    let few : bits ≤ 10 = omega (arith, c.self.invariant.numbers) in
     let most : 2 ^ bits ≤ 2 ^ 10 = pow_mono few in
     omega (arith, most, one_shl bits 32 (omega (arith, few)))
