@@ -10,4 +10,4 @@ pub mod reading;
 pub use bases::{BaseView, Bases};
 pub use error::Illegible;
 pub use message::{Section, ServerMessage};
-pub use reading::read_ack;
+pub use reading::{read_ack, read_server_message};
