@@ -8,7 +8,8 @@ use Rattle.toml.specs.declared.value.Value.{Value}
 use Rattle.q3_bits.specs.ResultBind.{◌>>=◌}
 use Rattle.q3_profile.specs.declared.error.Key.{Key}
 use Rattle.q3_profile.specs.declared.error.ProfileError.TheVariants.{Kind}
-use Rattle.q3_profile.specs.Document.{value_at, items_as, array_at}
+use Rattle.q3_profile.specs.Items.{items_as}
+use Rattle.q3_profile.specs.Document.{value_at, array_at}
 use Rattle.q3_profile.specs.Seen.{items_at}
 
 -- the items so far and those that are left are all items

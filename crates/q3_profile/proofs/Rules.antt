@@ -16,7 +16,8 @@ use Rattle.q3_profile.specs.declared.error.Key.{Key}
 use Rattle.q3_profile.specs.declared.error.Key.TheVariants as keys
 use Rattle.q3_profile.specs.declared.error.ProfileError.{ProfileError}
 use Rattle.q3_profile.specs.declared.error.ProfileError.TheVariants as errors
-use Rattle.q3_profile.specs.Document.{key_name, document_of, items_as, value_at, integer_at, array_at}
+use Rattle.q3_profile.specs.Items.{items_as}
+use Rattle.q3_profile.specs.Document.{key_name, document_of, value_at, integer_at, array_at}
 use Rattle.q3_profile.specs.Mark.{mark_of}
 use Rattle.q3_profile.specs.Profile.{longest_profile, is_protocol, is_server_ring, is_parse_ring, ruled, number_at, table_error, table_at, code_of, profile_at, checked}
 use Rattle.q3_profile.specs.Seen.{Gives}

@@ -1,14 +1,15 @@
 -- The profile's file as a document: what stands under a key.
-use Rattle.std.specs.Prelude.{ℕ, if◌then◌else◌, List, [], ◌∷◌, codes, ℤ, Option, Some, None, Result}
+use Rattle.std.specs.Prelude.{ℕ, if◌then◌else◌, List, [], codes, ℤ, Option, None, Result}
 use Rattle.std.specs.Option.{ok_or}
 use Rattle.std.specs.Str.{is_utf8}
-use Rattle.toml.specs.Data.{Data, Items, no_items, item, Members, get_member, as_integer, as_array}
+use Rattle.toml.specs.Data.{Data, Members, get_member, as_integer, as_array}
 use Rattle.toml.specs.Parse.{parse_document}
 use Rattle.q3_bits.specs.ResultBind.{◌>>=◌}
 use Rattle.q3_profile.specs.declared.error.Key.{Key}
 use Rattle.q3_profile.specs.declared.error.Key.TheVariants as keys
 use Rattle.q3_profile.specs.declared.error.ProfileError.{ProfileError}
 use Rattle.q3_profile.specs.declared.error.ProfileError.TheVariants.{Missing, Kind}
+use Rattle.q3_profile.specs.Items.{items_as}
 
 -- the document that the bytes are: TOML in UTF-8
 unfoldable pub document_of : List ℕ → Option Members
@@ -23,15 +24,6 @@ key_name keys.ParseRing = codes "parse_ring"
 key_name keys.Entity = codes "entity"
 key_name keys.Player = codes "player"
 key_name keys.Code = codes "code"
-
--- each item, where all are of the type
-unfoldable pub items_as : {A : Type 0} → (Data → Option A) → Items → Option (List A)
-items_as type no_items = Some []
-items_as type (item one others) = both (type one) (items_as type others)
-  where
-    both : {A : Type 0} → Option A → Option (List A) → Option (List A)
-    both (Some x) (Some xs) = Some (x ∷ xs)
-    both x xs = None
 
 -- what stands under a key
 abbrev pub value_at : Key → Members → Result Data ProfileError

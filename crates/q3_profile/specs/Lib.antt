@@ -1,3 +1,4 @@
+pub mod Items
 pub mod Document
 pub mod Mark
 pub mod Profile

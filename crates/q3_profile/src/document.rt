@@ -4,7 +4,7 @@ ghost use Rattle.std.specs.Prelude.{◌≡◌, ◌⊎◌, Some, None, Ok, Err, M
 ghost use Rattle.toml.specs.Data.{as_integer, as_str};
 ghost use Rattle.toml.specs.View.{table_view};
 ghost use Rattle.q3_profile.specs.declared.error.ProfileError.TheVariants as errors;
-ghost use Rattle.q3_profile.specs.Document.{document_of, value_at, integer_at, items_as, array_at};
+ghost use Rattle.q3_profile.specs.Document.{document_of, value_at, integer_at, array_at};
 ghost use Rattle.q3_profile.specs.Seen.{seen, seen_items, items_at, Gives};
 ghost use Rattle.q3_bits.specs.CodeWords.{texts_of};
 ghost use Rattle.toml.specs.View.{items_view, array_view};

@@ -14,7 +14,8 @@ use Rattle.std.proofs.lemmas.List.{length-map, length-set, length-replicate}
 use Rattle.std.proofs.lemmas.List.Elements.{All-head, All-tail, All-set, All-map, All-replicate}
 use Rattle.std.proofs.lemmas.Slice.Eq.{bytes_eq-Decides}
 use Rattle.q3_fields.specs.Places.{Change, with_changes}
-use Rattle.q3_player.specs.State.{AreWords, IsShort, AreShorts, IsState, shorts_of}
+use Rattle.q3_fields.specs.States.{AreWords}
+use Rattle.q3_player.specs.State.{IsShort, AreShorts, IsState, shorts_of}
 use Rattle.q3_player.specs.declared.state.PlayerState.{PlayerState}
 use Rattle.q3_io.specs.declared.address.Address.{Address}
 use Rattle.q3_script.specs.declared.event.Event.{Event}

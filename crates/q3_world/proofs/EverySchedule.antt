@@ -4,7 +4,7 @@ use Rattle.std.specs.Prelude.{nat_le, slice_get}
 use Rattle.std.specs.List.{AllByRecursion, last_or}
 use Rattle.std.specs.Option.{option_map}
 use Rattle.std.proofs.lemmas.Option.{slice_get-map}
-use Rattle.std.proofs.lemmas.Bool.{lt-leb}
+use Rattle.std.proofs.lemmas.Bool.{lt-leb, leb-false}
 use Rattle.q3_profile.specs.declared.profile.Profile.{Profile}
 use Rattle.q3_profile.specs.Profile.{IsCodec}
 use Rattle.q3_player.specs.Laws.{NormalIsNormal, ZeroIsNormal}
@@ -25,7 +25,7 @@ use Rattle.q3_world.specs.Ends.{Ends, Answered, unknown, delivered, client_at, w
 use Rattle.q3_world.specs.Kept.{SentBytes, Kept, KeptStep, opening_kept, kept_step, kept_after, kept_answers}
 use Rattle.q3_world.specs.World.{Tag, Whole, History, history_at, opening, step, after, answers, deliver, arrive, arrive_new, snapshot_of}
 use Rattle.q3_world.specs.StandsFor.{IsSent, IsClient, WasBuilt, Rise, AreJoined, IsJoined, StandsFor, bytes_of}
-use Rattle.q3_world.specs.Schedules.{StepFollows, kept_then, whole_then, BytesFollowTags, IsLegible, AlwaysLegible, AcceptedWereBuilt, ShownWasBuilt, AppliedWasBuilt, NewerIsAccepted}
+use Rattle.q3_world.specs.Schedules.{StepFollows, kept_then, whole_then, BytesFollowTags, IsLegible, AlwaysLegible, AcceptedWereBuilt, ShownWasBuilt, WasApplied, AppliedWasBuilt, NewerIsAccepted}
 use Rattle.q3_world.proofs.Events.{Holds, Holds-opening, tag_was_built, names_built}
 use Rattle.q3_world.proofs.Agreement.{Cited, seen, stands_of, stands_next, kept_is, is_sent, number_is, delivers_agree}
 use Rattle.q3_world.proofs.Clients.{last_is}
@@ -219,10 +219,6 @@ newer_is_accepted law reads normal zero profile all number sent client is are at
 
 -- ---- what is applied
 
--- the newest snapshot of a client is one that was built, under this number
-abbrev HasBuilt : Ends → ℕ → ℕ → List Built → Type 0
-HasBuilt ends c n built = (s : Snapshot) × (newest (client_at ends c) ≡ Some s) × (s.number ≡ n) × WasBuilt built s
-
 -- two answers of a delivery
 same_delivered : (number c c' : ℕ) (took took' : ClientTook) → delivered number c took ≡ delivered number c' took' → (c ≡ c') × (took ≡ took')
 same_delivered number c c' took took' e =
@@ -234,41 +230,55 @@ not_delivered number c took e =
     let same : Unknown number ≡ Deliver number c took = ap (λ (a : Answered). a.answer) e in
     absurd cc
 
+-- what a delivery answers as applied has no base, and its number is above what its client had taken
+abbrev Applies : Ends → Ends → ℕ → ℕ → ℕ → List Built → Type 0
+Applies before now c n base built = (base ≡ 0) × WasApplied before now c n built
+
 -- of what arrives, whether it is old or new
 applied_taken : (whole : Whole) (number c n base : ℕ) (tag : Tag) (client : ClientState) (old : Bool) → length whole.ends.clients ≡ places → tag.client < places
+    → client_at whole.ends tag.client ≡ Some client → (snapshot_of whole.histories tag).number ≡ tag.number → (old ≡ false → client.taken < tag.number)
     → WasBuilt (history_at whole.histories tag.client).built (snapshot_of whole.histories tag)
     → (cond old (record { whole = whole; answer = delivered number tag.client Old })
     (arrive_new whole number tag.client (applied client (snapshot_of whole.histories tag)) (snapshot_of whole.histories tag))).answer ≡ delivered number c (Applied n base)
-    → HasBuilt (cond old (record { whole = whole; answer = delivered number tag.client Old })
-    (arrive_new whole number tag.client (applied client (snapshot_of whole.histories tag)) (snapshot_of whole.histories tag))).whole.ends c n (history_at whole.histories c).built
-applied_taken whole number c n base tag client true count lt was e =
+    → Applies whole.ends (cond old (record { whole = whole; answer = delivered number tag.client Old })
+    (arrive_new whole number tag.client (applied client (snapshot_of whole.histories tag)) (snapshot_of whole.histories tag))).whole.ends c n base (history_at whole.histories c).built
+applied_taken whole number c n base tag client true count lt found under newer was e =
     let took = (same_delivered number tag.client c Old (Applied n base) e).1 in
     absurd cc
-applied_taken whole number c n base tag client false count lt was e =
+applied_taken whole number c n base tag client false count lt found under newer was e =
     let snapshot = snapshot_of whole.histories tag in
     let next = (applied client snapshot).client in
     let alike = same_delivered number tag.client c (Applied snapshot.number 0) (Applied n base) e in
     let same = alike.0 in
     let took = alike.1 in
-    let under : snapshot.number ≡ n = cc in
+    let named : snapshot.number ≡ n = cc in
+    let none : base ≡ 0 = cc in
+    let above = newer refl in
     let there = set_there whole.ends.clients tag.client None (Some next) count lt in (
-      snapshot,
-      subst (λ (k : ℕ). newest (client_at (with_client whole.ends tag.client next) k) ≡ Some snapshot) same (ap newest there),
-      under,
-      subst (λ (k : ℕ). WasBuilt (history_at whole.histories k).built snapshot) same was,
+      none,
+      (
+        client,
+        snapshot,
+        subst (λ (k : ℕ). client_at whole.ends k ≡ Some client) same found,
+        omega arith,
+        subst (λ (k : ℕ). newest (client_at (with_client whole.ends tag.client next) k) ≡ Some snapshot) same (ap newest there),
+        named,
+        subst (λ (k : ℕ). WasBuilt (history_at whole.histories k).built snapshot) same was,
+      ),
     )
 
 applied_arrive : (profile : Profile) (whole : Whole) (number c n base : ℕ) (tag : Tag) (found : Option ClientState) → client_at whole.ends tag.client ≡ found
     → IsSent profile whole.histories tag → Holds profile whole → (arrive whole number tag found).answer ≡ delivered number c (Applied n base)
-    → HasBuilt (arrive whole number tag found).whole.ends c n (history_at whole.histories c).built
+    → Applies whole.ends (arrive whole number tag found).whole.ends c n base (history_at whole.histories c).built
 applied_arrive profile whole number c n base tag None at is holds e = absurd (not_delivered number c (Applied n base) e)
 applied_arrive profile whole number c n base tag (Some client) at is holds e =
     applied_taken whole number c n base tag client (nat_le tag.number client.taken) holds.facts.clients is.client
+    at (tag_was_built profile whole tag client is at holds).number (leb-false tag.number client.taken)
     (names_built profile whole tag client is at holds) e
 
 applied_deliver : (profile : Profile) (whole : Whole) (number c n base : ℕ) (found : Option Tag) → slice_get whole.sent (number - 1) ≡ found → Holds profile whole
     → (deliver whole number found).answer ≡ delivered number c (Applied n base)
-    → HasBuilt (deliver whole number found).whole.ends c n (history_at whole.histories c).built
+    → Applies whole.ends (deliver whole number found).whole.ends c n base (history_at whole.histories c).built
 applied_deliver profile whole number c n base None at holds e = absurd (not_delivered number c (Applied n base) e)
 applied_deliver profile whole number c n base (Some tag) at holds e =
     applied_arrive profile whole number c n base tag (client_at whole.ends tag.client) refl (is_sent profile whole (number - 1) tag at holds) holds e
@@ -276,7 +286,7 @@ applied_deliver profile whole number c n base (Some tag) at holds e =
 -- by tags
 applied_step : (profile : Profile) (whole : Whole) (number c n base : ℕ) → Holds profile whole
     → (step profile whole (events.Deliver number)).answer ≡ delivered number c (Applied n base)
-    → HasBuilt (step profile whole (events.Deliver number)).whole.ends c n (history_at whole.histories c).built
+    → Applies whole.ends (step profile whole (events.Deliver number)).whole.ends c n base (history_at whole.histories c).built
 unfolding step
 applied_step profile whole number c n base holds e =
     applied_deliver profile whole number c n base (slice_get whole.sent (number - 1)) refl holds e
@@ -287,9 +297,11 @@ applied_was_built law reads normal zero profile all number c n base is are e =
     let stands : Then profile all = (law profile all is are).0 in
     let kept = kept_then profile all in
     let whole = whole_then profile all in
+    let built = (history_at whole.histories c).built in
     let holds : Holds profile whole = record { facts = stands.facts; joined = stands.joined } in
     let same : kept_step kept (events.Deliver number) ≡ seen profile (step profile whole (events.Deliver number)) =
     ap (λ (k : Kept). kept_step k (events.Deliver number)) (kept_is profile kept whole stands)
     ∙ (delivers_agree profile whole number (cited_of reads normal zero profile is) holds).same in
-    subst (λ (s : KeptStep). HasBuilt s.kept.ends c n (history_at whole.histories c).built) (sym same)
-    (applied_step profile whole number c n base holds (sym (ap (λ (s : KeptStep). s.answer) same) ∙ e))
+    subst (λ (before : Ends). Applies before (kept_step kept (events.Deliver number)).kept.ends c n base built) (sym stands.ends)
+    (subst (λ (s : KeptStep). Applies whole.ends s.kept.ends c n base built) (sym same)
+    (applied_step profile whole number c n base holds (sym (ap (λ (s : KeptStep). s.answer) same) ∙ e)))

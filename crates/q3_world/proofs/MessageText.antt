@@ -28,7 +28,7 @@ bits_are_read law words code width value rest fits = law words width value rest 
 
 -- and so is a field that has to have this value
 fixed_is_read : PutIsRead → (words : List (List Bool)) → IsCode words → (width value : ℕ) (rest : List Bool) → value < 2 ^ width
-    → fixed_at words width value (field_bits words width value ++ rest) ≡ Ok rest
+    → fixed_at words width value (field_bits words width value ++ rest) ≡ Ok (tt, rest)
 unfolding fixed_at
 fixed_is_read law words code width value rest fits = rw (bits_are_read law words code width value rest fits, eq-eqb value value refl) refl
 
@@ -130,45 +130,45 @@ was_put law words code width bits next made e =
     (found.0.0, found.0.1, put.0, put.1, found.2)
 
 -- and so was a field that has to have this value
-abbrev PutFixed : List (List Bool) → ℕ → ℕ → List Bool → (List Bool → Result Snapshot Illegible) → Snapshot → Type 0
-PutFixed words width value bits next made = (rest : List Bool) × (bits ≡ field_bits words width value ++ rest) × (next rest ≡ Ok made)
+abbrev PutFixed : List (List Bool) → ℕ → ℕ → List Bool → (Unit {0} × List Bool → Result Snapshot Illegible) → Snapshot → Type 0
+PutFixed words width value bits next made = (rest : List Bool) × (bits ≡ field_bits words width value ++ rest) × (next (tt, rest) ≡ Ok made)
 
-fixed_was_put : ReadWasPut → (words : List (List Bool)) → IsCode words → (width value : ℕ) (bits : List Bool) (next : List Bool → Result Snapshot Illegible) (made : Snapshot)
+fixed_was_put : ReadWasPut → (words : List (List Bool)) → IsCode words → (width value : ℕ) (bits : List Bool) (next : Unit {0} × List Bool → Result Snapshot Illegible) (made : Snapshot)
     → (fixed_at words width value bits >>= next) ≡ Ok made → PutFixed words width value bits next made
 unfolding fixed_at
 fixed_was_put law words code width value bits next made e =
     let rest = bind_ok (fixed_at words width value bits) next made e in
-    let found = bind_ok (form (field_at words width bits)) (λ found. cond (eqb found.0 value) (Ok found.1) (Err Form)) rest.0 rest.1 in
-    let held = held_ok (eqb found.0.0 value) Form found.0.1 rest.0 found.2 in
+    let found = bind_ok (form (field_at words width bits)) (λ found. cond (eqb found.0 value) (Ok (tt, found.1)) (Err Form)) rest.0 rest.1 in
+    let held = held_ok (eqb found.0.0 value) Form (tt, found.0.1) rest.0 found.2 in
     let put = law words width found.0.0 bits found.0.1 code (form_ok (field_at words width bits) found.0 found.1) in (
-      rest.0,
-      put.1 ∙ (ap (λ (n : ℕ). field_bits words width n ++ found.0.1) (eqb-true found.0.0 value held.0) ∙ ap (λ (behind : List Bool). field_bits words width value ++ behind) held.1),
-      rest.2,
+      found.0.1,
+      put.1 ∙ ap (λ (n : ℕ). field_bits words width n ++ found.0.1) (eqb-true found.0.0 value held.0),
+      ap next held.1 ∙ rest.2,
     )
 
 -- what is left of the reading behind each part, from the last on
-abbrev at_end : Profile → ℕ → ℕ → ℕ → PlayerState → List Bool → Result Snapshot Illegible
-at_end profile number time flags player bits =
-    fixed_at profile.code 8 end_byte bits >>= λ end. Ok (record { number = number; time = time; flags = flags; player = player })
+abbrev at_end : Profile → ℕ → ℕ → ℕ → PlayerState → Unit {0} × List Bool → Result Snapshot Illegible
+at_end profile number time flags player entities =
+    fixed_at profile.code 8 end_byte entities.1 >>= λ end. Ok (record { number = number; time = time; flags = flags; player = player })
 
 abbrev at_entities : Profile → ℕ → ℕ → ℕ → PlayerState × List Bool → Result Snapshot Illegible
 at_entities profile number time flags player =
     fixed_at profile.code profile.entity.number_bits (end_mark profile.entity) player.1 >>= at_end profile number time flags player.0
 
-abbrev at_player : Profile → ℕ → ℕ → ℕ → List Bool → Result Snapshot Illegible
-at_player profile number time flags bits = form (player_at profile.code profile.player.kinds zero_player bits) >>= at_entities profile number time flags
+abbrev at_player : Profile → ℕ → ℕ → ℕ → Unit {0} × List Bool → Result Snapshot Illegible
+at_player profile number time flags area = form (player_at profile.code profile.player.kinds zero_player area.1) >>= at_entities profile number time flags
 
 abbrev at_area : Profile → ℕ → ℕ → ℕ × List Bool → Result Snapshot Illegible
 at_area profile number time flags = fixed_at profile.code 8 0 flags.1 >>= at_player profile number time flags.0
 
-abbrev at_flags : Profile → ℕ → ℕ → List Bool → Result Snapshot Illegible
-at_flags profile number time bits = form (field_at profile.code 8 bits) >>= at_area profile number time
+abbrev at_flags : Profile → ℕ → ℕ → Unit {0} × List Bool → Result Snapshot Illegible
+at_flags profile number time base = form (field_at profile.code 8 base.1) >>= at_area profile number time
 
 abbrev at_base : Profile → ℕ → ℕ × List Bool → Result Snapshot Illegible
 at_base profile number time = fixed_at profile.code 8 0 time.1 >>= at_flags profile number time.0
 
-abbrev at_time : Profile → ℕ → List Bool → Result Snapshot Illegible
-at_time profile number bits = form (field_at profile.code 32 bits) >>= at_base profile number
+abbrev at_time : Profile → ℕ → Unit {0} × List Bool → Result Snapshot Illegible
+at_time profile number operation = form (field_at profile.code 32 operation.1) >>= at_base profile number
 
 abbrev at_operation : Profile → ℕ → ℕ × List Bool → Result Snapshot Illegible
 at_operation profile number executed = fixed_at profile.code 8 snapshot_byte executed.1 >>= at_time profile number

@@ -72,23 +72,23 @@ form (Ok x) = Ok x
 form (Err e) = Err Form
 
 -- a field that has to have this value, and what is behind it
-unfoldable pub fixed_at : List (List Bool) → ℕ → ℕ → List Bool → Result (List Bool) Illegible
+unfoldable pub fixed_at : List (List Bool) → ℕ → ℕ → List Bool → Result (Unit {0} × List Bool) Illegible
 fixed_at words width value bits = do
   found ← form (field_at words width bits)
-  if found.0 == value then Ok found.1 else Err Form
+  if found.0 == value then Ok (tt, found.1) else Err Form
 
 -- the snapshot with which the bits begin, under a number
 unfoldable pub snapshot_at : Profile → ℕ → List Bool → Result Snapshot Illegible
 snapshot_at profile number bits = do
   executed ← form (field_at profile.code 32 bits)
   operation ← fixed_at profile.code 8 snapshot_byte executed.1
-  time ← form (field_at profile.code 32 operation)
+  time ← form (field_at profile.code 32 operation.1)
   base ← fixed_at profile.code 8 0 time.1
-  flags ← form (field_at profile.code 8 base)
+  flags ← form (field_at profile.code 8 base.1)
   area ← fixed_at profile.code 8 0 flags.1
-  player ← form (player_at profile.code profile.player.kinds zero_player area)
+  player ← form (player_at profile.code profile.player.kinds zero_player area.1)
   entities ← fixed_at profile.code profile.entity.number_bits (end_mark profile.entity) player.1
-  end ← fixed_at profile.code 8 end_byte entities
+  end ← fixed_at profile.code 8 end_byte entities.1
   Ok (record { number = number; time = time.0; flags = flags.0; player = player.0 })
 
 -- the text is a message of the form: any number of executed commands, any time and flags, and a player in any spelling

@@ -10,9 +10,9 @@ use Rattle.q3_world.specs.declared.message.Snapshot.{Snapshot}
 use Rattle.q3_world.specs.declared.client.ClientTook.TheVariants.{Runt, Illegible, Applied}
 use Rattle.q3_world.specs.declared.answer.Answer.{Answer}
 use Rattle.q3_world.specs.declared.answer.Answer.TheVariants.{Deliver}
-use Rattle.q3_world.specs.Server.{places}
+use Rattle.q3_world.specs.Server.{Built, places}
 use Rattle.q3_world.specs.Client.{ClientState, number_of_datagram}
-use Rattle.q3_world.specs.Ends.{client_at, newest, delivered}
+use Rattle.q3_world.specs.Ends.{Ends, client_at, newest, delivered}
 use Rattle.q3_world.specs.Kept.{SentBytes, Kept, opening_kept, kept_step, kept_after, kept_answers}
 use Rattle.q3_world.specs.World.{Whole, History, history_at, opening, step, after, answers}
 use Rattle.q3_world.specs.StandsFor.{StandsFor, WasBuilt, Rise}
@@ -67,13 +67,21 @@ ShownWasBuilt = (profile : Profile) (all : List Event) (c : ℕ) (snapshot : Sna
     → (kept_step (kept_then profile all) (events.Show c)).answer.snapshot ≡ Some snapshot
     → WasBuilt (history_then profile all c).built snapshot
 
--- where a client that takes datagrams by their bytes applies one, its newest snapshot then is the one that the server
--- built for it under the number that it answers
+-- of one delivery: before it the client's newest number was below this one, and after it the client's newest snapshot is
+-- the one that was built under it
+abbrev pub WasApplied : Ends → Ends → ℕ → ℕ → List Built → Type 0
+WasApplied before now c n built =
+    (client : ClientState) × (snapshot : Snapshot)
+    × (client_at before c ≡ Some client) × (client.taken < n)
+    × (newest (client_at now c) ≡ Some snapshot) × (snapshot.number ≡ n) × WasBuilt built snapshot
+
+-- where a client that takes datagrams by their bytes applies one, the number that it answers is above every number that
+-- it took before, its newest snapshot then is the one that the server built for it under that number, and the base is none
 abbrev pub AppliedWasBuilt : Type 0
 AppliedWasBuilt = (profile : Profile) (all : List Event) (number c n base : ℕ) → IsCodec profile → AllByRecursion IsReplayEvent all
     → (kept_step (kept_then profile all) (events.Deliver number)).answer ≡ delivered number c (Applied n base)
-    → (s : Snapshot) × (newest (client_at (kept_step (kept_then profile all) (events.Deliver number)).kept.ends c) ≡ Some s)
-    × (s.number ≡ n) × WasBuilt (history_then profile all c).built s
+    → (base ≡ 0) × WasApplied (kept_then profile all).ends (kept_step (kept_then profile all) (events.Deliver number)).kept.ends c n
+    (history_then profile all c).built
 
 -- a datagram whose number is above every number that its client has taken is accepted, by its bytes, when it arrives
 abbrev pub NewerIsAccepted : Type 0

@@ -8,8 +8,6 @@ mod message;
 mod places;
 mod report;
 mod server;
-#[cfg(test)]
-mod tests;
 pub mod world;
 
 pub use answer::{Answer, Shown};

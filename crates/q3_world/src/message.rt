@@ -2,7 +2,7 @@
 //! Keeps the rules "layout of a server message" and "snapshot section", which are the engine's `SV_SendClientSnapshot`
 //! and `CL_ParseServerMessage`.
 
-ghost use Rattle.std.specs.Prelude.{◌≡◌, ◌^◌, ◌<◌, ◌≤◌, ℕ, Ok, Err, IfOk, OnOk, MatchResult};
+ghost use Rattle.std.specs.Prelude.{◌≡◌, ◌^◌, ◌<◌, ◌≤◌, ℕ, IfOk, OnOk};
 ghost use Rattle.q3_bits.specs.Bits.{bits_of};
 ghost use Rattle.q3_bits.specs.Words.{field_at};
 ghost use Rattle.q3_bits.specs.Streams.{Reads, Writes, holding};
@@ -152,9 +152,7 @@ fn read_bits(r: &mut Reader, width: u32) -> Result<u32, Illegible>
 fn read_fixed(r: &mut Reader, width: u32, value: u32) -> Result<(), Illegible>
     requires some { 1 ≤ width }
     requires most { width ≤ 32 }
-    ensures rest { MatchResult result (λ _. fixed_at r.old.words width value r.old.left ≡ Ok r.new.left)
-        (λ e. fixed_at r.old.words width value r.old.left ≡ Err e) }
-    ensures words { r.new.words ≡ r.old.words }
+    ensures { Reads r.old r.new (fixed_at r.old.words width value r.old.left) result }
 {
     if read_bits(r, width)? != value {
         return Err(Illegible::Form);

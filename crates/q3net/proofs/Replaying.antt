@@ -1,5 +1,5 @@
 -- How a replay ends.
-use Rattle.std.proofs.Common.{◌≡◌, ℕ, List, [], ◌∷◌, length, Option, Some, None, Result, Ok, Err, refl, sym, ap, subst, ◌∙◌, inl, inr}
+use Rattle.std.proofs.Common.{◌≡◌, ℕ, List, [], ◌∷◌, length, take, drop, Option, Some, None, Result, Ok, Err, refl, sym, ap, subst, ◌∙◌, inl, inr}
 use Rattle.std.specs.Prelude.{◌⊎◌}
 use Rattle.q3_profile.specs.declared.profile.Profile.{Profile}
 use Rattle.q3_bits.specs.ResultBind.{◌>>=◌}
@@ -10,19 +10,19 @@ use Rattle.q3_io.specs.Told.{File, Told, contents_of}
 use Rattle.q3_world.specs.declared.world.StepError.{StepError}
 use Rattle.q3_world.specs.declared.world.StepError.TheVariants as step
 use Rattle.q3_world.specs.Kept.{Kept}
-use Rattle.q3_world.specs.World.{opening}
+use Rattle.q3_world.specs.World.{opening, answers}
 use Rattle.q3_world.specs.StandsFor.{StandsFor}
 use Rattle.q3_world.specs.Report.{report}
 use Rattle.q3net.specs.declared.fault.Fault.{Fault}
 use Rattle.q3net.specs.declared.fault.Fault.TheVariants as faults
 use Rattle.q3net.specs.Command.{Replay}
 use Rattle.q3net.specs.Faults.{Gets, step_fault}
-use Rattle.q3net.specs.Input.{Holds, LooksUpTold, Gives}
+use Rattle.q3net.specs.Input.{IsFront, Holds, LooksUpTold, Gives}
 use Rattle.q3net.specs.Verdict.{IsVerdict, settled, profile_in, events_in, replayed, names_by, GetsFrom}
 use Rattle.q3net.specs.Run.{AddsLines, Stops, Executes}
 use Rattle.q3net.proofs.Loading.{held}
 use Rattle.q3net.proofs.Looking.{got_ok, gave}
-use Rattle.q3net.proofs.Stepping.{lines_of}
+use Rattle.q3net.proofs.Stepping.{lines_of, lines-all}
 
 -- the first part that its input ends, or the text
 no_profile : (profile script : Option (List ℕ)) (e : Fault) → profile_in profile ≡ Err e → replayed profile script ≡ Err e
@@ -128,16 +128,18 @@ memory_ended follow told profile script by events old read =
     (settled (profile ∷ script ∷ []) (Ok (report by events)), verdict_of told profile script by events read, inl ([], inr (tt, faults.NoMemory, refl, (report by events, refl)), follow.none))
 
 pub steps_ended : (told : Option Told) (profile script : List ℕ) (by : Profile) (events : List Event) (old now : Option Written) (e : StepError)
-    → BothRead told profile script by events → AddsLines (lines_of by (opening by) events) old now (Err e)
+    → BothRead told profile script by events → AddsLines (answers by (opening by) events) old now (Err e)
     → Executes (Some (Replay profile script)) told old now (Err (step_fault e))
 unfolding report
 steps_ended told profile script by events old now step.NoMemory read adds =
-    (settled (profile ∷ script ∷ []) (Ok (report by events)), verdict_of told profile script by events read, inl (adds.0, inr (tt, faults.NoMemory, refl, adds.1), adds.2))
+    let all = answers by (opening by) events in
+    let front : IsFront (lines_of (take adds.0 all)) (lines_of all) = (lines_of (drop adds.0 all), sym (lines-all all adds.0)) in
+    (settled (profile ∷ script ∷ []) (Ok (report by events)), verdict_of told profile script by events read, inl (lines_of (take adds.0 all), inr (tt, faults.NoMemory, refl, front), adds.1))
 steps_ended told profile script by events old now step.WriteFault read adds =
     (settled (profile ∷ script ∷ []) (Ok (report by events)), verdict_of told profile script by events read, inr (refl, adds))
 
 pub steps_done : (told : Option Told) (profile script : List ℕ) (by : Profile) (events : List Event) (old now : Option Written)
-    → BothRead told profile script by events → AddsLines (lines_of by (opening by) events) old now (Ok tt)
+    → BothRead told profile script by events → AddsLines (answers by (opening by) events) old now (Ok tt)
     → Executes (Some (Replay profile script)) told old now (Ok tt)
 unfolding report
 steps_done told profile script by events old now read adds =

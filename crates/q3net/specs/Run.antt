@@ -1,9 +1,12 @@
 -- How a run goes: as its verdict says, or something from outside ends it early.
-use Rattle.std.specs.Prelude.{◌≡◌, ◌⊎◌, ℕ, true, false, List, [], ◌++◌, Option, Some, None, Result, Ok, Err}
+use Rattle.std.specs.Prelude.{◌≡◌, ◌⊎◌, ℕ, true, false, List, [], ◌++◌, take, Option, Some, None, Result, Ok, Err}
+use Rattle.std.specs.List.{flat_map}
 use Rattle.q3_io.specs.Told.{Told}
 use Rattle.q3_io.specs.Written.{Written, Wrote, NothingWaits}
 use Rattle.q3_world.specs.declared.world.StepError.{StepError}
 use Rattle.q3_world.specs.declared.world.StepError.TheVariants as step
+use Rattle.q3_world.specs.Ends.{Answered}
+use Rattle.q3_world.specs.Report.{answer_text}
 use Rattle.q3net.specs.Command.{Command, Help, Version, Replay}
 use Rattle.q3net.specs.Input.{IsFront, LooksUpTold, LooksUpFirst, Gives}
 use Rattle.q3net.specs.Lines.{ending_line, ending_status}
@@ -95,8 +98,8 @@ HasGiven command told now status =
 
 -- ---- of the steps
 
--- the lines of all events; want of memory comes between two events, and the sink fails in a line
-abbrev pub AddsLines : List ℕ → Option Written → Option Written → Result (Unit {0}) StepError → Type 0
-AddsLines lines old now (Ok x) = Wrote old now lines true
-AddsLines lines old now (Err step.NoMemory) = (printed : List ℕ) × IsFront printed lines × Wrote old now printed true
-AddsLines lines old now (Err step.WriteFault) = Wrote old now lines false
+-- the lines of all answers; those of the first of them, where memory runs out; a front of the lines, where the sink fails
+abbrev pub AddsLines : List Answered → Option Written → Option Written → Result (Unit {0}) StepError → Type 0
+AddsLines all old now (Ok x) = Wrote old now (flat_map answer_text all) true
+AddsLines all old now (Err step.NoMemory) = (k : ℕ) × Wrote old now (flat_map answer_text (take k all)) true
+AddsLines all old now (Err step.WriteFault) = Wrote old now (flat_map answer_text all) false

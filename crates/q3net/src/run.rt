@@ -1,7 +1,6 @@
 //! The top call: does all that the program does.
 
 ghost use Rattle.std.specs.Prelude.{◌≡◌, ℕ, [], ◌∷◌, ◌⊎◌, ◌+◌, ◌<◌, ◌≤◌, All, length, map, Some, IsNone, IsOk, IfOk};
-ghost use Rattle.std.specs.List.{flat_map};
 ghost use Rattle.std.specs.String.{string_bytes};
 ghost use Rattle.q3_profile.specs.declared.profile.Profile.{Profile as ProfileValue};
 ghost use Rattle.q3_profile.specs.Profile.{IsProfile};
@@ -13,7 +12,6 @@ ghost use Rattle.q3_world.specs.Outcome.{HasStepCause};
 ghost use Rattle.q3_world.specs.Kept.{most_datagrams};
 ghost use Rattle.q3_world.specs.World.{Whole, answers};
 ghost use Rattle.q3_world.specs.StandsFor.{StandsFor};
-ghost use Rattle.q3_world.specs.Report.{answer_text};
 ghost use Rattle.q3net.specs.Command.{Replay, command_of, files_of};
 ghost use Rattle.q3net.specs.Faults.{ReadCause, WriteCause};
 ghost use Rattle.q3net.specs.Lines.{ending_line, ending_status};
@@ -192,7 +190,7 @@ fn step_all<F: Files, O: Sink>(
     requires events { All IsReplayEvent events.now }
     requires few { length world.old.datagrams + length events.now < most_datagrams }
     ensures adds { (profile : ProfileValue) (whole : Whole) → StandsFor profile world.old whole
-        → AddsLines (flat_map answer_text (answers profile whole events.now)) (O.written out.old) (O.written out.new) result }
+        → AddsLines (answers profile whole events.now) (O.written out.old) (O.written out.new) result }
     ensures cause { HasStepCause (O.faults out.old) (O.faults out.new) result }
     ensures files { files.new ≡ files.old }
 {

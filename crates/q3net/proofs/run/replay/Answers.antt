@@ -1,9 +1,8 @@
 use Rattle.std.proofs.Common.{List, Err, subst, arith}
 use Rattle.std.proofs.lemmas.Result.{err_from_is_err_and}
 use Rattle.q3_script.specs.declared.event.Event.{Event}
-use Rattle.q3_world.specs.World.{opening}
+use Rattle.q3_world.specs.World.{opening, answers}
 use Rattle.q3net.specs.Run.{AddsLines}
-use Rattle.q3net.proofs.Stepping.{lines_of}
 use Rattle.q3net.proofs.Looking.{profile_gives, script_gives, both_given}
 use Rattle.q3net.proofs.Replaying.{profile_ended, events_ended, both_read, memory_ended, steps_ended, steps_done, nothing_sent}
 use Rattle.q3net.proofs.run.replay.Goals as goal
@@ -48,7 +47,7 @@ returns-in_err-step_all-clause-executes g c =
     let read = both_read (g.F.Files.told c.args.files.now) (g.F.Files.told c.load_profile.new.files) c.args.profile.now c.args.script.now c.in_ok-profile.profile c.in_ok-events.events.items
     c.in_ok-profile.ensures.gets c.in_ok-profile.ensures.gives c.in_ok-events.ensures.gets in
     rw (p.1, p.2) (steps_ended (g.F.Files.told c.args.files.now) c.args.profile.now c.args.script.now c.in_ok-profile.profile c.in_ok-events.events.items (g.O.Sink.written c.args.out.now)
-    (g.O.Sink.written c.step_all.new.out) c.in_err-step_all.field-0.0 read (subst (λ (events : List Event). AddsLines (lines_of c.in_ok-profile.profile (opening c.in_ok-profile.profile) events) (g.O.Sink.written c.args.out.now) (g.O.Sink.written c.step_all.new.out) (Err c.in_err-step_all.field-0.0))
+    (g.O.Sink.written c.step_all.new.out) c.in_err-step_all.field-0.0 read (subst (λ (events : List Event). AddsLines (answers c.in_ok-profile.profile (opening c.in_ok-profile.profile) events) (g.O.Sink.written c.args.out.now) (g.O.Sink.written c.step_all.new.out) (Err c.in_err-step_all.field-0.0))
     c.deref.ensures.value (c.in_err-step_all.ensures.adds c.in_ok-profile.profile (opening c.in_ok-profile.profile) c.in_ok-world.ensures.stands)))
 
 pub returns-clause-executes : goal.returns-clause-executes
