@@ -3,7 +3,6 @@
 
 pub mod bases;
 pub mod error;
-pub mod lists;
 pub mod message;
 pub mod reading;
 

@@ -13,11 +13,11 @@ ghost use Rattle.q3_svmsg.specs.Reading.{ack_at, bytes_after, string_after, comm
 
 use crate::bases::{BaseView, Bases};
 use crate::error::Illegible;
-use crate::lists::{read_list, skip_list};
+
 use crate::message::{Section, ServerMessage};
 use arrayvec::ArrayVec;
 use q3_bits::{Code, ReadError, Reader, laws};
-use q3_entity::{Baselines, List, Run};
+use q3_entity::{Baselines, List, Run, read_list, skip_list};
 use q3_player::{PlayerState, SnapHead, read_player};
 use q3_profile::Profile;
 use q3_text::{Command, Text};
