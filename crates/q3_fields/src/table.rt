@@ -104,10 +104,11 @@ impl Table {
         self.number_bits
     }
 
-    /// The end mark of an entity list, at most 1023. The numbers of entities are below it.
+    /// The end mark of an entity list, 1023. The numbers of entities are below it.
     pub fn end(&self) -> u16
         ensures mark { result ≡ end_mark self.now }
         ensures most { result ≤ 1023 }
+        ensures least { 1023 ≤ result }
     {
         ((1u32 << self.number_bits) - 1) as u16
     }

@@ -1,8 +1,9 @@
 //! A stand-in.
 
-ghost use Rattle.std.specs.Prelude.{◌≡◌, ◌≤◌, ◌<◌, ◌+◌, ℕ, length, option_map, Option, Some, None};
+ghost use Rattle.std.specs.Prelude.{◌≡◌, ◌≤◌, length, option_map};
 ghost use Rattle.q3_bits.specs.Streams.{Fills};
-ghost use Rattle.q3_svmsg.specs.Values.{told_of, base_of};
+ghost use Rattle.q3_svmsg.specs.Values.{HasSnap, base_of, base_entities, told_of};
+ghost use Rattle.q3_entity.specs.Entities.{IsList};
 ghost use Rattle.q3_svmsg.specs.Texts.{message_text};
 
 use crate::bases::BaseView;
@@ -18,6 +19,11 @@ pub fn write_snap(
     base: Option<BaseView>,
     into: &mut [u8],
 ) -> Result<usize, Overflow>
+    requires snap { HasSnap message.now.section (option_map base_of base) message.now.head.number }
+    requires entities { IsList profile.now.entity message.now.entities.value.items }
+    requires base_entities { IsList profile.now.entity (base_entities (option_map base_of base)) }
+    requires some { 1 ≤ length into.old }
+    requires most { length into.old ≤ 16384 }
     ensures { Fills into.old into.new (message_text profile.now baselines.now (option_map base_of base.entry) (told_of message.now)) result }
 {
     let _ = profile;

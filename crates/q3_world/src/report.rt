@@ -352,7 +352,7 @@ fn print_entities<O: Sink>(entities: &[EntityState], out: &mut O) -> Result<(), 
     ensures adds { Adds (O.written out.old) (O.written out.new) (flat_map entity_text entities.now) result }
     ensures cause { HasCause (O.faults out.old) (O.faults out.new) result }
 {
-    laws::items_follow();
+    laws::items_follow::<EntityState>();
     for entity in entities {
         print_entity(entity, out)?;
     }

@@ -1,12 +1,11 @@
 //! The server's end: pure state, one call an event.
 //! Keeps the rules "datagram" and "end of message numbers", the second of which is this project's own.
 
-ghost use Rattle.std.specs.Prelude.{◌≡◌, ◌<◌, ◌≤◌, ◌++◌, [], IfOk, length, position, nat_le, drop, ◌+◌, ◌^◌};
-ghost use Rattle.std_alloc.specs.Vec.{vec_capacity};
+ghost use Rattle.std.specs.Prelude.{◌≡◌, ◌<◌, ◌≤◌, ◌++◌, [], IfOk, length, position, nat_le, take, true, ◌+◌, ◌^◌};
+ghost use Rattle.std.specs.Vec.{vec_capacity};
 ghost use Rattle.q3_entity.specs.Entities.{RiseFrom};
-ghost use Rattle.q3_bits.specs.Bits.{message_bytes, message_length};
-ghost use Rattle.q3_fields.specs.Kinds.{end_mark};
-ghost use Rattle.q3_entity.specs.Entities.{normal_entity};
+ghost use Rattle.q3_fields.specs.Kinds.{Layout, end_mark};
+ghost use Rattle.q3_entity.specs.Entities.{normal_entity, most_entities, IsList};
 ghost use Rattle.q3_entity.specs.Baselines.{no_lines};
 ghost use Rattle.q3_svmsg.specs.Values.{told_of};
 ghost use Rattle.q3_world.specs.Message.{datagram_bytes};
@@ -79,7 +78,7 @@ struct Map {
 
 impl Model for Map {
     ghost use Rattle.std.specs.Prelude.{◌≤◌};
-    ghost use Rattle.std_alloc.specs.Vec.{vec_capacity};
+    ghost use Rattle.std.specs.Vec.{vec_capacity};
     ghost use Rattle.q3_entity.specs.Entities.{RiseFrom};
     ghost use Rattle.q3_world.specs.Server.{MapState, most_numbers};
 
@@ -220,13 +219,16 @@ impl Slot {
     fn set_area(&mut self, area: &ArrayVec<u8, 32>)
         ensures { self.new ≡ with_area self.old area.now }
     {
-        self.area = area.clone();
+        copy_area(area, &mut self.area);
     }
 
     /// The message that goes to the slot next.
     fn fill(&self, map: &Map, message: &mut ServerMessage)
         requires { self.now.begun + 1 < 2 ^ 32 }
-        ensures { told_of message.new ≡ next_message map.now self.now }
+        ensures told { told_of message.new ≡ next_message map.now self.now }
+        ensures section { message.new.section ≡ Section.Snap 0 true }
+        ensures entities { message.new.entities.value.items ≡ take most_entities map.now.entities }
+        ensures list { (table : Layout) → end_mark table ≡ most_numbers → IsList table (take most_entities map.now.entities) }
     {
         let count = map.entities.len().min(MOST_ENTITIES);
         message.ack = 0;
@@ -238,7 +240,7 @@ impl Slot {
         message.head.number = self.begun + 1;
         message.head.time = map.time;
         message.head.flags = 0;
-        message.head.area = self.area.clone();
+        copy_area(&self.area, &mut message.head.area);
         message.head.player = self.player;
         message.entities.clear();
         message
@@ -270,6 +272,8 @@ impl Slot {
             return Emitted::SequenceEnd;
         }
         self.fill(map, message);
+        // the entities' numbers are below the end mark
+        prove!(profile.entity.end() == 1023);
         let Ok(bytes) = write_snap(profile, message, baselines, None, buffer) else {
             return Emitted::Overlong;
         };
@@ -281,6 +285,13 @@ impl Slot {
             bytes,
         }
     }
+}
+
+fn copy_area(from: &ArrayVec<u8, 32>, into: &mut ArrayVec<u8, 32>)
+    ensures { into.new ≡ from.now }
+{
+    into.clear();
+    into.try_extend_from_slice(from).unwrap();
 }
 
 /// Makes the datagram of a message: its number, least byte first, and its bytes.
