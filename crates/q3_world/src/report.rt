@@ -302,7 +302,7 @@ fn print_shown<O: Sink>(
 
 /// Prints the lines of a `show` that shows a snapshot.
 fn print_snapshot<O: Sink>(c: u8, snapshot: SnapshotView, out: &mut O) -> Result<(), Failed>
-    ensures adds { Adds (O.written out.old) (O.written out.new) (concat (codes "show " ∷ decimal c ∷ snapshot_text (snapshot_of snapshot) ∷ [])) result }
+    ensures adds { Adds (O.written out.old) (O.written out.new) (concat (codes "show " ∷ decimal c ∷ snapshot_text (snapshot_of snapshot.entry) ∷ [])) result }
     ensures cause { HasCause (O.faults out.old) (O.faults out.new) result }
 {
     laws::texts_follow();
@@ -314,7 +314,7 @@ fn print_snapshot<O: Sink>(c: u8, snapshot: SnapshotView, out: &mut O) -> Result
 
 /// Prints what stands in front of the player's words.
 fn print_head<O: Sink>(c: u8, snapshot: SnapshotView, out: &mut O) -> Result<(), Failed>
-    ensures adds { Adds (O.written out.old) (O.written out.new) (concat (codes "show " ∷ decimal c ∷ head_text (snapshot_of snapshot) ∷ [])) result }
+    ensures adds { Adds (O.written out.old) (O.written out.new) (concat (codes "show " ∷ decimal c ∷ head_text (snapshot_of snapshot.entry) ∷ [])) result }
     ensures cause { HasCause (O.faults out.old) (O.faults out.new) result }
 {
     laws::texts_follow();
