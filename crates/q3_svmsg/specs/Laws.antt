@@ -9,7 +9,7 @@ use Rattle.q3_entity.specs.Entities.{normal_entity, IsList, AreStates, AreNormal
 use Rattle.q3_entity.specs.Baselines.{AreLines}
 use Rattle.q3_profile.specs.declared.profile.Profile.{Profile}
 use Rattle.q3_profile.specs.Profile.{IsCodec}
-use Rattle.q3_svmsg.specs.Values.{Base, Context, Told, Nothing, Snap, Skipped, Message}
+use Rattle.q3_svmsg.specs.Values.{Base, IsNamed, Context, Told, Nothing, Snap, Skipped, Message}
 use Rattle.q3_svmsg.specs.Texts.{message_text}
 use Rattle.q3_svmsg.specs.Reading.{held_base, message_after}
 
@@ -38,11 +38,6 @@ pub record IsBase (profile : Profile) (base : Base) : Type 0 where
   pub normal : IsNormal profile.player.kinds base.player
   pub entities : AreEntities profile base.entities
   pub normal_entities : AreNormal profile.entity base.entities
-
--- a base is named exactly where there is one, at most 255 below the message
-abbrev pub IsNamed : Option Base → ℕ → ℕ → Type 0
-IsNamed None number base = base ≡ 0
-IsNamed (Some held) number base = (0 < base) × (base < number) × (number ≤ base + 255)
 
 -- what a reader's bases and baselines are: in normal form
 pub record IsContext (profile : Profile) (context : Context) : Type 0 where

@@ -1,5 +1,5 @@
 -- What a server's message says, as plain data.
-use Rattle.std.specs.Prelude.{ℕ, zero, suc, ◌+◌, ◌-◌, ◌==◌, ◌&&◌, not, nat_lt, true, false, if◌then◌else◌, List, [], Option, Some, None}
+use Rattle.std.specs.Prelude.{◌≡◌, ℕ, zero, suc, ◌<◌, ◌≤◌, ◌+◌, ◌-◌, ◌==◌, ◌&&◌, not, nat_lt, true, false, if◌then◌else◌, List, [], Option, Some, None}
 use Rattle.q3_text.specs.declared.text.Command.{Command}
 use Rattle.q3_player.specs.declared.state.PlayerState.{PlayerState}
 use Rattle.q3_player.specs.declared.head.SnapHead.{SnapHead}
@@ -73,3 +73,13 @@ distance_to number (suc base) = number - (base + 1)
 -- the number of the base at a distance: none for 0, and none for one that isn't below the message's number
 abbrev pub number_of_base : ℕ → ℕ → ℕ
 number_of_base number distance = if nat_lt distance number && not (distance == 0) then number - distance else 0
+
+-- a base is named exactly where there is one, at most 255 below the message
+abbrev pub IsNamed : Option Base → ℕ → ℕ → Type 0
+IsNamed None number base = base ≡ 0
+IsNamed (Some held) number base = (0 < base) × (base < number) × (number ≤ base + 255)
+
+-- a section that a snapshot is written from: it is one that is there, and names its base
+abbrev pub HasSnap : Section → Option Base → ℕ → Type 0
+HasSnap (sections.Snap base true) against number = IsNamed against number base
+HasSnap section against number = ⊥

@@ -4,9 +4,12 @@
 pub mod bases;
 pub mod error;
 pub mod message;
+mod operations;
 pub mod reading;
+pub mod writing;
 
 pub use bases::{BaseView, Bases};
 pub use error::Illegible;
 pub use message::{Section, ServerMessage};
 pub use reading::{read_ack, read_server_message};
+pub use writing::write_snap;

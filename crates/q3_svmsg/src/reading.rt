@@ -11,22 +11,17 @@ ghost use Rattle.q3_entity.specs.Entities.{IsList, run_of};
 ghost use Rattle.q3_svmsg.specs.Values.{Base, Message, base_of, base_player, base_entities, number_of_base, told_of, section_of};
 ghost use Rattle.q3_svmsg.specs.Reading.{ack_at, bytes_after, string_after, command_after, area_after, held_base, snapshot_after, snapshot_skipped, against_base, section_after, ending_after, operations_after, commands_after, message_at, telling, HoldsLists};
 
-use crate::bases::{BaseView, Bases};
+use crate::bases::{BaseView, Bases, base_or};
 use crate::error::Illegible;
 
 use crate::message::{Section, ServerMessage};
+use crate::operations::{EOF, NOP, SERVER_COMMAND, SNAPSHOT};
 use arrayvec::ArrayVec;
 use q3_bits::{Code, ReadError, Reader, laws};
-use q3_entity::{Baselines, List, Run, read_list, skip_list};
+use q3_entity::{Baselines, List, read_list, skip_list};
 use q3_player::{PlayerState, SnapHead, read_player};
 use q3_profile::Profile;
 use q3_text::{Command, Text};
-
-/// The operations that a reader takes.
-const NOP: u32 = 1;
-const SERVER_COMMAND: u32 = 5;
-const SNAPSHOT: u32 = 7;
-const EOF: u32 = 8;
 
 /// The most bytes of a string.
 const MOST_BYTES: usize = 1_023;
@@ -132,24 +127,6 @@ fn held<B: Bases>(bases: &B, number: u32) -> Option<BaseView<'_>>
         return None;
     }
     bases.base(number)
-}
-
-/// A base, or the zero player and no entities where there is none.
-fn base_or<'a>(against: Option<BaseView<'a>>, zero: &'a PlayerState) -> BaseView<'a>
-    requires { zero.now ≡ zero_player }
-    ensures player { result.player.now ≡ base_player (option_map base_of against.entry) }
-    ensures entities { run_of result.entities ≡ base_entities (option_map base_of against.entry) }
-{
-    match against {
-        Some(base) => base,
-        None => BaseView {
-            player: zero,
-            entities: Run {
-                head: &[],
-                tail: &[],
-            },
-        },
-    }
 }
 
 /// Reads the player and the entities of a snapshot against its base.
