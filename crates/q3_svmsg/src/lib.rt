@@ -3,6 +3,7 @@
 
 pub mod bases;
 pub mod error;
+pub mod laws;
 pub mod message;
 mod operations;
 pub mod reading;
