@@ -156,10 +156,10 @@ marks_are_read put law words table from there text rest code is_table are (inr (
       to = to;
       is = sym changed;
       reads =
-        rw (
-          whole,
-          put words 1 0 (field_bits words 1 1 ++ (delta ++ rest)) code (omega arith),
-          put words 1 1 (delta ++ rest) code (omega arith),
-          law Entity words table.kinds from to delta rest code is_table.kinds are spelled,
-        ) refl;
+          rw (
+            whole,
+            put words 1 0 (field_bits words 1 1 ++ (delta ++ rest)) code (omega arith),
+            put words 1 1 (delta ++ rest) code (omega arith),
+            law Entity words table.kinds from to delta rest code is_table.kinds are spelled,
+          ) refl;
     }

@@ -94,13 +94,13 @@ read_entry put law law' words table lines base code is_table are states left num
     let took = marks_are_read put law words table changed entry.words own (field ++ (behind ++ rest)) code is_table (from_words table lines base number law' is_table are states).are spells in
     let o = state_there number (words_there took.kind took.to) in
     let here : with_number number added ≡ o =
-        come.states number (omega arith) ∙ ap (λ (e : Option Entered). state_after from number e) (entry_of-first entry entries number same) ∙ ap (state_there number) (sym took.is) in
+    come.states number (omega arith) ∙ ap (λ (e : Option Entered). state_after from number e) (entry_of-first entry entries number same) ∙ ap (state_there number) (sym took.is) in
     let removes = come.removes in
     let held : (words_there took.kind took.to ≡ None) → is_some from ≡ true = λ gone. subst (λ (n : ℕ). is_some (with_number n base) ≡ true) same (removes.0 (sym took.is ∙ gone)) in
     let rise = come.rise in
     let risen : EntriesRise (end_mark table) (number + 1) entries = subst (λ (n : ℕ). EntriesRise (end_mark table) (n + 1) entries) same rise.2 in
     let off = cut_off table base number entities added entries o here come.risen come.few risen removes.1
-        (λ n more. come.states n (omega arith) ∙ ap (λ (e : Option Entered). state_after (with_number n base) n e) (entry_of-others entry entries n (λ is. omega arith))) in
+    (λ n more. come.states n (omega arith) ∙ ap (λ (e : Option Entered). state_after (with_number n base) n e) (entry_of-others entry entries n (λ is. omega arith))) in
     let regrouped : text ++ rest ≡ own ++ (field ++ (behind ++ rest)) = rw whole (simp append_assoc) in
     rw (
       eq-eqb number number refl,
@@ -130,7 +130,7 @@ numbers_are_read put law law' words table lines base code is_table are states (s
           let risen : EntriesRise (end_mark table) (number + 1) entries = subst (λ (n : ℕ). EntriesRise (end_mark table) (n + 1) entries) same rise.2 in
           let least = first-least table (number + 1) entries (omega (arith, rise.1)) risen in
           let all = read_entry put law law' words table lines base code is_table are states left number next entry entries text s.0 s.1 rest same least.0 least.1 s.2 s.3
-              (numbers_are_read put law law' words table lines base code is_table are states left (number + 1) entries s.1 rest (omega arith) risen s.4) in
+          (numbers_are_read put law law' words table lines base code is_table are states left (number + 1) entries s.1 rest (omega arith) risen s.4) in
           subst (λ (n : ℕ). AreRead words table lines base (suc left) number n (entry ∷ entries) (text ++ rest) rest) (sym same) all entities added come
       | inr later ↦
           let risen : EntriesRise (end_mark table) (number + 1) (entry ∷ entries) = (omega (arith, rise.0, later), rise.1, rise.2) in

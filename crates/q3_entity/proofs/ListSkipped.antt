@@ -77,17 +77,16 @@ words_end : (words : List (List Bool)) (table : Layout) (from other : List ℕ) 
 unfolding words_after
 words_end words table from other bits x long e =
     let some = λ (from : List ℕ) (count : ℕ × List Bool).
-        let r : Result (List ℕ × List Bool) DeltaError = cond (ltb (length table.kinds) count.0) (Err (Count count.0)) (fields.bits_read (fields_after Entity words (take count.0 table.kinds) from count.1)) in r in
+    let r : Result (List ℕ × List Bool) DeltaError = cond (ltb (length table.kinds) count.0) (Err (Count count.0)) (fields.bits_read (fields_after Entity words (take count.0 table.kinds) from count.1)) in r in
     let count = bind_ok (fields.bits_read (field_at words 8 bits)) (some from) x e in
     elim (cases_Bool (ltb (length table.kinds) count.0.0)) [
       | inl many ↦ absurd (let wrong = rw many at count.2 in cc)
       | inr few ↦
           let read = fields_ok (fields_after Entity words (take count.0.0 table.kinds) from count.0.1) x (rw few at count.2) in
-          let end = fields_end Entity words (take count.0.0 table.kinds) from other count.0.1 x long read in
-          (
+          let end = fields_end Entity words (take count.0.0 table.kinds) from other count.0.1 x long read in (
             end.0,
             bind_is (fields.bits_read (field_at words 8 bits)) (some other) count.0 _ count.1
-            (cond-false (ltb (length table.kinds) count.0.0) (Err (Count count.0.0)) (fields.bits_read (fields_after Entity words (take count.0.0 table.kinds) other count.0.1)) few
+                (cond-false (ltb (length table.kinds) count.0.0) (Err (Count count.0.0)) (fields.bits_read (fields_after Entity words (take count.0.0 table.kinds) other count.0.1)) few
                 ∙ ap fields.bits_read end.1),
           )
     ]
@@ -114,15 +113,14 @@ entity_ends words table from other bits x long e =
                 let delta = bind_ok (words_read (words_after Entity words table.kinds from change.0.1)) (λ read. Ok ((Changed, read.0), read.1)) x (rw some at change.2) in
                 let end = words_end words table from other change.0.1 delta.0 long (words_ok (words_after Entity words table.kinds from change.0.1) delta.0 delta.1) in
                 let made = delta.2 in
-                let same : ((Changed, delta.0.0), delta.0.1) ≡ x = cc in
-                (
+                let same : ((Changed, delta.0.0), delta.0.1) ≡ x = cc in (
                   (Changed, end.0),
                   bind_is (bits_read (field_at words 1 bits)) (λ removed. cond (eqb removed.0 0) (present_at words table other removed.1) (Ok ((Removed, other), removed.1))) mark.0 _ mark.1
-                  (cond-true (eqb mark.0.0 0) (present_at words table other mark.0.1) (Ok ((Removed, other), mark.0.1)) there
+                      (cond-true (eqb mark.0.0 0) (present_at words table other mark.0.1) (Ok ((Removed, other), mark.0.1)) there
                       ∙ bind_is (bits_read (field_at words 1 mark.0.1)) (λ changed. cond (eqb changed.0 0) (Ok ((Same, other), changed.1)) (delta_at words table other changed.1)) change.0 _ change.1
                       (cond-false (eqb change.0.0 0) (Ok ((Same, other), change.0.1)) (delta_at words table other change.0.1) some
-                          ∙ bind_is (words_read (words_after Entity words table.kinds other change.0.1)) (λ read. Ok ((Changed, read.0), read.1)) (end.0, delta.0.1) _ (ap words_read end.1)
-                          (ap (λ (y : (Entry × List ℕ) × List Bool). Ok ((Changed, end.0), y.1)) same))),
+                      ∙ bind_is (words_read (words_after Entity words table.kinds other change.0.1)) (λ read. Ok ((Changed, read.0), read.1)) (end.0, delta.0.1) _ (ap words_read end.1)
+                      (ap (λ (y : (Entry × List ℕ) × List Bool). Ok ((Changed, end.0), y.1)) same))),
                 )
           ]
     ]
@@ -140,10 +138,10 @@ numbers_end law words table lines base is_table are states (suc left) number nex
     elim (cases_Bool (eqb number next)) [
       | inl here ↦
           let entry = bind_ok (entity_at words table (words_from lines number from) bits)
-              (λ entry. entered entities (is_some from) number entry.0.0 entry.0.1 >>= λ now. (number_at words table (number + 1) entry.1 >>= λ more. numbers_after words table lines base left (number + 1) more.0 now more.1))
-              found (rw here at e) in
+          (λ entry. entered entities (is_some from) number entry.0.0 entry.0.1 >>= λ now. (number_at words table (number + 1) entry.1 >>= λ more. numbers_after words table lines base left (number + 1) more.0 now more.1))
+          found (rw here at e) in
           let now = bind_ok (entered entities (is_some from) number entry.0.0.0 entry.0.0.1)
-              (λ now. number_at words table (number + 1) entry.0.1 >>= λ more. numbers_after words table lines base left (number + 1) more.0 now more.1) found entry.2 in
+          (λ now. number_at words table (number + 1) entry.0.1 >>= λ more. numbers_after words table lines base left (number + 1) more.0 now more.1) found entry.2 in
           let more = bind_ok (number_at words table (number + 1) entry.0.1) (λ more. numbers_after words table lines base left (number + 1) more.0 now.0 more.1) found now.2 in
           let end = entity_ends words table (words_from lines number from) (replicate 64 0) bits entry.0 (from_words table lines base number law is_table are states).are.count entry.1 in
           rw (here, end.1, more.1) (numbers_end law words table lines base is_table are states left (number + 1) more.0.0 now.0 more.0.1 found more.2)

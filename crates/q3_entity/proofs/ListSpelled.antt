@@ -183,7 +183,7 @@ behind_number words table lines base number next entities now bits left behind k
           elim (cases_eq n number) [
             | inl here ↦
                 let found_here = first-found (end_mark table) number o read.added named read.risen
-                    ∙ ap (λ (e : Option Entered). state_after (with_number number base) number e) (sym (entry_of-first entry read.entries number refl)) in
+                ∙ ap (λ (e : Option Entered). state_after (with_number number base) number e) (sym (entry_of-first entry read.entries number refl)) in
                 subst (λ (m : ℕ). with_number m (with_first o read.added) ≡ state_after (with_number m base) m (entry_of m (entry ∷ read.entries))) (sym here) found_here
             | inr other ↦
                 first-others number n o read.added named other ∙ read.states n (omega (arith, least, other))
@@ -209,10 +209,10 @@ numbers_were_spelled put law law' words table lines base code is_table are list 
     elim (cases_Bool (eqb number next)) [
       | inl here ↦
           let entry = bind_ok (entity_at words table (words_from lines number from) bits)
-              (λ entry. entered entities (is_some from) number entry.0.0 entry.0.1 >>= λ now. (number_at words table (number + 1) entry.1 >>= λ more. numbers_after words table lines base left (number + 1) more.0 now more.1))
-              found (rw here at e) in
+          (λ entry. entered entities (is_some from) number entry.0.0 entry.0.1 >>= λ now. (number_at words table (number + 1) entry.1 >>= λ more. numbers_after words table lines base left (number + 1) more.0 now more.1))
+          found (rw here at e) in
           let now = bind_ok (entered entities (is_some from) number entry.0.0.0 entry.0.0.1)
-              (λ now. number_at words table (number + 1) entry.0.1 >>= λ more. numbers_after words table lines base left (number + 1) more.0 now more.1) found entry.2 in
+          (λ now. number_at words table (number + 1) entry.0.1 >>= λ more. numbers_after words table lines base left (number + 1) more.0 now more.1) found entry.2 in
           let more = bind_ok (number_at words table (number + 1) entry.0.1) (λ more. numbers_after words table lines base left (number + 1) more.0 now.0 more.1) found now.2 in
           let fw = from_words table lines base number law' is_table are states in
           let marks = marks_were_spelled put law words table (words_from lines number from) bits entry.0 code is_table fw.are entry.1 in

@@ -83,18 +83,18 @@ numbers_below words table lines base (suc left) number next entities bits found 
     let sum : number + 1 + left ≡ number + suc left = omega arith in
     subst (λ (n : ℕ). IsBelow n found.0) sum
     (elim (cases_Bool (eqb number next)) [
-        | inl here ↦
-            let entry = bind_ok (entity_at words table (words_from lines number from) bits)
-                (λ entry. entered entities (is_some from) number entry.0.0 entry.0.1 >>= λ now. (number_at words table (number + 1) entry.1 >>= λ more. numbers_after words table lines base left (number + 1) more.0 now more.1))
-                found (rw here at e) in
-            let now = bind_ok (entered entities (is_some from) number entry.0.0.0 entry.0.0.1)
-                (λ now. number_at words table (number + 1) entry.0.1 >>= λ more. numbers_after words table lines base left (number + 1) more.0 now more.1) found entry.2 in
-            let more = bind_ok (number_at words table (number + 1) entry.0.1) (λ more. numbers_after words table lines base left (number + 1) more.0 now.0 more.1) found now.2 in
-            numbers_below words table lines base left (number + 1) more.0.0 now.0 more.0.1 found (entered-below number entities (is_some from) entry.0.0.0 entry.0.0.1 now.0 below now.1) more.2
-        | inr there ↦
-            let kept = bind_ok (stays entities from) (λ kept. numbers_after words table lines base left (number + 1) next kept bits) found (rw there at e) in
-            numbers_below words table lines base left (number + 1) next kept.0 bits found (stays-below number entities from kept.0 below (with_number-number number base) kept.1) kept.2
-      ])
+      | inl here ↦
+          let entry = bind_ok (entity_at words table (words_from lines number from) bits)
+          (λ entry. entered entities (is_some from) number entry.0.0 entry.0.1 >>= λ now. (number_at words table (number + 1) entry.1 >>= λ more. numbers_after words table lines base left (number + 1) more.0 now more.1))
+          found (rw here at e) in
+          let now = bind_ok (entered entities (is_some from) number entry.0.0.0 entry.0.0.1)
+          (λ now. number_at words table (number + 1) entry.0.1 >>= λ more. numbers_after words table lines base left (number + 1) more.0 now more.1) found entry.2 in
+          let more = bind_ok (number_at words table (number + 1) entry.0.1) (λ more. numbers_after words table lines base left (number + 1) more.0 now.0 more.1) found now.2 in
+          numbers_below words table lines base left (number + 1) more.0.0 now.0 more.0.1 found (entered-below number entities (is_some from) entry.0.0.0 entry.0.0.1 now.0 below now.1) more.2
+      | inr there ↦
+          let kept = bind_ok (stays entities from) (λ kept. numbers_after words table lines base left (number + 1) next kept bits) found (rw there at e) in
+          numbers_below words table lines base left (number + 1) next kept.0 bits found (stays-below number entities from kept.0 below (with_number-number number base) kept.1) kept.2
+    ])
 
 pub list_is_listed : (words : List (List Bool)) (table : Layout) (lines : Lines) (base : List EntityState) (bits : List Bool) (now : List EntityState) (rest : List Bool)
     → list_after words table lines base bits ≡ Ok (now, rest) → IsList table now

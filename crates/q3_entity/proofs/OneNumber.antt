@@ -56,11 +56,11 @@ cut limit number [] rise = record { others = []; whole = refl; rise = tt; same =
 cut limit number (x ∷ xs) rise =
     elim (cases_eq x.number number) [
       | inl here ↦ record {
-            others = xs;
-            whole = rw (with_number-first x xs number here) refl;
-            rise = rw (← here) rise.2;
-            same = λ n more. sym (with_number-others x xs n (λ is. omega arith));
-          }
+        others = xs;
+        whole = rw (with_number-first x xs number here) refl;
+        rise = rw (← here) rise.2;
+        same = λ n more. sym (with_number-others x xs n (λ is. omega arith));
+      }
       | inr later ↦
           let risen : RiseFrom limit (number + 1) (x ∷ xs) = (omega (arith, rise.0, later), rise.1, rise.2) in
           record {

@@ -49,11 +49,11 @@ skip_turns words table next bits below =
     let read = entity_at words table (replicate 64 0) bits in
     rw (all, eq-eqb next next refl)
     (bind_same read (λ entry. number_at words table (next + 1) entry.1 >>= λ more. numbers_skipped words table rest (next + 1) more.0 more.1)
-        (λ entry. number_at words table (next + 1) entry.1 >>= skipped_from words table)
-        (λ entry is.
-            bind_same (number_at words table (next + 1) entry.1) (λ more. numbers_skipped words table rest (next + 1) more.0 more.1) (skipped_from words table)
-            (λ more is'. skip_jump words table rest (next + 1) more.0 more.1 (omega arith) (number_at-least words table (next + 1) entry.1 more is')))
-        ∙ sym (bind_assoc read (λ entry. number_at words table (next + 1) entry.1) (skipped_from words table)))
+    (λ entry. number_at words table (next + 1) entry.1 >>= skipped_from words table)
+    (λ entry is.
+    bind_same (number_at words table (next + 1) entry.1) (λ more. numbers_skipped words table rest (next + 1) more.0 more.1) (skipped_from words table)
+    (λ more is'. skip_jump words table rest (next + 1) more.0 more.1 (omega arith) (number_at-least words table (next + 1) entry.1 more is')))
+    ∙ sym (bind_assoc read (λ entry. number_at words table (next + 1) entry.1) (skipped_from words table)))
 
 -- what the code passes over, as a whole list is passed over: its beginning
 pub skip_begun : (words : List (List Bool)) (table : Layout) (bits : List Bool) (next : ℕ) (left : List Bool) → Ok (next, left) ≡ number_at words table 0 bits

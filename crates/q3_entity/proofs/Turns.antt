@@ -50,8 +50,8 @@ behind_entry-same words table lines number from entities bits go go' same =
     (λ now. number_at words table (number + 1) now.1 >>= λ more. go more.0 now.0 more.1)
     (λ now. number_at words table (number + 1) now.1 >>= λ more. go' more.0 now.0 more.1)
     (λ now is.
-        bind_same (number_at words table (number + 1) now.1) (λ more. go more.0 now.0 more.1) (λ more. go' more.0 now.0 more.1)
-        (λ more is'. same more.0 now.0 more.1 (number_at-least words table (number + 1) now.1 more is')))
+    bind_same (number_at words table (number + 1) now.1) (λ more. go more.0 now.0 more.1) (λ more. go' more.0 now.0 more.1)
+    (λ more is'. same more.0 now.0 more.1 (number_at-least words table (number + 1) now.1 more is')))
 
 -- at the number of the next entry
 numbers_after-here : (words : List (List Bool)) (table : Layout) (lines : Lines) (base : List EntityState) (left number : ℕ) (entities : List EntityState) (bits : List Bool)
@@ -64,9 +64,9 @@ numbers_after-here words table lines base left number entities bits =
     let read = entity_at words table (words_from lines number from) bits in
     rw (eq-eqb number number refl)
     (sym (bind_assoc read (λ entry. entered entities (is_some from) number entry.0.0 entry.0.1 >>= λ now. Ok (now, entry.1)) others
-        ∙ bind_same read (λ entry. (entered entities (is_some from) number entry.0.0 entry.0.1 >>= λ now. Ok (now, entry.1)) >>= others)
-        (λ entry. entered entities (is_some from) number entry.0.0 entry.0.1 >>= λ now. others (now, entry.1))
-        (λ entry is. bind_assoc (entered entities (is_some from) number entry.0.0 entry.0.1) (λ now. Ok (now, entry.1)) others)))
+    ∙ bind_same read (λ entry. (entered entities (is_some from) number entry.0.0 entry.0.1 >>= λ now. Ok (now, entry.1)) >>= others)
+    (λ entry. entered entities (is_some from) number entry.0.0 entry.0.1 >>= λ now. others (now, entry.1))
+    (λ entry is. bind_assoc (entered entities (is_some from) number entry.0.0 entry.0.1) (λ now. Ok (now, entry.1)) others)))
 
 -- at a number that has no entry
 numbers_after-there : (words : List (List Bool)) (table : Layout) (lines : Lines) (base : List EntityState) (left number next : ℕ) (entities : List EntityState) (bits : List Bool) → number ≢ next
@@ -87,10 +87,10 @@ forget words table lines x base (suc left) number next entities bits below =
       | inl same ↦
           rw (← same)
           (numbers_after-here words table lines (x ∷ base) left number entities bits
-              ∙ ap (λ (from : Option EntityState). behind_entry words table lines number from entities bits (λ next now left'. numbers_after words table lines (x ∷ base) left (number + 1) next now left')) gone
-              ∙ behind_entry-same words table lines number (with_number number base) entities bits _ _
-              (λ next now left' more. forget words table lines x base left (number + 1) next now left' (omega arith))
-              ∙ sym (numbers_after-here words table lines base left number entities bits))
+          ∙ ap (λ (from : Option EntityState). behind_entry words table lines number from entities bits (λ next now left'. numbers_after words table lines (x ∷ base) left (number + 1) next now left')) gone
+          ∙ behind_entry-same words table lines number (with_number number base) entities bits _ _
+          (λ next now left' more. forget words table lines x base left (number + 1) next now left' (omega arith))
+          ∙ sym (numbers_after-here words table lines base left number entities bits))
       | inr other ↦
           numbers_after-there words table lines (x ∷ base) left number next entities bits other
           ∙ ap (λ (from : Option EntityState). stays entities from >>= λ kept. numbers_after words table lines (x ∷ base) left (number + 1) next kept bits) gone
@@ -143,8 +143,8 @@ jump words table lines (x ∷ xs) (suc left) number next entities bits rise sum 
                 ∙ bind_same (one_more entities x) (λ kept. numbers_after words table lines base left (number + 1) next kept bits)
                 (λ kept. kept_below next kept xs >>= λ kept'. from_next words table lines next kept'.1 kept'.0 bits)
                 (λ kept is.
-                    forget words table lines x xs left (number + 1) next kept bits (omega arith)
-                    ∙ jump words table lines xs left (number + 1) next kept bits risen (omega arith) (omega arith))
+                forget words table lines x xs left (number + 1) next kept bits (omega arith)
+                ∙ jump words table lines xs left (number + 1) next kept bits risen (omega arith) (omega arith))
                 ∙ sym (bind_assoc (one_more entities x) (λ more. kept_below next more xs) (λ kept'. from_next words table lines next kept'.1 kept'.0 bits))
                 ∙ ap (λ (r : Result (List EntityState × List EntityState) EntityError). r >>= λ kept'. from_next words table lines next kept'.1 kept'.0 bits)
                 (sym (kept_below-more next entities x xs (omega arith)))
@@ -213,8 +213,8 @@ list_turns words table lines at bits below rise =
     (λ next now left. numbers_after words table lines at.base rest (at.next + 1) next now left)
     (λ next now left. kept_below next now found.1 >>= λ kept. from_next words table lines next kept.1 kept.0 left)
     (λ next now left more.
-        behind_taken words table lines at.base rest at.next next now left
-        ∙ jump words table lines found.1 rest (at.next + 1) next now left (taken-rises (end_mark table) at.next at.base rise) (omega arith) more)
+    behind_taken words table lines at.base rest at.next next now left
+    ∙ jump words table lines found.1 rest (at.next + 1) next now left (taken-rises (end_mark table) at.next at.base rise) (omega arith) more)
     ∙ bind_same read (λ now. number_at words table (at.next + 1) now.1 >>= λ more. (kept_below more.0 now.0 found.1 >>= λ kept. from_next words table lines more.0 kept.1 kept.0 more.1))
     (λ now. behind now >>= from_reached words table lines)
     (λ now is. sym (next_goes_on words table lines (at.next + 1) found.1 now.0 now.1))

@@ -12,8 +12,8 @@ returns-in-Changed c =
     let number : c.read_entity.new.into.number ≡ c.args.number = read.number ∙ ap (λ (x : EntityState). x.number) c.zero-state.ensures in
     record {
       value =
-        entry_changed c.args.r.now.words c.args.table.now c.args.from.now.words c.args.in_base c.args.number c.args.into.now.items c.args.r.now.left c.read_entity.new.r.left
-        c.read_entity.new.into c.add.new.into.items c.add.result number kind c.add.ensures;
+          entry_changed c.args.r.now.words c.args.table.now c.args.from.now.words c.args.in_base c.args.number c.args.into.now.items c.args.r.now.left c.read_entity.new.r.left
+          c.read_entity.new.into c.add.new.into.items c.add.result number kind c.add.ensures;
       words = read.reads.words;
       place = read.reads.place;
     }
@@ -26,8 +26,8 @@ returns-in-Same c =
     let number : c.read_entity.new.into.number ≡ c.args.number = read.number ∙ ap (λ (x : EntityState). x.number) c.zero-state.ensures in
     record {
       value =
-        entry_same c.args.r.now.words c.args.table.now c.args.from.now.words c.args.in_base c.args.number c.args.into.now.items c.args.r.now.left c.read_entity.new.r.left
-        c.read_entity.new.into c.add-in-Same.new.into.items c.add-in-Same.result number kind c.add-in-Same.ensures;
+          entry_same c.args.r.now.words c.args.table.now c.args.from.now.words c.args.in_base c.args.number c.args.into.now.items c.args.r.now.left c.read_entity.new.r.left
+          c.read_entity.new.into c.add-in-Same.new.into.items c.add-in-Same.result number kind c.add-in-Same.ensures;
       words = read.reads.words;
       place = read.reads.place;
     }

@@ -35,8 +35,8 @@ returns-in_err-cursor-2-clause-reads c =
     let before = c.loop-cursor.invariant in
     rw (p.1, p.2) (record {
       value =
-        list_stops c.args.r.now.words c.loop-cursor.r.words c.args.table.now c.args.baselines.now _ c.loop-cursor.r.left _ before.words (omega arith) before.rise reads.value
-        ∙ before.reads;
+          list_stops c.args.r.now.words c.loop-cursor.r.words c.args.table.now c.args.baselines.now _ c.loop-cursor.r.left _ before.words (omega arith) before.rise reads.value
+          ∙ before.reads;
       words = reads.words ∙ before.words;
       place = reads.place ∙ before.place;
     })
@@ -51,8 +51,8 @@ loop-cursor-preserved c =
       most = all.most;
       rise = turn_rises c.loop-cursor.r.words c.args.table.now c.args.baselines.now _ c.loop-cursor.r.left _ (end_mark c.args.table.now) before.rise (sym all.reads.value);
       reads =
-        list_goes_on c.args.r.now.words c.loop-cursor.r.words c.args.table.now c.args.baselines.now _ c.loop-cursor.r.left _ _ before.words (omega arith) before.rise all.reads.value
-        ∙ before.reads;
+          list_goes_on c.args.r.now.words c.loop-cursor.r.words c.args.table.now c.args.baselines.now _ c.loop-cursor.r.left _ _ before.words (omega arith) before.rise all.reads.value
+          ∙ before.reads;
     }
 
 pub returns-clause-reads : goal.returns-clause-reads

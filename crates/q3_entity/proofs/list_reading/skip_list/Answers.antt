@@ -30,8 +30,8 @@ returns-in_err-next-2 c =
     let reads = c.in_err-next-2.ensures.reads in
     rw (p.1, p.2) (record {
       value =
-        skip_stops c.args.r.now.words c.loop-next.r.words c.args.table.now c.zero-zero.result.words c.loop-next.next c.loop-next.r.left _ c.loop-next.invariant.words zero
-        (omega arith) reads.value ∙ c.loop-next.invariant.skips;
+          skip_stops c.args.r.now.words c.loop-next.r.words c.args.table.now c.zero-zero.result.words c.loop-next.next c.loop-next.r.left _ c.loop-next.invariant.words zero
+          (omega arith) reads.value ∙ c.loop-next.invariant.skips;
       words = reads.words ∙ c.loop-next.invariant.words;
       place = reads.place ∙ c.loop-next.invariant.place;
     })
@@ -46,8 +46,8 @@ loop-next-preserved c =
       place = all.reads.place ∙ c.loop-next.invariant.place;
       most = all.most;
       skips =
-        skip_goes_on c.args.r.now.words c.loop-next.r.words c.args.table.now c.zero-zero.result.words c.loop-next.next c.loop-next.r.left _ _ c.loop-next.invariant.words zero
-        (omega arith) all.reads.value ∙ c.loop-next.invariant.skips;
+          skip_goes_on c.args.r.now.words c.loop-next.r.words c.args.table.now c.zero-zero.result.words c.loop-next.next c.loop-next.r.left _ _ c.loop-next.invariant.words zero
+          (omega arith) all.reads.value ∙ c.loop-next.invariant.skips;
     }
 
 pub returns : goal.returns
