@@ -1,5 +1,5 @@
 -- The spellings of what stands behind an entity's number: a reader takes each of them and no other text.
-use Rattle.std.proofs.Common.{◌≡◌, ◌⊎◌, ℕ, ◌^◌, ◌<◌, Bool, true, false, cond, eqb, List, [], ◌∷◌, ◌++◌, Option, Some, None, Result, Ok, Err, refl, sym, ap, subst, ◌∙◌, append_assoc, arith, inl, inr}
+use Rattle.std.proofs.Common.{◌≡◌, ◌⊎◌, ℕ, ◌^◌, ◌<◌, Bool, false, cond, eqb, List, ◌++◌, Option, Some, None, Ok, refl, sym, subst, append_assoc, arith, inl, inr}
 use Rattle.std.proofs.lemmas.Bool.{cases_Bool, eqb-true, eqb-false}
 use Rattle.std.proofs.lemmas.List.{append-nil}
 use Rattle.q3_bits.specs.ResultBind.{bind_ok}
@@ -13,8 +13,7 @@ use Rattle.q3_fields.specs.Spelling.{SpellsWords}
 use Rattle.q3_fields.specs.Laws.{WordsReadAreSpelled, WordsSpelledAreRead}
 use Rattle.q3_entity.specs.declared.reading.Entry.{Entry}
 use Rattle.q3_entity.specs.declared.reading.Entry.TheVariants.{Removed, Changed, Same}
-use Rattle.q3_entity.specs.declared.error.EntityError.{EntityError}
-use Rattle.q3_entity.specs.Delta.{opening, removal, bits_read, words_read, delta_at, present_at, entity_at}
+use Rattle.q3_entity.specs.Delta.{removal, bits_read, words_read, delta_at, present_at, entity_at}
 use Rattle.q3_entity.specs.Spelling.{Entered, SpellsEntry}
 use Rattle.q3_entity.proofs.Results.{bits_ok, words_ok}
 

@@ -1,5 +1,8 @@
 pub mod Lines
 pub mod DeltaTexts
+pub mod Gone
+pub mod Risen
+pub mod ListTexts
 pub mod Binds
 pub mod Numbers
 pub mod Turns
@@ -12,6 +15,5 @@ pub mod OneNumber
 pub mod ListSpelled
 pub mod ListRead
 pub mod ListSkipped
-pub mod Gone
-pub mod Risen
-pub mod ListTexts
+pub mod WrittenSpelled
+pub mod ListWritten

@@ -1,6 +1,6 @@
 -- What is read of a list is one: its numbers rise, and it has at most 256 entities.
-use Rattle.std.proofs.Common.{◌≡◌, ◌⊎◌, ℕ, zero, suc, ◌+◌, ◌<◌, ◌≤◌, Bool, true, false, List, [], ◌∷◌, ◌++◌, length, Option, Some, None, Result, Ok, Err, refl, sym, ap, subst, ◌∙◌, inl, inr, arith, eqb, ltb, cond, length-append}
-use Rattle.std.proofs.lemmas.Bool.{cases_eq, cases_Bool, eqb-true, ltb-true}
+use Rattle.std.proofs.Common.{◌≡◌, ℕ, zero, suc, ◌+◌, ◌<◌, ◌≤◌, Bool, true, false, List, [], ◌∷◌, ◌++◌, length, Option, Some, None, Result, Ok, refl, subst, inl, inr, arith, eqb, ltb, length-append}
+use Rattle.std.proofs.lemmas.Bool.{cases_Bool, eqb-true, ltb-true}
 use Rattle.std.specs.Option.{is_some}
 use Rattle.q3_bits.specs.ResultBind.{◌>>=◌, bind_ok}
 use Rattle.q3_fields.specs.Kinds.{Layout, end_mark}
@@ -8,7 +8,6 @@ use Rattle.q3_entity.specs.declared.state.EntityState.{EntityState}
 use Rattle.q3_entity.specs.declared.reading.Entry.{Entry}
 use Rattle.q3_entity.specs.declared.reading.Entry.TheVariants.{Removed, Changed, Same}
 use Rattle.q3_entity.specs.declared.error.EntityError.{EntityError}
-use Rattle.q3_entity.specs.declared.error.EntityError.TheVariants.{Many, Removes}
 use Rattle.q3_entity.specs.Entities.{RiseFrom, IsList, most_entities, with_number}
 use Rattle.q3_entity.specs.Baselines.{Lines}
 use Rattle.q3_entity.specs.Delta.{entity_at}

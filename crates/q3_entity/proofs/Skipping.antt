@@ -1,5 +1,5 @@
 -- A list that is passed over, turn by turn.
-use Rattle.std.proofs.Common.{◌≡◌, ◌≢◌, ℕ, zero, suc, ◌+◌, ◌-◌, ◌<◌, ◌≤◌, Bool, List, Result, Ok, Err, refl, sym, ap, ◌∙◌, arith, eqb, cond, replicate, inl, inr, true, false}
+use Rattle.std.proofs.Common.{◌≡◌, ℕ, zero, suc, ◌+◌, ◌-◌, ◌<◌, ◌≤◌, Bool, List, Result, Ok, Err, refl, sym, ◌∙◌, arith, replicate, inl, inr}
 use Rattle.std.proofs.lemmas.Bool.{cases_eq, eq-eqb, ne_eqb}
 use Rattle.q3_bits.specs.ResultBind.{◌>>=◌}
 use Rattle.q3_fields.specs.Kinds.{Layout, end_mark}

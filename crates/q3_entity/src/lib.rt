@@ -3,6 +3,7 @@
 
 pub mod baselines;
 pub mod error;
+pub mod laws;
 pub mod list_reading;
 pub mod list_writing;
 pub mod print;

@@ -1,8 +1,7 @@
-use Rattle.std.proofs.Common.{sym, ◌∙◌, ◌≡◌, Ok, arith}
+use Rattle.std.proofs.Common.{sym, ◌∙◌, arith}
 use Rattle.std.proofs.lemmas.Result.{err_from_is_err_and}
 use Rattle.q3_fields.specs.Kinds.{end_mark}
 use Rattle.q3_entity.specs.Entities.{run_of}
-use Rattle.q3_entity.specs.Lists.{list_after}
 use Rattle.q3_entity.proofs.Turns.{list_begun, list_refused, list_goes_on, list_stops, list_ends, next_rises, turn_rises}
 use Rattle.q3_entity.proofs.Listed.{list_is_listed}
 use Rattle.q3_entity.proofs.list_reading.read_list.Goals as goal

@@ -1,6 +1,5 @@
 use Rattle.std.proofs.Common.{◌≡◌, ◌+◌, ◌-◌, ◌≤◌, length}
 use Rattle.q3_fields.specs.Kinds.{end_mark}
-use Rattle.q3_entity.specs.Entities.{zero_entity}
 use Rattle.q3_entity.specs.Lists.{list_skipped}
 use Rattle.q3_entity.proofs.Skipping.{skipped_from}
 use Rattle.q3_entity.proofs.list_reading.skip_list.Given as goal
