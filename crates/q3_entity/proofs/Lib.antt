@@ -3,6 +3,8 @@ pub mod DeltaTexts
 pub mod Gone
 pub mod Risen
 pub mod ListTexts
+pub mod WrittenSpelled
+pub mod ListWritten
 pub mod Binds
 pub mod Numbers
 pub mod Turns
@@ -15,5 +17,3 @@ pub mod OneNumber
 pub mod ListSpelled
 pub mod ListRead
 pub mod ListSkipped
-pub mod WrittenSpelled
-pub mod ListWritten

@@ -19,7 +19,7 @@ use Rattle.q3_entity.specs.Spelling.{Entered, EntriesRise, RemoveFrom, state_aft
 use Rattle.q3_entity.proofs.Results.{number_is_read}
 use Rattle.q3_entity.proofs.EntrySpelled.{words_there, SpellsMarks, TakenMarks, marks_are_read}
 use Rattle.q3_entity.proofs.EntriesSpelled.{first_number, SpellsBehind, behind_of_entries}
-use Rattle.q3_entity.proofs.OneNumber.{with_first, IsCut, cut, entry_of, entry_of-below, entry_of-first, entry_of-others, entries_rise-less, state_there, pushed, pushed-first, stays-is, entered-is}
+use Rattle.q3_entity.proofs.OneNumber.{with_first, IsCut, cut, entry_of, entry_of-below, entry_of-first, entry_of-others, state_there, pushed, pushed-first, stays-is, entered-is}
 use Rattle.q3_entity.proofs.ListSpelled.{FromWords, from_words}
 
 -- the entities that are still to come at a number

@@ -291,7 +291,8 @@ mod tests {
         let code = Code::plain(rt.alloc())?;
         let table = Table::of(&[8, 8, 8]).expect(&rt, "a table");
         let mut baselines = Baselines::new(rt.alloc())?;
-        let mut line = EntityState::zero(4);
+        let mut line = EntityState::default();
+        line.number = 4;
         line.words[2] = 9;
         baselines.set(&line);
         let mut base = List::new();
