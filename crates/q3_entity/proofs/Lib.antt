@@ -3,8 +3,6 @@ pub mod DeltaTexts
 pub mod Gone
 pub mod Risen
 pub mod ListTexts
-pub mod WrittenSpelled
-pub mod ListWritten
 pub mod Binds
 pub mod Numbers
 pub mod Turns
@@ -13,6 +11,8 @@ pub mod Skipping
 pub mod Results
 pub mod EntrySpelled
 pub mod EntriesSpelled
+pub mod WrittenSpelled
+pub mod ListWritten
 pub mod OneNumber
 pub mod ListSpelled
 pub mod ListRead

@@ -11,6 +11,8 @@ pub mod reading;
 mod run;
 pub mod state;
 pub mod writing;
+#[cfg(test)]
+mod writing_tests;
 
 pub use baselines::Baselines;
 pub use error::EntityError;
