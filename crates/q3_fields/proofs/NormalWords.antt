@@ -1,12 +1,13 @@
 -- The normal form of a state's words, also as a loop makes it.
-use Rattle.std.proofs.Common.{◌≡◌, ℕ, zero, suc, ◌+◌, ◌^◌, ◌≤◌, ◌<◌, List, [], ◌∷◌, ◌++◌, length, take, drop, get_or, set, Some, None, slice_get, refl, sym, ap, ◌∙◌, append_assoc, add-one, arith}
-use Rattle.std.proofs.lemmas.List.{append-nil, drop_more, drop_all, drop-set-lt, take_all, take_more_set}
-use Rattle.std.proofs.lemmas.List.Elements.{All-cons, All-head, All-tail}
+use Rattle.std.proofs.Common.{◌≡◌, ℕ, zero, suc, ◌+◌, ◌^◌, ◌≤◌, ◌<◌, List, [], ◌∷◌, ◌++◌, length, take, drop, get_or, set, replicate, Some, None, slice_get, refl, sym, ap, ◌∙◌, append_assoc, add-one, arith}
+use Rattle.std.proofs.lemmas.List.{append-nil, drop_more, drop_all, length-replicate, drop-set-lt, take_all, take_more_set}
+use Rattle.std.proofs.lemmas.List.Elements.{All-cons, All-head, All-tail, All-replicate}
 use Rattle.std.specs.List.{All}
 use Rattle.q3_fields.specs.declared.kind.Kind.{Kind}
 use Rattle.q3_fields.specs.Kinds.{IsKind, norm}
 use Rattle.q3_fields.specs.States.{normal_words}
-use Rattle.q3_fields.specs.Laws.{NormIsNormal}
+use Rattle.q3_fields.specs.Laws.{NormIsNormal, ZerosAreNormal}
+use Rattle.q3_fields.proofs.Normal.{norm-zero}
 
 -- ---- word by word
 
@@ -102,3 +103,18 @@ normal_words-front (kind ∷ table) (x ∷ from) (y ∷ to) long same =
     let first : x ≡ y = cc in
     let others : take (length table) from ≡ take (length table) to = cc in
     rw (first, normal_words-front table from to (omega arith) others) refl
+
+-- words of 0 are
+normal_words-zeros : (table : List Kind) (count : ℕ) → All IsKind table → normal_words table (replicate count 0) ≡ replicate count 0
+unfolding normal_words
+normal_words-zeros [] zero allowed = refl
+normal_words-zeros [] (suc count) allowed = ap (λ (ys : List ℕ). 0 ∷ ys) (normal_words-zeros [] count allowed)
+normal_words-zeros (kind ∷ table) zero allowed = refl
+normal_words-zeros (kind ∷ table) (suc count) allowed =
+    rw (norm-zero kind (All-head IsKind kind table allowed), normal_words-zeros table count (All-tail IsKind kind table allowed)) refl
+
+pub zeros_are_normal : ZerosAreNormal
+zeros_are_normal table is_table = (
+  record { count = length-replicate {A = ℕ} 64 0; each = All-replicate (λ word. word < 2 ^ 32) 64 0 (omega arith) },
+  normal_words-zeros table 64 is_table.each,
+)

@@ -1,5 +1,5 @@
 -- Laws of small floats, of the normal form, of field texts and of the delta of words.
-use Rattle.std.specs.Prelude.{◌≡◌, ◌≢◌, ℕ, ◌^◌, ◌<◌, ◌≤◌, Bool, List, ◌++◌, length, drop, Ok, Some, ℤ, pos, neg_ℤ, ◌≤ℤ◌}
+use Rattle.std.specs.Prelude.{◌≡◌, ◌≢◌, ℕ, ◌^◌, ◌<◌, ◌≤◌, Bool, List, ◌++◌, length, drop, replicate, Ok, Some, ℤ, pos, neg_ℤ, ◌≤ℤ◌}
 use Rattle.q3_bits.specs.Words.{IsCode}
 use Rattle.q3_fields.specs.declared.kind.Kind.{Kind}
 use Rattle.q3_fields.specs.declared.delta.StateKind.{StateKind}
@@ -73,6 +73,10 @@ EntityWrittenIsRead = (words : List (List Bool)) (kind : Kind) (word : ℕ) (res
 abbrev pub NormalWordsAreNormal : Type 0
 NormalWordsAreNormal = (table : List Kind) (words : List ℕ) → AreKinds table → AreWords 64 words
     → AreWords 64 (normal_words table words) × (normal_words table (normal_words table words) ≡ normal_words table words)
+
+-- words that are all 0 are words, in normal form
+abbrev pub ZerosAreNormal : Type 0
+ZerosAreNormal = (table : List Kind) → AreKinds table → AreWords 64 (replicate 64 0) × (normal_words table (replicate 64 0) ≡ replicate 64 0)
 
 -- the count is the least number from which on the words agree
 abbrev pub LastChangedIsLeast : Type 0

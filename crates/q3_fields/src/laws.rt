@@ -1,7 +1,7 @@
 //! Laws of small floats, of the normal form, of field texts and of the delta of words, each the contract of a call that does nothing but cite
 //! the laws below it.
 
-ghost use Rattle.q3_fields.specs.Laws.{SmallOfPattern, PatternOfSmall, NormIsNormal, NormHasItsText, PlayerFieldIsSpelled, EntityFieldIsSpelled, PlayerReadIsSpelled, EntityReadIsSpelled, PlayerSpelledIsRead, EntitySpelledIsRead, PlayerWrittenIsRead, EntityWrittenIsRead, NormalWordsAreNormal, LastChangedIsLeast, WordsAreSpelled, UnchangedIsNormal, WordsReadAreSpelled, WordsSpelledAreRead};
+ghost use Rattle.q3_fields.specs.Laws.{SmallOfPattern, PatternOfSmall, NormIsNormal, NormHasItsText, PlayerFieldIsSpelled, EntityFieldIsSpelled, PlayerReadIsSpelled, EntityReadIsSpelled, PlayerSpelledIsRead, EntitySpelledIsRead, PlayerWrittenIsRead, EntityWrittenIsRead, NormalWordsAreNormal, ZerosAreNormal, LastChangedIsLeast, WordsAreSpelled, UnchangedIsNormal, WordsReadAreSpelled, WordsSpelledAreRead};
 
 use q3_bits::laws;
 
@@ -89,6 +89,11 @@ pub fn normal_words_are_normal()
 {
     norm_is_normal();
 }
+
+/// Words that are all 0 are words, in the normal form of every table.
+pub fn zeros_are_normal()
+    ensures { ZerosAreNormal }
+{}
 
 /// The count of fields in a delta is the least number from which on all words agree.
 pub fn last_changed_is_least()

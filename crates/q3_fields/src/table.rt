@@ -94,18 +94,19 @@ impl Table {
         self.count
     }
 
-    /// How many bits a number of an entity has in a message: 1 to 16.
+    /// How many bits a number of an entity has in a message: 1 to 10.
     pub fn number_bits(&self) -> u32
         ensures bits { result ≡ self.now.number_bits }
         ensures some { 1 ≤ result }
-        ensures most { result ≤ 16 }
+        ensures most { result ≤ 10 }
     {
         self.number_bits
     }
 
-    /// The end mark of an entity list. The numbers of entities are below it.
+    /// The end mark of an entity list, at most 1023. The numbers of entities are below it.
     pub fn end(&self) -> u16
-        ensures { result ≡ end_mark self.now }
+        ensures mark { result ≡ end_mark self.now }
+        ensures most { result ≤ 1023 }
     {
         ((1u32 << self.number_bits) - 1) as u16
     }

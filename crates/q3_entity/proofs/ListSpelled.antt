@@ -1,0 +1,258 @@
+-- What is read of a list was spelled so.
+use Rattle.std.proofs.Common.{◌≡◌, ℕ, zero, suc, ◌+◌, ◌<◌, ◌≤◌, Bool, true, eqb, List, [], ◌∷◌, ◌++◌, Option, Some, None, IfSome, unwrap_or, Ok, refl, sym, ap, subst, ◌∙◌, append_assoc, arith, inl, inr}
+use Rattle.std.proofs.lemmas.Bool.{cases_eq, cases_Bool, eqb-true, eqb-false}
+use Rattle.std.proofs.lemmas.List.{append-nil}
+use Rattle.std.proofs.lemmas.List.Elements.{All-nil}
+use Rattle.std.specs.Option.{is_some}
+use Rattle.q3_bits.specs.ResultBind.{◌>>=◌, bind_ok}
+use Rattle.q3_bits.specs.Words.{IsCode, field_bits}
+use Rattle.q3_bits.specs.Laws.{ReadWasPut}
+use Rattle.q3_fields.specs.Kinds.{Layout, IsTable, end_mark}
+use Rattle.q3_fields.specs.States.{AreWords, normal_words}
+use Rattle.q3_fields.specs.Laws.{WordsReadAreSpelled}
+use Rattle.q3_entity.specs.declared.state.EntityState.{EntityState}
+use Rattle.q3_entity.specs.declared.reading.Entry.{Entry}
+use Rattle.q3_entity.specs.declared.reading.Entry.TheVariants.{Removed, Changed, Same}
+use Rattle.q3_entity.specs.Entities.{zero_entity, IsNormal, RiseFrom, IsList, AreStates, AreNormal, with_number}
+use Rattle.q3_entity.specs.Baselines.{Lines, set_at, line_of, AreLines}
+use Rattle.q3_entity.specs.Delta.{entity_at}
+use Rattle.q3_entity.specs.Lists.{number_at, stays, entered, words_from, numbers_after, list_after}
+use Rattle.q3_entity.specs.Laws.{ZeroIsNormal, ListReadIsSpelled}
+use Rattle.q3_entity.specs.Spelling.{Entered, SpellsEntries, EntriesRise, RemoveFrom, state_after}
+use Rattle.q3_entity.proofs.Results.{number_was_read}
+use Rattle.q3_entity.proofs.EntrySpelled.{words_there, ReadMarks, marks_were_spelled}
+use Rattle.q3_entity.proofs.EntriesSpelled.{first_number, SpellsBehind, entries_of_behind}
+use Rattle.q3_entity.proofs.OneNumber.{with_first, IsNamed, first-rises, first-found, first-others, first-all, with_number-past, with_number-all, entry_of, entry_of-below, entry_of-first, entry_of-others, entries_rise-less, state_there, pushed, pushed-first, stays-was, entered-was}
+use Rattle.q3_entity.proofs.Listed.{with_number-number, list_is_listed}
+
+-- the words that an entry changed from are words
+line-words : (table : Layout) (lines : Lines) (number : ℕ) → ZeroIsNormal → IsTable table → AreLines table lines
+    → AreWords 64 (line_of lines number).words × IsNormal table (line_of lines number)
+line-words table lines number law is_table are = from_line (set_at lines number) (are.states number) (are.normal number)
+  where
+    from_line : (o : Option EntityState) → IfSome o (λ state. AreWords 64 state.words) → IfSome o (IsNormal table)
+        → AreWords 64 (unwrap_or o (zero_entity number)).words × IsNormal table (unwrap_or o (zero_entity number))
+    from_line None words normal = law table number is_table
+    from_line (Some state) words normal = (words, normal)
+
+-- and in normal form where the base's are
+pub record FromWords (table : Layout) (base : List EntityState) (from : List ℕ) : Type 0 where
+  pub are : AreWords 64 from
+  pub normal : AreNormal table base → normal_words table.kinds from ≡ from
+
+pub from_words : (table : Layout) (lines : Lines) (base : List EntityState) (number : ℕ) → ZeroIsNormal → IsTable table → AreLines table lines → AreStates base
+    → FromWords table base (words_from lines number (with_number number base))
+from_words table lines base number law is_table are states =
+    from_entity (with_number number base) (λ x e. with_number-all (λ entity. AreWords 64 entity.words) number base x states e)
+    (λ normal x e. with_number-all (IsNormal table) number base x normal e)
+  where
+    from_entity : (o : Option EntityState) → ((x : EntityState) → o ≡ Some x → AreWords 64 x.words) → (AreNormal table base → (x : EntityState) → o ≡ Some x → IsNormal table x)
+        → FromWords table base (words_from lines number o)
+    from_entity None words normal =
+        let line = line-words table lines number law is_table are in
+        record { are = line.0; normal = λ _. ap (λ (x : EntityState). x.words) line.1 }
+    from_entity (Some x) words normal = record { are = words x refl; normal = λ all. ap (λ (x : EntityState). x.words) (normal all x refl) }
+
+-- what was read from a number on
+record ReadNumbers (words : List (List Bool)) (table : Layout) (lines : Lines) (base : List EntityState) (number next : ℕ) (entities : List EntityState) (bits : List Bool)
+    (found : List EntityState × List Bool) : Type 0 where
+  entries : List Entered
+  added : List EntityState
+  text : List Bool
+  parts : bits ≡ text ++ found.1
+  whole : found.0 ≡ entities ++ added
+  first : first_number table entries ≡ next
+  rise : EntriesRise (end_mark table) next entries
+  removes : RemoveFrom base entries
+  spells : SpellsBehind words table lines base entries text
+  risen : RiseFrom (end_mark table) number added
+  states : (n : ℕ) → number ≤ n → with_number n added ≡ state_after (with_number n base) n (entry_of n entries)
+  are : AreStates added
+  normal : AreNormal table base → AreNormal table added
+
+-- at the end mark nothing is left
+at_end : (words : List (List Bool)) (table : Layout) (lines : Lines) (base : List EntityState) (number next : ℕ) (entities : List EntityState) (bits : List Bool)
+    → IsList table base → number ≡ end_mark table → next ≡ end_mark table → ReadNumbers words table lines base number next entities bits (entities, bits)
+at_end words table lines base number next entities bits list last mark = record {
+  entries = [];
+  added = [];
+  text = [];
+  parts = refl;
+  whole = sym (append-nil entities);
+  first = sym mark;
+  rise = tt;
+  removes = tt;
+  spells = refl;
+  risen = tt;
+  states = λ n more. sym (with_number-past (end_mark table) 0 n base list.rise (omega arith));
+  are = All-nil (λ (x : EntityState). AreWords 64 x.words);
+  normal = λ _. All-nil (IsNormal table);
+}
+
+-- a number without an entry, whose entity stays
+over_number : (words : List (List Bool)) (table : Layout) (lines : Lines) (base : List EntityState) (number next : ℕ) (entities kept : List EntityState) (bits : List Bool)
+    (found : List EntityState × List Bool) → AreStates base → number < next → number < end_mark table → kept ≡ pushed entities (with_number number base)
+    → ReadNumbers words table lines base (number + 1) next kept bits found → ReadNumbers words table lines base number next entities bits found
+over_number words table lines base number next entities kept bits found states below within is read =
+    let from = with_number number base in
+    let named : IsNamed number from = named_base from (λ x e. with_number-number number base x e) in
+    record {
+      entries = read.entries;
+      added = with_first from read.added;
+      text = read.text;
+      parts = read.parts;
+      whole = read.whole ∙ ap (λ (xs : List EntityState). xs ++ read.added) is ∙ pushed-first entities from read.added;
+      first = read.first;
+      rise = read.rise;
+      removes = read.removes;
+      spells = read.spells;
+      risen = first-rises (end_mark table) number from read.added named within read.risen;
+      states = λ n least.
+          elim (cases_eq n number) [
+            | inl here ↦
+                let none : entry_of n read.entries ≡ None = entry_of-below (end_mark table) next n read.entries read.rise (omega arith) in
+                rw (none, here) (first-found (end_mark table) number from read.added named read.risen)
+            | inr other ↦ first-others number n from read.added named other ∙ read.states n (omega (arith, least, other))
+          ];
+      are = first-all (λ (x : EntityState). AreWords 64 x.words) from read.added (λ x e. with_number-all (λ (x : EntityState). AreWords 64 x.words) number base x states e) read.are;
+      normal = λ normal. first-all (IsNormal table) from read.added (λ x e. with_number-all (IsNormal table) number base x normal e) (read.normal normal);
+    }
+  where
+    named_base : (o : Option EntityState) → ((x : EntityState) → o ≡ Some x → x.number ≡ number) → IsNamed number o
+    named_base None h = tt
+    named_base (Some x) h = h x refl
+
+-- the state of an entry that is there
+named_there : (number : ℕ) (there : Option (List ℕ)) → IsNamed number (state_there number there)
+named_there number None = tt
+named_there number (Some ws) = refl
+
+there_words : (kind : Entry) (to ws : List ℕ) → words_there kind to ≡ Some ws → to ≡ ws
+there_words Removed to ws e = absurd cc
+there_words Changed to ws e = cc
+there_words Same to ws e = cc
+
+some_value : (x y : EntityState) → (let o : Option EntityState = Some x in o) ≡ Some y → x ≡ y
+some_value x y e = cc
+
+are_there : (number : ℕ) (there : Option (List ℕ)) → ((ws : List ℕ) → there ≡ Some ws → AreWords 64 ws) → (x : EntityState) → state_there number there ≡ Some x → AreWords 64 x.words
+are_there number None h x e = absurd cc
+are_there number (Some ws) h x e = subst (λ (y : EntityState). AreWords 64 y.words) (some_value (record { number = number; words = ws }) x e) (h ws refl)
+
+normal_there : (table : Layout) (number : ℕ) (there : Option (List ℕ)) → ((ws : List ℕ) → there ≡ Some ws → normal_words table.kinds ws ≡ ws) → (x : EntityState) → state_there number there ≡ Some x
+    → IsNormal table x
+normal_there table number None h x e = absurd cc
+normal_there table number (Some ws) h x e =
+    subst (IsNormal table) (some_value (record { number = number; words = ws }) x e) (ap (λ (ws : List ℕ). let made : EntityState = record { number = number; words = ws } in made) (h ws refl))
+
+-- a number with its entry
+behind_number : (words : List (List Bool)) (table : Layout) (lines : Lines) (base : List EntityState) (number next : ℕ) (entities now : List EntityState) (bits left behind : List Bool)
+    (kind : Entry) (to : List ℕ) (found : List EntityState × List Bool) → number < end_mark table
+    → (marks : ReadMarks words table (words_from lines number (with_number number base)) bits ((kind, to), left))
+    → (AreNormal table base → normal_words table.kinds (words_from lines number (with_number number base)) ≡ words_from lines number (with_number number base))
+    → now ≡ pushed entities (state_there number (words_there kind to)) → ((words_there kind to ≡ None) → is_some (with_number number base) ≡ true)
+    → number < next → left ≡ field_bits words table.number_bits next ++ behind
+    → ReadNumbers words table lines base (number + 1) next now behind found → ReadNumbers words table lines base number number entities bits found
+behind_number words table lines base number next entities now bits left behind kind to found within marks was_normal is held rises number_text read =
+    let there = words_there kind to in
+    let o = state_there number there in
+    let entry : Entered = record { number = number; words = there } in
+    let named : IsNamed number o = named_there number there in
+    let field = field_bits words table.number_bits next in
+    record {
+      entries = entry ∷ read.entries;
+      added = with_first o read.added;
+      text = marks.text ++ (field ++ read.text);
+      parts = marks.parts
+          ∙ ap (λ (ys : List Bool). marks.text ++ ys) (number_text ∙ ap (λ (ys : List Bool). field ++ ys) read.parts ∙ sym (append_assoc field read.text found.1))
+          ∙ sym (append_assoc marks.text (field ++ read.text) found.1);
+      whole = read.whole ∙ ap (λ (xs : List EntityState). xs ++ read.added) is ∙ pushed-first entities o read.added;
+      first = refl;
+      rise = (omega arith, within, entries_rise-less (end_mark table) next (number + 1) read.entries (omega arith) read.rise);
+      removes = (held, read.removes);
+      spells = (
+        marks.text,
+        read.text,
+        ap (λ (n : ℕ). marks.text ++ (field_bits words table.number_bits n ++ read.text)) (sym read.first),
+        marks.spells,
+        read.spells,
+      );
+      risen = first-rises (end_mark table) number o read.added named within read.risen;
+      states = λ n least.
+          elim (cases_eq n number) [
+            | inl here ↦
+                let found_here = first-found (end_mark table) number o read.added named read.risen
+                ∙ ap (λ (e : Option Entered). state_after (with_number number base) number e) (sym (entry_of-first entry read.entries number refl)) in
+                subst (λ (m : ℕ). with_number m (with_first o read.added) ≡ state_after (with_number m base) m (entry_of m (entry ∷ read.entries))) (sym here) found_here
+            | inr other ↦
+                first-others number n o read.added named other ∙ read.states n (omega (arith, least, other))
+                ∙ ap (λ (e : Option Entered). state_after (with_number n base) n e) (sym (entry_of-others entry read.entries n (λ same. other (sym same))))
+          ];
+      are = first-all (λ (x : EntityState). AreWords 64 x.words) o read.added (are_there number there (λ ws e. subst (AreWords 64) (there_words kind to ws e) marks.are)) read.are;
+      normal = λ normal.
+          first-all (IsNormal table) o read.added (normal_there table number there (λ ws e. subst (λ (ws : List ℕ). normal_words table.kinds ws ≡ ws) (there_words kind to ws e) (marks.normal (was_normal normal)))) (read.normal normal);
+    }
+
+-- the entities from a number on were spelled so
+numbers_were_spelled : ReadWasPut → WordsReadAreSpelled → ZeroIsNormal → (words : List (List Bool)) (table : Layout) (lines : Lines) (base : List EntityState) → IsCode words → IsTable table
+    → AreLines table lines → IsList table base → AreStates base → (left number next : ℕ) (entities : List EntityState) (bits : List Bool) (found : List EntityState × List Bool)
+    → left + number ≡ end_mark table → number ≤ next → next ≤ end_mark table
+    → numbers_after words table lines base left number next entities bits ≡ Ok found → ReadNumbers words table lines base number next entities bits found
+unfolding numbers_after
+numbers_were_spelled put law law' words table lines base code is_table are list states zero number next entities bits found sum low high e =
+    let same : (entities, bits) ≡ found = cc in
+    subst (ReadNumbers words table lines base number next entities bits) {x = (entities, bits)} same (at_end words table lines base number next entities bits list (omega arith) (omega arith))
+numbers_were_spelled put law law' words table lines base code is_table are list states (suc left) number next entities bits found sum low high e =
+    let from = with_number number base in
+    let within : number < end_mark table = omega arith in
+    elim (cases_Bool (eqb number next)) [
+      | inl here ↦
+          let entry = bind_ok (entity_at words table (words_from lines number from) bits)
+          (λ entry. entered entities (is_some from) number entry.0.0 entry.0.1 >>= λ now. (number_at words table (number + 1) entry.1 >>= λ more. numbers_after words table lines base left (number + 1) more.0 now more.1))
+          found (rw here at e) in
+          let now = bind_ok (entered entities (is_some from) number entry.0.0.0 entry.0.0.1)
+          (λ now. number_at words table (number + 1) entry.0.1 >>= λ more. numbers_after words table lines base left (number + 1) more.0 now more.1) found entry.2 in
+          let more = bind_ok (number_at words table (number + 1) entry.0.1) (λ more. numbers_after words table lines base left (number + 1) more.0 now.0 more.1) found now.2 in
+          let fw = from_words table lines base number law' is_table are states in
+          let marks = marks_were_spelled put law words table (words_from lines number from) bits entry.0 code is_table fw.are entry.1 in
+          let was = entered-was entities (is_some from) number entry.0.0.0 entry.0.0.1 now.0 now.1 in
+          let read = number_was_read put words table (number + 1) entry.0.1 more.0 code more.1 in
+          let others = numbers_were_spelled put law law' words table lines base code is_table are list states left (number + 1) more.0.0 now.0 more.0.1 found (omega arith) read.0 read.1 more.2 in
+          let all = behind_number words table lines base number more.0.0 entities now.0 bits entry.0.1 more.0.1 entry.0.0.0 entry.0.0.1 found within marks fw.normal was.0 was.1 (omega (arith, read.0)) read.2 others in
+          subst (λ (n : ℕ). ReadNumbers words table lines base number n entities bits found) (eqb-true number next here) all
+      | inr there ↦
+          let kept = bind_ok (stays entities from) (λ kept. numbers_after words table lines base left (number + 1) next kept bits) found (rw there at e) in
+          let below : number < next = omega (arith, low, eqb-false number next there) in
+          let others = numbers_were_spelled put law law' words table lines base code is_table are list states left (number + 1) next kept.0 bits found (omega arith) (omega arith) high kept.2 in
+          over_number words table lines base number next entities kept.0 bits found states below within (stays-was entities from kept.0 kept.1) others
+    ]
+
+-- the same, folded
+list_after_is : (words : List (List Bool)) (table : Layout) (lines : Lines) (base : List EntityState) (bits : List Bool) (now : List EntityState) (rest : List Bool)
+    → (number_at words table 0 bits >>= λ first. numbers_after words table lines base (end_mark table) 0 first.0 [] first.1) ≡ Ok (now, rest) → list_after words table lines base bits ≡ Ok (now, rest)
+unfolding list_after
+list_after_is words table lines base bits now rest e = e
+
+-- a list that was read was spelled so
+pub list_was_spelled : ReadWasPut → WordsReadAreSpelled → ZeroIsNormal → ListReadIsSpelled
+unfolding list_after
+list_was_spelled put law law' words table lines base now bits rest code is_table are list states e =
+    let first = bind_ok (number_at words table 0 bits) (λ first. numbers_after words table lines base (end_mark table) 0 first.0 [] first.1) (now, rest) e in
+    let number = number_was_read put words table 0 bits first.0 code first.1 in
+    let read = numbers_were_spelled put law law' words table lines base code is_table are list states (end_mark table) 0 first.0.0 [] first.0.1 (now, rest) (omega arith) (omega arith) number.1 first.2 in
+    let field = field_bits words table.number_bits first.0.0 in
+    let is : read.added ≡ now = sym read.whole in (
+      subst AreStates is read.are,
+      λ normal. subst (AreNormal table) is (read.normal normal),
+      field ++ read.text,
+      number.2 ∙ ap (λ (ys : List Bool). field ++ ys) read.parts ∙ sym (append_assoc field read.text rest),
+      record {
+        entries = read.entries;
+        rise = entries_rise-less (end_mark table) first.0.0 0 read.entries (omega arith) read.rise;
+        removes = read.removes;
+        spells = subst (λ (n : ℕ). SpellsEntries words table lines base read.entries (field_bits words table.number_bits n ++ read.text)) read.first
+            (entries_of_behind words table lines base read.entries read.text read.spells);
+        list = list_is_listed words table lines base bits now rest (list_after_is words table lines base bits now rest e);
+        states = λ n. ap (with_number n) (sym is) ∙ read.states n (omega arith);
+      },
+    )

@@ -1,0 +1,136 @@
+-- The text of a list goes on by the entry of its least number.
+use Rattle.std.proofs.Common.{◌≡◌, inl, inr, ℕ, zero, suc, ◌+◌, ◌<◌, ◌≤◌, Bool, List, [], ◌∷◌, ◌++◌, length, get_or, drop, Some, refl, sym, ap, subst, ◌∙◌, append_assoc, arith}
+use Rattle.std.specs.List.{range_with_len, flat_map}
+use Rattle.std.proofs.lemmas.Bool.{cases_eq, cases_lt}
+use Rattle.std.proofs.lemmas.List.{drop_more}
+use Rattle.q3_bits.specs.Words.{field_bits}
+use Rattle.q3_fields.specs.Kinds.{Layout, end_mark}
+use Rattle.q3_entity.specs.declared.state.EntityState.{EntityState}
+use Rattle.q3_entity.specs.Entities.{RiseFrom, with_number}
+use Rattle.q3_entity.specs.Baselines.{Lines}
+use Rattle.q3_entity.specs.Delta.{removal}
+use Rattle.q3_entity.specs.Lists.{piece, list_text}
+use Rattle.q3_entity.specs.Runs.{taken, from_number}
+use Rattle.q3_entity.specs.Merging.{removals, end_text, entry_text, left_behind}
+use Rattle.q3_entity.proofs.Gone.{removals-next, removals-stay, removals-none, from_number-next, from_number-stay, from_number-none}
+use Rattle.q3_entity.proofs.Risen.{rise-lower, with_number-first, with_number-behind, with_number-below, from_number-rises, from_number-limit, is_taken}
+
+-- the pieces of numbers, where they are the same, where there are none, and from the first on that has one
+pub pieces-same : (f g : ℕ → List Bool) (a count : ℕ) → ((n : ℕ) → a ≤ n → f n ≡ g n) → flat_map f (range_with_len a count) ≡ flat_map g (range_with_len a count)
+pieces-same f g a zero same = refl
+pieces-same f g a (suc count) same =
+    ap (λ t. t ++ flat_map f (range_with_len (a + 1) count)) (same a (omega arith))
+    ∙ ap (λ t. g a ++ t) (pieces-same f g (a + 1) count (λ n above. same n (omega (arith, above))))
+
+pub pieces-none : (f : ℕ → List Bool) (a count : ℕ) → ((n : ℕ) → f n ≡ []) → flat_map f (range_with_len a count) ≡ []
+pieces-none f a zero none = refl
+pieces-none f a (suc count) none = ap (λ t. t ++ flat_map f (range_with_len (a + 1) count)) (none a) ∙ pieces-none f (a + 1) count none
+
+pub pieces-first : (f g : ℕ → List Bool) (m a count : ℕ) → a ≤ m → m < a + count → ((n : ℕ) → n < m → f n ≡ []) → ((n : ℕ) → n ≤ m → g n ≡ []) → ((n : ℕ) → m < n → f n ≡ g n)
+    → flat_map f (range_with_len a count) ≡ f m ++ flat_map g (range_with_len a count)
+pieces-first f g m a zero le lt below gone same = absurd (omega (arith, le, lt))
+pieces-first f g m a (suc count) le lt below gone same =
+    elim (cases_eq a m) [
+      | inl here ↦
+          ap (λ n. f n ++ flat_map f (range_with_len (a + 1) count)) here
+          ∙ ap (λ t. f m ++ t) (pieces-same f g (a + 1) count (λ n above. same n (omega (arith, above, here))))
+          ∙ ap (λ t. f m ++ (t ++ flat_map g (range_with_len (a + 1) count))) (sym (gone a (omega (arith, here))))
+      | inr other ↦
+          ap (λ t. t ++ flat_map f (range_with_len (a + 1) count)) (below a (omega (arith, le, other)))
+          ∙ pieces-first f g m (a + 1) count (omega (arith, le, other)) (omega (arith, lt)) below gone same
+          ∙ ap (λ t. f m ++ (t ++ flat_map g (range_with_len (a + 1) count))) (sym (gone a le))
+    ]
+
+-- ---- the text of a list
+
+module _ (words : List (List Bool)) (table : Layout) (lines : Lines) where
+  -- where nothing is left, the end mark is
+  pub list_text-nothing : list_text words table lines [] [] ≡ field_bits words table.number_bits (end_mark table)
+  unfolding list_text
+  list_text-nothing = ap (λ t. t ++ field_bits words table.number_bits (end_mark table)) (pieces-none (λ n. []) 0 (end_mark table) (λ n. refl))
+
+  -- the piece of a number below which there is nothing, and then the text of what is behind it
+  pub list_text-next : (number : ℕ) (base now base' now' : List EntityState) → number < end_mark table
+      → RiseFrom (end_mark table) number base → RiseFrom (end_mark table) number now
+      → RiseFrom (end_mark table) (number + 1) base' → RiseFrom (end_mark table) (number + 1) now'
+      → ((n : ℕ) → number < n → with_number n base ≡ with_number n base') → ((n : ℕ) → number < n → with_number n now ≡ with_number n now')
+      → list_text words table lines base now ≡ piece words table lines number (with_number number base) (with_number number now) ++ list_text words table lines base' now'
+  unfolding list_text
+  list_text-next number base now base' now' within rise rise-now rise' rise-now' same same-now =
+      let end = end_mark table in
+      let f : ℕ → List Bool = λ n. piece words table lines n (with_number n base) (with_number n now) in
+      let g : ℕ → List Bool = λ n. piece words table lines n (with_number n base') (with_number n now') in
+      let first = pieces-first f g number 0 end (omega arith) (omega (arith, within))
+      (λ n below. rw (with_number-below end number n base rise below, with_number-below end number n now rise-now below) refl)
+      (λ n le. rw (with_number-below end (number + 1) n base' rise' (omega (arith, le)), with_number-below end (number + 1) n now' rise-now' (omega (arith, le))) refl)
+      (λ n above. rw (same n above, same-now n above) refl) in
+      ap (λ t. t ++ field_bits words table.number_bits end) first
+      ∙ append_assoc (f number) (flat_map g (range_with_len 0 end)) (field_bits words table.number_bits end)
+
+  -- what is gone below a number is in front
+  pub list_text-gone : (number least : ℕ) (base now : List EntityState) → RiseFrom (end_mark table) least base → RiseFrom (end_mark table) number now
+      → list_text words table lines base now ≡ removals words table number base ++ list_text words table lines (from_number number base) now
+  list_text-gone number least [] now rise rise-now = rw (removals-none words table number, from_number-none number) refl
+  list_text-gone number least (entity ∷ others) now rise rise-now =
+      elim (cases_lt entity.number number) [
+        | inl below ↦
+            let end = end_mark table in
+            let n = entity.number in
+            let next = list_text-next n (entity ∷ others) now others now rise.1 (omega arith, rise.1, rise.2) (rise-lower end number n now (omega (arith, below)) rise-now) rise.2
+            (rise-lower end number (n + 1) now (omega (arith, below)) rise-now) (λ m above. with_number-behind m entity others (omega (arith, above))) (λ m above. refl) in
+            rw (removals-next words table number entity others below, from_number-next number entity others below)
+            (next
+            ∙ ap (λ o. piece words table lines n o (with_number n now) ++ list_text words table lines others now) (with_number-first entity others)
+            ∙ ap (λ o. piece words table lines n (Some entity) o ++ list_text words table lines others now) (with_number-below end number n now rise-now below)
+            ∙ ap (λ t. removal words table n ++ t) (list_text-gone number (n + 1) others now rise.2 rise-now)
+            ∙ sym (append_assoc (removal words table n) (removals words table number others) (list_text words table lines (from_number number others) now)))
+        | inr above ↦ rw (removals-stay words table number entity others above, from_number-stay number entity others above) refl
+      ]
+
+  -- an entity that there is now is behind what is gone below it
+  pub list_text-entry : (least : ℕ) (base : List EntityState) (to : EntityState) (now : List EntityState) → RiseFrom (end_mark table) least base → RiseFrom (end_mark table) 0 (to ∷ now)
+      → list_text words table lines base (to ∷ now) ≡ entry_text words table lines base to ++ list_text words table lines (left_behind to base) now
+  list_text-entry least base to now rise rise-now =
+      let end = end_mark table in
+      let n = to.number in
+      let left = from_number n base in
+      let risen = from_number-rises end least n base rise in
+      let h = is_taken end n left risen in
+      let next = list_text-next n left (to ∷ now) (taken n left).1 now rise-now.1 risen (omega arith, rise-now.1, rise-now.2) h.rise rise-now.2
+      h.behind (λ m above. with_number-behind m to now (omega (arith, above))) in
+      list_text-gone n least base (to ∷ now) rise (omega arith, rise-now.1, rise-now.2)
+      ∙ ap (λ t. removals words table n base ++ t)
+      (next
+      ∙ ap (λ o. piece words table lines n o (with_number n (to ∷ now)) ++ list_text words table lines (taken n left).1 now) (sym h.found)
+      ∙ ap (λ o. piece words table lines n (taken n left).0 o ++ list_text words table lines (taken n left).1 now) (with_number-first to now))
+      ∙ sym (append_assoc (removals words table n base) (piece words table lines n (taken n left).0 (Some to)) (list_text words table lines (taken n left).1 now))
+
+  -- where nothing is there now, all that is left is gone
+  pub list_text-ends : (base : List EntityState) → RiseFrom (end_mark table) 0 base
+      → list_text words table lines base [] ≡ end_text words table base
+  list_text-ends base rise =
+      list_text-gone (end_mark table) 0 base [] rise tt
+      ∙ ap (λ left. removals words table (end_mark table) base ++ list_text words table lines left []) (from_number-limit (end_mark table) 0 base rise)
+      ∙ ap (λ t. removals words table (end_mark table) base ++ t) list_text-nothing
+
+  -- one entity more of those that there are now, written by the same words: the text goes on by its entry, and what is left
+  -- rises as before
+  pub record IsTurn (same : List (List Bool)) (base now : List EntityState) (k : ℕ) (to : EntityState) : Type 0 where
+    pub text : list_text words table lines base (drop k now) ≡ entry_text same table lines base to ++ list_text words table lines (left_behind to base) (drop (k + 1) now)
+    pub rise : RiseFrom (end_mark table) 0 (left_behind to base)
+    pub rise-now : RiseFrom (end_mark table) 0 (drop (k + 1) now)
+
+  pub is_turn : (same : List (List Bool)) (base now : List EntityState) (k : ℕ) (d : EntityState) → same ≡ words → k < length now
+      → RiseFrom (end_mark table) 0 base → RiseFrom (end_mark table) 0 (drop k now) → IsTurn same base now k (get_or now k d)
+  is_turn same base now k d is more rise rise-now =
+      let end = end_mark table in
+      let to = get_or now k d in
+      let next = drop_more now k d more in
+      let risen : RiseFrom end 0 (to ∷ drop (k + 1) now) = subst (RiseFrom end 0) next rise-now in
+      let left = from_number to.number base in
+      record {
+        text = ap (list_text words table lines base) next ∙ list_text-entry 0 base to (drop (k + 1) now) rise risen
+            ∙ ap (λ ws. entry_text ws table lines base to ++ list_text words table lines (left_behind to base) (drop (k + 1) now)) (sym is);
+        rise = rise-lower end (to.number + 1) 0 (taken to.number left).1 (omega arith) (is_taken end to.number left (from_number-rises end 0 to.number base rise)).rise;
+        rise-now = rise-lower end (to.number + 1) 0 (drop (k + 1) now) (omega arith) risen.2;
+      }

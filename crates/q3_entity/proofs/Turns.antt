@@ -1,0 +1,293 @@
+-- The entities after a list, turn by turn: up to the next entry the base's entities stay, and then the entry is read.
+use Rattle.std.proofs.Common.{◌≡◌, ◌≢◌, ℕ, zero, suc, ◌+◌, ◌-◌, ◌<◌, ◌≤◌, Bool, List, [], ◌∷◌, Option, Result, Ok, Err, refl, sym, ap, subst, ◌∙◌, arith, ltb, cond, inl, inr}
+use Rattle.std.proofs.lemmas.Bool.{cases_eq, eq-eqb, ne_eqb, cases_Bool, ltb-false}
+use Rattle.std.specs.Option.{is_some}
+use Rattle.q3_bits.specs.ResultBind.{◌>>=◌, bind_ok}
+use Rattle.q3_fields.specs.Kinds.{Layout, end_mark}
+use Rattle.q3_entity.specs.declared.state.EntityState.{EntityState}
+use Rattle.q3_entity.specs.declared.error.EntityError.{EntityError}
+use Rattle.q3_entity.specs.declared.error.EntityError.TheVariants.{Order}
+use Rattle.q3_entity.specs.Entities.{RiseFrom, with_number}
+use Rattle.q3_entity.specs.Baselines.{Lines}
+use Rattle.q3_entity.specs.Delta.{bits_read, entity_at}
+use Rattle.q3_entity.specs.Lists.{number_at, one_more, stays, entered, words_from, numbers_after, list_after}
+use Rattle.q3_entity.specs.Runs.{taken}
+use Rattle.q3_entity.specs.Walking.{kept_below, Reached, next_at, entry_at, turn_at}
+use Rattle.q3_entity.proofs.Binds.{bind_same, bind_assoc}
+use Rattle.q3_entity.proofs.Numbers.{with_number-below, with_number-first, with_number-others, kept_below-none, kept_below-more, kept_below-rises, taken-found, taken-rises}
+use Rattle.q3_bits.specs.Words.{field_at}
+use Rattle.q3_bits.specs.Streams.{holding, with_rest}
+use Rattle.q3_entity.specs.declared.reading.Entry.TheVariants.{Changed, Same}
+
+abbrev pub Answer : Type 0
+Answer = Result (List EntityState × List Bool) EntityError
+
+-- a number that is read is one that may come
+pub number_at-least : (words : List (List Bool)) (table : Layout) (least : ℕ) (bits : List Bool) (found : ℕ × List Bool) → number_at words table least bits ≡ Ok found → least ≤ found.0
+unfolding number_at
+number_at-least words table least bits found e =
+    let number = bind_ok (bits_read (field_at words table.number_bits bits)) (λ number. cond (ltb number.0 least) (Err (Order number.0)) (Ok number)) found e in
+    elim (cases_Bool (ltb number.0.0 least)) [
+      | inl low ↦ absurd (let wrong = rw low at number.2 in cc)
+      | inr high ↦
+          let same = rw high at number.2 in
+          let is : number.0 ≡ found = cc in
+          subst (λ (x : ℕ × List Bool). least ≤ x.0) is (ltb-false number.0.0 least high)
+    ]
+
+-- an entry, the number behind it, and what is read from there on
+abbrev behind_entry : List (List Bool) → Layout → Lines → ℕ → Option EntityState → List EntityState → List Bool → (ℕ → List EntityState → List Bool → Answer) → Answer
+behind_entry words table lines number from entities bits go =
+    entry_at words table (words_from lines number from) (is_some from) number entities bits
+    >>= λ now. (number_at words table (number + 1) now.1 >>= λ more. go more.0 now.0 more.1)
+
+behind_entry-same : (words : List (List Bool)) (table : Layout) (lines : Lines) (number : ℕ) (from : Option EntityState) (entities : List EntityState) (bits : List Bool)
+    (go go' : ℕ → List EntityState → List Bool → Answer) → ((next : ℕ) (now : List EntityState) (left : List Bool) → number + 1 ≤ next → go next now left ≡ go' next now left)
+    → behind_entry words table lines number from entities bits go ≡ behind_entry words table lines number from entities bits go'
+behind_entry-same words table lines number from entities bits go go' same =
+    bind_same (entry_at words table (words_from lines number from) (is_some from) number entities bits)
+    (λ now. number_at words table (number + 1) now.1 >>= λ more. go more.0 now.0 more.1)
+    (λ now. number_at words table (number + 1) now.1 >>= λ more. go' more.0 now.0 more.1)
+    (λ now is.
+    bind_same (number_at words table (number + 1) now.1) (λ more. go more.0 now.0 more.1) (λ more. go' more.0 now.0 more.1)
+    (λ more is'. same more.0 now.0 more.1 (number_at-least words table (number + 1) now.1 more is')))
+
+-- at the number of the next entry
+numbers_after-here : (words : List (List Bool)) (table : Layout) (lines : Lines) (base : List EntityState) (left number : ℕ) (entities : List EntityState) (bits : List Bool)
+    → numbers_after words table lines base (suc left) number number entities bits
+    ≡ behind_entry words table lines number (with_number number base) entities bits (λ next now left'. numbers_after words table lines base left (number + 1) next now left')
+unfolding numbers_after entry_at
+numbers_after-here words table lines base left number entities bits =
+    let from = with_number number base in
+    let others = λ (now : List EntityState × List Bool). number_at words table (number + 1) now.1 >>= λ more. numbers_after words table lines base left (number + 1) more.0 now.0 more.1 in
+    let read = entity_at words table (words_from lines number from) bits in
+    rw (eq-eqb number number refl)
+    (sym (bind_assoc read (λ entry. entered entities (is_some from) number entry.0.0 entry.0.1 >>= λ now. Ok (now, entry.1)) others
+    ∙ bind_same read (λ entry. (entered entities (is_some from) number entry.0.0 entry.0.1 >>= λ now. Ok (now, entry.1)) >>= others)
+    (λ entry. entered entities (is_some from) number entry.0.0 entry.0.1 >>= λ now. others (now, entry.1))
+    (λ entry is. bind_assoc (entered entities (is_some from) number entry.0.0 entry.0.1) (λ now. Ok (now, entry.1)) others)))
+
+-- at a number that has no entry
+numbers_after-there : (words : List (List Bool)) (table : Layout) (lines : Lines) (base : List EntityState) (left number next : ℕ) (entities : List EntityState) (bits : List Bool) → number ≢ next
+    → numbers_after words table lines base (suc left) number next entities bits
+    ≡ (stays entities (with_number number base) >>= λ kept. numbers_after words table lines base left (number + 1) next kept bits)
+unfolding numbers_after
+numbers_after-there words table lines base left number next entities bits other = rw (ne_eqb number next other) refl
+
+-- an entity below the number says nothing more
+forget : (words : List (List Bool)) (table : Layout) (lines : Lines) (x : EntityState) (base : List EntityState) (left number next : ℕ) (entities : List EntityState) (bits : List Bool)
+    → x.number < number
+    → numbers_after words table lines (x ∷ base) left number next entities bits ≡ numbers_after words table lines base left number next entities bits
+unfolding numbers_after
+forget words table lines x base zero number next entities bits below = refl
+forget words table lines x base (suc left) number next entities bits below =
+    let gone = with_number-others x base number (λ same. omega arith) in
+    elim (cases_eq number next) [
+      | inl same ↦
+          rw (← same)
+          (numbers_after-here words table lines (x ∷ base) left number entities bits
+          ∙ ap (λ (from : Option EntityState). behind_entry words table lines number from entities bits (λ next now left'. numbers_after words table lines (x ∷ base) left (number + 1) next now left')) gone
+          ∙ behind_entry-same words table lines number (with_number number base) entities bits _ _
+          (λ next now left' more. forget words table lines x base left (number + 1) next now left' (omega arith))
+          ∙ sym (numbers_after-here words table lines base left number entities bits))
+      | inr other ↦
+          numbers_after-there words table lines (x ∷ base) left number next entities bits other
+          ∙ ap (λ (from : Option EntityState). stays entities from >>= λ kept. numbers_after words table lines (x ∷ base) left (number + 1) next kept bits) gone
+          ∙ bind_same (stays entities (with_number number base)) (λ kept. numbers_after words table lines (x ∷ base) left (number + 1) next kept bits)
+          (λ kept. numbers_after words table lines base left (number + 1) next kept bits)
+          (λ kept is. forget words table lines x base left (number + 1) next kept bits (omega arith))
+          ∙ sym (numbers_after-there words table lines base left number next entities bits other)
+    ]
+
+-- from a number on that the next entry has
+abbrev pub from_next : List (List Bool) → Layout → Lines → ℕ → List EntityState → List EntityState → List Bool → Answer
+from_next words table lines next base entities bits = numbers_after words table lines base (end_mark table - next) next next entities bits
+
+-- at the next entry's number no entity of the base is passed over
+jump-here : (words : List (List Bool)) (table : Layout) (lines : Lines) (base : List EntityState) (left number next : ℕ) (entities : List EntityState) (bits : List Bool)
+    → RiseFrom (end_mark table) number base → left + number ≡ end_mark table → number ≡ next
+    → numbers_after words table lines base left number next entities bits
+    ≡ (kept_below next entities base >>= λ kept. from_next words table lines next kept.1 kept.0 bits)
+jump-here words table lines base left number next entities bits rise sum same =
+    let all : end_mark table - number ≡ left = omega arith in
+    rw (← same, kept_below-none (end_mark table) number entities base rise, all) refl
+
+-- up to the next entry the base's entities stay
+jump : (words : List (List Bool)) (table : Layout) (lines : Lines) (base : List EntityState) (left number next : ℕ) (entities : List EntityState) (bits : List Bool)
+    → RiseFrom (end_mark table) number base → left + number ≡ end_mark table → number ≤ next
+    → numbers_after words table lines base left number next entities bits
+    ≡ (kept_below next entities base >>= λ kept. from_next words table lines next kept.1 kept.0 bits)
+unfolding numbers_after kept_below
+jump words table lines [] zero number next entities bits rise sum below =
+    let none : end_mark table - next ≡ 0 = omega arith in
+    rw none refl
+jump words table lines (x ∷ xs) zero number next entities bits rise sum below = absurd (omega (arith, rise.0, rise.1))
+jump words table lines [] (suc left) number next entities bits rise sum below =
+    elim (cases_eq number next) [
+      | inl same ↦ jump-here words table lines [] (suc left) number next entities bits rise sum same
+      | inr other ↦
+          numbers_after-there words table lines [] left number next entities bits other
+          ∙ jump words table lines [] left (number + 1) next entities bits tt (omega arith) (omega arith)
+    ]
+jump words table lines (x ∷ xs) (suc left) number next entities bits rise sum below =
+    let base = x ∷ xs in
+    elim (cases_eq number next) [
+      | inl same ↦ jump-here words table lines base (suc left) number next entities bits rise sum same
+      | inr other ↦
+          elim (cases_eq x.number number) [
+            | inl here ↦
+                let risen : RiseFrom (end_mark table) (number + 1) xs = rw here at rise.2 in
+                numbers_after-there words table lines base left number next entities bits other
+                ∙ ap (λ (from : Option EntityState). stays entities from >>= λ kept. numbers_after words table lines base left (number + 1) next kept bits) (with_number-first x xs number here)
+                ∙ bind_same (one_more entities x) (λ kept. numbers_after words table lines base left (number + 1) next kept bits)
+                (λ kept. kept_below next kept xs >>= λ kept'. from_next words table lines next kept'.1 kept'.0 bits)
+                (λ kept is.
+                forget words table lines x xs left (number + 1) next kept bits (omega arith)
+                ∙ jump words table lines xs left (number + 1) next kept bits risen (omega arith) (omega arith))
+                ∙ sym (bind_assoc (one_more entities x) (λ more. kept_below next more xs) (λ kept'. from_next words table lines next kept'.1 kept'.0 bits))
+                ∙ ap (λ (r : Result (List EntityState × List EntityState) EntityError). r >>= λ kept'. from_next words table lines next kept'.1 kept'.0 bits)
+                (sym (kept_below-more next entities x xs (omega arith)))
+            | inr later ↦
+                let risen : RiseFrom (end_mark table) (number + 1) base = (omega (arith, rise.0, later), rise.1, rise.2) in
+                numbers_after-there words table lines base left number next entities bits other
+                ∙ ap (λ (from : Option EntityState). stays entities from >>= λ kept. numbers_after words table lines base left (number + 1) next kept bits)
+                (with_number-below (end_mark table) (number + 1) number base risen (omega arith))
+                ∙ jump words table lines base left (number + 1) next entities bits risen (omega arith) (omega arith)
+          ]
+    ]
+
+-- from where a list stands
+abbrev pub from_reached : List (List Bool) → Layout → Lines → Reached × List Bool → Answer
+from_reached words table lines at = from_next words table lines at.0.next at.0.base at.0.entities at.1
+
+-- the number behind an entry, and what is read from there on
+next_goes_on : (words : List (List Bool)) (table : Layout) (lines : Lines) (least : ℕ) (base entities : List EntityState) (bits : List Bool)
+    → (next_at words table least base entities bits >>= from_reached words table lines)
+    ≡ (number_at words table least bits >>= λ number. (kept_below number.0 entities base >>= λ kept. from_next words table lines number.0 kept.1 kept.0 number.1))
+unfolding next_at
+next_goes_on words table lines least base entities bits =
+    let number = number_at words table least bits in
+    let kept = λ (number : ℕ × List Bool). kept_below number.0 entities base in
+    let made = λ (number : ℕ × List Bool) (kept : List EntityState × List EntityState). let at : Reached = record { next = number.0; base = kept.1; entities = kept.0 } in Ok (at, number.1) in
+    bind_assoc number (λ number. kept number >>= made number) (from_reached words table lines)
+    ∙ bind_same number (λ number. (kept number >>= made number) >>= from_reached words table lines)
+    (λ number. kept number >>= λ kept. from_next words table lines number.0 kept.1 kept.0 number.1)
+    (λ number is. bind_assoc (kept number) (made number) (from_reached words table lines))
+
+-- a whole list is read from its first number on
+pub list_begins : (words : List (List Bool)) (table : Layout) (lines : Lines) (base : List EntityState) (bits : List Bool) → RiseFrom (end_mark table) 0 base
+    → list_after words table lines base bits ≡ (next_at words table 0 base [] bits >>= from_reached words table lines)
+unfolding list_after
+list_begins words table lines base bits rise =
+    bind_same (number_at words table 0 bits) (λ first. numbers_after words table lines base (end_mark table) 0 first.0 [] first.1)
+    (λ first. kept_below first.0 [] base >>= λ kept. from_next words table lines first.0 kept.1 kept.0 first.1)
+    (λ first is. jump words table lines base (end_mark table) 0 first.0 [] first.1 rise (omega arith) (omega arith))
+    ∙ sym (next_goes_on words table lines 0 base [] bits)
+
+-- those behind a number say all that comes
+behind_taken : (words : List (List Bool)) (table : Layout) (lines : Lines) (base : List EntityState) (left number next : ℕ) (entities : List EntityState) (bits : List Bool)
+    → numbers_after words table lines base left (number + 1) next entities bits ≡ numbers_after words table lines (taken number base).1 left (number + 1) next entities bits
+behind_taken words table lines [] left number next entities bits = refl
+behind_taken words table lines (x ∷ xs) left number next entities bits =
+    elim (cases_eq x.number number) [
+      | inl same ↦ rw (eq-eqb x.number number same) (forget words table lines x xs left (number + 1) next entities bits (omega arith))
+      | inr other ↦ rw (ne_eqb x.number number other) refl
+    ]
+
+-- a turn: the next entry, and the number behind it
+pub list_turns : (words : List (List Bool)) (table : Layout) (lines : Lines) (at : Reached) (bits : List Bool) → at.next < end_mark table → RiseFrom (end_mark table) at.next at.base
+    → from_next words table lines at.next at.base at.entities bits ≡ (turn_at words table lines at bits >>= from_reached words table lines)
+unfolding turn_at
+list_turns words table lines at bits below rise =
+    let found = taken at.next at.base in
+    let rest = end_mark table - (at.next + 1) in
+    let all : end_mark table - at.next ≡ suc rest = omega arith in
+    let read = entry_at words table (words_from lines at.next found.0) (is_some found.0) at.next at.entities bits in
+    let behind = λ (now : List EntityState × List Bool). next_at words table (at.next + 1) found.1 now.0 now.1 in
+    ap (λ (left : ℕ). numbers_after words table lines at.base left at.next at.next at.entities bits) all
+    ∙ numbers_after-here words table lines at.base rest at.next at.entities bits
+    ∙ ap (λ (from : Option EntityState). behind_entry words table lines at.next from at.entities bits (λ next now left. numbers_after words table lines at.base rest (at.next + 1) next now left))
+    (sym (taken-found (end_mark table) at.next at.base rise))
+    ∙ behind_entry-same words table lines at.next found.0 at.entities bits
+    (λ next now left. numbers_after words table lines at.base rest (at.next + 1) next now left)
+    (λ next now left. kept_below next now found.1 >>= λ kept. from_next words table lines next kept.1 kept.0 left)
+    (λ next now left more.
+    behind_taken words table lines at.base rest at.next next now left
+    ∙ jump words table lines found.1 rest (at.next + 1) next now left (taken-rises (end_mark table) at.next at.base rise) (omega arith) more)
+    ∙ bind_same read (λ now. number_at words table (at.next + 1) now.1 >>= λ more. (kept_below more.0 now.0 found.1 >>= λ kept. from_next words table lines more.0 kept.1 kept.0 more.1))
+    (λ now. behind now >>= from_reached words table lines)
+    (λ now is. sym (next_goes_on words table lines (at.next + 1) found.1 now.0 now.1))
+    ∙ sym (bind_assoc read behind (from_reached words table lines))
+
+-- what is left of the base rises from the next number on
+pub next_rises : (words : List (List Bool)) (table : Layout) (least : ℕ) (base entities : List EntityState) (bits : List Bool) (at : Reached × List Bool) (limit from : ℕ) → RiseFrom limit from base
+    → next_at words table least base entities bits ≡ Ok at → RiseFrom limit at.0.next at.0.base
+unfolding next_at
+next_rises words table least base entities bits at limit from rise e =
+    let number = bind_ok (number_at words table least bits) (λ number. kept_below number.0 entities base >>= λ kept. let at : Reached = record { next = number.0; base = kept.1; entities = kept.0 } in Ok (at, number.1)) at e in
+    let kept = bind_ok (kept_below number.0.0 entities base) (λ kept. let at : Reached = record { next = number.0.0; base = kept.1; entities = kept.0 } in Ok (at, number.0.1)) at number.2 in
+    let made : Reached = record { next = number.0.0; base = kept.0.1; entities = kept.0.0 } in
+    let is : (made, number.0.1) ≡ at = cc in
+    subst (λ (a : Reached × List Bool). RiseFrom limit a.0.next a.0.base) {x = (made, number.0.1)} is (kept_below-rises limit from number.0.0 entities base kept.0 rise kept.1)
+
+pub turn_rises : (words : List (List Bool)) (table : Layout) (lines : Lines) (at : Reached) (bits : List Bool) (now : Reached × List Bool) (limit : ℕ) → RiseFrom limit at.next at.base
+    → turn_at words table lines at bits ≡ Ok now → RiseFrom limit now.0.next now.0.base
+unfolding turn_at
+turn_rises words table lines at bits now limit rise e =
+    let found = taken at.next at.base in
+    let read = bind_ok (entry_at words table (words_from lines at.next found.0) (is_some found.0) at.next at.entities bits) (λ entry. next_at words table (at.next + 1) found.1 entry.0 entry.1) now e in
+    next_rises words table (at.next + 1) found.1 read.0.0 read.0.1 now limit (at.next + 1) (taken-rises limit at.next at.base rise) read.2
+
+-- what the code reads, as a whole list is read: its beginning
+pub list_begun : (words : List (List Bool)) (table : Layout) (lines : Lines) (base none : List EntityState) (bits : List Bool) (at : Reached) (left : List Bool) → RiseFrom (end_mark table) 0 base → none ≡ []
+    → Ok (at, left) ≡ next_at words table 0 base none bits → from_reached words table lines (at, left) ≡ list_after words table lines base bits
+list_begun words table lines base none bits at left rise empty e = rw (list_begins words table lines base bits rise, ← empty, ← e) refl
+
+pub list_refused : (words : List (List Bool)) (table : Layout) (lines : Lines) (base none : List EntityState) (bits : List Bool) (e : EntityError) → RiseFrom (end_mark table) 0 base → none ≡ []
+    → Err e ≡ next_at words table 0 base none bits → Err e ≡ list_after words table lines base bits
+list_refused words table lines base none bits e rise empty is = rw (list_begins words table lines base bits rise, ← empty, ← is) refl
+
+-- a turn
+pub list_goes_on : (words same : List (List Bool)) (table : Layout) (lines : Lines) (at : Reached) (bits : List Bool) (now : Reached) (left : List Bool) → same ≡ words
+    → at.next < end_mark table → RiseFrom (end_mark table) at.next at.base → Ok (now, left) ≡ turn_at same table lines at bits
+    → from_reached words table lines (now, left) ≡ from_reached words table lines (at, bits)
+list_goes_on words same table lines at bits now left is below rise e = rw (list_turns words table lines at bits below rise, ← is, ← e) refl
+
+pub list_stops : (words same : List (List Bool)) (table : Layout) (lines : Lines) (at : Reached) (bits : List Bool) (e : EntityError) → same ≡ words
+    → at.next < end_mark table → RiseFrom (end_mark table) at.next at.base → Err e ≡ turn_at same table lines at bits
+    → Err e ≡ from_reached words table lines (at, bits)
+list_stops words same table lines at bits e is below rise stop = rw (list_turns words table lines at bits below rise, ← is, ← stop) refl
+
+-- and its end
+pub list_ends : (words : List (List Bool)) (table : Layout) (lines : Lines) (at : Reached) (bits : List Bool) → end_mark table ≤ at.next
+    → from_reached words table lines (at, bits) ≡ Ok (at.entities, bits)
+unfolding numbers_after
+list_ends words table lines at bits past =
+    let none : end_mark table - at.next ≡ 0 = omega arith in
+    rw none refl
+
+-- an entity that was read stands behind the others
+with_added : (now : List EntityState) (left : List Bool) (result : Result (Unit {0}) EntityError) (all : Result (List EntityState) EntityError) → holding now result ≡ all
+    → with_rest left (holding now result) ≡ (all >>= λ now. Ok (now, left))
+with_added now left (Ok done) all e = rw (← e) refl
+with_added now left (Err d) all e = rw (← e) refl
+
+-- the state of a number and words
+named : (state : EntityState) (number : ℕ) → state.number ≡ number → (let made : EntityState = record { number = number; words = state.words } in made) ≡ state
+named state number same = rw (← same) refl
+
+pub entry_changed : (words : List (List Bool)) (table : Layout) (from : List ℕ) (in_base : Bool) (number : ℕ) (entities : List EntityState) (bits left : List Bool) (state : EntityState)
+    (now : List EntityState) (result : Result (Unit {0}) EntityError) → state.number ≡ number → Ok ((Changed, state.words), left) ≡ entity_at words table from bits
+    → holding now result ≡ one_more entities state → with_rest left (holding now result) ≡ entry_at words table from in_base number entities bits
+unfolding entry_at
+entry_changed words table from in_base number entities bits left state now result same e added =
+    let all = added ∙ ap (one_more entities) (sym (named state number same)) in
+    rw (← e) (with_added now left result _ all)
+
+pub entry_same : (words : List (List Bool)) (table : Layout) (from : List ℕ) (in_base : Bool) (number : ℕ) (entities : List EntityState) (bits left : List Bool) (state : EntityState)
+    (now : List EntityState) (result : Result (Unit {0}) EntityError) → state.number ≡ number → Ok ((Same, state.words), left) ≡ entity_at words table from bits
+    → holding now result ≡ one_more entities state → with_rest left (holding now result) ≡ entry_at words table from in_base number entities bits
+unfolding entry_at
+entry_same words table from in_base number entities bits left state now result same e added =
+    let all = added ∙ ap (one_more entities) (sym (named state number same)) in
+    rw (← e) (with_added now left result _ all)

@@ -1,0 +1,68 @@
+-- Laws of entity deltas and lists.
+use Rattle.std.specs.Prelude.{◌≡◌, ◌≢◌, ℕ, ◌<◌, Bool, List, [], ◌++◌, map, Ok}
+use Rattle.q3_bits.specs.Words.{IsCode, field_at}
+use Rattle.q3_fields.specs.Kinds.{Layout, IsTable, end_mark}
+use Rattle.q3_fields.specs.States.{AreWords}
+use Rattle.q3_entity.specs.declared.state.EntityState.{EntityState}
+use Rattle.q3_entity.specs.declared.reading.Entry.{Entry}
+use Rattle.q3_entity.specs.declared.reading.Entry.TheVariants.{Removed}
+use Rattle.q3_entity.specs.Entities.{zero_entity, normal_entity, IsNormal, IsList, AreStates, AreNormal}
+use Rattle.q3_entity.specs.Baselines.{Lines, AreLines}
+use Rattle.q3_entity.specs.Delta.{entity_delta, removal, entity_at}
+use Rattle.q3_entity.specs.Lists.{list_text, list_after, list_skipped}
+use Rattle.q3_entity.specs.Spelling.{SpellsList}
+
+-- the normal form of a state is a state, in normal form; so is the zero state
+abbrev pub NormalIsNormal : Type 0
+NormalIsNormal = (table : Layout) (entity : EntityState) → IsTable table → AreWords 64 entity.words
+    → AreWords 64 (normal_entity table entity).words × IsNormal table (normal_entity table entity)
+
+abbrev pub ZeroIsNormal : Type 0
+ZeroIsNormal = (table : Layout) (number : ℕ) → IsTable table → AreWords 64 (zero_entity number).words × IsNormal table (zero_entity number)
+
+-- what is written of an entity against a state in normal form is read back: its number, and behind it the words in
+-- normal form
+abbrev pub EntityWrittenIsRead : Type 0
+EntityWrittenIsRead = (words : List (List Bool)) (table : Layout) (from to : EntityState) (force : Bool) (rest : List Bool) → IsCode words → IsTable table
+    → AreWords 64 from.words → IsNormal table from → AreWords 64 to.words → to.number < end_mark table
+    → entity_delta words table from to force ≢ []
+    → (left : List Bool) × (entry : Entry) × (field_at words table.number_bits (entity_delta words table from to force ++ rest) ≡ Ok (to.number, left))
+    × (entity_at words table from.words left ≡ Ok ((entry, (normal_entity table to).words), rest))
+
+-- and so is a removal
+abbrev pub RemovalIsRead : Type 0
+RemovalIsRead = (words : List (List Bool)) (table : Layout) (number : ℕ) (from : List ℕ) (rest : List Bool) → IsCode words → IsTable table
+    → number < end_mark table
+    → (left : List Bool) × (field_at words table.number_bits (removal words table number ++ rest) ≡ Ok (number, left))
+    × (entity_at words table from left ≡ Ok ((Removed, from), rest))
+
+-- what is written of a list against a base and baselines in normal form spells the entities in normal form
+abbrev pub ListIsSpelled : Type 0
+ListIsSpelled = (words : List (List Bool)) (table : Layout) (lines : Lines) (base now : List EntityState) → IsCode words → IsTable table
+    → AreLines table lines → IsList table base → AreStates base → AreNormal table base → IsList table now → AreStates now
+    → SpellsList words table lines base (map (normal_entity table) now) (list_text words table lines base now)
+
+-- what is read was spelled so, and is in normal form where the base and the baselines are
+abbrev pub ListReadIsSpelled : Type 0
+ListReadIsSpelled = (words : List (List Bool)) (table : Layout) (lines : Lines) (base now : List EntityState) (bits rest : List Bool) → IsCode words
+    → IsTable table → AreLines table lines → IsList table base → AreStates base → list_after words table lines base bits ≡ Ok (now, rest)
+    → AreStates now × (AreNormal table base → AreNormal table now)
+    × (text : List Bool) × (bits ≡ text ++ rest) × SpellsList words table lines base now text
+
+-- what is spelled so is read, with whatever follows it: so where a reader refuses, no front of the bits is spelled so
+abbrev pub ListSpelledIsRead : Type 0
+ListSpelledIsRead = (words : List (List Bool)) (table : Layout) (lines : Lines) (base now : List EntityState) (text rest : List Bool) → IsCode words
+    → IsTable table → AreLines table lines → IsList table base → AreStates base → SpellsList words table lines base now text
+    → list_after words table lines base (text ++ rest) ≡ Ok (now, rest)
+
+-- what is written against a base and baselines in normal form is read back as the entities in normal form, with whatever
+-- follows it
+abbrev pub ListWrittenIsRead : Type 0
+ListWrittenIsRead = (words : List (List Bool)) (table : Layout) (lines : Lines) (base now : List EntityState) (rest : List Bool) → IsCode words
+    → IsTable table → AreLines table lines → IsList table base → AreStates base → AreNormal table base → IsList table now → AreStates now
+    → list_after words table lines base (list_text words table lines base now ++ rest) ≡ Ok (map (normal_entity table) now, rest)
+
+-- what is read as a list is skipped to the same place
+abbrev pub ReadIsSkipped : Type 0
+ReadIsSkipped = (words : List (List Bool)) (table : Layout) (lines : Lines) (base now : List EntityState) (bits rest : List Bool) → IsTable table
+    → AreLines table lines → AreStates base → list_after words table lines base bits ≡ Ok (now, rest) → list_skipped words table bits ≡ Ok (tt, rest)

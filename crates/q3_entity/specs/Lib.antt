@@ -1,0 +1,11 @@
+pub mod Entities
+pub mod Baselines
+pub mod KeptLines
+pub mod Delta
+pub mod Lists
+pub mod Runs
+pub mod Merging
+pub mod Walking
+pub mod Spelling
+pub mod Laws
+pub mod Report

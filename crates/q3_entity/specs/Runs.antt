@@ -1,0 +1,13 @@
+-- What is left of a run: a writer and a reader of a list go along it by number.
+use Rattle.std.specs.Prelude.{◌==◌, ℕ, nat_lt, if◌then◌else◌, List, [], ◌∷◌, Option, Some, None}
+use Rattle.q3_entity.specs.declared.state.EntityState.{EntityState}
+
+-- the entity of a number, where it is the first, and those behind it
+abbrev pub taken : ℕ → List EntityState → Option EntityState × List EntityState
+taken number [] = (None, [])
+taken number (entity ∷ base) = if entity.number == number then (Some entity, base) else (None, entity ∷ base)
+
+-- the entities from a number on
+unfoldable pub from_number : ℕ → List EntityState → List EntityState
+from_number number [] = []
+from_number number (entity ∷ base) = if nat_lt entity.number number then from_number number base else entity ∷ base

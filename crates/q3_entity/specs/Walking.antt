@@ -1,0 +1,62 @@
+-- How a reader of a list walks along the base: entities are passed in order, each of them once.
+use Rattle.std.specs.Prelude.{ℕ, ◌+◌, nat_lt, Bool, if◌then◌else◌, List, [], ◌∷◌, Result, Ok, Err}
+use Rattle.std.specs.Option.{is_some}
+use Rattle.q3_bits.specs.ResultBind.{◌>>=◌}
+use Rattle.q3_fields.specs.Kinds.{Layout}
+use Rattle.q3_entity.specs.declared.state.EntityState.{EntityState}
+use Rattle.q3_entity.specs.declared.state.Run.{Run}
+use Rattle.q3_entity.specs.declared.list_reading.Cursor.{Cursor}
+use Rattle.q3_entity.specs.declared.error.EntityError.{EntityError}
+use Rattle.q3_entity.specs.Entities.{run_of}
+use Rattle.q3_entity.specs.Baselines.{Lines}
+use Rattle.q3_entity.specs.Delta.{entity_at}
+use Rattle.q3_entity.specs.Lists.{number_at, one_more, entered, words_from}
+use Rattle.q3_entity.specs.Runs.{taken}
+
+-- the entities below a number stay, and those from it on are left
+unfoldable pub kept_below : ℕ → List EntityState → List EntityState → Result (List EntityState × List EntityState) EntityError
+kept_below number entities [] = Ok (entities, [])
+kept_below number entities (entity ∷ base) =
+    if nat_lt entity.number number then (one_more entities entity >>= λ more. kept_below number more base) else Ok (entities, entity ∷ base)
+
+-- where a list stands: its next number, what is left of the base, and the entities so far
+pub record Reached : Type 0 where
+  pub next : ℕ
+  pub base : List EntityState
+  pub entities : List EntityState
+
+-- the next number, up to which the base's entities stay
+unfoldable pub next_at : List (List Bool) → Layout → ℕ → List EntityState → List EntityState → List Bool → Result (Reached × List Bool) EntityError
+next_at words table least base entities bits = do
+  number ← number_at words table least bits
+  kept ← kept_below number.0 entities base
+  Ok (record { next = number.0; base = kept.1; entities = kept.0 }, number.1)
+
+-- the entities with what stands behind a number
+unfoldable pub entry_at : List (List Bool) → Layout → List ℕ → Bool → ℕ → List EntityState → List Bool → Result (List EntityState × List Bool) EntityError
+entry_at words table from in_base number entities bits = do
+  entry ← entity_at words table from bits
+  now ← entered entities in_base number entry.0.0 entry.0.1
+  Ok (now, entry.1)
+
+-- the entry of the next number, and what comes behind it
+unfoldable pub turn_at : List (List Bool) → Layout → Lines → Reached → List Bool → Result (Reached × List Bool) EntityError
+turn_at words table lines at bits = do
+  entry ← entry_at words table (words_from lines at.next (taken at.next at.base).0) (is_some (taken at.next at.base).0) at.next at.entities bits
+  next_at words table (at.next + 1) (taken at.next at.base).1 entry.0 entry.1
+
+-- what is behind the entry of a number: the number of the next
+unfoldable pub skipped_at : List (List Bool) → Layout → List ℕ → ℕ → List Bool → Result (ℕ × List Bool) EntityError
+skipped_at words table from number bits = do
+  entry ← entity_at words table from bits
+  number_at words table (number + 1) entry.1
+
+-- the answer of a call that keeps entities and lends what is left of the base
+abbrev pub with_kept : List EntityState → Result Run EntityError → Result (List EntityState × List EntityState) EntityError
+with_kept entities (Ok run) = Ok (entities, run_of run)
+with_kept entities (Err e) = Err e
+
+-- the answer of a call that reads on
+abbrev pub reached : List EntityState → Result Cursor EntityError → Result Reached EntityError
+reached entities (Ok cursor) = Ok (record { next = cursor.next; base = run_of cursor.base; entities = entities })
+reached entities (Err e) = Err e

@@ -1,0 +1,47 @@
+//! Laws of entity deltas and of lists, each the contract of a call that does nothing but cite the laws below it.
+
+ghost use Rattle.q3_entity.specs.Laws.{NormalIsNormal, ZeroIsNormal, EntityWrittenIsRead, RemovalIsRead, ListIsSpelled};
+
+use q3_bits::laws as bits;
+use q3_fields::laws as fields;
+
+/// The normal form of a state is a state, in normal form.
+pub fn normal_is_normal()
+    ensures { NormalIsNormal }
+{
+    fields::normal_words_are_normal();
+}
+
+/// The state with nothing in it is a state, in the normal form of every table.
+pub fn zero_is_normal()
+    ensures { ZeroIsNormal }
+{
+    fields::zeros_are_normal();
+}
+
+/// What is written of an entity against a state in normal form is read back: its number, and behind it the words in
+/// normal form, with whatever follows.
+pub fn entity_written_is_read()
+    ensures { EntityWrittenIsRead }
+{
+    bits::put_is_read();
+    fields::words_are_spelled();
+    fields::unchanged_is_normal();
+    fields::words_spelled_are_read();
+}
+
+/// A removal that is written is read back, with whatever follows.
+pub fn removal_is_read()
+    ensures { RemovalIsRead }
+{
+    bits::put_is_read();
+}
+
+/// What is written of a list against a base and baselines in normal form spells the entities in normal form.
+pub fn list_is_spelled()
+    ensures { ListIsSpelled }
+{
+    zero_is_normal();
+    fields::words_are_spelled();
+    fields::unchanged_is_normal();
+}

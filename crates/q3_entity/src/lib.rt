@@ -1,0 +1,24 @@
+//! Entities over a table of fields: the delta in which a message carries one, and lists of them.
+#![tactic(auto)]
+
+pub mod baselines;
+pub mod error;
+pub mod laws;
+pub mod list_reading;
+pub mod list_writing;
+pub mod print;
+pub mod reading;
+mod run;
+pub mod state;
+pub mod writing;
+#[cfg(test)]
+mod writing_tests;
+
+pub use baselines::Baselines;
+pub use error::EntityError;
+pub use list_reading::{read_list, skip_list};
+pub use list_writing::write_list;
+pub use print::print_fields;
+pub use reading::{Entry, read_entity};
+pub use state::{EntityState, List, Run};
+pub use writing::{write_entity, write_removal};

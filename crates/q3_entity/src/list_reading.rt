@@ -1,0 +1,181 @@
+//! Reads a list of entities against a base, or passes over one whose base isn't there. Keeps the rules "entity list"
+//! and "spellings that a reader accepts", the engine's `CL_ParsePacketEntities`. The refusals are this project's own.
+
+ghost use Rattle.std.specs.Prelude.{◌≡◌, ◌+◌, ◌^◌, ◌<◌, ◌≤◌, IfOk, OnOk};
+ghost use Rattle.q3_bits.specs.Streams.{Reads, holding};
+ghost use Rattle.q3_fields.specs.Kinds.{end_mark};
+ghost use Rattle.q3_entity.specs.Entities.{IsList, run_of};
+ghost use Rattle.q3_entity.specs.Baselines.{most_lines};
+ghost use Rattle.q3_entity.specs.Lists.{one_more, number_at, list_after, list_skipped};
+ghost use Rattle.q3_entity.specs.Walking.{kept_below, next_at, entry_at, turn_at, skipped_at, with_kept, reached};
+
+use crate::baselines::Baselines;
+use crate::error::EntityError;
+use crate::reading::{Entry, read_entity};
+use crate::run::{split_first, take_number};
+use crate::state::{EntityState, List, Run};
+use q3_bits::Reader;
+use q3_fields::Table;
+
+/// Where a list stands: the number that comes next, and the entities of the base from it on.
+#[derive(Clone, Copy)]
+struct Cursor<'a> {
+    next: u16,
+    base: Run<'a>,
+}
+
+/// Reads a list against a base. The base's entities that have no entry stay, each copied once, and a new one changes
+/// from its baseline. After a refusal `into` may hold anything.
+///
+/// `Err` is the first fault in reading order: `Bits` where the bits don't read; `Count` where a count of fields is above
+/// the table's; `Order` where a number isn't above the one before; `Removes` where an entity is removed that the base
+/// doesn't have; `Many` where there would be a 257th entity.
+pub fn read_list(
+    r: &mut Reader,
+    table: &Table,
+    baselines: &Baselines,
+    base: Run,
+    into: &mut List,
+) -> Result<(), EntityError>
+    requires { IsList table.now (run_of base) }
+    ensures reads { Reads r.old r.new (list_after r.old.words table.now baselines.now (run_of base.entry) r.old.left) (holding into.new.items result) }
+    ensures list { OnOk result (IsList table.now into.new.items) }
+{
+    into.clear();
+    let mut cursor = read_next(r, table, 0, base, into)?;
+    while cursor.next < table.end() {
+        cursor = read_turn(r, table, baselines, cursor, into)?;
+    }
+    Ok(())
+}
+
+/// Reads the entry of the next number, and the number behind it.
+#[tactic(auto, unfolding(crate::specs::Walking::turn_at))]
+fn read_turn<'a>(
+    r: &mut Reader,
+    table: &Table,
+    baselines: &Baselines,
+    cursor: Cursor<'a>,
+    into: &mut List,
+) -> Result<Cursor<'a>, EntityError>
+    requires line { cursor.next < most_lines }
+    ensures reads { Reads r.old r.new (turn_at r.old.words table.now baselines.now (record { next = cursor.entry.next; base = run_of cursor.entry.base; entities = into.old.items }) r.old.left) (reached into.new.items result) }
+    ensures rises { IfOk result (λ now. cursor.entry.next < now.next) }
+    ensures most { IfOk result (λ now. now.next ≤ end_mark table.now) }
+{
+    let number = cursor.next;
+    let (found, others) = take_number(cursor.base, number);
+    let from = found.unwrap_or(baselines.get(number));
+    read_entry(r, table, from, found.is_some(), number, into)?;
+    read_next(r, table, number + 1, others, into)
+}
+
+/// Passes over a list whose base isn't there. Its bits, its counts of fields and that its numbers rise are looked at
+/// alone. `Bits`, `Count` and `Order` come as in `read_list`, and no other.
+pub fn skip_list(r: &mut Reader, table: &Table) -> Result<(), EntityError>
+    ensures { Reads r.old r.new (list_skipped r.old.words table.now r.old.left) result }
+{
+    let zero = EntityState::zero(0);
+    let mut next = read_number(r, table, 0)?;
+    while next < table.end() {
+        next = skip_entry(r, table, &zero, next)?;
+    }
+    Ok(())
+}
+
+/// Passes over the entry of a number, and reads the number of the next.
+#[tactic(auto, unfolding(crate::specs::Walking::skipped_at))]
+fn skip_entry(
+    r: &mut Reader,
+    table: &Table,
+    from: &EntityState,
+    number: u16,
+) -> Result<u16, EntityError>
+    requires { number + 1 < 2 ^ 16 }
+    ensures reads { Reads r.old r.new (skipped_at r.old.words table.now from.now.words number r.old.left) result }
+    ensures rises { IfOk result (λ next. number < next) }
+    ensures most { IfOk result (λ next. next ≤ end_mark table.now) }
+{
+    let mut state = EntityState::zero(number);
+    read_entity(r, table, from, &mut state)?;
+    read_number(r, table, number + 1)
+}
+
+/// Reads the next number, and lets the base's entities below it stay.
+#[tactic(auto, unfolding(crate::specs::Walking::next_at))]
+fn read_next<'a>(
+    r: &mut Reader,
+    table: &Table,
+    least: u16,
+    base: Run<'a>,
+    into: &mut List,
+) -> Result<Cursor<'a>, EntityError>
+    ensures reads { Reads r.old r.new (next_at r.old.words table.now least (run_of base.entry) into.old.items r.old.left) (reached into.new.items result) }
+    ensures least { IfOk result (λ cursor. least ≤ cursor.next) }
+    ensures most { IfOk result (λ cursor. cursor.next ≤ end_mark table.now) }
+{
+    let next = read_number(r, table, least)?;
+    let base = keep_below(base, next, into)?;
+    Ok(Cursor { next, base })
+}
+
+/// Reads what stands behind a number, and puts the entity behind the others unless it is gone.
+#[tactic(auto, unfolding(crate::specs::Walking::entry_at))]
+fn read_entry(
+    r: &mut Reader,
+    table: &Table,
+    from: &EntityState,
+    in_base: bool,
+    number: u16,
+    into: &mut List,
+) -> Result<(), EntityError>
+    ensures { Reads r.old r.new (entry_at r.old.words table.now from.now.words in_base number into.old.items r.old.left) (holding into.new.items result) }
+{
+    let mut state = EntityState::zero(number);
+    match read_entity(r, table, from, &mut state)? {
+        Entry::Removed if in_base => Ok(()),
+        Entry::Removed => Err(EntityError::Removes(number)),
+        Entry::Changed => add(into, &state),
+        Entry::Same => add(into, &state),
+    }
+}
+
+/// Reads the next number of a list, which is at least this one.
+#[tactic(auto, unfolding(crate::specs::Lists::number_at))]
+fn read_number(r: &mut Reader, table: &Table, least: u16) -> Result<u16, EntityError>
+    ensures reads { Reads r.old r.new (number_at r.old.words table.now least r.old.left) result }
+    ensures least { IfOk result (λ number. least ≤ number) }
+    ensures most { IfOk result (λ number. number ≤ end_mark table.now) }
+{
+    let number = r.get(table.number_bits())? as u16;
+    if number < least {
+        return Err(EntityError::Order(number));
+    }
+    Ok(number)
+}
+
+/// Lets the base's entities below a number stay, and lends those from it on.
+#[tactic(auto, unfolding(crate::specs::Walking::kept_below))]
+fn keep_below<'a>(base: Run<'a>, number: u16, into: &mut List) -> Result<Run<'a>, EntityError>
+    ensures { with_kept into.new.items result ≡ kept_below number into.old.items (run_of base.entry) }
+{
+    let mut left = base;
+    while let Some((entity, others)) = split_first(left) {
+        if entity.number >= number {
+            return Ok(left);
+        }
+        add(into, entity)?;
+        left = others;
+    }
+    Ok(left)
+}
+
+/// Puts an entity behind the others. `Many` comes where there are 256.
+fn add(into: &mut List, entity: &EntityState) -> Result<(), EntityError>
+    ensures { holding into.new.items result ≡ one_more into.old.items entity.now }
+{
+    if into.try_push(*entity).is_err() {
+        return Err(EntityError::Many);
+    }
+    Ok(())
+}

@@ -1,0 +1,52 @@
+//! The state of an entity, and lists of them. Keeps the rule "normal form", the engine's `entityState_t`.
+
+ghost use Rattle.std.specs.Prelude.{◌≡◌};
+ghost use Rattle.q3_entity.specs.Entities.{zero_entity, normal_entity};
+
+use arrayvec::ArrayVec;
+use q3_fields::{Table, normalize};
+
+/// An entity as the game hands it in and as a snapshot carries it.
+#[derive(Clone, Copy, Debug, PartialEq, Eq)]
+pub struct EntityState {
+    /// The entity's number, 0 to 1022.
+    pub number: u16,
+    /// The word of each field of the table, at its place; a float is its pattern.
+    pub words: [u32; 64],
+}
+
+/// Up to 256 entities, by rising number.
+pub type List = ArrayVec<EntityState, 256>;
+
+/// Entities by rising number in two pieces, as a ring lends them: `head`, and behind it `tail`.
+#[derive(Clone, Copy)]
+pub struct Run<'a> {
+    pub head: &'a [EntityState],
+    pub tail: &'a [EntityState],
+}
+
+impl Default for EntityState {
+    fn default() -> EntityState {
+        EntityState::zero(0)
+    }
+}
+
+impl EntityState {
+    /// The state with nothing in it, under a number.
+    #[tactic(auto, unfolding(crate::specs::Entities::zero_entity))]
+    pub fn zero(number: u16) -> EntityState
+        ensures { result ≡ zero_entity number }
+    {
+        EntityState {
+            number,
+            words: [0; 64],
+        }
+    }
+
+    /// Puts the words into the normal form of their fields, and 0 behind the table's fields.
+    pub fn normalize(&mut self, table: &Table)
+        ensures { self.new ≡ normal_entity table.now self.old }
+    {
+        normalize(table, &mut self.words);
+    }
+}
