@@ -1,5 +1,5 @@
 -- A list that is read is skipped to the same place.
-use Rattle.std.proofs.Common.{◌≡◌, ℕ, zero, suc, ◌+◌, Bool, cond, eqb, ltb, List, [], ◌∷◌, length, take, replicate, Result, Ok, Err, ap, ◌∙◌, inl, inr, arith}
+use Rattle.std.proofs.Common.{◌≡◌, ℕ, zero, suc, ◌+◌, ◌<◌, Bool, true, false, cond, eqb, ltb, List, [], ◌∷◌, length, take, replicate, Result, Ok, Err, refl, sym, ap, subst, ◌∙◌, inl, inr, arith}
 use Rattle.std.proofs.lemmas.Bool.{cases_Bool, cond-true, cond-false}
 use Rattle.std.specs.Option.{is_some}
 use Rattle.q3_bits.specs.ResultBind.{◌>>=◌, bind_ok}
@@ -11,18 +11,20 @@ use Rattle.q3_fields.specs.declared.delta.StateKind.TheVariants.{Entity}
 use Rattle.q3_fields.specs.declared.delta.DeltaError.{DeltaError}
 use Rattle.q3_fields.specs.declared.delta.DeltaError.TheVariants.{Count}
 use Rattle.q3_fields.specs.Kinds.{Layout, IsTable, end_mark}
+use Rattle.q3_fields.specs.States.{AreWords}
 use Rattle.q3_fields.specs.Deltas as fields
 use Rattle.q3_fields.specs.Deltas.{changed_at, field_after, fields_after, words_after}
 use Rattle.q3_entity.specs.declared.state.EntityState.{EntityState}
 use Rattle.q3_entity.specs.declared.reading.Entry.{Entry}
 use Rattle.q3_entity.specs.declared.reading.Entry.TheVariants.{Removed, Changed, Same}
+use Rattle.q3_entity.specs.declared.error.EntityError.{EntityError}
 use Rattle.q3_entity.specs.Entities.{AreStates, with_number}
 use Rattle.q3_entity.specs.Baselines.{Lines, AreLines}
 use Rattle.q3_entity.specs.Delta.{bits_read, words_read, delta_at, present_at, entity_at}
 use Rattle.q3_entity.specs.Lists.{number_at, stays, entered, words_from, numbers_after, list_after, numbers_skipped, list_skipped}
 use Rattle.q3_entity.specs.Laws.{ZeroIsNormal, ReadIsSkipped}
 use Rattle.q3_entity.proofs.Binds.{bind_is}
-use Rattle.q3_entity.proofs.Results.{words_ok}
+use Rattle.q3_entity.proofs.Results.{bits_ok, words_ok}
 use Rattle.q3_entity.proofs.ListSpelled.{from_words}
 
 -- an answer with some value, and these bits behind it

@@ -1,12 +1,13 @@
 -- What is read of a list was spelled so.
-use Rattle.std.proofs.Common.{◌≡◌, ℕ, zero, suc, ◌+◌, ◌<◌, ◌≤◌, Bool, true, eqb, List, [], ◌∷◌, ◌++◌, Option, Some, None, IfSome, unwrap_or, Ok, refl, sym, ap, subst, ◌∙◌, append_assoc, arith, inl, inr}
+use Rattle.std.proofs.Common.{◌≡◌, ◌≢◌, ◌⊎◌, ℕ, zero, suc, ◌+◌, ◌<◌, ◌≤◌, Bool, true, false, cond, eqb, List, [], ◌∷◌, ◌++◌, length, replicate, Option, Some, None, IsSome, IfSome, unwrap_or, Result, Ok, Err, refl, sym, ap, subst, ◌∙◌, append_assoc, arith, inl, inr}
 use Rattle.std.proofs.lemmas.Bool.{cases_eq, cases_Bool, eqb-true, eqb-false}
 use Rattle.std.proofs.lemmas.List.{append-nil}
 use Rattle.std.proofs.lemmas.List.Elements.{All-nil}
+use Rattle.std.specs.List.{All}
 use Rattle.std.specs.Option.{is_some}
 use Rattle.q3_bits.specs.ResultBind.{◌>>=◌, bind_ok}
 use Rattle.q3_bits.specs.Words.{IsCode, field_bits}
-use Rattle.q3_bits.specs.Laws.{ReadWasPut}
+use Rattle.q3_bits.specs.Laws.{ReadWasPut, PutIsRead}
 use Rattle.q3_fields.specs.Kinds.{Layout, IsTable, end_mark}
 use Rattle.q3_fields.specs.States.{AreWords, normal_words}
 use Rattle.q3_fields.specs.Laws.{WordsReadAreSpelled}
@@ -16,11 +17,11 @@ use Rattle.q3_entity.specs.declared.reading.Entry.TheVariants.{Removed, Changed,
 use Rattle.q3_entity.specs.Entities.{zero_entity, IsNormal, RiseFrom, IsList, AreStates, AreNormal, with_number}
 use Rattle.q3_entity.specs.Baselines.{Lines, set_at, line_of, AreLines}
 use Rattle.q3_entity.specs.Delta.{entity_at}
-use Rattle.q3_entity.specs.Lists.{number_at, stays, entered, words_from, numbers_after, list_after}
+use Rattle.q3_entity.specs.Lists.{number_at, one_more, stays, entered, words_from, numbers_after, list_after}
 use Rattle.q3_entity.specs.Laws.{ZeroIsNormal, ListReadIsSpelled}
-use Rattle.q3_entity.specs.Spelling.{Entered, SpellsEntries, EntriesRise, RemoveFrom, state_after}
+use Rattle.q3_entity.specs.Spelling.{Entered, SpellsEntries, EntriesRise, RemoveFrom, state_after, SpellsList}
 use Rattle.q3_entity.proofs.Results.{number_was_read}
-use Rattle.q3_entity.proofs.EntrySpelled.{words_there, ReadMarks, marks_were_spelled}
+use Rattle.q3_entity.proofs.EntrySpelled.{words_there, SpellsMarks, ReadMarks, marks_were_spelled}
 use Rattle.q3_entity.proofs.EntriesSpelled.{first_number, SpellsBehind, entries_of_behind}
 use Rattle.q3_entity.proofs.OneNumber.{with_first, IsNamed, first-rises, first-found, first-others, first-all, with_number-all, entry_of, entry_of-below, entry_of-first, entry_of-others, state_there, pushed, pushed-first, stays-was, entered-was}
 use Rattle.q3_entity.proofs.Listed.{list_is_listed}
