@@ -14,7 +14,7 @@ use Rattle.q3_script.specs.declared.cause.LineCause.{LineCause}
 use Rattle.q3_script.specs.declared.cause.LineCause.TheVariants as causes
 use Rattle.q3_bits.specs.OptionBind.{◌>>=◌}
 use Rattle.q3_script.specs.Words.{cut, behind}
-use Rattle.q3_script.specs.Numbers.{is_digit, number_at}
+use Rattle.q3_text.specs.Decimals.{is_digit, number_at}
 use Rattle.q3_script.specs.Fields.{field_at, Fields, fields_at, player_of, player_at}
 use Rattle.q3_script.specs.Grammar.{field_words, AreFields, SpellsPlayer}
 use Rattle.q3_script.proofs.Cuts.{cut-spelled, cut-again, behind-spelled, behind-again}

@@ -1,4 +1,3 @@
-pub mod Decimals
 pub mod Cuts
 pub mod Spaces
 pub mod Gather

@@ -23,7 +23,8 @@ use Rattle.q3_script.specs.declared.event.Event.TheVariants.{Client, Player, Tim
 use Rattle.q3_script.specs.declared.cause.LineCause.{LineCause}
 use Rattle.q3_script.specs.declared.cause.LineCause.TheVariants as causes
 use Rattle.q3_bits.specs.ResultBind.{◌>>=◌, bind_ok}
-use Rattle.q3_script.specs.Numbers.{number_at, address_at}
+use Rattle.q3_text.specs.Decimals.{number_at}
+use Rattle.q3_script.specs.Addresses.{address_at}
 use Rattle.q3_script.specs.Fields.{values_of, player_of, player_at}
 use Rattle.q3_script.specs.Lines.{last_datagram, number_word, client_word, client_line, player_line, time_line, serve_line, deliver_line, show_line, replay_lines, line_at}
 use Rattle.q3_script.specs.Grammar.{AreFields, SpellsPlayer, SpellsEvent}

@@ -5,7 +5,7 @@ use Rattle.q3_script.specs.declared.event.Event.TheVariants.{Client, Player, Tim
 use Rattle.q3_script.specs.declared.cause.LineCause.TheVariants.{Address, Count}
 use Rattle.q3_bits.specs.ResultBind.{◌>>=◌}
 use Rattle.q3_script.specs.Words.{next_of, only_of}
-use Rattle.q3_script.specs.Numbers.{address_at}
+use Rattle.q3_script.specs.Addresses.{address_at}
 use Rattle.q3_script.specs.Fields.{player_at}
 use Rattle.q3_script.specs.Lines.{last_datagram, number_word, client_word, client_line, player_line, time_line, serve_line, deliver_line, show_line}
 

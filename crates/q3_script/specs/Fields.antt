@@ -8,7 +8,7 @@ use Rattle.q3_script.specs.declared.cause.LineCause.{LineCause}
 use Rattle.q3_script.specs.declared.cause.LineCause.TheVariants as causes
 use Rattle.q3_bits.specs.OptionBind.{◌>>=◌}
 use Rattle.q3_script.specs.Words.{cut, behind}
-use Rattle.q3_script.specs.Numbers.{number_at}
+use Rattle.q3_text.specs.Decimals.{number_at}
 
 -- the index and the value in a word of this letter: the index is from least up to below the limit
 unfoldable pub field_at : List ℕ → ℕ → ℕ → List ℕ → Option Change

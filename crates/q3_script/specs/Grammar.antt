@@ -8,7 +8,7 @@ use Rattle.q3_io.specs.declared.address.Address.{Address}
 use Rattle.q3_script.specs.declared.event.Event.{Event}
 use Rattle.q3_script.specs.declared.event.Event.TheVariants.{Client, Player, Time, Serve, Deliver, Show}
 use Rattle.q3_script.specs.Words.{words_of}
-use Rattle.q3_script.specs.Numbers.{host_of}
+use Rattle.q3_script.specs.Addresses.{host_of}
 use Rattle.q3_script.specs.Fields.{player_of}
 use Rattle.q3_script.specs.Lines.{last_datagram}
 use Rattle.q3_script.specs.Script.{is_passed_over, lines_of, longest_script, most_events}

@@ -8,7 +8,8 @@ use Rattle.q3_script.specs.declared.event.Event.TheVariants.{Client, Player, Tim
 use Rattle.q3_script.specs.declared.cause.LineCause.{LineCause}
 use Rattle.q3_script.specs.declared.cause.LineCause.TheVariants as causes
 use Rattle.q3_bits.specs.ResultBind.{◌>>=◌}
-use Rattle.q3_script.specs.Numbers.{number_at, address_at}
+use Rattle.q3_text.specs.Decimals.{number_at}
+use Rattle.q3_script.specs.Addresses.{address_at}
 use Rattle.q3_script.specs.Fields.{player_at}
 
 -- the greatest number of a datagram that a line can name

@@ -6,10 +6,10 @@ ghost use Rattle.q3_script.specs.Words.{words_left};
 ghost use Rattle.q3_script.specs.Fields.{field_at, fields_at, player_at};
 
 use crate::cause::LineCause;
-use crate::number::number;
 use crate::words::{behind, cut_at, next_word};
 use q3_player::PlayerState;
 use q3_player::state::shorts;
+use q3_text::decimal_within;
 
 /// The index and the value in a word of this letter: the index is from `least` up to below `limit`.
 #[tactic(auto, unfolding(crate::specs::Fields::field_at))]
@@ -20,8 +20,8 @@ fn field(letter: &[u8], limit: u32, least: u32, word: &[u8]) -> Option<(u32, u32
 {
     let text = behind(letter, word)?;
     let (index, value) = cut_at(text, b':')?;
-    let index = number(index, least, limit - 1)?;
-    Some((index, number(value, 0, u32::MAX)?))
+    let index = decimal_within(index, least, limit - 1)?;
+    Some((index, decimal_within(value, 0, u32::MAX)?))
 }
 
 /// Puts the fields in the leading words of this letter over the values, by rising index, and answers what is left

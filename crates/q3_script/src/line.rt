@@ -4,18 +4,19 @@ ghost use Rattle.std.specs.Prelude.{◌≡◌, ◌≤◌, ◌∷◌, IfOk};
 ghost use Rattle.q3_script.specs.Words.{words_of, words_left};
 ghost use Rattle.q3_script.specs.Lines.{number_word, client_word, client_line, player_line, time_line, serve_line, deliver_line, show_line, line_at};
 
+use crate::address::address;
 use crate::cause::LineCause;
 use crate::event::Event;
 use crate::fields::player_state;
-use crate::number::{address, number};
 use crate::words::{first_word, next_word, only_word};
+use q3_text::decimal_within;
 
 /// The number that a word spells, if it is one from `low` to `high`.
 fn number_word(word: &[u8], low: u32, high: u32) -> Result<u32, LineCause>
     ensures value { result ≡ number_word low high word.now }
     ensures within { IfOk result (λ n. (low ≤ n) × (n ≤ high)) }
 {
-    number(word, low, high).ok_or(LineCause::Number)
+    decimal_within(word, low, high).ok_or(LineCause::Number)
 }
 
 /// The number of a client.

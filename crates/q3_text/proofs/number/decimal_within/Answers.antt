@@ -1,6 +1,6 @@
 use Rattle.std.proofs.Common.{◌+◌, arith}
-use Rattle.q3_script.proofs.Decimals.{none_at_byte, none_above, some_at_digits, value_of_more}
-use Rattle.q3_script.proofs.number.number.Goals as goal
+use Rattle.q3_text.proofs.Decimals.{none_at_byte, none_above, some_at_digits, value_of_more}
+use Rattle.q3_text.proofs.number.decimal_within.Goals as goal
 
 pub returns-then-not-is_ascii_digit-clause-value : goal.returns-then-not-is_ascii_digit-clause-value
 returns-then-not-is_ascii_digit-clause-value c = none_at_byte _ _ c.args.word.now c.loop-byte.byte-index (omega arith) (cc)

@@ -7,7 +7,7 @@ use Rattle.std.proofs.lemmas.Bool.{leb-true, and_parts, lt-ltb, le-leb, lt-leb, 
 use Rattle.std.proofs.lemmas.List.{take_more, take-append-drop, take_all}
 use Rattle.std.proofs.lemmas.List.Folds.{list_all_at}
 use Rattle.std.proofs.lemmas.List.Sums.{fold-append, fold_push}
-use Rattle.q3_script.specs.Numbers.{is_digit, value_of, is_decimal, number_at}
+use Rattle.q3_text.specs.Decimals.{is_digit, value_of, is_decimal, number_at}
 
 -- one more digit
 pub value_of_more : (word : List ℕ) (i : ℕ) → i < length word → value_of (take (i + 1) word) ≡ 10 * value_of (take i word) + (get_or word i 0 - 48)

@@ -1,0 +1,5 @@
+pub mod Decimals
+pub mod Places
+pub mod Translation
+pub mod Weights
+pub mod Pairs

@@ -1,0 +1,16 @@
+//! Texts of messages, info strings, and numbers in decimal. Nothing here takes memory.
+#![tactic(auto)]
+
+pub mod info;
+pub mod key;
+pub mod laws;
+pub mod number;
+pub mod text;
+
+pub use info::info_value;
+pub use key::hash_key;
+pub use number::{decimal, decimal_within};
+pub use text::{Command, Text, TextError, translate};
+
+#[cfg(test)]
+mod tests;

@@ -1,0 +1,101 @@
+//! Texts: the strings of messages. Keeps the rule "strings and their translation", which is the engine's
+//! `MSG_WriteString` and `MSG_ReadString` (msg.c).
+
+ghost use Rattle.std.specs.Prelude.{◌≡◌, ◌==◌, [], position};
+ghost use Rattle.q3_text.specs.Texts.{IsText, translated, text_of};
+
+use arrayvec::ArrayVec;
+use std::marker::Model;
+
+/// The most bytes of a text: the engine's buffer has 1,024, and the last is its end.
+const MOST_BYTES: usize = 1_023;
+
+/// Why bytes are no text: the first of these.
+#[derive(Clone, Copy, Debug, PartialEq, Eq)]
+pub enum TextError {
+    /// They are more than 1,023.
+    Long,
+    /// One of them is 0, at this place first.
+    Zero(usize),
+}
+
+/// A string of a message: at most 1,023 bytes, each 1 to 127 and none a `%`. To a caller it is the list of its bytes.
+#[derive(Debug, PartialEq, Eq, Drop)]
+pub struct Text {
+    bytes: ArrayVec<u8, MOST_BYTES>,
+}
+
+impl Model for Text {
+    ghost use Rattle.std.specs.Prelude.{ℕ, List};
+    ghost use Rattle.q3_text.specs.Texts.{IsText};
+
+    ghost Value = { List ℕ };
+
+    ghost view = { λ text. text.bytes.items };
+
+    ghost invariant = { λ text. IsText text.bytes.items };
+
+    ghost inverse = { λ bytes. record { bytes = record { items = bytes } } };
+}
+
+/// A command of the server or of a client, with its number in the row of those that its end issued.
+#[derive(Debug, PartialEq, Eq, Drop)]
+pub struct Command {
+    pub number: u32,
+    pub text: Text,
+}
+
+/// A byte as a text keeps it: `.` for a byte above 127 and for `%`, every other byte as it is.
+pub fn translate(byte: u8) -> u8
+    ensures { result ≡ translated byte }
+{
+    if byte > 127 || byte == b'%' {
+        b'.'
+    } else {
+        byte
+    }
+}
+
+/// The place of the first byte 0.
+fn first_zero(bytes: &[u8]) -> Option<usize>
+    ensures { result ≡ position (λ byte. byte == 0) bytes.now }
+{
+    bytes.iter().position(|byte| *byte == 0)
+}
+
+impl Text {
+    /// The text with no bytes.
+    pub fn new() -> Text
+        ensures { result ≡ [] }
+    {
+        Text {
+            bytes: ArrayVec::new(),
+        }
+    }
+
+    /// The text of bytes, each translated. `Err` is the first of: more than 1,023 bytes; a byte 0, with its place.
+    #[tactic(auto, unfolding(crate::specs::Texts::text_of, crate::specs::Texts::text_fault))]
+    pub fn of(bytes: &[u8]) -> Result<Text, TextError>
+        ensures exact { result ≡ text_of bytes.now }
+    {
+        if bytes.len() > MOST_BYTES {
+            return Err(TextError::Long);
+        }
+        if let Some(place) = first_zero(bytes) {
+            return Err(TextError::Zero(place));
+        }
+        let mut kept = ArrayVec::new();
+        for byte in bytes {
+            kept.push(translate(*byte));
+        }
+        Ok(Text { bytes: kept })
+    }
+
+    /// The bytes of the text.
+    pub fn bytes(&self) -> &[u8]
+        ensures bytes { result.now ≡ self.now }
+        ensures is_text { IsText self.now }
+    {
+        &self.bytes
+    }
+}
