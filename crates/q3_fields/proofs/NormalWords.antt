@@ -37,6 +37,7 @@ normal_word_of_none [] (suc k) word here = refl
 normal_word_of_none (first ∷ table) zero word here = absurd cc
 normal_word_of_none (first ∷ table) (suc k) word here = normal_word_of_none table k word here
 
+-- a kind further on
 drop-next : (table : List Kind) (k : ℕ) → drop 1 (drop k table) ≡ drop (suc k) table
 drop-next table zero = refl
 drop-next [] (suc k) = refl

@@ -1,6 +1,6 @@
-//! The delta of a state's words over a table: how many fields follow, and each of them. Keeps the rules "entity delta"
-//! and "player delta" for the words, the engine's `MSG_WriteDeltaEntity` and `MSG_WriteDeltaPlayerstate` and their
-//! readers.
+//! The delta of a state's words over a table: how many fields follow, and each of them. Keeps the rules "entity delta",
+//! "player delta" and "normal form" for the words, the engine's `MSG_WriteDeltaEntity` and `MSG_WriteDeltaPlayerstate`
+//! and their readers.
 
 ghost use Rattle.std.specs.Prelude.{◌≡◌, ◌≤◌, ◌<◌, [], ◌∷◌, length, take, drop, slice_get, Some};
 ghost use Rattle.q3_bits.specs.Streams.{Reads, Writes, holding};

@@ -24,6 +24,9 @@ fn files_of_the_system_are_written_and_read(rt: HostRuntime) -> Result<(), Fail>
     assert_eq!(rt; files.read_at(file, 4, &mut into), Ok(4));
     assert_eq!(rt; into, *b"two!");
     assert_eq!(rt; files.read_at(file, 8, &mut into), Ok(0));
+    assert_eq!(rt; files.read_at(file, u64::MAX, &mut into), Err(Failed));
+    assert_eq!(rt; files.append(log, &[b'.'; 2_000]), Ok(()));
+    assert_eq!(rt; files.size(file), Ok(2_008));
     numbers_end_at_32(&rt, &mut files, 2);
     Ok(())
 }
