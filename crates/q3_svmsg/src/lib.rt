@@ -7,6 +7,8 @@ pub mod laws;
 pub mod message;
 mod operations;
 pub mod reading;
+#[cfg(test)]
+mod tests;
 pub mod writing;
 
 pub use bases::{BaseView, Bases};
