@@ -1,5 +1,5 @@
 -- What is read of a list was spelled so.
-use Rattle.std.proofs.Common.{◌≡◌, ℕ, zero, suc, ◌+◌, ◌<◌, ◌≤◌, Bool, true, eqb, List, [], ◌∷◌, ◌++◌, Option, Some, None, IfSome, unwrap_or, Ok, refl, sym, ap, subst, ◌∙◌, append_assoc, arith, inl, inr}
+use Rattle.std.proofs.Common.{◌≡◌, ℕ, zero, suc, ◌+◌, ◌<◌, ◌≤◌, Bool, true, eqb, List, [], ◌∷◌, ◌++◌, Option, Some, None, Ok, refl, sym, ap, subst, ◌∙◌, append_assoc, arith, inl, inr}
 use Rattle.std.proofs.lemmas.Bool.{cases_eq, cases_Bool, eqb-true, eqb-false}
 use Rattle.std.proofs.lemmas.List.{append-nil}
 use Rattle.std.proofs.lemmas.List.Elements.{All-nil}
@@ -13,8 +13,8 @@ use Rattle.q3_fields.specs.Laws.{WordsReadAreSpelled}
 use Rattle.q3_entity.specs.declared.state.EntityState.{EntityState}
 use Rattle.q3_entity.specs.declared.reading.Entry.{Entry}
 use Rattle.q3_entity.specs.declared.reading.Entry.TheVariants.{Removed, Changed, Same}
-use Rattle.q3_entity.specs.Entities.{zero_entity, IsNormal, RiseFrom, IsList, AreStates, AreNormal, with_number}
-use Rattle.q3_entity.specs.Baselines.{Lines, set_at, line_of, AreLines}
+use Rattle.q3_entity.specs.Entities.{IsNormal, RiseFrom, IsList, AreStates, AreNormal, with_number}
+use Rattle.q3_entity.specs.Baselines.{Lines, AreLines}
 use Rattle.q3_entity.specs.Delta.{entity_at}
 use Rattle.q3_entity.specs.Lists.{number_at, stays, entered, words_from, numbers_after, list_after}
 use Rattle.q3_entity.specs.Laws.{ZeroIsNormal, ListReadIsSpelled}
@@ -22,20 +22,11 @@ use Rattle.q3_entity.specs.Spelling.{Entered, SpellsEntries, EntriesRise, Remove
 use Rattle.q3_entity.proofs.Results.{number_was_read}
 use Rattle.q3_entity.proofs.EntrySpelled.{words_there, ReadMarks, marks_were_spelled}
 use Rattle.q3_entity.proofs.EntriesSpelled.{first_number, SpellsBehind, entries_of_behind}
-use Rattle.q3_entity.proofs.OneNumber.{with_first, IsNamed, first-rises, first-found, first-others, first-all, with_number-past, with_number-all, entry_of, entry_of-below, entry_of-first, entry_of-others, entries_rise-less, state_there, pushed, pushed-first, stays-was, entered-was}
-use Rattle.q3_entity.proofs.Listed.{with_number-number, list_is_listed}
+use Rattle.q3_entity.proofs.OneNumber.{with_first, IsNamed, first-rises, first-found, first-others, first-all, with_number-all, entry_of, entry_of-below, entry_of-first, entry_of-others, state_there, pushed, pushed-first, stays-was, entered-was}
+use Rattle.q3_entity.proofs.Listed.{list_is_listed}
+use Rattle.q3_entity.proofs.ListWritten.{found-number, found-limit, rise-weaker, line-known}
 
--- the words that an entry changed from are words
-line-words : (table : Layout) (lines : Lines) (number : ℕ) → ZeroIsNormal → IsTable table → AreLines table lines
-    → AreWords 64 (line_of lines number).words × IsNormal table (line_of lines number)
-line-words table lines number law is_table are = from_line (set_at lines number) (are.states number) (are.normal number)
-  where
-    from_line : (o : Option EntityState) → IfSome o (λ state. AreWords 64 state.words) → IfSome o (IsNormal table)
-        → AreWords 64 (unwrap_or o (zero_entity number)).words × IsNormal table (unwrap_or o (zero_entity number))
-    from_line None words normal = law table number is_table
-    from_line (Some state) words normal = (words, normal)
-
--- and in normal form where the base's are
+-- the words that an entry changed from are words, in normal form where the base's are
 pub record FromWords (table : Layout) (base : List EntityState) (from : List ℕ) : Type 0 where
   pub are : AreWords 64 from
   pub normal : AreNormal table base → normal_words table.kinds from ≡ from
@@ -49,7 +40,7 @@ from_words table lines base number law is_table are states =
     from_entity : (o : Option EntityState) → ((x : EntityState) → o ≡ Some x → AreWords 64 x.words) → (AreNormal table base → (x : EntityState) → o ≡ Some x → IsNormal table x)
         → FromWords table base (words_from lines number o)
     from_entity None words normal =
-        let line = line-words table lines number law is_table are in
+        let line = line-known law table lines number is_table are in
         record { are = line.0; normal = λ _. ap (λ (x : EntityState). x.words) line.1 }
     from_entity (Some x) words normal = record { are = words x refl; normal = λ all. ap (λ (x : EntityState). x.words) (normal all x refl) }
 
@@ -84,7 +75,7 @@ at_end words table lines base number next entities bits list last mark = record 
   removes = tt;
   spells = refl;
   risen = tt;
-  states = λ n more. sym (with_number-past (end_mark table) 0 n base list.rise (omega arith));
+  states = λ n more. sym (found-limit (end_mark table) 0 n base list.rise (omega arith));
   are = All-nil (λ (x : EntityState). AreWords 64 x.words);
   normal = λ _. All-nil (IsNormal table);
 }
@@ -95,7 +86,7 @@ over_number : (words : List (List Bool)) (table : Layout) (lines : Lines) (base 
     → ReadNumbers words table lines base (number + 1) next kept bits found → ReadNumbers words table lines base number next entities bits found
 over_number words table lines base number next entities kept bits found states below within is read =
     let from = with_number number base in
-    let named : IsNamed number from = named_base from (λ x e. with_number-number number base x e) in
+    let named : IsNamed number from = named_base from (λ x e. found-number number base x e) in
     record {
       entries = read.entries;
       added = with_first from read.added;
@@ -168,7 +159,7 @@ behind_number words table lines base number next entities now bits left behind k
           ∙ sym (append_assoc marks.text (field ++ read.text) found.1);
       whole = read.whole ∙ ap (λ (xs : List EntityState). xs ++ read.added) is ∙ pushed-first entities o read.added;
       first = refl;
-      rise = (omega arith, within, entries_rise-less (end_mark table) next (number + 1) read.entries (omega arith) read.rise);
+      rise = (omega arith, within, rise-weaker (end_mark table) next (number + 1) read.entries (omega arith) read.rise);
       removes = (held, read.removes);
       spells = (
         marks.text,
@@ -248,7 +239,7 @@ list_was_spelled put law law' words table lines base now bits rest code is_table
       number.2 ∙ ap (λ (ys : List Bool). field ++ ys) read.parts ∙ sym (append_assoc field read.text rest),
       record {
         entries = read.entries;
-        rise = entries_rise-less (end_mark table) first.0.0 0 read.entries (omega arith) read.rise;
+        rise = rise-weaker (end_mark table) first.0.0 0 read.entries (omega arith) read.rise;
         removes = read.removes;
         spells = subst (λ (n : ℕ). SpellsEntries words table lines base read.entries (field_bits words table.number_bits n ++ read.text)) read.first
             (entries_of_behind words table lines base read.entries read.text read.spells);

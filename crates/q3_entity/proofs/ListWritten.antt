@@ -129,7 +129,7 @@ module _ (table : Layout) (base now : List EntityState) where
       ]
 
 -- the numbers of entries rise
-rise-weaker : (limit most least : ℕ) (entries : List Entered) → least ≤ most → EntriesRise limit most entries → EntriesRise limit least entries
+pub rise-weaker : (limit most least : ℕ) (entries : List Entered) → least ≤ most → EntriesRise limit most entries → EntriesRise limit least entries
 rise-weaker limit most least [] le rise = tt
 rise-weaker limit most least (entry ∷ entries) le rise = (omega (arith, le, rise.0), rise.1, rise.2)
 
@@ -197,7 +197,7 @@ state-at law table n (Some x) (Some y) is_table from to =
 -- ---- the texts of the entries
 
 -- a baseline's words
-line-known : ZeroIsNormal → (table : Layout) (lines : Lines) (n : ℕ) → IsTable table → AreLines table lines → AreWords 64 (line_of lines n).words × IsNormal table (line_of lines n)
+pub line-known : ZeroIsNormal → (table : Layout) (lines : Lines) (n : ℕ) → IsTable table → AreLines table lines → AreWords 64 (line_of lines n).words × IsNormal table (line_of lines n)
 line-known law table lines n is_table are = known (set_at lines n) (are.states n) (are.normal n)
   where
     known : (o : Option EntityState) → IfSome o (λ state. AreWords 64 state.words) → IfSome o (IsNormal table) → AreWords 64 (unwrap_or o (zero_entity n)).words × IsNormal table (unwrap_or o (zero_entity n))

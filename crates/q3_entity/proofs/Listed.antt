@@ -1,6 +1,6 @@
 -- What is read of a list is one: its numbers rise, and it has at most 256 entities.
 use Rattle.std.proofs.Common.{◌≡◌, ℕ, zero, suc, ◌+◌, ◌<◌, ◌≤◌, Bool, true, false, List, [], ◌∷◌, ◌++◌, length, Option, Some, None, Result, Ok, refl, subst, inl, inr, arith, eqb, ltb, length-append}
-use Rattle.std.proofs.lemmas.Bool.{cases_Bool, eqb-true, ltb-true}
+use Rattle.std.proofs.lemmas.Bool.{cases_Bool, ltb-true}
 use Rattle.std.specs.Option.{is_some}
 use Rattle.q3_bits.specs.ResultBind.{◌>>=◌, bind_ok}
 use Rattle.q3_fields.specs.Kinds.{Layout, end_mark}
@@ -11,19 +11,8 @@ use Rattle.q3_entity.specs.declared.error.EntityError.{EntityError}
 use Rattle.q3_entity.specs.Entities.{RiseFrom, IsList, most_entities, with_number}
 use Rattle.q3_entity.specs.Baselines.{Lines}
 use Rattle.q3_entity.specs.Delta.{entity_at}
+use Rattle.q3_entity.proofs.ListWritten.{found-number}
 use Rattle.q3_entity.specs.Lists.{number_at, one_more, stays, entered, words_from, numbers_after, list_after}
-
--- the entity under a number has this number
-pub with_number-number : (number : ℕ) (xs : List EntityState) (x : EntityState) → with_number number xs ≡ Some x → x.number ≡ number
-with_number-number number [] x e = absurd cc
-with_number-number number (y ∷ ys) x e =
-    elim (cases_Bool (eqb y.number number)) [
-      | inl same ↦
-          let found = rw same at e in
-          let is : y ≡ x = cc in
-          subst (λ (z : EntityState). z.number ≡ number) is (eqb-true y.number number same)
-      | inr other ↦ with_number-number number ys x (rw other at e)
-    ]
 
 -- numbers below a limit are below a larger one
 pub rise-more : (limit more least : ℕ) (xs : List EntityState) → limit ≤ more → RiseFrom limit least xs → RiseFrom more least xs
@@ -92,7 +81,7 @@ numbers_below words table lines base (suc left) number next entities bits found 
           numbers_below words table lines base left (number + 1) more.0.0 now.0 more.0.1 found (entered-below number entities (is_some from) entry.0.0.0 entry.0.0.1 now.0 below now.1) more.2
       | inr there ↦
           let kept = bind_ok (stays entities from) (λ kept. numbers_after words table lines base left (number + 1) next kept bits) found (rw there at e) in
-          numbers_below words table lines base left (number + 1) next kept.0 bits found (stays-below number entities from kept.0 below (with_number-number number base) kept.1) kept.2
+          numbers_below words table lines base left (number + 1) next kept.0 bits found (stays-below number entities from kept.0 below (found-number number base) kept.1) kept.2
     ])
 
 pub list_is_listed : (words : List (List Bool)) (table : Layout) (lines : Lines) (base : List EntityState) (bits : List Bool) (now : List EntityState) (rest : List Bool)

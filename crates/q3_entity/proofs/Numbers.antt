@@ -1,33 +1,16 @@
 -- The entities of a rising list, by their numbers.
-use Rattle.std.proofs.Common.{◌≡◌, ◌≢◌, ℕ, ◌+◌, ◌<◌, ◌≤◌, List, [], ◌∷◌, Some, None, Result, Ok, refl, ap, arith, eqb, false, subst, inl, inr}
-use Rattle.std.proofs.lemmas.Bool.{cases_eq, cases_lt, eq-eqb, ne_eqb, lt-ltb, le-ltb}
+use Rattle.std.proofs.Common.{◌≡◌, ℕ, ◌+◌, ◌<◌, List, [], ◌∷◌, Some, Result, Ok, refl, ap, subst, inl, inr}
+use Rattle.std.proofs.lemmas.Bool.{cases_lt, eq-eqb, lt-ltb, le-ltb}
 use Rattle.q3_bits.specs.ResultBind.{◌>>=◌, bind_ok}
 use Rattle.q3_entity.specs.declared.state.EntityState.{EntityState}
 use Rattle.q3_entity.specs.declared.error.EntityError.{EntityError}
 use Rattle.q3_entity.specs.Entities.{RiseFrom, with_number}
 use Rattle.q3_entity.specs.Lists.{one_more}
 use Rattle.q3_entity.specs.Walking.{kept_below}
-use Rattle.q3_entity.specs.Runs.{taken}
-
--- numbers that rise from a larger one on
-pub rise-less : (limit least less : ℕ) (xs : List EntityState) → less ≤ least → RiseFrom limit least xs → RiseFrom limit less xs
-rise-less limit least less [] below rise = tt
-rise-less limit least less (x ∷ xs) below rise = (omega (arith, rise.0), rise.1, rise.2)
-
--- a number below the first has no entity
-pub with_number-below : (limit least number : ℕ) (xs : List EntityState) → RiseFrom limit least xs → number < least → with_number number xs ≡ None
-with_number-below limit least number [] rise below = refl
-with_number-below limit least number (x ∷ xs) rise below =
-    let other : eqb x.number number ≡ false = ne_eqb x.number number (λ same. omega (arith, rise.0)) in
-    rw other (with_number-below limit (x.number + 1) number xs rise.2 (omega (arith, rise.0)))
 
 -- the first entity is that of its number
-pub with_number-first : (x : EntityState) (xs : List EntityState) (number : ℕ) → x.number ≡ number → with_number number (x ∷ xs) ≡ Some x
-with_number-first x xs number same = rw (eq-eqb x.number number same) refl
-
--- and of no other
-pub with_number-others : (x : EntityState) (xs : List EntityState) (number : ℕ) → x.number ≢ number → with_number number (x ∷ xs) ≡ with_number number xs
-with_number-others x xs number other = rw (ne_eqb x.number number other) refl
+pub with_number-named : (x : EntityState) (xs : List EntityState) (number : ℕ) → x.number ≡ number → with_number number (x ∷ xs) ≡ Some x
+with_number-named x xs number same = rw (eq-eqb x.number number same) refl
 
 -- below the first number no entity is kept
 pub kept_below-none : (limit number : ℕ) (entities base : List EntityState) → RiseFrom limit number base → kept_below number entities base ≡ Ok (entities, base)
@@ -60,24 +43,4 @@ kept_below-rises limit least number entities (x ∷ xs) kept rise e =
       | inr above ↦
           let left : x ∷ xs ≡ kept.1 = ap (λ (k : List EntityState × List EntityState). k.1) (ok_value (entities, x ∷ xs) kept (rw (le-ltb x.number number above) at e)) in
           subst (RiseFrom limit number) left (above, rise.1, rise.2)
-    ]
-
--- the entity that is taken is that of the number
-pub taken-found : (limit number : ℕ) (base : List EntityState) → RiseFrom limit number base → (taken number base).0 ≡ with_number number base
-taken-found limit number [] rise = refl
-taken-found limit number (x ∷ xs) rise =
-    elim (cases_eq x.number number) [
-      | inl same ↦ rw (eq-eqb x.number number same) refl
-      | inr other ↦
-          let none = with_number-below limit (x.number + 1) number xs rise.2 (omega (arith, rise.0)) in
-          rw (ne_eqb x.number number other, none) refl
-    ]
-
--- those behind it rise from the next number on
-pub taken-rises : (limit number : ℕ) (base : List EntityState) → RiseFrom limit number base → RiseFrom limit (number + 1) (taken number base).1
-taken-rises limit number [] rise = tt
-taken-rises limit number (x ∷ xs) rise =
-    elim (cases_eq x.number number) [
-      | inl same ↦ rw (eq-eqb x.number number same) (rw (← same) rise.2)
-      | inr other ↦ rw (ne_eqb x.number number other) (omega (arith, rise.0, other), rise.1, rise.2)
     ]

@@ -1,15 +1,17 @@
 -- What a list has at one number, before the entities of larger ones.
-use Rattle.std.proofs.Common.{◌≡◌, ◌≢◌, ◌==◌, ℕ, ◌+◌, ◌<◌, ◌≤◌, Bool, true, false, List, [], ◌∷◌, ◌++◌, length, Option, Some, None, Ok, refl, sym, subst, append_assoc, ◌∙◌, inl, inr, arith, eqb, ltb, length-append}
+use Rattle.std.proofs.Common.{◌≡◌, ◌≢◌, ◌==◌, ℕ, ◌+◌, ◌<◌, ◌≤◌, Bool, true, false, List, [], ◌∷◌, ◌++◌, length, Option, Some, None, Ok, refl, sym, subst, append_assoc, ◌∙◌, inl, inr, arith, eqb, ltb, length-append, IfSome}
 use Rattle.std.specs.List.{All, find}
 use Rattle.std.proofs.lemmas.Bool.{cases_eq, cases_Bool, ne_eqb, eq-eqb, lt-ltb}
-use Rattle.std.proofs.lemmas.List.Elements.{All-cons, All-head, All-tail}
+use Rattle.std.proofs.lemmas.List.Elements.{All-cons}
 use Rattle.q3_entity.specs.declared.state.EntityState.{EntityState}
 use Rattle.q3_entity.specs.declared.reading.Entry.{Entry}
 use Rattle.q3_entity.specs.declared.reading.Entry.TheVariants.{Removed, Changed, Same}
 use Rattle.q3_entity.specs.Entities.{RiseFrom, most_entities, with_number}
 use Rattle.q3_entity.specs.Lists.{one_more, stays, entered}
 use Rattle.q3_entity.specs.Spelling.{Entered, EntriesRise, state_after}
-use Rattle.q3_entity.proofs.Numbers.{with_number-below, with_number-first, with_number-others, rise-less}
+use Rattle.q3_entity.proofs.Risen.{rise-lower, with_number-behind, with_number-below}
+use Rattle.q3_entity.proofs.Numbers.{with_number-named}
+use Rattle.q3_entity.proofs.ListWritten.{found-all}
 use Rattle.q3_entity.proofs.EntrySpelled.{words_there}
 
 -- the entity of a number, if there is one, and those behind it
@@ -24,16 +26,16 @@ IsNamed number (Some x) = x.number ≡ number
 
 pub first-rises : (limit number : ℕ) (o : Option EntityState) (others : List EntityState) → IsNamed number o → number < limit → RiseFrom limit (number + 1) others
     → RiseFrom limit number (with_first o others)
-first-rises limit number None others named below rise = rise-less limit (number + 1) number others (omega arith) rise
+first-rises limit number None others named below rise = rise-lower limit (number + 1) number others (omega arith) rise
 first-rises limit number (Some x) others named below rise = (omega (arith, named), omega (arith, named), rw named rise)
 
 pub first-found : (limit number : ℕ) (o : Option EntityState) (others : List EntityState) → IsNamed number o → RiseFrom limit (number + 1) others → with_number number (with_first o others) ≡ o
 first-found limit number None others named rise = with_number-below limit (number + 1) number others rise (omega arith)
-first-found limit number (Some x) others named rise = with_number-first x others number named
+first-found limit number (Some x) others named rise = with_number-named x others number named
 
 pub first-others : (number n : ℕ) (o : Option EntityState) (others : List EntityState) → IsNamed number o → n ≢ number → with_number n (with_first o others) ≡ with_number n others
 first-others number n None others named other = refl
-first-others number n (Some x) others named other = with_number-others x others n (λ same. other (sym same ∙ named))
+first-others number n (Some x) others named other = with_number-behind n x others (λ same. other (sym same ∙ named))
 
 pub first-all : (P : EntityState → Type 0) (o : Option EntityState) (others : List EntityState) → ((x : EntityState) → o ≡ Some x → P x) → All P others → All P (with_first o others)
 first-all P None others one all = all
@@ -52,9 +54,9 @@ cut limit number (x ∷ xs) rise =
     elim (cases_eq x.number number) [
       | inl here ↦ record {
         others = xs;
-        whole = rw (with_number-first x xs number here) refl;
+        whole = rw (with_number-named x xs number here) refl;
         rise = rw (← here) rise.2;
-        same = λ n more. sym (with_number-others x xs n (λ is. omega arith));
+        same = λ n more. sym (with_number-behind n x xs (λ is. omega arith));
       }
       | inr later ↦
           let risen : RiseFrom limit (number + 1) (x ∷ xs) = (omega (arith, rise.0, later), rise.1, rise.2) in
@@ -66,23 +68,15 @@ cut limit number (x ∷ xs) rise =
           }
     ]
 
--- a number at or above the limit has no entity
-pub with_number-past : (limit least number : ℕ) (xs : List EntityState) → RiseFrom limit least xs → limit ≤ number → with_number number xs ≡ None
-with_number-past limit least number [] rise past = refl
-with_number-past limit least number (x ∷ xs) rise past =
-    with_number-others x xs number (λ same. omega (arith, rise.1)) ∙ with_number-past limit (x.number + 1) number xs rise.2 past
-
 -- what is true of each entity is true of the one under a number
+some_holds : (P : EntityState → Type 0) (o : Option EntityState) (x : EntityState) → IfSome o P → o ≡ Some x → P x
+some_holds P None x holds e = absurd cc
+some_holds P (Some y) x holds e =
+    let is : y ≡ x = cc in
+    subst P is holds
+
 pub with_number-all : (P : EntityState → Type 0) (number : ℕ) (xs : List EntityState) (x : EntityState) → All P xs → with_number number xs ≡ Some x → P x
-with_number-all P number [] x all e = absurd cc
-with_number-all P number (y ∷ ys) x all e =
-    elim (cases_Bool (eqb y.number number)) [
-      | inl same ↦
-          let found = rw same at e in
-          let is : y ≡ x = cc in
-          subst P is (All-head P y ys all)
-      | inr other ↦ with_number-all P number ys x (All-tail P y ys all) (rw other at e)
-    ]
+with_number-all P number xs x all e = some_holds P (with_number number xs) x (found-all P number xs all) e
 
 -- the entry of a number
 abbrev pub entry_of : ℕ → List Entered → Option Entered
@@ -99,10 +93,6 @@ entry_of-first entry entries number same = rw (eq-eqb entry.number number same) 
 
 pub entry_of-others : (entry : Entered) (entries : List Entered) (number : ℕ) → entry.number ≢ number → entry_of number (entry ∷ entries) ≡ entry_of number entries
 entry_of-others entry entries number other = rw (ne_eqb entry.number number other) refl
-
-pub entries_rise-less : (limit least less : ℕ) (entries : List Entered) → less ≤ least → EntriesRise limit least entries → EntriesRise limit less entries
-entries_rise-less limit least less [] below rise = tt
-entries_rise-less limit least less (entry ∷ entries) below rise = (omega (arith, rise.0), rise.1, rise.2)
 
 -- the state that an entry's words say
 abbrev pub state_there : ℕ → Option (List ℕ) → Option EntityState

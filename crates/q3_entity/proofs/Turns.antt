@@ -14,7 +14,8 @@ use Rattle.q3_entity.specs.Lists.{number_at, one_more, stays, entered, words_fro
 use Rattle.q3_entity.specs.Runs.{taken}
 use Rattle.q3_entity.specs.Walking.{kept_below, Reached, next_at, entry_at, turn_at}
 use Rattle.q3_entity.proofs.Binds.{bind_same, bind_assoc}
-use Rattle.q3_entity.proofs.Numbers.{with_number-below, with_number-first, with_number-others, kept_below-none, kept_below-more, kept_below-rises, taken-found, taken-rises}
+use Rattle.q3_entity.proofs.Risen.{with_number-behind, with_number-below, is_taken}
+use Rattle.q3_entity.proofs.Numbers.{with_number-named, kept_below-none, kept_below-more, kept_below-rises}
 use Rattle.q3_bits.specs.Words.{field_at}
 use Rattle.q3_bits.specs.Streams.{holding, with_rest}
 use Rattle.q3_entity.specs.declared.reading.Entry.TheVariants.{Changed, Same}
@@ -81,7 +82,7 @@ forget : (words : List (List Bool)) (table : Layout) (lines : Lines) (x : Entity
 unfolding numbers_after
 forget words table lines x base zero number next entities bits below = refl
 forget words table lines x base (suc left) number next entities bits below =
-    let gone = with_number-others x base number (λ same. omega arith) in
+    let gone = with_number-behind number x base (λ same. omega arith) in
     elim (cases_eq number next) [
       | inl same ↦
           rw (← same)
@@ -138,7 +139,7 @@ jump words table lines (x ∷ xs) (suc left) number next entities bits rise sum 
             | inl here ↦
                 let risen : RiseFrom (end_mark table) (number + 1) xs = rw here at rise.2 in
                 numbers_after-there words table lines base left number next entities bits other
-                ∙ ap (λ (from : Option EntityState). stays entities from >>= λ kept. numbers_after words table lines base left (number + 1) next kept bits) (with_number-first x xs number here)
+                ∙ ap (λ (from : Option EntityState). stays entities from >>= λ kept. numbers_after words table lines base left (number + 1) next kept bits) (with_number-named x xs number here)
                 ∙ bind_same (one_more entities x) (λ kept. numbers_after words table lines base left (number + 1) next kept bits)
                 (λ kept. kept_below next kept xs >>= λ kept'. from_next words table lines next kept'.1 kept'.0 bits)
                 (λ kept is.
@@ -207,13 +208,13 @@ list_turns words table lines at bits below rise =
     ap (λ (left : ℕ). numbers_after words table lines at.base left at.next at.next at.entities bits) all
     ∙ numbers_after-here words table lines at.base rest at.next at.entities bits
     ∙ ap (λ (from : Option EntityState). behind_entry words table lines at.next from at.entities bits (λ next now left. numbers_after words table lines at.base rest (at.next + 1) next now left))
-    (sym (taken-found (end_mark table) at.next at.base rise))
+    (sym (is_taken (end_mark table) at.next at.base rise).found)
     ∙ behind_entry-same words table lines at.next found.0 at.entities bits
     (λ next now left. numbers_after words table lines at.base rest (at.next + 1) next now left)
     (λ next now left. kept_below next now found.1 >>= λ kept. from_next words table lines next kept.1 kept.0 left)
     (λ next now left more.
     behind_taken words table lines at.base rest at.next next now left
-    ∙ jump words table lines found.1 rest (at.next + 1) next now left (taken-rises (end_mark table) at.next at.base rise) (omega arith) more)
+    ∙ jump words table lines found.1 rest (at.next + 1) next now left (is_taken (end_mark table) at.next at.base rise).rise (omega arith) more)
     ∙ bind_same read (λ now. number_at words table (at.next + 1) now.1 >>= λ more. (kept_below more.0 now.0 found.1 >>= λ kept. from_next words table lines more.0 kept.1 kept.0 more.1))
     (λ now. behind now >>= from_reached words table lines)
     (λ now is. sym (next_goes_on words table lines (at.next + 1) found.1 now.0 now.1))
@@ -236,7 +237,7 @@ unfolding turn_at
 turn_rises words table lines at bits now limit rise e =
     let found = taken at.next at.base in
     let read = bind_ok (entry_at words table (words_from lines at.next found.0) (is_some found.0) at.next at.entities bits) (λ entry. next_at words table (at.next + 1) found.1 entry.0 entry.1) now e in
-    next_rises words table (at.next + 1) found.1 read.0.0 read.0.1 now limit (at.next + 1) (taken-rises limit at.next at.base rise) read.2
+    next_rises words table (at.next + 1) found.1 read.0.0 read.0.1 now limit (at.next + 1) (is_taken limit at.next at.base rise).rise read.2
 
 -- what the code reads, as a whole list is read: its beginning
 pub list_begun : (words : List (List Bool)) (table : Layout) (lines : Lines) (base none : List EntityState) (bits : List Bool) (at : Reached) (left : List Bool) → RiseFrom (end_mark table) 0 base → none ≡ []

@@ -1,6 +1,6 @@
 //! Laws of entity deltas and of lists, each the contract of a call that does nothing but cite the laws below it.
 
-ghost use Rattle.q3_entity.specs.Laws.{NormalIsNormal, ZeroIsNormal, EntityWrittenIsRead, RemovalIsRead, ListIsSpelled};
+ghost use Rattle.q3_entity.specs.Laws.{NormalIsNormal, ZeroIsNormal, EntityWrittenIsRead, RemovalIsRead, ListIsSpelled, ListReadIsSpelled, ListSpelledIsRead, ListWrittenIsRead, ReadIsSkipped};
 
 use q3_bits::laws as bits;
 use q3_fields::laws as fields;
@@ -44,4 +44,40 @@ pub fn list_is_spelled()
     zero_is_normal();
     fields::words_are_spelled();
     fields::unchanged_is_normal();
+}
+
+/// A list that is read was spelled so, and its entities are in normal form where those of the base and the baselines
+/// are.
+pub fn list_read_is_spelled()
+    ensures { ListReadIsSpelled }
+{
+    bits::read_was_put();
+    fields::words_read_are_spelled();
+    zero_is_normal();
+}
+
+/// A list that is spelled so is read, with whatever follows it. So where a reader refuses, no front of the bits is
+/// spelled so.
+pub fn list_spelled_is_read()
+    ensures { ListSpelledIsRead }
+{
+    bits::put_is_read();
+    fields::words_spelled_are_read();
+    zero_is_normal();
+}
+
+/// What is written of a list against a base and baselines in normal form is read back as the entities in normal form,
+/// with whatever follows it.
+pub fn list_written_is_read()
+    ensures { ListWrittenIsRead }
+{
+    list_is_spelled();
+    list_spelled_is_read();
+}
+
+/// What is read as a list is skipped to the same place.
+pub fn read_is_skipped()
+    ensures { ReadIsSkipped }
+{
+    zero_is_normal();
 }

@@ -8,6 +8,8 @@ pub mod list_reading;
 pub mod list_writing;
 pub mod print;
 pub mod reading;
+#[cfg(test)]
+mod reading_tests;
 mod run;
 pub mod state;
 pub mod writing;

@@ -1,7 +1,9 @@
 //! The snapshots and baselines that a snapshot is read against.
 
 ghost use Rattle.std.specs.Prelude.{◌≡◌, option_map};
-ghost use Rattle.q3_svmsg.specs.Values.{Context, base_of};
+ghost use Rattle.q3_player.specs.State.{zero_player};
+ghost use Rattle.q3_entity.specs.Entities.{run_of};
+ghost use Rattle.q3_svmsg.specs.Values.{Context, base_of, base_player, base_entities};
 
 use q3_entity::{Baselines, Run};
 use q3_player::PlayerState;
@@ -25,4 +27,22 @@ pub trait Bases {
     /// The baselines.
     fn baselines(&self) -> &Baselines
         ensures { result.now ≡ (context self.now).lines };
+}
+
+/// A base, or the zero player and no entities where there is none.
+pub(crate) fn base_or<'a>(against: Option<BaseView<'a>>, zero: &'a PlayerState) -> BaseView<'a>
+    requires { zero.now ≡ zero_player }
+    ensures player { result.player.now ≡ base_player (option_map base_of against.entry) }
+    ensures entities { run_of result.entities ≡ base_entities (option_map base_of against.entry) }
+{
+    match against {
+        Some(base) => base,
+        None => BaseView {
+            player: zero,
+            entities: Run {
+                head: &[],
+                tail: &[],
+            },
+        },
+    }
 }

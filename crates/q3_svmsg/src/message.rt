@@ -2,7 +2,6 @@
 
 ghost use Rattle.std.specs.Prelude.{◌≡◌, IfOk};
 
-use crate::never::Never;
 use arrayvec::ArrayVec;
 use q3_bits::NoMemory;
 use q3_entity::List;
@@ -31,7 +30,6 @@ pub struct ServerMessage {
     pub head: SnapHead,
     /// The snapshot's entities, by rising number.
     pub entities: Box<List>,
-    pub never: Never,
 }
 
 impl ServerMessage {
@@ -41,7 +39,12 @@ impl ServerMessage {
     pub fn new(alloc: Global) -> Result<ServerMessage, NoMemory>
         ensures { IfOk result (λ made. told_of made ≡ empty_message) }
     {
-        let _ = alloc;
-        Err(std::alloc::AllocError)
+        Ok(ServerMessage {
+            ack: 0,
+            commands: Box::new(alloc, ArrayVec::new())?,
+            section: Section::Nothing,
+            head: SnapHead::new(),
+            entities: Box::new(alloc, List::new())?,
+        })
     }
 }
