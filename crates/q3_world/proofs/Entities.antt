@@ -2,6 +2,8 @@
 use Rattle.std.proofs.Common.{◌≡◌, ℕ, zero, suc, ◌+◌, ◌-◌, ◌<◌, ◌≤◌, Bool, true, false, cond, eqb, ltb, List, [], ◌∷◌, ◌++◌, length, get_or, set, take, drop, Option, Some, None, refl, sym, ap, subst, ◌∙◌, inl, inr, arith}
 use Rattle.std.specs.Prelude.{All, not, nat_le, nat_lt}
 use Rattle.std.specs.List.{filter, insert, remove, position, position_or_len}
+use Rattle.std.proofs.lemmas.List.{length_push}
+use Rattle.std.proofs.lemmas.List.Edits.{length-insert}
 use Rattle.std.proofs.lemmas.List.Elements.{All-nil, All-cons, All-head, All-tail}
 use Rattle.std.proofs.lemmas.List.Quantifiers.{position-Some}
 use Rattle.std.proofs.lemmas.List.Sums.{fails_before_first}
@@ -53,8 +55,8 @@ put_same entity first others same =
   where
     eqb_itself : (n : ℕ) → eqb n n ≡ true
     eqb_itself n = elim (cases_Bool (eqb n n)) [
-      | inl yes ↦ yes
-      | inr no ↦ absurd (eqb-false n n no refl)
+      | inl equal ↦ equal
+      | inr other ↦ absurd (eqb-false n n other refl)
     ]
 
 put_above : (entity first : EntityState) (others : List EntityState) → entity.number < first.number → with_entity entity (first ∷ others) ≡ entity ∷ first ∷ others
@@ -100,7 +102,7 @@ put_rises limit least entity (first ∷ others) le lt rise =
     elim (cases_lt first.number entity.number) [
       | inl below ↦ rw (put_below entity first others below) (rise.0, rise.1, put_rises limit (first.number + 1) entity others (omega (arith, below)) lt rise.2)
       | inr past ↦ elim (cases_lt entity.number first.number) [
-        | inl above ↦ rw (put_above entity first others above) (le, lt, omega (arith, above), rise.1, rise.2)
+        | inl above ↦ rw (put_above entity first others above) (le, lt, (omega (arith, above), rise.1, rise.2))
         | inr same ↦
             let equal : first.number ≡ entity.number = omega arith in
             rw (put_same entity first others equal) (le, lt, subst (λ (n : ℕ). RiseFrom limit (n + 1) others) equal rise.2)
@@ -134,8 +136,8 @@ stays_first number entity others other = rw (ne_eqb entity.number number other) 
 goes_first : (number : ℕ) (entity : EntityState) (others : List EntityState) → entity.number ≡ number → without_entity number (entity ∷ others) ≡ without_entity number others
 goes_first number entity others same =
     elim (cases_Bool (eqb entity.number number)) [
-      | inl yes ↦ rw yes refl
-      | inr no ↦ absurd (eqb-false entity.number number no same)
+      | inl equal ↦ rw equal refl
+      | inr other ↦ absurd (eqb-false entity.number number other same)
     ]
 
 -- all above a number stay
@@ -207,7 +209,72 @@ pub none_from : (number : ℕ) (entities : List EntityState) → position (from_
 none_from number entities is k d lt =
     let place = position_or_len (from_number number) entities in
     elim (cases_Bool (nat_lt place (length entities))) [
-      | inl yes ↦ absurd (some_is_none place (position (from_number number) entities) is (sym (cond-true (nat_lt place (length entities)) (Some place) None yes)))
-      | inr no ↦ leb-false number (get_or entities k d).number
-          (fails_before_first (from_number number) entities k d (omega (arith, ltb-false place (length entities) no, lt)))
+      | inl within ↦ absurd (some_is_none place (position (from_number number) entities) is (sym (cond-true (nat_lt place (length entities)) (Some place) None within)))
+      | inr past ↦ leb-false number (get_or entities k d).number
+          (fails_before_first (from_number number) entities k d (omega (arith, ltb-false place (length entities) past, lt)))
     ]
+
+-- ---- what is done at such a place
+
+-- the place that a look answered
+abbrev pub Looks : ℕ → List EntityState → Option ℕ → Option ℕ → Type 0
+Looks number entities answer found = (seen : List EntityState) × (answer ≡ position (from_number number) seen) × (seen ≡ entities) × (answer ≡ found)
+
+looked : (number : ℕ) (entities : List EntityState) (answer found : Option ℕ) → Looks number entities answer found → position (from_number number) entities ≡ found
+looked number entities answer found looks = ap (position (from_number number)) (sym looks.2) ∙ (sym looks.1 ∙ looks.3)
+
+-- one is found that reads as the one at its place
+abbrev At : List EntityState → ℕ → EntityState → Type 0
+At entities place there = there ≡ get_or entities place there
+
+pub push_is : (limit : ℕ) (entity : EntityState) (entities : List EntityState) (answer : Option ℕ) → RiseFrom limit 0 entities → entity.number < limit
+    → Looks entity.number entities answer None → (with_entity entity entities ≡ entities ++ entity ∷ []) × (length entities < limit)
+push_is limit entity entities answer rise lt looks =
+    let is = put_behind entity entities (none_from entity.number entities (looked entity.number entities answer None looks)) in
+    let more = rise_few limit 0 (with_entity entity entities) (omega arith) (put_rises limit 0 entity entities (omega arith) lt rise) in
+    (is, omega (arith, more, ap (λ (es : List EntityState). length es) is, length_push entities entity))
+
+pub set_is : (entity there : EntityState) (entities : List EntityState) (answer : Option ℕ) (place : ℕ)
+    → Looks entity.number entities answer (Some place) → At entities place there → there.number ≡ entity.number
+    → with_entity entity entities ≡ set entities place entity
+set_is entity there entities answer place looks at same =
+    let found = found_at entity.number place there entities (looked entity.number entities answer (Some place) looks) in
+    put_there entity there entities place found.0 found.2 (ap (λ (e : EntityState). e.number) (sym at) ∙ same)
+
+pub insert_is : (limit : ℕ) (entity there : EntityState) (entities : List EntityState) (answer : Option ℕ) (place : ℕ) → RiseFrom limit 0 entities → entity.number < limit
+    → Looks entity.number entities answer (Some place) → At entities place there → (there.number ≡ entity.number → ⊥)
+    → (with_entity entity entities ≡ insert entities place entity) × (length entities < limit)
+insert_is limit entity there entities answer place rise lt looks at other =
+    let found = found_at entity.number place there entities (looked entity.number entities answer (Some place) looks) in
+    let named = ap (λ (e : EntityState). e.number) at in
+    let above : entity.number < (get_or entities place there).number =
+    elim (cases_lt entity.number (get_or entities place there).number) [
+      | inl less ↦ less
+      | inr past ↦ absurd (other (named ∙ omega (arith, past, found.1)))
+    ] in
+    let is = put_before entity there entities place found.0 found.2 above in
+    let more = rise_few limit 0 (with_entity entity entities) (omega arith) (put_rises limit 0 entity entities (omega arith) lt rise) in
+    (is, omega (arith, more, ap (λ (es : List EntityState). length es) is, length-insert entities place entity (omega (arith, found.0))))
+
+pub remove_is : (limit number : ℕ) (there : EntityState) (entities : List EntityState) (answer : Option ℕ) (place : ℕ) → RiseFrom limit 0 entities
+    → Looks number entities answer (Some place) → At entities place there → there.number ≡ number
+    → without_entity number entities ≡ remove entities place
+remove_is limit number there entities answer place rise looks at same =
+    let found = found_at number place there entities (looked number entities answer (Some place) looks) in
+    goes_there limit 0 number there entities place rise found.0 found.2 (ap (λ (e : EntityState). e.number) (sym at) ∙ same)
+
+pub stays_is : (limit number : ℕ) (there : EntityState) (entities : List EntityState) (answer : Option ℕ) (place : ℕ) → RiseFrom limit 0 entities
+    → Looks number entities answer (Some place) → At entities place there → (there.number ≡ number → ⊥)
+    → without_entity number entities ≡ entities
+stays_is limit number there entities answer place rise looks at other =
+    let found = found_at number place there entities (looked number entities answer (Some place) looks) in
+    let named = ap (λ (e : EntityState). e.number) at in
+    let above : number < (get_or entities place there).number =
+    elim (cases_lt number (get_or entities place there).number) [
+      | inl less ↦ less
+      | inr past ↦ absurd (other (named ∙ omega (arith, past, found.1)))
+    ] in
+    none_goes limit 0 number there entities place rise found.0 found.2 above
+
+pub none_is_gone : (number : ℕ) (entities : List EntityState) (answer : Option ℕ) → Looks number entities answer None → without_entity number entities ≡ entities
+none_is_gone number entities answer looks = stay_below number entities (none_from number entities (looked number entities answer None looks))

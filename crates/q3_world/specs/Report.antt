@@ -28,6 +28,7 @@ use Rattle.q3_world.specs.declared.answer.Shown.TheVariants as shown
 use Rattle.q3_world.specs.declared.answer.Answer.{Answer}
 use Rattle.q3_world.specs.declared.answer.Answer.TheVariants.{Client, Entity, Remove, Time, Player, Area, Serve, Unknown, Deliver, Show}
 use Rattle.q3_io.specs.Print.{hex_text}
+use Rattle.q3_player.specs.declared.head.SnapHead.{SnapHead}
 use Rattle.q3_player.specs.Report.{player_text}
 use Rattle.q3_entity.specs.declared.state.EntityState.{EntityState}
 use Rattle.q3_entity.specs.Report.{fields_text}
@@ -128,6 +129,12 @@ took_text (Applied number snap) = outcome_text number snap
 abbrev pub area_text : List ℕ → List ℕ
 area_text [] = codes "-"
 area_text (byte ∷ bytes) = hex_text (byte ∷ bytes)
+
+-- what stands in front of the area
+abbrev pub start_text : ℕ → SnapHead → List ℕ
+start_text c head =
+    concat (codes "show " ∷ decimal c ∷ codes " snapshot " ∷ decimal head.number ∷ codes " time " ∷ decimal head.time
+    ∷ codes " flags " ∷ decimal head.flags ∷ codes " area " ∷ [])
 
 -- a snapshot, as `show C` prints it: its head, the player in a line of its own, and each entity in one
 abbrev pub head_text : Snapshot → List ℕ

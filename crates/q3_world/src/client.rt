@@ -3,8 +3,8 @@
 //! leaves its number untaken.
 
 ghost use Rattle.std.specs.Prelude.{◌≡◌, ◌≢◌, ◌<◌, Some, IfOk, option_map, length};
-ghost use Rattle.q3_world.specs.Client.{new_client, take_at};
-ghost use Rattle.q3_world.specs.Views.{snapshot_of, outcome};
+ghost use Rattle.q3_world.specs.Client.{new_client, take_message, take_at};
+ghost use Rattle.q3_world.specs.Views.{snapshot_of};
 
 use crate::bases::NoBases;
 use q3_bits::NoMemory;
@@ -71,6 +71,7 @@ impl Model for Client {
     ghost use Rattle.std.specs.Prelude.{◌≡◌, ◌<◌, length, slice_get, option_map, option_and_then, IfSome};
     ghost use Rattle.q3_world.specs.Client.{ClientState};
     ghost use Rattle.q3_world.specs.Views.{snapshot_in_message};
+    ghost use Rattle.q3_entity.specs.Baselines.{no_lines};
 
     ghost Value = { ClientState };
 
@@ -83,7 +84,8 @@ impl Model for Client {
       accepted = option_map snapshot_in_message (option_and_then (slice_get c.messages.items) c.newest);
     } };
 
-    ghost invariant = { λ c. (length c.messages.items ≡ 2) × IfSome c.newest (λ place. place < 2) };
+    ghost invariant = { λ c. (length c.messages.items ≡ 2) × IfSome c.newest (λ place. place < 2)
+        × (c.bases.lines ≡ no_lines) };
 }
 
 impl Client {
@@ -119,6 +121,13 @@ impl Client {
         }
         let (head, message) = datagram.split_at(4);
         let number = u32::from_le_bytes([head[0], head[1], head[2], head[3]]);
+        self.take_message(number, message)
+    }
+
+    /// Takes a message under its number.
+    fn take_message(&mut self, number: u32, message: &[u8]) -> ClientTook
+        ensures { take_message self.old number message.now ≡ record { client = self.new; answer = result } }
+    {
         if number <= self.taken {
             return ClientTook::Old;
         }
@@ -127,11 +136,19 @@ impl Client {
         if let Err(e) = read_server_message(&self.profile, number, message, &self.bases, into) {
             return ClientTook::Illegible(e);
         }
+        let section = into.section;
         self.taken = number;
-        let snap = outcome_of(self.messages[place].section);
-        if let SnapOutcome::Accepted { .. } = snap {
-            self.newest = Some(place);
-        }
+        let snap = match section {
+            Section::Nothing => SnapOutcome::NoSnap,
+            Section::Snap { base, held: true } => {
+                self.newest = Some(place);
+                SnapOutcome::Accepted { base }
+            }
+            Section::Snap { base, held: false } => SnapOutcome::Skipped {
+                base,
+                cause: NoBase::NeverHeld,
+            },
+        };
         ClientTook::Applied { number, snap }
     }
 
@@ -144,20 +161,6 @@ impl Client {
             head: &message.head,
             entities: &message.entities,
         })
-    }
-}
-
-/// What becomes of a section: a snapshot is accepted unless its base isn't held.
-fn outcome_of(section: Section) -> SnapOutcome
-    ensures { result ≡ outcome section }
-{
-    match section {
-        Section::Nothing => SnapOutcome::NoSnap,
-        Section::Snap { base, held: true } => SnapOutcome::Accepted { base },
-        Section::Snap { base, held: false } => SnapOutcome::Skipped {
-            base,
-            cause: NoBase::NeverHeld,
-        },
     }
 }
 

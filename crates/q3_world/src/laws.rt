@@ -6,12 +6,14 @@ ghost use Rattle.q3_world.specs.Schedules.{StepFollows, BytesFollowTags, AlwaysL
 use q3_bits::laws as bits;
 use q3_entity::laws as entity;
 use q3_player::laws as player;
+use q3_svmsg::laws as svmsg;
 
 /// A message that was built is read back from its bytes.
 pub fn built_is_read()
     ensures { BuiltIsRead }
 {
     bits::message_holds_bits();
+    svmsg::written_is_read();
 }
 
 /// A step of what stands for a whole world, where each datagram is taken by its bytes, is the whole world's step, where

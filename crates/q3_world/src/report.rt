@@ -4,16 +4,17 @@ ghost use Rattle.std.specs.Prelude.{◌≡◌, [], ◌∷◌, codes, decimal, op
 ghost use Rattle.std.specs.List.{concat, flat_map};
 ghost use Rattle.q3_io.specs.Faults.{HasCause};
 ghost use Rattle.q3_io.specs.Written.{Adds, NothingWaits};
-ghost use Rattle.q3_world.specs.Report.{lines_of, handed_in_text, slot_error_text, no_client_text, emitted_text, bits_word, player_word, entity_word, cause_word, player_number, entity_number, cause_number, illegible_text, outcome_text, took_text, area_text, entity_text, shown_text, head_text, snapshot_text};
+ghost use Rattle.q3_world.specs.Report.{lines_of, handed_in_text, slot_error_text, no_client_text, emitted_text, bits_word, player_word, entity_word, cause_word, player_number, entity_number, cause_number, illegible_text, outcome_text, took_text, area_text, start_text, entity_text, shown_text, head_text, snapshot_text};
 ghost use Rattle.q3_world.specs.Views.{snapshot_of};
 
 use crate::answer::{Answer, Shown};
 use crate::client::{ClientTook, NoBase, SnapOutcome, SnapshotView};
 use crate::server::{Emitted, NoClient, SlotError};
+use arrayvec::ArrayVec;
 use q3_bits::ReadError;
 use q3_entity::{EntityError, EntityState, print_fields};
 use q3_io::{Failed, Piece, Sink, laws, print_all, print_hex};
-use q3_player::{PlayerError, print_words};
+use q3_player::{PlayerError, SnapHead, print_words};
 use q3_svmsg::Illegible;
 
 /// Prints the lines of an answer, with the snapshot that is lent for it, and hands them on, or a front of them and
@@ -318,27 +319,35 @@ fn print_head<O: Sink>(c: u8, snapshot: SnapshotView, out: &mut O) -> Result<(),
     ensures cause { HasCause (O.faults out.old) (O.faults out.new) result }
 {
     laws::texts_follow();
+    print_start(c, snapshot.head, out)?;
+    print_area(&snapshot.head.area, out)?;
+    out.write_all(b"\n+ player")
+}
+
+/// Prints what stands in front of the area.
+fn print_start<O: Sink>(c: u8, head: &SnapHead, out: &mut O) -> Result<(), Failed>
+    ensures adds { Adds (O.written out.old) (O.written out.new) (start_text c head.now) result }
+    ensures cause { HasCause (O.faults out.old) (O.faults out.new) result }
+{
     print_all(
         &[
             Piece::Text(b"show "),
             Piece::Number(u64::from(c)),
             Piece::Text(b" snapshot "),
-            Piece::Number(u64::from(snapshot.head.number)),
+            Piece::Number(u64::from(head.number)),
             Piece::Text(b" time "),
-            Piece::Number(u64::from(snapshot.head.time)),
+            Piece::Number(u64::from(head.time)),
             Piece::Text(b" flags "),
-            Piece::Number(u64::from(snapshot.head.flags)),
+            Piece::Number(u64::from(head.flags)),
             Piece::Text(b" area "),
         ],
         out,
-    )?;
-    print_area(&snapshot.head.area, out)?;
-    out.write_all(b"\n+ player")
+    )
 }
 
 /// Prints area bytes.
-fn print_area<O: Sink>(area: &[u8], out: &mut O) -> Result<(), Failed>
-    ensures adds { Adds (O.written out.old) (O.written out.new) (area_text area.now) result }
+fn print_area<O: Sink>(area: &ArrayVec<u8, 32>, out: &mut O) -> Result<(), Failed>
+    ensures adds { Adds (O.written out.old) (O.written out.new) (area_text area.now.items) result }
     ensures cause { HasCause (O.faults out.old) (O.faults out.new) result }
 {
     if area.is_empty() {
@@ -364,15 +373,23 @@ fn print_entity<O: Sink>(entity: &EntityState, out: &mut O) -> Result<(), Failed
     ensures cause { HasCause (O.faults out.old) (O.faults out.new) result }
 {
     laws::texts_follow();
+    print_number(entity.number, out)?;
+    print_fields(&entity.words, out)?;
+    out.write_all(b"\n")
+}
+
+/// Prints what stands in front of an entity's words.
+fn print_number<O: Sink>(number: u16, out: &mut O) -> Result<(), Failed>
+    ensures adds { Adds (O.written out.old) (O.written out.new) (concat (codes "+ entity " ∷ decimal number ∷ [])) result }
+    ensures cause { HasCause (O.faults out.old) (O.faults out.new) result }
+{
     print_all(
         &[
             Piece::Text(b"+ entity "),
-            Piece::Number(u64::from(entity.number)),
+            Piece::Number(u64::from(number)),
         ],
         out,
-    )?;
-    print_fields(&entity.words, out)?;
-    out.write_all(b"\n")
+    )
 }
 
 fn bits_word(e: ReadError) -> &'static [u8]

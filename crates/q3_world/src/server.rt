@@ -14,7 +14,7 @@ ghost use Rattle.q3_world.specs.Server.{places, fragment_size, most_numbers, new
 use crate::places::empty_places;
 use arrayvec::ArrayVec;
 use q3_bits::NoMemory;
-use q3_entity::{Baselines, EntityState};
+use q3_entity::{Baselines, EntityState, List};
 use q3_fields::Table;
 use q3_io::Address;
 use q3_player::PlayerState;
@@ -230,7 +230,6 @@ impl Slot {
         ensures entities { message.new.entities.value.items ≡ take most_entities map.now.entities }
         ensures list { (table : Layout) → end_mark table ≡ most_numbers → IsList table (take most_entities map.now.entities) }
     {
-        let count = map.entities.len().min(MOST_ENTITIES);
         message.ack = 0;
         message.commands.clear();
         message.section = Section::Snap {
@@ -242,11 +241,7 @@ impl Slot {
         message.head.flags = 0;
         copy_area(&self.area, &mut message.head.area);
         message.head.player = self.player;
-        message.entities.clear();
-        message
-            .entities
-            .try_extend_from_slice(&map.entities[..count])
-            .unwrap();
+        copy_lowest(&map.entities, &mut message.entities);
     }
 
     /// Begins the next message, with a whole snapshot, and hands out its datagram.
@@ -284,6 +279,24 @@ impl Slot {
             base: 0,
             bytes,
         }
+    }
+}
+
+/// Copies the entities of the lowest numbers, at most 256.
+fn copy_lowest(from: &[EntityState], into: &mut List)
+    ensures { into.new.items ≡ take most_entities from.now }
+{
+    into.clear();
+    into.try_extend_from_slice(lowest(from)).unwrap();
+}
+
+fn lowest(entities: &[EntityState]) -> &[EntityState]
+    ensures front { result.now ≡ take most_entities entities.now }
+    ensures few { length result.now ≤ most_entities }
+{
+    match entities.get(..MOST_ENTITIES) {
+        Some(front) => front,
+        None => entities,
     }
 }
 

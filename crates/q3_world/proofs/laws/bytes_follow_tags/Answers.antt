@@ -1,0 +1,5 @@
+use Rattle.q3_world.proofs.EverySchedule.{bytes_follow_tags}
+use Rattle.q3_world.proofs.laws.bytes_follow_tags.Goals as goal
+
+pub returns : goal.returns
+returns c = bytes_follow_tags c.step_follows.ensures
