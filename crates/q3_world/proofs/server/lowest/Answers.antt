@@ -5,7 +5,7 @@ use Rattle.q3_world.proofs.server.lowest.Goals as goal
 
 pub returns-in-None-clause-front : goal.returns-in-None-clause-front
 returns-in-None-clause-front c =
-    elim (c.in-None.ensures.lookup) [
+    elim c.in-None.ensures.lookup.0 [
       | inl backwards ↦ absurd (omega arith)
       | inr short ↦ sym (take_all most_entities c.args.entities.now (omega (arith, short)))
     ]
