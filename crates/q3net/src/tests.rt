@@ -17,6 +17,13 @@ const NEVER: &[u8] = b"client 0 17 5000 1 10.0.0.1:27960\nshow 0\n";
 
 const NEVER_REPORT: &[u8] = b"client 0 ok\nshow 0 none\n";
 
+/// Entities, one of which goes again, and area bytes.
+const ENTITIES: &[u8] =
+    b"client 0 17 5000 1 10.0.0.1:27960\ntime 1000\nentity 9 1:300\nentity 5 1:7\narea 0 0aff\nremove 9\nserve 0\ndeliver 1\nshow 0\n";
+
+const ENTITIES_REPORT: &[u8] =
+    b"client 0 ok\ntime ok\nentity 9 ok\nentity 5 ok\narea 0 ok\nremove 9 ok\nserve 0 snapshot 1 base 0 bytes 22 datagram 1\ndeliver 1 client 0 applied 1\n+ accepted 1 base 0\nshow 0 snapshot 1 time 1000 flags 0 area 0aff\n+ player\n+ entity 5 1:7\n";
+
 /// The lines of a profile before its code.
 const TABLES: &str =
     "protocol = 68\nserver_ring = 4096\nparse_ring = 8192\nentity = [0, 8, -16]\nplayer = [0, 16]\n";
@@ -71,8 +78,9 @@ fn one_run_for_each_end(rt: HostRuntime) -> Result<(), Fail> {
     let profile = plain_profile(rt.alloc())?;
     let good = profile.as_bytes();
     let bad: &[u8] = b"protocol = 71";
-    let table: [(&str, (&[u8], &[u8]), u8, &[u8]); 9] = [
+    let table: [(&str, (&[u8], &[u8]), u8, &[u8]); 10] = [
         ("replay p s", (good, NEVER), 0, NEVER_REPORT),
+        ("replay p s", (good, ENTITIES), 0, ENTITIES_REPORT),
         ("replay p s", (good, b""), 0, b""),
         ("--version", (bad, b""), 0, b"q3net 0.1.0\n"),
         ("replay p s s", (good, FIRST), 2, b"usage\n"),
