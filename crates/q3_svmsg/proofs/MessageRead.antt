@@ -38,8 +38,8 @@ message_bits profile context against message rest = simp append_assoc
 section_parts : (profile : Profile) (context : Context) (against : Option Base) (base : ℕ) (head : SnapHead) (entities : List EntityState) (rest : List Bool)
     → section_bits profile context.lines against (Snap base head entities) ++ rest
     ≡ row_bits profile.code ((7, 8) ∷ (head.time, 32) ∷ (distance_to head.number base, 8) ∷ (head.flags, 8) ∷ (length head.area.items, 8) ∷ [])
-        ++ (bytes_row profile.code head.area.items ++ (player_delta profile.code profile.player.kinds (base_player against) head.player
-        ++ (list_text profile.code profile.entity context.lines (base_entities against) entities ++ rest)))
+    ++ (bytes_row profile.code head.area.items ++ (player_delta profile.code profile.player.kinds (base_player against) head.player
+    ++ (list_text profile.code profile.entity context.lines (base_entities against) entities ++ rest)))
 unfolding section_bits snapshot_bits
 section_parts profile context against base head entities rest = simp append_assoc
 
@@ -73,12 +73,12 @@ told_is_read profile context number turns message (Snap base head entities) rest
     let same = section_parts profile context against base head entities end in
     let fields = (head.time, 32) ∷ (distance_to head.number base, 8) ∷ (head.flags, 8) ∷ (length head.area.items, 8) ∷ [] in
     let others = bytes_row words head.area.items ++ (player_delta words profile.player.kinds (base_player against) head.player
-            ++ (list_text words profile.entity context.lines (base_entities against) entities ++ end)) in
+    ++ (list_text words profile.entity context.lines (base_entities against) entities ++ end)) in
     let bits = row_bits words ((7, 8) ∷ fields) ++ others in
     let read = row-first words codec.code put 7 8 fields others (omega arith) in
     let one = turn words was_put codec.code bits (row_bits words fields ++ others) 7 turns (sym read) (omega (arith, enough, ap length same)) in
     let section = subst (λ (n : ℕ). section_after profile context n (row_bits words fields ++ others) ≡ Ok (told, end)) has_number
-            (section_is_read profile context base head entities end codec is_context is.0 is.1 is.2 put zero_is player_law list_law) in
+    (section_is_read profile context base head entities end codec is_context is.0 is.1 is.2 put zero_is player_law list_law) in
     let last = end_is_read profile codec.code put rest in
     let two = turn words was_put codec.code end rest 8 (length end) (sym last) (omega arith) in
     let ending = ending_done words end rest (length end) two.left (sym last) two.is in
@@ -97,4 +97,4 @@ written_is_read put was_put zero_is player_law list_law profile context number m
     let behind = commands_are_read profile context number codec.code put was_put message.commands start (length commands) others is.commands (omega (arith, is.few)) (omega arith) in
     rw (message_bits profile context against message rest, row-last words codec.code put message.ack 32 commands is.ack)
     (behind.is ∙ told_is_read profile context number behind.left (record start { commands = message.commands }) message.section rest codec is_context is.section is.number_is refl
-        put was_put zero_is player_law list_law behind.enough)
+    put was_put zero_is player_law list_law behind.enough)

@@ -105,10 +105,10 @@ commands_are_read profile context number code put was_put (command ∷ commands)
     let one = turn words was_put code bits behind 5 turns (sym read) (omega (arith, enough, ap length same)) in
     let after = record message { commands = message.commands ++ command ∷ [] } in
     let step = operations_command profile context number message bits behind others (message.commands ++ command ∷ []) turns one.left (sym read) one.is
-            (sym (next_command_is_read words code put message.commands command others is (omega arith))) in
+    (sym (next_command_is_read words code put message.commands command others is (omega arith))) in
     let more = commands_are_read profile context number code put was_put commands after one.left rest (All-tail IsCommand command commands each)
-            (omega (arith, few, length-append message.commands (command ∷ [])))
-            (omega (arith, one.enough, length-append (row_bits words ((command.number, 32) ∷ [])) (string_bits words command.text ++ others), length-append (string_bits words command.text) others)) in
+    (omega (arith, few, length-append message.commands (command ∷ [])))
+    (omega (arith, one.enough, length-append (row_bits words ((command.number, 32) ∷ [])) (string_bits words command.text ++ others), length-append (string_bits words command.text) others)) in
     record {
       left = more.left;
       enough = more.enough;
