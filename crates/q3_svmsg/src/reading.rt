@@ -216,10 +216,12 @@ fn read_ending(r: &mut Reader) -> Result<(), Illegible>
     laws::read_was_put();
     laws::ends_cut_short();
     loop {
-        match r.get(8)? {
-            NOP => {}
-            EOF => return Ok(()),
-            operation => return Err(Illegible::BadOp(operation as u8)),
+        let operation = r.get(8)?;
+        if operation == EOF {
+            return Ok(());
+        }
+        if operation != NOP {
+            return Err(Illegible::BadOp(operation as u8));
         }
     }
 }

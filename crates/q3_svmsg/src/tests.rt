@@ -336,7 +336,7 @@ fn what_is_too_long_is_refused(rt: HostRuntime) -> Result<(), Fail> {
     );
     let many = repeated(
         &profile.code,
-        &[(0, 32), (7, 8), (1000, 32), (0, 32), (0, 8), (0, 1)],
+        &[(0, 32), (7, 8), (1000, 32), (0, 32), (0, 1)],
         [(0, 10), (0, 1), (0, 1)],
         257,
         1,
