@@ -1,6 +1,6 @@
 -- What a writer and a reader of bits are to their callers, and what a call that writes or reads a text does to them.
-use Rattle.std.specs.Prelude.{◌≡◌, ◌↔◌, ℕ, ◌+◌, ◌<◌, Bool, List, ◌++◌, length, Result, Ok, Err, IsErr, OnOk}
-use Rattle.q3_bits.specs.Bits.{message_length}
+use Rattle.std.specs.Prelude.{◌≡◌, ◌↔◌, ℕ, ◌+◌, ◌<◌, Bool, List, ◌++◌, length, drop, Result, Ok, Err, IsErr, IfOk, OnOk}
+use Rattle.q3_bits.specs.Bits.{message_length, message_bytes}
 use Rattle.q3_bits.specs.declared.writer.Overflow.{Overflow}
 
 -- what was written so far, by which words, and how many bytes the message may have
@@ -35,6 +35,13 @@ pub record HasWritten (start now : Writing) (left whole : List Bool) : Type 0 wh
   pub written : List Bool
   pub parts : written ++ left ≡ whole
   pub writes : Writes start now written (Ok tt)
+
+-- a message's bytes stand at the front of a buffer, and what is behind them stays; it is refused exactly where they
+-- don't fit
+pub record Fills (old new : List ℕ) (text : List Bool) (result : Result ℕ Overflow) : Type 0 where
+  pub refused : IsErr result ↔ (length old < message_length (length text))
+  pub ok : IfOk result (λ count. (count ≡ message_length (length text)) × (new ≡ message_bytes text ++ drop count old))
+  pub long : length new ≡ length old
 
 -- an answer, with what is left to read behind it
 abbrev pub with_rest : {T : Type 0} → {E : Type 0} → List Bool → Result T E → Result (T × List Bool) E

@@ -4,6 +4,7 @@ use Rattle.q3_bits.specs.declared.rest.Rest.{Rest}
 use Rattle.q3_bits.specs.declared.reader.ReadError.{ReadError}
 use Rattle.q3_bits.specs.declared.reader.Reader.TheInside.{Inside}
 use Rattle.q3_bits.specs.Bits.{bits_of}
+use Rattle.q3_bits.specs.Words.{IsCode}
 use Rattle.q3_bits.specs.Streams.{Reading}
 
 -- the bits from the next one on
@@ -18,6 +19,7 @@ rested (Err e) = Err e
 abbrev pub reading_of : Inside → Reading
 reading_of r = record { words = r.code.now; left = rest_bits r.rest; place = 8 * r.total - length (rest_bits r.rest) }
 
--- there were at least as many bytes as are left
+-- there were at least as many bytes as are left, and the words are a code
 pub record IsWithin (r : Inside) : Type 0 where
   pub total : length r.rest.bytes.now ≤ r.total
+  pub code : IsCode r.code.now

@@ -121,6 +121,7 @@ impl Code {
     pub(crate) fn word(&self, byte: u8) -> Word
         ensures bits { bits_of_word result ≡ word_of self.now byte }
         ensures word { IsWord result }
+        ensures is_code { IsCode self.now }
     {
         self.words[byte as usize]
     }

@@ -1,8 +1,8 @@
 //! A reader of bit messages. Keeps the rules "bit order of a field" and "code words".
 
-ghost use Rattle.std.specs.Prelude.{◌≡◌, ◌^◌, ◌<◌, ◌≤◌, length, IfOk, OnErr};
+ghost use Rattle.std.specs.Prelude.{◌≡◌, ◌+◌, ◌*◌, ◌^◌, ◌<◌, ◌≤◌, length, IfOk, OnOk, OnErr};
 ghost use Rattle.q3_bits.specs.Bits.{bits_of};
-ghost use Rattle.q3_bits.specs.Words.{raw_at, byte_at, bytes_at, field_at};
+ghost use Rattle.q3_bits.specs.Words.{IsCode, raw_at, byte_at, bytes_at, field_at};
 ghost use Rattle.q3_bits.specs.Streams.{Reads};
 ghost use Rattle.q3_bits.specs.Unread.{rest_bits, rested};
 
@@ -44,6 +44,8 @@ impl<'a> Reader<'a> {
     pub fn new(code: &'a Code, bytes: &'a [u8]) -> Reader<'a>
         ensures { result ≡ record { words = code.now; left = bits_of bytes.now; place = 0 } }
     {
+        // it is a code, with a word for each byte
+        prove!(code.word(0).length <= 24);
         Reader {
             code,
             rest: Rest::new(bytes),
@@ -60,6 +62,8 @@ impl<'a> Reader<'a> {
         ensures reads { Reads self.old self.new (field_at self.old.words width self.old.left) result }
         ensures fits { IfOk result (λ value. value < 2 ^ width) }
         ensures err { OnErr result (self.new ≡ self.old) }
+        ensures near { OnOk result (self.new.place ≤ self.old.place + 96) }
+        ensures code { IsCode self.old.words }
     {
         let raw = width % 8;
         let (low, rest) = raw_from(self.rest, raw)?;
@@ -82,6 +86,7 @@ fn raw_from(rest: Rest, count: u32) -> Result<(u32, Rest), ReadError>
     requires { count ≤ 24 }
     ensures bits { rested result ≡ raw_at count (rest_bits rest.entry) }
     ensures bytes { IfOk result (λ found. length found.1.bytes.now ≤ length rest.entry.bytes.now) }
+    ensures near { IfOk result (λ found. length (rest_bits rest.entry) ≤ length (rest_bits found.1) + count) }
     ensures fits { IfOk result (λ found. found.0 < 2 ^ count) }
 {
     if rest.count() < count {
@@ -94,6 +99,7 @@ fn raw_from(rest: Rest, count: u32) -> Result<(u32, Rest), ReadError>
 fn byte_from<'a>(code: &Code, rest: Rest<'a>) -> Result<(u8, Rest<'a>), ReadError>
     ensures byte { rested result ≡ byte_at code.now (rest_bits rest.entry) }
     ensures bytes { IfOk result (λ found. length found.1.bytes.now ≤ length rest.entry.bytes.now) }
+    ensures near { IfOk result (λ found. length (rest_bits rest.entry) ≤ length (rest_bits found.1) + 24) }
     ensures small { IfOk result (λ found. found.0 < 256) }
 {
     let window = rest.window();
@@ -110,6 +116,7 @@ fn bytes_from<'a>(code: &Code, rest: Rest<'a>, count: u32) -> Result<(u32, Rest<
     requires few { count ≤ 4 }
     ensures bytes_at { rested result ≡ bytes_at code.now count (rest_bits rest.entry) }
     ensures bytes { IfOk result (λ found. length found.1.bytes.now ≤ length rest.entry.bytes.now) }
+    ensures near { IfOk result (λ found. length (rest_bits rest.entry) ≤ length (rest_bits found.1) + 24 * count) }
     ensures fits { IfOk result (λ found. found.0 < 256 ^ count) }
 {
     let mut number = 0;

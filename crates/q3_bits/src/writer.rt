@@ -1,6 +1,6 @@
 //! A writer of bit messages. Keeps the rules "bit order of a field" and "padding and the longest message".
 
-ghost use Rattle.std.specs.Prelude.{◌≡◌, ◌+◌, ◌*◌, ◌/◌, ◌%◌, ◌^◌, ◌<◌, ◌≤◌, ◌↔◌, ◌++◌, ℕ, [], length, take, IsTrue, OnErr, slice_index, All};
+ghost use Rattle.std.specs.Prelude.{◌≡◌, ◌+◌, ◌*◌, ◌/◌, ◌%◌, ◌^◌, ◌<◌, ◌≤◌, ◌↔◌, ◌++◌, ℕ, [], length, take, drop, IsTrue, OnErr, slice_index, All};
 ghost use Rattle.q3_bits.specs.Bits.{low_bits, message_bytes, message_length};
 ghost use Rattle.q3_bits.specs.Words.{field_bits, row_bits, bytes_bits};
 ghost use Rattle.q3_bits.specs.Streams.{Writes};
@@ -120,6 +120,17 @@ impl<'a> Writer<'a> {
         ensures within { length result.now ≤ self.now.room }
     {
         front(&self.bytes, self.count / 8 + 1)
+    }
+
+    /// Copies the message to the front of a buffer that has room for it, and answers how many bytes it has.
+    pub fn copy_to(&self, into: &mut [u8]) -> usize
+        requires { message_length (length self.now.bits) ≤ length into.old }
+        ensures count { result ≡ message_length (length self.now.bits) }
+        ensures copied { into.new ≡ message_bytes self.now.bits ++ drop result into.old }
+    {
+        let bytes = self.bytes();
+        into[..bytes.len()].copy_from_slice(bytes);
+        bytes.len()
     }
 
     /// Whether so many bits more fit.

@@ -1,4 +1,5 @@
 pub mod State
+pub mod Heads
 pub mod Arrays
 pub mod Delta
 pub mod Spelling

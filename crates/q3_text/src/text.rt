@@ -39,10 +39,16 @@ impl Model for Text {
 }
 
 /// A command of the server or of a client, with its number in the row of those that its end issued.
-#[derive(Debug, PartialEq, Eq, Drop)]
+#[derive(Debug, Default, PartialEq, Eq, Drop)]
 pub struct Command {
     pub number: u32,
     pub text: Text,
+}
+
+impl Default for Text {
+    fn default() -> Text {
+        Text::new()
+    }
 }
 
 /// A byte as a text keeps it: `.` for a byte above 127 and for `%`, every other byte as it is.

@@ -23,6 +23,7 @@ loop-k-preserved c =
     record {
       fits = fits.1;
       bytes = omega (arith, c.in_ok-byte.ensures.bytes, c.loop-k.invariant.bytes);
+      near = omega (arith, c.in_ok-byte.ensures.near, c.loop-k.invariant.near);
       reads = rw (fits.0, fits.2, c.from.ensures) (sym (bytes_more c.args.code.now (c.args.count - c.loop-k.k) (c.args.count - (c.loop-k.k + 1)) c.loop-k.number (256 ^ c.loop-k.k) (rest_bits c.loop-k.left) (c.in_ok-byte.byte, rest_bits c.in_ok-byte.behind) (omega arith) (sym c.in_ok-byte.ensures.byte)) ∙ c.loop-k.invariant.reads);
     }
 

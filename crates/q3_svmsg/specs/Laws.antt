@@ -1,0 +1,82 @@
+-- Laws of a server's messages.
+use Rattle.std.specs.Prelude.{◌≡◌, ◌⊎◌, ℕ, ◌+◌, ◌^◌, ◌<◌, ◌≤◌, Bool, List, ◌++◌, length, map, Option, Some, None, All, Ok}
+use Rattle.q3_text.specs.declared.text.Command.{Command}
+use Rattle.q3_text.specs.Texts.{IsText}
+use Rattle.q3_player.specs.declared.head.SnapHead.{SnapHead}
+use Rattle.q3_player.specs.State.{IsState, IsNormal, normal_player}
+use Rattle.q3_entity.specs.declared.state.EntityState.{EntityState}
+use Rattle.q3_entity.specs.Entities.{normal_entity, IsList, AreStates, AreNormal}
+use Rattle.q3_entity.specs.Baselines.{AreLines}
+use Rattle.q3_profile.specs.declared.profile.Profile.{Profile}
+use Rattle.q3_profile.specs.Profile.{IsCodec}
+use Rattle.q3_svmsg.specs.Values.{Base, IsNamed, Context, Told, Nothing, Snap, Skipped, Message}
+use Rattle.q3_svmsg.specs.Texts.{message_text}
+use Rattle.q3_svmsg.specs.Reading.{held_base, message_after}
+
+-- a command as the program's type holds it
+pub record IsCommand (command : Command) : Type 0 where
+  pub number : command.number < 2 ^ 32
+  pub text : IsText command.text
+
+-- the head of a snapshot as the program's type holds it
+pub record IsHead (head : SnapHead) : Type 0 where
+  pub number : head.number < 2 ^ 32
+  pub time : head.time < 2 ^ 32
+  pub flags : head.flags < 256
+  pub area : All (λ byte. byte < 256) head.area.items
+  pub short : length head.area.items ≤ 32
+  pub player : IsState head.player
+
+-- the entities of a snapshot or of a base
+pub record AreEntities (profile : Profile) (entities : List EntityState) : Type 0 where
+  pub list : IsList profile.entity entities
+  pub states : AreStates entities
+
+-- a base in normal form
+pub record IsBase (profile : Profile) (base : Base) : Type 0 where
+  pub state : IsState base.player
+  pub normal : IsNormal profile.player.kinds base.player
+  pub entities : AreEntities profile base.entities
+  pub normal_entities : AreNormal profile.entity base.entities
+
+-- what a reader's bases and baselines are: in normal form
+pub record IsContext (profile : Profile) (context : Context) : Type 0 where
+  pub bases : (number : ℕ) (base : Base) → context.base number ≡ Some base → IsBase profile base
+  pub lines : AreLines profile.entity context.lines
+
+-- a message with a snapshot, or with no section
+abbrev pub IsTold : Profile → Context → Told → Type 0
+IsTold profile context Nothing = Unit {0}
+IsTold profile context (Snap base head entities) =
+    IsHead head × AreEntities profile entities × IsNamed (held_base context base) head.number base
+IsTold profile context (Skipped base) = ⊥
+
+-- the number of a message is that of its snapshot
+abbrev pub HasNumber : ℕ → Told → Type 0
+HasNumber number (Snap base head entities) = head.number ≡ number
+HasNumber number other = Unit {0}
+
+pub record IsMessage (profile : Profile) (context : Context) (number : ℕ) (message : Message) : Type 0 where
+  pub ack : message.ack < 2 ^ 32
+  pub few : length message.commands ≤ 64
+  pub commands : All IsCommand message.commands
+  pub section : IsTold profile context message.section
+  pub number_is : HasNumber number message.section
+
+-- the base that a section is written against
+abbrev pub base_in : Context → Told → Option Base
+base_in context (Snap base head entities) = held_base context base
+base_in context other = None
+
+-- the section with its states in normal form
+abbrev pub normal_told : Profile → Told → Told
+normal_told profile (Snap base head entities) =
+    Snap base (record head { player = normal_player profile.player.kinds head.player }) (map (normal_entity profile.entity) entities)
+normal_told profile other = other
+
+-- what is written of a message is read back, its states in normal form, with whatever follows it
+abbrev pub WrittenIsRead : Type 0
+WrittenIsRead = (profile : Profile) (context : Context) (number : ℕ) (message : Message) (rest : List Bool) → IsCodec profile
+    → IsContext profile context → IsMessage profile context number message
+    → message_after profile context number (message_text profile context.lines (base_in context message.section) message ++ rest)
+    ≡ Ok (record message { section = normal_told profile message.section }, rest)

@@ -1,0 +1,163 @@
+-- What a reader of a server's message answers: its value, or the first refusal in reading order.
+use Rattle.std.specs.Prelude.{ℕ, zero, suc, ◌+◌, ◌-◌, ◌==◌, nat_lt, Bool, if◌then◌else◌, List, [], ◌∷◌, ◌++◌, length, Option, Some, None, IfSome, Result, Ok, Err}
+use Rattle.std.specs.Result.{result_map_both}
+use Rattle.q3_bits.specs.ResultBind.{◌>>=◌}
+use Rattle.q3_bits.specs.Words.{field_at}
+use Rattle.q3_bits.specs.declared.reader.ReadError.{ReadError}
+use Rattle.q3_bits.specs.declared.reader.ReadError.TheVariants.{End}
+use Rattle.q3_text.specs.declared.text.Command.{Command}
+use Rattle.q3_text.specs.Texts.{most_bytes, translated}
+use Rattle.q3_fields.specs.declared.delta.DeltaError.{DeltaError}
+use Rattle.q3_player.specs.declared.head.SnapHead.{SnapHead}
+use Rattle.q3_player.specs.State.{zero_player}
+use Rattle.q3_player.specs.Delta.{player_at}
+use Rattle.q3_fields.specs.Kinds.{Layout}
+use Rattle.q3_entity.specs.declared.error.EntityError.{EntityError}
+use Rattle.q3_entity.specs.declared.state.EntityState.{EntityState}
+use Rattle.q3_entity.specs.Entities.{IsList}
+use Rattle.q3_entity.specs.Lists.{list_after, list_skipped}
+use Rattle.q3_profile.specs.declared.profile.Profile.{Profile}
+use Rattle.q3_svmsg.specs.declared.message.Section.{Section}
+use Rattle.q3_svmsg.specs.declared.error.Illegible.{Illegible}
+use Rattle.q3_svmsg.specs.declared.error.Illegible.TheVariants.{Bits, BadOp, Entity, Player, Area, TextLong, Commands}
+use Rattle.q3_entity.specs.Baselines.{Lines}
+use Rattle.q3_svmsg.specs.Values.{Base, base_player, base_entities, number_of_base, section_of, Context, Told, Nothing, Snap, Skipped, Message}
+
+-- the answer of a reader of a section that leaves a snapshot in its places
+abbrev pub telling : SnapHead → List EntityState → Result Section Illegible → Result Told Illegible
+telling head entities (Ok section) = Ok (section_of section head entities)
+telling head entities (Err e) = Err e
+
+-- the faults of the parts
+abbrev pub bits_read : {A : Type 0} → Result A ReadError → Result A Illegible
+bits_read {A = A} r = result_map_both (λ (x : A). x) Bits r
+
+abbrev pub player_read : {A : Type 0} → Result A DeltaError → Result A Illegible
+player_read {A = A} r = result_map_both (λ (x : A). x) Player r
+
+abbrev pub entities_read : {A : Type 0} → Result A EntityError → Result A Illegible
+entities_read {A = A} r = result_map_both (λ (x : A). x) Entity r
+
+-- a field of so many bits
+abbrev pub field_read : List (List Bool) → ℕ → List Bool → Result (ℕ × List Bool) Illegible
+field_read words width bits = bits_read (field_at words width bits)
+
+-- the leading long, and how many bits it takes
+abbrev pub ack_at : List (List Bool) → List Bool → Result (ℕ × ℕ) ReadError
+ack_at words bits = do
+  ack ← field_at words 32 bits
+  Ok (ack.0, length bits - length ack.1)
+
+-- so many bytes
+unfoldable pub bytes_after : List (List Bool) → ℕ → List Bool → Result (List ℕ × List Bool) Illegible
+bytes_after words zero bits = Ok ([], bits)
+bytes_after words (suc count) bits = do
+  byte ← field_read words 8 bits
+  others ← bytes_after words count byte.1
+  Ok (byte.0 ∷ others.0, others.1)
+
+-- a string: bytes, each translated, up to a 0 that comes after at most so many
+unfoldable pub string_after : List (List Bool) → ℕ → List Bool → Result (List ℕ × List Bool) Illegible
+string_after words zero bits = do
+  byte ← field_read words 8 bits
+  if byte.0 == 0 then Ok ([], byte.1) else Err TextLong
+string_after words (suc most) bits = do
+  byte ← field_read words 8 bits
+  if byte.0 == 0 then Ok ([], byte.1) else (do
+    others ← string_after words most byte.1
+    Ok (translated byte.0 ∷ others.0, others.1))
+
+-- a command behind its operation
+unfoldable pub command_after : List (List Bool) → List Bool → Result (Command × List Bool) Illegible
+command_after words bits = do
+  number ← field_read words 32 bits
+  text ← string_after words most_bytes number.1
+  Ok (record { number = number.0; text = text.0 }, text.1)
+
+-- one command more behind its operation, where there are fewer than 64
+unfoldable pub commands_after : List (List Bool) → List Command → List Bool → Result (List Command × List Bool) Illegible
+commands_after words commands bits =
+    if nat_lt (length commands) 64 then (do
+      command ← command_after words bits
+      Ok (commands ++ command.0 ∷ [], command.1))
+    else Err Commands
+
+-- the player and the entities of a snapshot against a base, or without one
+unfoldable pub snapshot_after : Profile → Lines → Option Base → ℕ → SnapHead → List Bool → Result (Told × List Bool) Illegible
+snapshot_after profile lines against base head bits = do
+  player ← player_read (player_at profile.code profile.player.kinds (base_player against) bits)
+  entities ← entities_read (list_after profile.code profile.entity lines (base_entities against) player.1)
+  Ok (Snap base (record head { player = player.0 }) entities.0, entities.1)
+
+-- a snapshot whose base isn't held is read to its end
+unfoldable pub snapshot_skipped : Profile → List Bool → Result (Unit {0} × List Bool) Illegible
+snapshot_skipped profile bits = do
+  player ← player_read (player_at profile.code profile.player.kinds zero_player bits)
+  entities_read (list_skipped profile.code profile.entity player.1)
+
+-- the snapshot that a number names, if it is held; 0 names none
+abbrev pub held_base : Context → ℕ → Option Base
+held_base context zero = None
+held_base context (suc base) = context.base (base + 1)
+
+-- every snapshot that is held has a list of entities
+pub record HoldsLists (table : Layout) (context : Context) : Type 0 where
+  pub list : (number : ℕ) → IfSome (context.base number) (λ base. IsList table base.entities)
+
+-- the rest of a snapshot whose base is at a distance: without one, against one that is held, or skipped
+abbrev pub against_base : Profile → Context → ℕ → ℕ → Option Base → SnapHead → List Bool → Result (Told × List Bool) Illegible
+against_base profile context distance base (Some held) head bits = snapshot_after profile context.lines (Some held) base head bits
+against_base profile context zero base None head bits = snapshot_after profile context.lines None base head bits
+against_base profile context (suc distance) base None head bits = do
+  skipped ← snapshot_skipped profile bits
+  Ok (Skipped base, skipped.1)
+
+-- the area: up to 32 bytes
+unfoldable pub area_after : List (List Bool) → List Bool → Result (List ℕ × List Bool) Illegible
+area_after words bits = do
+  count ← field_read words 8 bits
+  if nat_lt 32 count.0 then Err (Area count.0) else bytes_after words count.0 count.1
+
+-- a snapshot behind its operation
+unfoldable pub section_after : Profile → Context → ℕ → List Bool → Result (Told × List Bool) Illegible
+section_after profile context number bits = do
+  time ← field_read profile.code 32 bits
+  distance ← field_read profile.code 8 time.1
+  flags ← field_read profile.code 8 distance.1
+  area ← area_after profile.code flags.1
+  against_base profile context distance.0 (number_of_base number distance.0) (held_base context (number_of_base number distance.0))
+      (record { number = number; time = time.0; flags = flags.0; area = record { items = area.0 }; player = zero_player }) area.1
+
+-- behind the section: nops, and the end; there are at most so many operations, since each takes a bit
+unfoldable pub ending_after : List (List Bool) → ℕ → List Bool → Result (Unit {0} × List Bool) Illegible
+ending_after words zero bits = Err (Bits End)
+ending_after words (suc most) bits = do
+  operation ← field_read words 8 bits
+  if operation.0 == 8 then Ok (tt, operation.1) else
+      if operation.0 == 1 then ending_after words most operation.1 else Err (BadOp operation.0)
+
+-- before the section: nops and commands; there are at most so many operations, since each takes a bit
+unfoldable pub operations_after : Profile → Context → ℕ → ℕ → Message → List Bool → Result (Message × List Bool) Illegible
+operations_after profile context number zero message bits = Err (Bits End)
+operations_after profile context number (suc most) message bits = do
+  operation ← field_read profile.code 8 bits
+  if operation.0 == 8 then Ok (message, operation.1) else
+      if operation.0 == 1 then operations_after profile context number most message operation.1 else
+      if operation.0 == 5 then (do
+        commands ← commands_after profile.code message.commands operation.1
+        operations_after profile context number most (record message { commands = commands.0 }) commands.1) else
+      if operation.0 == 7 then (do
+        section ← section_after profile context number operation.1
+        ending ← ending_after profile.code (length section.1) section.1
+        Ok (record message { section = section.0 }, ending.1))
+      else Err (BadOp operation.0)
+
+-- a server's message under a number: its value, and what is behind its end
+unfoldable pub message_after : Profile → Context → ℕ → List Bool → Result (Message × List Bool) Illegible
+message_after profile context number bits = do
+  ack ← field_read profile.code 32 bits
+  operations_after profile context number (length ack.1) (record { ack = ack.0; commands = []; section = Nothing }) ack.1
+
+-- a server's message: its value alone
+abbrev pub message_at : Profile → Context → ℕ → List Bool → Result Message Illegible
+message_at profile context number bits = message_after profile context number bits >>= λ read. Ok read.0

@@ -1,0 +1,50 @@
+-- The text of a server's message.
+use Rattle.std.specs.Prelude.{ℕ, Bool, List, [], ◌∷◌, ◌++◌, length, map, Option}
+use Rattle.std.specs.List.{flat_map}
+use Rattle.q3_bits.specs.Words.{row_bits}
+use Rattle.q3_text.specs.declared.text.Command.{Command}
+use Rattle.q3_player.specs.declared.head.SnapHead.{SnapHead}
+use Rattle.q3_player.specs.Delta.{player_delta}
+use Rattle.q3_entity.specs.declared.state.EntityState.{EntityState}
+use Rattle.q3_entity.specs.Baselines.{Lines}
+use Rattle.q3_entity.specs.Lists.{list_text}
+use Rattle.q3_profile.specs.declared.profile.Profile.{Profile}
+use Rattle.q3_svmsg.specs.Values.{Base, base_player, base_entities, distance_to, Told, Snap, Message}
+
+-- bytes, one behind the other
+abbrev pub bytes_row : List (List Bool) → List ℕ → List Bool
+bytes_row words bytes = row_bits words (map (λ byte. (byte, 8)) bytes)
+
+-- a string: its bytes and a 0
+abbrev pub string_bits : List (List Bool) → List ℕ → List Bool
+string_bits words text = bytes_row words (text ++ 0 ∷ [])
+
+-- a command: the operation 5, its number, and its string
+abbrev pub command_bits : List (List Bool) → Command → List Bool
+command_bits words command = row_bits words ((5, 8) ∷ (command.number, 32) ∷ []) ++ string_bits words command.text
+
+-- the head of a snapshot: the operation 7, the time, how far below the base is, the flags, and the area
+abbrev pub head_bits : List (List Bool) → ℕ → SnapHead → List Bool
+head_bits words base head =
+    row_bits words ((7, 8) ∷ (head.time, 32) ∷ (distance_to head.number base, 8) ∷ (head.flags, 8) ∷ (length head.area.items, 8) ∷ [])
+    ++ bytes_row words head.area.items
+
+-- a snapshot against the base of a number: its head, the player, and the entities
+unfoldable pub snapshot_bits : Profile → Lines → Option Base → ℕ → SnapHead → List EntityState → List Bool
+snapshot_bits profile lines against base head entities =
+    head_bits profile.code base head
+    ++ player_delta profile.code profile.player.kinds (base_player against) head.player
+    ++ list_text profile.code profile.entity lines (base_entities against) entities
+
+-- the section of a message; a snapshot that was skipped has no text of its own
+unfoldable pub section_bits : Profile → Lines → Option Base → Told → List Bool
+section_bits profile lines against (Snap base head entities) = snapshot_bits profile lines against base head entities
+section_bits profile lines against other = []
+
+-- a message: the last client command executed, the commands, the section, and the end
+unfoldable pub message_text : Profile → Lines → Option Base → Message → List Bool
+message_text profile lines against message =
+    row_bits profile.code ((message.ack, 32) ∷ [])
+    ++ flat_map (command_bits profile.code) message.commands
+    ++ section_bits profile lines against message.section
+    ++ row_bits profile.code ((8, 8) ∷ [])

@@ -1,0 +1,18 @@
+//! Server messages: what one says, how it is written, and what is read of one.
+#![tactic(auto)]
+
+pub mod bases;
+pub mod error;
+pub mod laws;
+pub mod message;
+mod operations;
+pub mod reading;
+#[cfg(test)]
+mod tests;
+pub mod writing;
+
+pub use bases::{BaseView, Bases};
+pub use error::Illegible;
+pub use message::{Section, ServerMessage};
+pub use reading::{read_ack, read_server_message};
+pub use writing::write_snap;

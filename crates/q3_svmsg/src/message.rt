@@ -1,0 +1,53 @@
+//! A server's message as a value.
+
+ghost use Rattle.std.specs.Prelude.{◌≡◌, [], IfOk};
+
+use arrayvec::ArrayVec;
+use q3_bits::NoMemory;
+use q3_entity::List;
+use q3_player::SnapHead;
+use q3_text::Command;
+use std::alloc::Global;
+
+/// What a message carries behind its commands.
+#[derive(Clone, Copy, Debug, PartialEq, Eq)]
+pub enum Section {
+    Nothing,
+    /// A snapshot, with the number of its base, 0 for none. Where the base isn't held, the snapshot was only read to
+    /// its end.
+    Snap { base: u32, held: bool },
+}
+
+/// A message of the server, with room for 64 commands and one snapshot.
+// The two lists lie on the heap: `new` takes their memory, and no later call takes any.
+#[derive(Drop)]
+pub struct ServerMessage {
+    /// The number of the last client command that the server executed.
+    pub ack: u32,
+    pub commands: Box<ArrayVec<Command, 64>>,
+    pub section: Section,
+    /// The snapshot's head and player, where the section is a snapshot.
+    pub head: SnapHead,
+    /// The snapshot's entities, by rising number.
+    pub entities: Box<List>,
+}
+
+impl ServerMessage {
+    ghost use Rattle.q3_player.specs.Heads.{empty_head};
+    ghost use Rattle.q3_svmsg.specs.Values.{told_of, empty_message};
+
+    /// A message with nothing in it. `Err` is want of memory.
+    pub fn new(alloc: Global) -> Result<ServerMessage, NoMemory>
+        ensures told { IfOk result (λ made. told_of made ≡ empty_message) }
+        ensures head { IfOk result (λ made. made.head ≡ empty_head) }
+        ensures entities { IfOk result (λ made. made.entities.value.items ≡ []) }
+    {
+        Ok(ServerMessage {
+            ack: 0,
+            commands: Box::new(alloc, ArrayVec::new())?,
+            section: Section::Nothing,
+            head: SnapHead::new(),
+            entities: Box::new(alloc, List::new())?,
+        })
+    }
+}

@@ -1,0 +1,288 @@
+//! Reads a server's message. Keeps the rules "layout of a server message", "snapshot section" and "snapshot whose base
+//! is not held", the engine's `CL_ParseServerMessage` and `CL_ParseSnapshot`. The refusals are this project's own.
+
+ghost use Rattle.std.specs.Prelude.{◌≡◌, ◌<◌, ◌≤◌, ℕ, length, map, option_map, All, IfSome};
+ghost use Rattle.q3_bits.specs.Bits.{bits_of};
+ghost use Rattle.q3_bits.specs.Words.{IsCode};
+ghost use Rattle.q3_bits.specs.Streams.{Reads, holding};
+ghost use Rattle.q3_text.specs.Texts.{most_bytes, translated};
+ghost use Rattle.q3_player.specs.State.{zero_player};
+ghost use Rattle.q3_entity.specs.Entities.{IsList, run_of};
+ghost use Rattle.q3_svmsg.specs.Values.{Base, Message, base_of, base_player, base_entities, number_of_base, told_of, section_of};
+ghost use Rattle.q3_svmsg.specs.Reading.{ack_at, bytes_after, string_after, command_after, area_after, held_base, snapshot_after, snapshot_skipped, against_base, section_after, ending_after, operations_after, commands_after, message_at, telling, HoldsLists};
+
+use crate::bases::{BaseView, Bases, base_or};
+use crate::error::Illegible;
+use crate::message::{Section, ServerMessage};
+use crate::operations::{EOF, NOP, SERVER_COMMAND, SNAPSHOT};
+use arrayvec::ArrayVec;
+use q3_bits::{Code, ReadError, Reader, laws};
+use q3_entity::{Baselines, List, read_list, skip_list};
+use q3_player::{PlayerState, SnapHead, read_player};
+use q3_profile::Profile;
+use q3_text::{Command, Text};
+
+/// The most bytes of a string.
+const MOST_BYTES: usize = 1_023;
+
+/// Reads the number of the last client command that the server executed, and answers how many bits it takes.
+/// `End` and `NoWord` come as in `Reader::get`.
+pub fn read_ack(code: &Code, bytes: &[u8]) -> Result<(u32, usize), ReadError>
+    ensures { result ≡ ack_at code.now (bits_of bytes.now) }
+{
+    let mut r = Reader::new(code, bytes);
+    let ack = r.get(32)?;
+    Ok((ack, r.place()))
+}
+
+/// The text of bytes that were read.
+fn text_from(bytes: &[u8]) -> Text
+    requires most { length bytes.now ≤ most_bytes }
+    requires some { All (λ byte. 0 < byte) bytes.now }
+    ensures { result ≡ map translated bytes.now }
+{
+    Text::of(bytes).unwrap()
+}
+
+/// Reads a string, and translates its bytes.
+fn read_string(r: &mut Reader) -> Result<Text, Illegible>
+    ensures { Reads r.old r.new (string_after r.old.words most_bytes r.old.left) result }
+{
+    let mut bytes: ArrayVec<u8, MOST_BYTES> = ArrayVec::new();
+    for _ in 0..MOST_BYTES {
+        let byte = r.get(8)?;
+        if byte == 0 {
+            return Ok(text_from(&bytes));
+        }
+        bytes.push(byte as u8);
+    }
+    if r.get(8)? != 0 {
+        return Err(Illegible::TextLong);
+    }
+    Ok(text_from(&bytes))
+}
+
+/// Reads a command behind its operation.
+#[tactic(auto, unfolding(crate::specs::Reading::command_after))]
+fn read_command(r: &mut Reader) -> Result<Command, Illegible>
+    ensures { Reads r.old r.new (command_after r.old.words r.old.left) result }
+{
+    let number = r.get(32)?;
+    let text = read_string(r)?;
+    Ok(Command { number, text })
+}
+
+/// Reads so many bytes.
+fn read_bytes(r: &mut Reader, count: u32, into: &mut ArrayVec<u8, 32>) -> Result<(), Illegible>
+    requires { count ≤ 32 }
+    ensures { Reads r.old r.new (bytes_after r.old.words count r.old.left) (holding into.new.items result) }
+{
+    into.clear();
+    for _ in 0..count {
+        into.push(r.get(8)? as u8);
+    }
+    Ok(())
+}
+
+/// Reads the area bytes and how many there are.
+#[tactic(auto, unfolding(crate::specs::Reading::area_after))]
+fn read_area(r: &mut Reader, into: &mut ArrayVec<u8, 32>) -> Result<(), Illegible>
+    ensures { Reads r.old r.new (area_after r.old.words r.old.left) (holding into.new.items result) }
+{
+    let count = r.get(8)?;
+    if count > 32 {
+        return Err(Illegible::Area(count as u8));
+    }
+    read_bytes(r, count, into)
+}
+
+/// Reads one command more behind its operation. A 65th is refused before it is read.
+#[tactic(auto, unfolding(crate::specs::Reading::commands_after))]
+fn read_next_command(r: &mut Reader, commands: &mut ArrayVec<Command, 64>) -> Result<(), Illegible>
+    ensures { Reads r.old r.new (commands_after r.old.words commands.old.items r.old.left) (holding commands.new.items result) }
+{
+    if commands.is_full() {
+        return Err(Illegible::Commands);
+    }
+    commands.push(read_command(r)?);
+    Ok(())
+}
+
+/// The number of the base at a distance, or 0 where there is none.
+fn base_at(number: u32, distance: u32) -> u32
+    ensures { result ≡ number_of_base number distance }
+{
+    if distance < number && distance != 0 {
+        return number - distance;
+    }
+    0
+}
+
+/// The snapshot of a number, if it is held.
+fn held<B: Bases>(bases: &B, number: u32) -> Option<BaseView<'_>>
+    ensures { option_map base_of result ≡ held_base (B.context bases.now) number }
+{
+    if number == 0 {
+        return None;
+    }
+    bases.base(number)
+}
+
+/// Reads the player and the entities of a snapshot against its base.
+#[tactic(auto, unfolding(crate::specs::Reading::snapshot_after))]
+fn read_snapshot(
+    r: &mut Reader,
+    profile: &Profile,
+    baselines: &Baselines,
+    base: u32,
+    against: Option<BaseView>,
+    head: &mut SnapHead,
+    entities: &mut List,
+) -> Result<Section, Illegible>
+    requires { IsList profile.now.entity (base_entities (option_map base_of against)) }
+    ensures { Reads r.old r.new (snapshot_after (record profile.now { code = r.old.words }) baselines.now (option_map base_of against.entry) base head.old r.old.left)
+        (telling head.new entities.new.items result) }
+{
+    let zero = PlayerState::zero();
+    let from = base_or(against, &zero);
+    read_player(r, &profile.player, from.player, &mut head.player)?;
+    read_list(r, &profile.entity, baselines, from.entities, entities)?;
+    Ok(Section::Snap { base, held: true })
+}
+
+/// Reads the player and the entities of a snapshot whose base isn't held.
+#[tactic(auto, unfolding(crate::specs::Reading::snapshot_skipped))]
+fn skip_snapshot(r: &mut Reader, profile: &Profile) -> Result<(), Illegible>
+    ensures { Reads r.old r.new (snapshot_skipped (record profile.now { code = r.old.words }) r.old.left) result }
+{
+    let zero = PlayerState::zero();
+    let mut player = zero;
+    read_player(r, &profile.player, &zero, &mut player)?;
+    skip_list(r, &profile.entity)?;
+    Ok(())
+}
+
+/// Reads the player and the entities of a snapshot whose base, if it has one, is at a distance.
+fn read_against<B: Bases>(
+    r: &mut Reader,
+    profile: &Profile,
+    distance: u32,
+    base: u32,
+    bases: &B,
+    head: &mut SnapHead,
+    entities: &mut List,
+) -> Result<Section, Illegible>
+    requires { HoldsLists profile.now.entity (B.context bases.now) }
+    ensures { Reads r.old r.new (against_base (record profile.now { code = r.old.words }) (B.context bases.now) distance base (held_base (B.context bases.now) base) head.old r.old.left)
+        (telling head.new entities.new.items result) }
+{
+    let against = held(bases, base);
+    if against.is_none() && distance != 0 {
+        skip_snapshot(r, profile)?;
+        return Ok(Section::Snap { base, held: false });
+    }
+    read_snapshot(r, profile, bases.baselines(), base, against, head, entities)
+}
+
+/// Reads a snapshot behind its operation, into places for its head and for its entities.
+#[tactic(auto, unfolding(crate::specs::Reading::section_after, q3_player::specs::Heads::empty_head))]
+fn read_section<B: Bases>(
+    r: &mut Reader,
+    profile: &Profile,
+    number: u32,
+    bases: &B,
+    head: &mut SnapHead,
+    entities: &mut List,
+) -> Result<Section, Illegible>
+    requires { HoldsLists profile.now.entity (B.context bases.now) }
+    ensures { Reads r.old r.new (section_after (record profile.now { code = r.old.words }) (B.context bases.now) number r.old.left)
+        (telling head.new entities.new.items result) }
+{
+    *head = SnapHead::new();
+    head.number = number;
+    head.time = r.get(32)?;
+    let distance = r.get(8)?;
+    head.flags = r.get(8)? as u8;
+    read_area(r, &mut head.area)?;
+    let base = base_at(number, distance);
+    read_against(r, profile, distance, base, bases, head, entities)
+}
+
+/// Reads what is behind the section: nops, and the end.
+fn read_ending(r: &mut Reader) -> Result<(), Illegible>
+    requires { IsCode r.old.words }
+    ensures { Reads r.old r.new (ending_after r.old.words (length r.old.left) r.old.left) result }
+{
+    laws::read_was_put();
+    laws::ends_cut_short();
+    loop {
+        let operation = r.get(8)?;
+        if operation == EOF {
+            return Ok(());
+        }
+        if operation != NOP {
+            return Err(Illegible::BadOp(operation as u8));
+        }
+    }
+}
+
+/// Reads what is behind the leading long: nops and commands, up to the end of the message or its section.
+fn read_operations<B: Bases>(
+    r: &mut Reader,
+    profile: &Profile,
+    number: u32,
+    bases: &B,
+    into: &mut ServerMessage,
+) -> Result<(), Illegible>
+    requires bases { HoldsLists profile.now.entity (B.context bases.now) }
+    requires code { IsCode r.old.words }
+    ensures { Reads r.old r.new (operations_after (record profile.now { code = r.old.words }) (B.context bases.now) number (length r.old.left) (told_of into.old) r.old.left)
+        (holding (told_of into.new) result) }
+{
+    laws::read_was_put();
+    laws::ends_cut_short();
+    loop {
+        match r.get(8)? {
+            NOP => {}
+            SERVER_COMMAND => read_next_command(r, &mut into.commands)?,
+            SNAPSHOT => {
+                into.section = read_section(
+                    r,
+                    profile,
+                    number,
+                    bases,
+                    &mut into.head,
+                    &mut into.entities,
+                )?;
+                return read_ending(r);
+            }
+            EOF => return Ok(()),
+            operation => return Err(Illegible::BadOp(operation as u8)),
+        }
+    }
+}
+
+/// Reads a server's message under its number, against the snapshots that are held. A snapshot whose base isn't held is
+/// read to its end, and nothing of it is kept. After a refusal `into` may hold anything.
+///
+/// `Err` is the first fault in reading order: `Bits` where the bits don't read; `BadOp` for an operation that may not
+/// stand there: before the section others than nop, command, snapshot and the end, and behind it others than nop and the
+/// end; `Commands` for a 65th command; `TextLong` where the byte behind 1,023 of a string isn't 0; `Area` for more than
+/// 32 area bytes; `Player` and `Entity` where these don't read.
+#[tactic(auto, unfolding(crate::specs::Reading::message_after))]
+pub fn read_server_message<B: Bases>(
+    profile: &Profile,
+    number: u32,
+    bytes: &[u8],
+    bases: &B,
+    into: &mut ServerMessage,
+) -> Result<(), Illegible>
+    requires { HoldsLists profile.now.entity (B.context bases.now) }
+    ensures { holding (told_of into.new) result ≡ message_at profile.now (B.context bases.now) number (bits_of bytes.now) }
+{
+    let mut r = Reader::new(&profile.code, bytes);
+    into.commands.clear();
+    into.section = Section::Nothing;
+    into.ack = r.get(32)?;
+    read_operations(&mut r, profile, number, bases, into)
+}

@@ -1,0 +1,189 @@
+//! Writes a server's message. Keeps the rules "layout of a server message" and "snapshot section", the engine's
+//! `SV_SendClientSnapshot` and `SV_WriteSnapshotToClient`.
+
+ghost use Rattle.std.specs.Prelude.{◌≡◌, ◌≤◌, length, option_map};
+ghost use Rattle.std.specs.List.{flat_map};
+ghost use Rattle.q3_bits.specs.Streams.{Writes, Fills};
+ghost use Rattle.q3_entity.specs.Entities.{IsList};
+ghost use Rattle.q3_svmsg.specs.Values.{HasSnap, base_of, base_entities, distance_to, told_of};
+ghost use Rattle.q3_svmsg.specs.Texts.{bytes_row, string_bits, command_bits, head_bits, snapshot_bits, section_bits, message_text};
+
+use crate::bases::{BaseView, base_or};
+use crate::message::{Section, ServerMessage};
+use crate::operations::{EOF, SERVER_COMMAND, SNAPSHOT};
+use q3_bits::{Overflow, Writer, laws};
+use q3_entity::{Baselines, EntityState, write_list};
+use q3_player::{PlayerState, SnapHead, write_player};
+use q3_profile::Profile;
+use q3_text::Command;
+
+/// Writes a message with a snapshot to the front of a buffer of 1 to 16,384 bytes, and answers how many bytes it has;
+/// those behind it stay. The message's section names its base exactly where one is given, at most 255 below the head's
+/// number. `Overflow` comes exactly where the message is longer than the buffer.
+pub fn write_snap(
+    profile: &Profile,
+    message: &ServerMessage,
+    baselines: &Baselines,
+    base: Option<BaseView>,
+    into: &mut [u8],
+) -> Result<usize, Overflow>
+    requires snap { HasSnap message.now.section (option_map base_of base) message.now.head.number }
+    requires entities { IsList profile.now.entity message.now.entities.value.items }
+    requires base_entities { IsList profile.now.entity (base_entities (option_map base_of base)) }
+    requires some { 1 ≤ length into.old }
+    requires most { length into.old ≤ 16384 }
+    ensures { Fills into.old into.new (message_text profile.now baselines.now (option_map base_of base.entry) (told_of message.now)) result }
+{
+    let mut w = Writer::new(&profile.code, into.len());
+    write_message(&mut w, profile, message, baselines, base)?;
+    Ok(w.copy_to(into))
+}
+
+/// Writes the last client command executed, the commands, the section, and the end.
+#[tactic(auto, unfolding(crate::specs::Texts::message_text))]
+fn write_message(
+    w: &mut Writer,
+    profile: &Profile,
+    message: &ServerMessage,
+    baselines: &Baselines,
+    base: Option<BaseView>,
+) -> Result<(), Overflow>
+    requires snap { HasSnap message.now.section (option_map base_of base) message.now.head.number }
+    requires entities { IsList profile.now.entity message.now.entities.value.items }
+    requires base_entities { IsList profile.now.entity (base_entities (option_map base_of base)) }
+    ensures { Writes w.old w.new (message_text (record profile.now { code = w.old.words }) baselines.now (option_map base_of base.entry) (told_of message.now)) result }
+{
+    laws::texts_are_written();
+    w.put_all(&[(message.ack, 32)])?;
+    write_commands(w, &message.commands)?;
+    write_section(w, profile, message, baselines, base)?;
+    w.put_all(&[(EOF, 8)])
+}
+
+/// Writes the section, which is a snapshot.
+#[tactic(auto, unfolding(crate::specs::Texts::section_bits))]
+fn write_section(
+    w: &mut Writer,
+    profile: &Profile,
+    message: &ServerMessage,
+    baselines: &Baselines,
+    base: Option<BaseView>,
+) -> Result<(), Overflow>
+    requires snap { HasSnap message.now.section (option_map base_of base) message.now.head.number }
+    requires entities { IsList profile.now.entity message.now.entities.value.items }
+    requires base_entities { IsList profile.now.entity (base_entities (option_map base_of base)) }
+    ensures { Writes w.old w.new (section_bits (record profile.now { code = w.old.words }) baselines.now (option_map base_of base.entry) (told_of message.now).section) result }
+{
+    let Section::Snap {
+        base: number,
+        held: true,
+    } = message.section
+    else {
+        unreachable!();
+    };
+    write_snapshot(
+        w,
+        profile,
+        baselines,
+        number,
+        base,
+        &message.head,
+        &message.entities,
+    )
+}
+
+/// Writes a snapshot against its base, which is given with its number: the head, the player, and the entities.
+#[tactic(auto, unfolding(crate::specs::Texts::snapshot_bits))]
+fn write_snapshot(
+    w: &mut Writer,
+    profile: &Profile,
+    baselines: &Baselines,
+    number: u32,
+    base: Option<BaseView>,
+    head: &SnapHead,
+    entities: &[EntityState],
+) -> Result<(), Overflow>
+    requires number { number ≤ head.now.number }
+    requires entities { IsList profile.now.entity entities.now }
+    requires base_entities { IsList profile.now.entity (base_entities (option_map base_of base)) }
+    ensures { Writes w.old w.new (snapshot_bits (record profile.now { code = w.old.words }) baselines.now (option_map base_of base.entry) number head.now entities.now) result }
+{
+    laws::texts_are_written();
+    let zero = PlayerState::zero();
+    let from = base_or(base, &zero);
+    write_head(w, number, head)?;
+    write_player(w, &profile.player, from.player, &head.player)?;
+    write_list(w, &profile.entity, baselines, from.entities, entities)
+}
+
+/// Writes the head of a snapshot against the base of a number, 0 for none: the operation, the time, how far below the
+/// base is, the flags, and the area.
+fn write_head(w: &mut Writer, base: u32, head: &SnapHead) -> Result<(), Overflow>
+    requires { base ≤ head.now.number }
+    ensures { Writes w.old w.new (head_bits w.old.words base head.now) result }
+{
+    laws::texts_are_written();
+    w.put_all(&[
+        (SNAPSHOT, 8),
+        (head.time, 32),
+        (distance(head.number, base), 8),
+        (u32::from(head.flags), 8),
+        (head.area.len() as u32, 8),
+    ])?;
+    write_bytes(w, &head.area)
+}
+
+/// How far a base is below a message's number, 0 where there is none.
+fn distance(number: u32, base: u32) -> u32
+    requires { base ≤ number }
+    ensures { result ≡ distance_to number base }
+{
+    if base == 0 {
+        return 0;
+    }
+    number - base
+}
+
+/// Writes commands.
+fn write_commands(w: &mut Writer, commands: &[Command]) -> Result<(), Overflow>
+    ensures { Writes w.old w.new (flat_map (command_bits w.old.words) commands.now) result }
+{
+    laws::texts_are_written();
+    // what stands there fits the room
+    prove!(w.length() > 0);
+    for command in commands {
+        write_command(w, command)?;
+    }
+    Ok(())
+}
+
+/// Writes a command: the operation, its number, and its string.
+fn write_command(w: &mut Writer, command: &Command) -> Result<(), Overflow>
+    ensures { Writes w.old w.new (command_bits w.old.words command.now) result }
+{
+    laws::texts_are_written();
+    w.put_all(&[(SERVER_COMMAND, 8), (command.number, 32)])?;
+    write_string(w, command.text.bytes())
+}
+
+/// Writes a string: its bytes, and a 0.
+fn write_string(w: &mut Writer, text: &[u8]) -> Result<(), Overflow>
+    ensures { Writes w.old w.new (string_bits w.old.words text.now) result }
+{
+    laws::texts_are_written();
+    write_bytes(w, text)?;
+    w.put_all(&[(0, 8)])
+}
+
+/// Writes bytes.
+fn write_bytes(w: &mut Writer, bytes: &[u8]) -> Result<(), Overflow>
+    ensures { Writes w.old w.new (bytes_row w.old.words bytes.now) result }
+{
+    laws::texts_are_written();
+    // what stands there fits the room
+    prove!(w.length() > 0);
+    for byte in bytes {
+        w.put(u32::from(*byte), 8)?;
+    }
+    Ok(())
+}
