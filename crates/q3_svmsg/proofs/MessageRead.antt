@@ -1,6 +1,6 @@
 -- A message that is written is read back.
-use Rattle.std.proofs.Common.{◌≡◌, ◌+◌, ◌≤◌, ◌==◌, ℕ, suc, Bool, false, List, [], ◌∷◌, ◌++◌, length, map, Option, Some, None, Result, Ok, Err, refl, sym, ap, subst, ◌∙◌, append_assoc, arith}
-use Rattle.std.specs.List.{All, flat_map}
+use Rattle.std.proofs.Common.{◌≡◌, ◌≤◌, ℕ, Bool, List, [], ◌∷◌, ◌++◌, length, map, Option, None, Ok, refl, sym, ap, subst, ◌∙◌, append_assoc, arith}
+use Rattle.std.specs.List.{flat_map}
 use Rattle.q3_bits.specs.Words.{IsCode, row_bits, field_at}
 use Rattle.q3_bits.specs.Laws.{PutIsRead, ReadWasPut}
 use Rattle.q3_player.specs.declared.head.SnapHead.{SnapHead}
@@ -13,12 +13,10 @@ use Rattle.q3_entity.specs.Lists.{list_text}
 use Rattle.q3_entity.specs.Laws as entity
 use Rattle.q3_profile.specs.declared.profile.Profile.{Profile}
 use Rattle.q3_profile.specs.Profile.{IsCodec}
-use Rattle.q3_text.specs.declared.text.Command.{Command}
-use Rattle.q3_svmsg.specs.declared.error.Illegible.{Illegible}
 use Rattle.q3_svmsg.specs.Values.{Base, base_player, base_entities, Context, Told, Nothing, Snap, Skipped, Message, distance_to}
-use Rattle.q3_svmsg.specs.Texts.{bytes_row, command_bits, head_bits, snapshot_bits, section_bits, message_text}
-use Rattle.q3_svmsg.specs.Reading.{held_base, section_after, ending_after, operations_after, message_after}
-use Rattle.q3_svmsg.specs.Laws.{IsContext, IsCommand, IsMessage, IsTold, HasNumber, base_in, normal_told, WrittenIsRead}
+use Rattle.q3_svmsg.specs.Texts.{bytes_row, command_bits, snapshot_bits, section_bits, message_text}
+use Rattle.q3_svmsg.specs.Reading.{held_base, section_after, operations_after, message_after}
+use Rattle.q3_svmsg.specs.Laws.{IsContext, IsTold, HasNumber, base_in, normal_told, WrittenIsRead}
 use Rattle.q3_svmsg.proofs.Turns.{turn, ending_done, operations_done, operations_section}
 use Rattle.q3_svmsg.proofs.Written.{row-first, row-last, commands_are_read}
 use Rattle.q3_svmsg.proofs.SectionRead.{section_is_read}

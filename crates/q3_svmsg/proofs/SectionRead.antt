@@ -1,28 +1,25 @@
 -- A snapshot that is written is read back.
-use Rattle.std.proofs.Common.{◌≡◌, ◌+◌, ◌-◌, ◌<◌, ◌≤◌, ◌==◌, ◌&&◌, ◌^◌, ℕ, zero, suc, Bool, true, false, not, nat_lt, if◌then◌else◌, List, [], ◌∷◌, ◌++◌, length, map, Option, Some, None, Result, Ok, Err, refl, sym, ap, ◌∙◌, append_assoc, arith}
+use Rattle.std.proofs.Common.{◌≡◌, ◌+◌, ◌-◌, ◌<◌, ◌≤◌, ◌==◌, ◌&&◌, ℕ, zero, suc, Bool, true, false, nat_lt, if◌then◌else◌, List, [], ◌∷◌, ◌++◌, length, map, Option, Some, None, Ok, refl, ◌∙◌, arith}
 use Rattle.std.specs.List.{All}
 use Rattle.std.proofs.lemmas.Bool.Decides.{nat_tests}
 use Rattle.std.proofs.lemmas.List.Elements.{All-nil}
-use Rattle.q3_bits.specs.ResultBind.{◌>>=◌}
-use Rattle.q3_bits.specs.Words.{IsCode, field_at, row_bits}
+use Rattle.q3_bits.specs.Words.{IsCode, row_bits}
 use Rattle.q3_bits.specs.Laws.{PutIsRead}
 use Rattle.q3_player.specs.declared.head.SnapHead.{SnapHead}
-use Rattle.q3_player.specs.declared.state.PlayerState.{PlayerState}
 use Rattle.q3_player.specs.State.{IsState, IsNormal, zero_player, normal_player}
-use Rattle.q3_player.specs.Delta.{player_delta, player_at}
+use Rattle.q3_player.specs.Delta.{player_delta}
 use Rattle.q3_player.specs.Laws as player
 use Rattle.q3_entity.specs.declared.state.EntityState.{EntityState}
 use Rattle.q3_entity.specs.Entities.{IsList, AreStates, AreNormal, normal_entity}
 use Rattle.q3_entity.specs.Baselines.{Lines, AreLines}
-use Rattle.q3_entity.specs.Lists.{list_text, list_after}
+use Rattle.q3_entity.specs.Lists.{list_text}
 use Rattle.q3_entity.specs.Laws as entity
 use Rattle.q3_profile.specs.declared.profile.Profile.{Profile}
 use Rattle.q3_profile.specs.Profile.{IsCodec}
-use Rattle.q3_svmsg.specs.declared.error.Illegible.{Illegible}
-use Rattle.q3_svmsg.specs.Values.{Base, base_player, base_entities, Context, Told, Snap, IsNamed, distance_to, number_of_base}
-use Rattle.q3_svmsg.specs.Texts.{bytes_row, head_bits, snapshot_bits}
-use Rattle.q3_svmsg.specs.Reading.{bytes_after, area_after, held_base, snapshot_after, against_base, section_after}
-use Rattle.q3_svmsg.specs.Laws.{IsHead, IsBase, IsContext, AreEntities}
+use Rattle.q3_svmsg.specs.Values.{Base, base_player, base_entities, Context, Snap, IsNamed, distance_to, number_of_base}
+use Rattle.q3_svmsg.specs.Texts.{bytes_row}
+use Rattle.q3_svmsg.specs.Reading.{area_after, held_base, snapshot_after, against_base, section_after}
+use Rattle.q3_svmsg.specs.Laws.{IsHead, IsContext, AreEntities}
 use Rattle.q3_svmsg.proofs.Written.{row-first, row-last, bytes_are_read}
 
 -- a base, or none, in normal form

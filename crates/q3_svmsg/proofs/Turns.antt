@@ -1,7 +1,7 @@
 -- Operations that are read one after the other: each takes a bit at least, so there are at most as many as bits.
-use Rattle.std.proofs.Common.{◌≡◌, ◌+◌, ◌<◌, ◌≤◌, ◌==◌, ◌/◌, ◌^◌, ◌%◌, ℕ, zero, suc, Bool, true, false, if◌then◌else◌, nat_lt, List, [], ◌∷◌, ◌++◌, length, Result, Ok, Err, refl, sym, ap, ◌∙◌, arith}
+use Rattle.std.proofs.Common.{◌≡◌, ◌+◌, ◌<◌, ◌≤◌, ◌==◌, ◌/◌, ◌%◌, ℕ, zero, suc, Bool, true, false, if◌then◌else◌, nat_lt, List, [], ◌∷◌, ◌++◌, length, Result, Ok, Err, refl, sym, ap, arith}
 use Rattle.std.proofs.lemmas.List.{length-append}
-use Rattle.q3_bits.specs.Words.{word_of, IsCode, field_bits, bytes_bits, field_at, IsCutShort}
+use Rattle.q3_bits.specs.Words.{word_of, IsCode, field_bits, bytes_bits, field_at}
 use Rattle.q3_bits.specs.Bits.{low_bits}
 use Rattle.q3_bits.specs.ResultBind.{◌>>=◌, bind_ok}
 use Rattle.q3_text.specs.Texts.{most_bytes, translated}

@@ -1,22 +1,20 @@
 -- What is written of a message is read back.
-use Rattle.std.proofs.Common.{◌≡◌, ◌+◌, ◌-◌, ◌<◌, ◌≤◌, ◌==◌, ◌&&◌, ◌||◌, ◌^◌, ℕ, zero, suc, Bool, true, false, not, nat_lt, List, [], ◌∷◌, ◌++◌, length, map, Option, Some, None, Result, Ok, Err, refl, sym, ap, ◌∙◌, append_assoc, arith}
+use Rattle.std.proofs.Common.{◌≡◌, ◌+◌, ◌<◌, ◌≤◌, ◌==◌, ◌^◌, ℕ, zero, suc, Bool, true, false, nat_lt, List, [], ◌∷◌, ◌++◌, length, map, Ok, refl, sym, ap, ◌∙◌, append_assoc, arith}
 use Rattle.std.specs.List.{All, flat_map}
 use Rattle.std.proofs.lemmas.Bool.Decides.{nat_tests}
 use Rattle.std.proofs.lemmas.List.{append-nil, length-append}
 use Rattle.std.proofs.lemmas.List.Elements.{All-head, All-tail}
-use Rattle.q3_bits.specs.ResultBind.{◌>>=◌}
 use Rattle.q3_bits.specs.Words.{IsCode, field_bits, field_at, row_bits}
 use Rattle.q3_bits.specs.Laws.{PutIsRead, ReadWasPut}
 use Rattle.q3_text.specs.declared.text.Command.{Command}
-use Rattle.q3_text.specs.Texts.{most_bytes, translated, IsTextByte, IsText}
+use Rattle.q3_text.specs.Texts.{most_bytes, translated, IsTextByte}
 use Rattle.q3_profile.specs.declared.profile.Profile.{Profile}
-use Rattle.q3_svmsg.specs.declared.error.Illegible.{Illegible}
 use Rattle.q3_svmsg.specs.Values.{Context, Message}
 use Rattle.q3_svmsg.specs.Texts.{bytes_row, string_bits, command_bits}
-use Rattle.q3_svmsg.specs.Reading.{bytes_after, string_after, command_after, commands_after, area_after, ending_after, operations_after}
+use Rattle.q3_svmsg.specs.Reading.{bytes_after, string_after, command_after, commands_after, operations_after}
 use Rattle.q3_svmsg.specs.Laws.{IsCommand}
 use Rattle.q3_svmsg.proofs.Fronts.{Read, with_front, isnt_zero, bytes_none, bytes_more, string_end, string_more}
-use Rattle.q3_svmsg.proofs.Turns.{HasTurn, turn, operations_command}
+use Rattle.q3_svmsg.proofs.Turns.{turn, operations_command}
 
 -- a byte of a text is translated to itself
 text_byte : (byte : ℕ) → IsTextByte byte → translated byte ≡ byte
