@@ -1,5 +1,5 @@
 -- How a table lies in its array.
-use Rattle.std.specs.Prelude.{◌≡◌, ◌≤◌, length, take}
+use Rattle.std.specs.Prelude.{◌≡◌, length, take}
 use Rattle.q3_fields.specs.declared.table.Table.TheInside.{Inside}
 use Rattle.q3_fields.specs.Kinds.{Layout, IsTable}
 
@@ -7,9 +7,9 @@ use Rattle.q3_fields.specs.Kinds.{Layout, IsTable}
 abbrev pub layout_of : Inside → Layout
 layout_of t = record { kinds = take t.count t.kinds; number_bits = t.number_bits }
 
--- they are a table whose numbers have at most 10 bits, and there is a place for each
+-- they are a table whose numbers have 10 bits, and there is a place for each
 pub record IsFilled (t : Inside) : Type 0 where
   pub places : length t.kinds ≡ 64
   pub count : t.count ≡ length (take t.count t.kinds)
   pub table : IsTable (layout_of t)
-  pub numbers : t.number_bits ≤ 10
+  pub numbers : t.number_bits ≡ 10

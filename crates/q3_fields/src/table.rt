@@ -67,6 +67,7 @@ impl Table {
     pub fn copy(&self) -> Table
         ensures copy { result ≡ self.now }
         ensures is_table { IsTable self.now }
+        ensures numbers { self.now.number_bits ≡ 10 }
     {
         Table {
             count: self.count,
@@ -103,10 +104,11 @@ impl Table {
         self.number_bits
     }
 
-    /// The end mark of an entity list, at most 1023. The numbers of entities are below it.
+    /// The end mark of an entity list, 1023. The numbers of entities are below it.
     pub fn end(&self) -> u16
         ensures mark { result ≡ end_mark self.now }
         ensures most { result ≤ 1023 }
+        ensures least { 1023 ≤ result }
     {
         ((1u32 << self.number_bits) - 1) as u16
     }

@@ -1,6 +1,7 @@
 -- Lines of text, put together from pieces.
 use Rattle.std.specs.Prelude.{ℕ, ◌+◌, ◌==◌, if◌then◌else◌, List, [], ◌∷◌, ◌++◌, codes, decimal}
-use Rattle.std.specs.List.{concat}
+use Rattle.std.specs.List.{concat, flat_map}
+use Rattle.hex.specs.Hex.{encode_lower}
 use Rattle.q3_io.specs.Quoted.{quoted}
 use Rattle.q3_io.specs.declared.print.Piece.{Piece}
 use Rattle.q3_io.specs.declared.print.Piece.TheVariants.{Text, Number, Quoted}
@@ -22,3 +23,10 @@ word_text letter index word = if word == 0 then [] else codes " " ++ indexed_tex
 unfoldable pub words_text : List ℕ → ℕ → List ℕ → List ℕ
 words_text letter index [] = []
 words_text letter index (word ∷ words) = word_text letter index word ++ words_text letter (index + 1) words
+
+-- a byte as two hex digits with small letters, and bytes so
+abbrev pub digits_text : ℕ → List ℕ
+digits_text byte = encode_lower (byte ∷ [])
+
+abbrev pub hex_text : List ℕ → List ℕ
+hex_text bytes = flat_map digits_text bytes

@@ -8,7 +8,7 @@ ghost use Rattle.q3_io.specs.Faults.{HasCause};
 ghost use Rattle.q3_io.specs.Written.{Adds};
 ghost use Rattle.q3_io.specs.Quoted.{byte_spelling, quoted};
 ghost use Rattle.hex.specs.Hex.{encode_lower};
-ghost use Rattle.q3_io.specs.Print.{piece_text, words_text, word_text};
+ghost use Rattle.q3_io.specs.Print.{piece_text, words_text, word_text, digits_text, hex_text};
 
 use crate::sink::{Failed, Sink};
 use itoa::Integer;
@@ -59,6 +59,17 @@ pub fn print_indexed<O: Sink>(letter: &[u8], words: &[u32], out: &mut O) -> Resu
 {
     for (index, word) in words.iter().enumerate() {
         print_word(letter, index, *word, out)?;
+    }
+    Ok(())
+}
+
+/// Writes each byte as two hex digits with small letters, and nothing for no bytes.
+pub fn print_hex<O: Sink>(bytes: &[u8], out: &mut O) -> Result<(), Failed>
+    ensures adds { Adds (O.written out.old) (O.written out.new) (hex_text bytes.now) result }
+    ensures cause { HasCause (O.faults out.old) (O.faults out.new) result }
+{
+    for byte in bytes {
+        print_digits(*byte, out)?;
     }
     Ok(())
 }
@@ -131,4 +142,13 @@ fn hex_spelling(byte: u8) -> [u8; 4]
     let mut spelling = *b"\\x00";
     let _ = hex::encode_to_slice([byte], &mut spelling[2..]);
     spelling
+}
+
+fn print_digits<O: Sink>(byte: u8, out: &mut O) -> Result<(), Failed>
+    ensures adds { Adds (O.written out.old) (O.written out.new) (digits_text byte) result }
+    ensures cause { HasCause (O.faults out.old) (O.faults out.new) result }
+{
+    let mut digits = *b"00";
+    let _ = hex::encode_to_slice([byte], &mut digits);
+    out.write_all(&digits)
 }

@@ -76,11 +76,13 @@ checked bytes = do
   document ← if nat_lt longest_profile (length bytes) then Err (errors.Limit File) else ok_or (document_of bytes) errors.NotToml
   profile_at (mark_of bytes) document
 
--- what every profile of the program's type is, as its code and its tables tell: a code, and tables
+-- what every profile of the program's type is, as its code and its tables tell: a code, and tables; the numbers of
+-- entities have 10 bits
 pub record IsCodec (profile : Profile) : Type 0 where
   pub code : IsCode profile.code
   pub entity : IsTable profile.entity
   pub player : IsTable profile.player
+  pub numbers : profile.entity.number_bits ≡ 10
 
 -- a profile whose rings and protocol passed their checks
 pub record IsProfile (profile : Profile) : Type 0 where

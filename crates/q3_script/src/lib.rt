@@ -1,12 +1,13 @@
 //! The script language, this project's own: each line of a script is an event of a replay.
 #![tactic(auto)]
 
-mod address;
+mod area;
 pub mod cause;
 pub mod event;
 mod fields;
 pub mod laws;
 mod line;
+mod number;
 mod script;
 mod words;
 

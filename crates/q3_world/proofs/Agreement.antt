@@ -1,5 +1,5 @@
 -- A step by bytes is a step by tags.
-use Rattle.std.proofs.Common.{◌≡◌, ℕ, ◌+◌, ◌-◌, ◌<◌, false, cond, List, length, map, Option, Some, None, Ok, refl, sym, ap, subst, ◌∙◌, inl, inr, arith}
+use Rattle.std.proofs.Common.{◌≡◌, ℕ, ◌+◌, ◌-◌, ◌<◌, ◌≤◌, false, cond, List, length, map, Option, Some, None, Ok, refl, sym, ap, subst, ◌∙◌, inl, inr, arith}
 use Rattle.std.specs.Prelude.{◌⊎◌, nat_le, nat_lt, slice_get, slice_set}
 use Rattle.std.specs.Int.{w32, to_le_bytes}
 use Rattle.std.specs.Option.{option_map}
@@ -15,31 +15,41 @@ use Rattle.q3_io.specs.declared.address.Address.{Address}
 use Rattle.q3_script.specs.declared.event.Event.{Event}
 use Rattle.q3_script.specs.declared.event.Event.TheVariants as events
 use Rattle.q3_script.specs.Grammar.{IsReplayEvent}
-use Rattle.q3_world.specs.declared.message.Snapshot.{Snapshot}
+use Rattle.arrayvec.specs.ArrayVec.{ArrayVec}
+use Rattle.q3_fields.specs.States.{AreWords}
+use Rattle.q3_fields.specs.Kinds.{end_mark}
+use Rattle.q3_entity.specs.declared.state.EntityState.{EntityState}
+use Rattle.q3_entity.specs.Entities.{normal_entity, IsNormal}
+use Rattle.q3_svmsg.specs.Values.{Message}
+use Rattle.q3_svmsg.specs.Reading.{message_at}
 use Rattle.q3_world.specs.declared.server.Emitted.{Emitted}
 use Rattle.q3_world.specs.declared.server.Emitted.TheVariants as emitted
 use Rattle.q3_world.specs.declared.client.ClientTook.TheVariants.{Old}
-use Rattle.q3_world.specs.Message.{IsHeld, IsBuilt, sequence_end, snapshot_bits, datagram_bytes, snapshot_at}
-use Rattle.q3_world.specs.Server.{MapState, SlotState, ServerState, Emission, SlotEmission, places, fragment_size, slot_at, with_slot, with_player, next_message, built_bits, nothing, emit_bits, emit_slot, emission_at, emit_from, emit_at}
-use Rattle.q3_world.specs.Client.{ClientState, Taken, applied, number_of_datagram, take_at}
-use Rattle.q3_world.specs.Ends.{Ends, EndsStep, client_at, join, set_player, delivered}
+use Rattle.q3_world.specs.Message.{Snapshot, message_of, no_bases, IsHeld, IsArea, IsBuilt, sequence_end, datagram_bytes}
+use Rattle.q3_world.specs.Server.{MapState, SlotState, ServerState, Emission, SlotEmission, places, fragment_size, slot_at, with_slot, with_player, with_area, with_entity, without_entity, next_message, built_bits, nothing, emit_bits, emit_slot, emission_at, emit_from, emit_at}
+use Rattle.q3_world.specs.Client.{ClientState, Taken, apply_message, number_of_datagram, take_at}
+use Rattle.q3_world.specs.Ends.{Ends, EndsStep, client_at, join, set_entity, remove_entity, set_player, set_area, delivered}
 use Rattle.q3_world.specs.Kept.{SentBytes, Kept, KeptStep, kept_ends, kept_serve, kept_taken, kept_arrive, kept_deliver, kept_step}
-use Rattle.q3_world.specs.World.{Tag, Step, Whole, with_ends, serve, snapshot_of, arrive, deliver, step}
+use Rattle.q3_world.specs.World.{Tag, Step, Whole, with_ends, serve, named, snapshot_in, arrive_new, arrive, deliver, step}
 use Rattle.q3_world.specs.StandsFor.{IsSent, StandsFor, bytes_of}
-use Rattle.q3_world.proofs.Events.{Holds, with_new_slot, Holds-new, Holds-player, Holds-map, Holds-begun, Holds-applied, next_tag, tag_was_built, client_by}
+use Rattle.q3_world.proofs.Events.{Holds, with_new_slot, Holds-new, Holds-player, Holds-area, Holds-map, Holds-begun, Holds-applied, next_tag, tag_was_built, names_built, client_by}
+use Rattle.q3_world.proofs.Held.{AreHeld-put, AreHeld-without}
 
 -- ---- what is cited of the layers below
 
 -- a message that was built is read back
 abbrev pub ReadsBack : Profile → Type 0
-ReadsBack profile = (number : ℕ) (snapshot : Snapshot) → IsBuilt profile number snapshot
-    → snapshot_at profile number (bits_of (message_bytes (snapshot_bits profile snapshot))) ≡ Ok snapshot
+ReadsBack profile = (number : ℕ) (message : Message) → IsBuilt profile number message
+    → message_at profile no_bases number (bits_of (message_bytes (built_bits profile message))) ≡ Ok message
 
--- what is read back, and which players are in normal form
+-- what is read back, which players and entities are in normal form, and which numbers entities have
 pub record Cited (profile : Profile) : Type 0 where
   pub reads : ReadsBack profile
   pub zero : IsHeld profile zero_player
   pub normal : (player : PlayerState) → IsState player → IsHeld profile (normal_player profile.player.kinds player)
+  pub normal_entity : (entity : EntityState) → AreWords 64 entity.words
+      → AreWords 64 (normal_entity profile.entity entity).words × IsNormal profile.entity (normal_entity profile.entity entity)
+  pub end : end_mark profile.entity ≡ 1023
 
 -- ---- what is kept of a whole world
 
@@ -83,6 +93,34 @@ holds_player profile whole c player held lt holds =
           (subst (λ (p : Profile). Holds profile (with_new_slot whole c (with_player p found.0 player))) (sym holds.facts.by)
           (Holds-player profile whole c found.0 player lt found.1 held holds))
     ]
+
+holds_area : (profile : Profile) (whole : Whole) (c : ℕ) (area : ArrayVec ℕ) → IsArea area.items → c < places → Holds profile whole
+    → Holds profile (record whole { ends = (set_area whole.ends c area).ends })
+holds_area profile whole c area is lt holds =
+    elim (found_or (slot_at whole.ends.server c)) [
+      | inl none ↦ rw none holds
+      | inr found ↦ rw found.1 (Holds-area profile whole c found.0 area lt found.1 is holds)
+    ]
+
+holds_entity : (profile : Profile) (whole : Whole) (state : EntityState) → Cited profile → state.number ≤ 1022 → AreWords 64 state.words → Holds profile whole
+    → Holds profile (record whole { ends = (set_entity whole.ends state).ends })
+holds_entity profile whole state cited le words holds =
+    let facts = holds.facts in
+    let server = whole.ends.server in
+    let entity = normal_entity profile.entity state in
+    let normal = cited.normal_entity state words in
+    let held = AreHeld-put profile entity server.map.entities (omega (arith, le, cited.end)) normal.0 normal.1 facts.entities in
+    subst (λ (p : Profile). Holds profile (record whole { ends = record whole.ends { server = record server {
+      map = record server.map { entities = with_entity (normal_entity p.entity state) server.map.entities };
+    } } })) (sym facts.by)
+    (Holds-map profile whole (record server.map { entities = with_entity entity server.map.entities }) facts.time held holds)
+
+holds_removed : (profile : Profile) (whole : Whole) (number : ℕ) → Holds profile whole
+    → Holds profile (record whole { ends = (remove_entity whole.ends number).ends })
+holds_removed profile whole number holds =
+    let map = whole.ends.server.map in
+    Holds-map profile whole (record map { entities = without_entity number map.entities }) holds.facts.time
+    (AreHeld-without profile number map.entities holds.facts.entities) holds
 
 -- ---- serving
 
@@ -168,29 +206,46 @@ served profile whole c lt holds =
 not_a_runt : (number : ℕ) (message : List ℕ) → nat_lt (length (datagram_bytes number message)) 4 ≡ false
 not_a_runt number message = le-ltb (length (datagram_bytes number message)) 4 (omega (arith, length-append (to_le_bytes w32 number) message))
 
-abbrev taken_by_tag : ClientState → ℕ → Snapshot → Taken
-taken_by_tag client number snapshot = cond (nat_le number client.taken) (record { client = client; answer = Old }) (applied client snapshot)
+abbrev taken_by_tag : ClientState → ℕ → Message → Taken
+taken_by_tag client number message = cond (nat_le number client.taken) (record { client = client; answer = Old }) (apply_message client number message)
 
 -- the number of a datagram
-pub number_is : (profile : Profile) (number : ℕ) (snapshot : Snapshot) (message : List ℕ) → IsBuilt profile number snapshot
-    → number_of_datagram (datagram_bytes number message) ≡ number
-number_is profile number snapshot message built = let fits = built.fits in from_le_bytes-to_le_bytes_4 number (omega arith)
+pub number_is : (profile : Profile) (number : ℕ) (message : Message) (bytes : List ℕ) → IsBuilt profile number message
+    → number_of_datagram (datagram_bytes number bytes) ≡ number
+number_is profile number message bytes built = let fits = built.fits in from_le_bytes-to_le_bytes_4 number (omega arith)
 
 -- a message that was built is taken by its bytes as by its tag
-take_by_tag : (profile : Profile) (client : ClientState) (number : ℕ) (snapshot : Snapshot) → ReadsBack profile → IsBuilt profile number snapshot → client.profile ≡ profile
-    → take_at client (datagram_bytes number (message_bytes (snapshot_bits profile snapshot))) ≡ taken_by_tag client number snapshot
+take_by_tag : (profile : Profile) (client : ClientState) (number : ℕ) (message : Message) → ReadsBack profile → IsBuilt profile number message → client.profile ≡ profile
+    → take_at client (datagram_bytes number (message_bytes (built_bits profile message))) ≡ taken_by_tag client number message
 unfolding take_at
-take_by_tag profile client number snapshot reads built by =
-    let message = message_bytes (snapshot_bits profile snapshot) in
-    rw (not_a_runt number message, number_is profile number snapshot message built, by, reads number snapshot built) refl
+take_by_tag profile client number message reads built by =
+    let bytes = message_bytes (built_bits profile message) in
+    rw (not_a_runt number bytes, number_is profile number message bytes built, by, reads number message built) refl
+
+-- what arrives of a message that carries a snapshot
+abbrev Arrives : Profile → Whole → ℕ → Tag → ClientState → Message → Type 0
+Arrives profile whole number tag client message =
+    Agree profile (kept_taken (kept_of profile whole) number tag.client (apply_message client tag.number message))
+    (arrive_new whole number tag.client (apply_message client tag.number message) (snapshot_in message.section))
+
+arrives : (profile : Profile) (whole : Whole) (number : ℕ) (tag : Tag) (client : ClientState) (message : Message) → IsSent profile whole.histories tag
+    → client_at whole.ends tag.client ≡ Some client → client.taken < tag.number → message ≡ named whole.histories tag
+    → Holds profile whole → Arrives profile whole number tag client message
+arrives profile whole number tag client message is found newer same holds =
+    let there = tag_was_built profile whole tag client is found holds in
+    subst (λ (m : Message). Arrives profile whole number tag client m) (sym (same ∙ there.is))
+    (record {
+      same = refl;
+      holds = Holds-applied profile whole tag client there.snapshot is found newer there.number (names_built profile whole tag is there) holds;
+    })
 
 -- the same, where a client takes it so
 taken_same : (profile : Profile) (whole : Whole) (number : ℕ) (tag : Tag) (client : ClientState)
     → client_at whole.ends tag.client ≡ Some client → IsSent profile whole.histories tag → Holds profile whole
-    → Agree profile (kept_taken (kept_of profile whole) number tag.client (taken_by_tag client tag.number (snapshot_of whole.histories tag)))
+    → Agree profile (kept_taken (kept_of profile whole) number tag.client (taken_by_tag client tag.number (named whole.histories tag)))
     (arrive whole number tag (Some client))
 taken_same profile whole number tag client found is holds =
-    let snapshot = snapshot_of whole.histories tag in
+    let message = named whole.histories tag in
     let same_clients : slice_set whole.ends.clients tag.client (Some client) ≡ whole.ends.clients =
     ap (λ (s : Option ClientState). slice_set whole.ends.clients tag.client s) (sym found) ∙ set-get_or whole.ends.clients tag.client None in
     elim (cases_Bool (nat_le tag.number client.taken)) [
@@ -201,10 +256,7 @@ taken_same profile whole number tag client found is holds =
         }) same_clients;
         holds = holds;
       })
-      | inr new ↦ rw new (record {
-        same = refl;
-        holds = Holds-applied profile whole tag client is found (leb-false tag.number client.taken new) holds;
-      })
+      | inr new ↦ rw new (arrives profile whole number tag client message is found (leb-false tag.number client.taken new) refl holds)
     ]
 
 -- a datagram that was made is one of a message that was begun
@@ -218,11 +270,11 @@ delivered_to : (profile : Profile) (whole : Whole) (number : ℕ) (tag : Tag) (f
     → Agree profile (kept_arrive (kept_of profile whole) number (bytes_of tag) found) (arrive whole number tag found)
 delivered_to profile whole number tag None reads is at holds = record { same = refl; holds = holds }
 delivered_to profile whole number tag (Some client) reads is at holds =
-    let snapshot = snapshot_of whole.histories tag in
+    let message = named whole.histories tag in
     let built = tag_was_built profile whole tag client is at holds in
     let by = client_by profile whole tag.client client is.client at holds in
-    let by_tag : take_at client tag.bytes ≡ taken_by_tag client tag.number snapshot =
-    ap (take_at client) is.bytes ∙ take_by_tag profile client tag.number snapshot reads built by in
+    let by_tag : take_at client tag.bytes ≡ taken_by_tag client tag.number message =
+    ap (take_at client) is.bytes ∙ take_by_tag profile client tag.number message reads built by in
     subst (λ (t : Taken). Agree profile (kept_taken (kept_of profile whole) number tag.client t) (arrive whole number tag (Some client))) (sym by_tag)
     (taken_same profile whole number tag client at is holds)
 
@@ -246,9 +298,15 @@ pub steps_agree : (profile : Profile) (whole : Whole) (event : Event) → Cited 
 unfolding kept_step step emit_at
 steps_agree profile whole (events.Client c challenge qport dup address) cited is holds =
     handed profile whole (join profile whole.ends c challenge qport dup address) (holds_join profile whole c challenge qport dup address cited.zero (omega (arith, is)) holds)
+steps_agree profile whole (events.Entity state) cited is holds =
+    handed profile whole (set_entity whole.ends state) (holds_entity profile whole state cited is.0 is.1 holds)
+steps_agree profile whole (events.Remove number) cited is holds =
+    handed profile whole (remove_entity whole.ends number) (holds_removed profile whole number holds)
+steps_agree profile whole (events.Area c area) cited is holds =
+    handed profile whole (set_area whole.ends c area) (holds_area profile whole c area (record { bytes = is.2; short = is.1 }) (omega (arith, is.0)) holds)
 steps_agree profile whole (events.Player c player) cited is holds =
     handed profile whole (set_player whole.ends c player) (holds_player profile whole c player (cited.normal player is.1) (omega (arith, is.0)) holds)
-steps_agree profile whole (events.Time time) cited is holds = record { same = refl; holds = Holds-map profile whole (record { time = time }) is holds }
+steps_agree profile whole (events.Time time) cited is holds = record { same = refl; holds = Holds-map profile whole (record whole.ends.server.map { time = time }) is holds.facts.entities holds }
 steps_agree profile whole (events.Serve c) cited is holds = served profile whole c (omega (arith, is)) holds
 steps_agree profile whole (events.Deliver number) cited is holds = delivers_agree profile whole number cited holds
 steps_agree profile whole (events.Show c) cited is holds = record { same = refl; holds = holds }

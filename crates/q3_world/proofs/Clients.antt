@@ -2,18 +2,23 @@
 use Rattle.std.proofs.Common.{◌≡◌, ℕ, suc, ◌+◌, ◌-◌, ◌^◌, ◌<◌, ◌≤◌, List, [], ◌∷◌, ◌++◌, length, get_or, Option, Some, None, refl, sym, ap, subst, ◌∙◌, inl, inr, arith}
 use Rattle.std.specs.List.{last_or}
 use Rattle.std.proofs.lemmas.List.{length_push, get_or_append_left, get_or_push}
+use Rattle.std.proofs.lemmas.List.Elements.{All-nil}
 use Rattle.std.proofs.lemmas.Bool.{cases_lt}
+use Rattle.arrayvec.specs.ArrayVec.{ArrayVec}
 use Rattle.q3_profile.specs.declared.profile.Profile.{Profile}
 use Rattle.q3_player.specs.State.{zero_player, normal_player}
 use Rattle.q3_player.specs.declared.state.PlayerState.{PlayerState}
 use Rattle.q3_io.specs.declared.address.Address.{Address}
-use Rattle.q3_world.specs.declared.message.Snapshot.{Snapshot}
-use Rattle.q3_world.specs.Message.{IsHeld, IsBuilt, sequence_end}
-use Rattle.q3_world.specs.Server.{MapState, SlotState, Built, new_slot, with_player, next_message}
-use Rattle.q3_world.specs.Client.{ClientState, new_client, applied}
+use Rattle.q3_entity.specs.Entities.{most_entities}
+use Rattle.q3_svmsg.specs.Values.{Message}
+use Rattle.q3_world.specs.declared.client.SnapOutcome.TheVariants.{Accepted}
+use Rattle.q3_world.specs.Message.{Snapshot, message_of, IsHeld, IsArea, AreHeld, IsBuilt, sequence_end}
+use Rattle.q3_world.specs.Server.{MapState, SlotState, Built, new_slot, with_player, with_area, next_snapshot, next_message}
+use Rattle.q3_world.specs.Client.{ClientState, new_client, apply_message}
 use Rattle.q3_world.specs.World.{History, no_history}
 use Rattle.q3_world.specs.StandsFor.{AreEnds, IsClient, WasBuilt, number_of_newest, Rise, AreJoined}
 use Rattle.q3_world.proofs.Growth.{was_built_more, each_more}
+use Rattle.q3_world.proofs.Held.{AreHeld-take, few_taken}
 
 -- ---- presence
 
@@ -36,36 +41,63 @@ a_slot profile (Some slot) client history ends = (slot, refl, ends)
 
 -- ---- what each end keeps alone
 
+-- no area bytes
+no_area : IsArea []
+no_area = record { bytes = All-nil (λ (byte : ℕ). byte < 256); short = omega arith }
+
 -- a client that just joined
 pub AreEnds-new : (profile : Profile) (challenge qport dup : ℕ) (address : Address) → IsHeld profile zero_player
     → AreEnds profile (new_slot challenge qport address) (new_client profile challenge qport dup) no_history
 AreEnds-new profile challenge qport dup address zero =
-    record { begun = refl; player = zero; built = λ k d lt. absurd (omega (arith, lt)); by = refl }
+    record { begun = refl; player = zero; area = no_area; built = λ k d lt. absurd (omega (arith, lt)); by = refl }
 
 -- another player
 pub AreEnds-player : (profile : Profile) (slot : SlotState) (client : ClientState) (history : History) (player : PlayerState)
     → IsHeld profile (normal_player profile.player.kinds player) → AreEnds profile slot client history → AreEnds profile (with_player profile slot player) client history
-AreEnds-player profile slot client history player held ends = record { begun = ends.begun; player = held; built = ends.built; by = ends.by }
+AreEnds-player profile slot client history player held ends = record { begun = ends.begun; player = held; area = ends.area; built = ends.built; by = ends.by }
+
+-- other area bytes
+pub AreEnds-area : (profile : Profile) (slot : SlotState) (client : ClientState) (history : History) (area : ArrayVec ℕ)
+    → IsArea area.items → AreEnds profile slot client history → AreEnds profile (with_area slot area) client history
+AreEnds-area profile slot client history area is ends = record { begun = ends.begun; player = ends.player; area = is; built = ends.built; by = ends.by }
+
+-- the message that goes to a slot next is built
+next_is_built : (profile : Profile) (map : MapState) (slot : SlotState) → map.time < 2 ^ 32 → AreHeld profile map.entities → slot.begun + 1 < sequence_end
+    → IsHeld profile slot.player → IsArea slot.area.items → IsBuilt profile (slot.begun + 1) (next_message map slot)
+next_is_built profile map slot time entities fits player area =
+    record {
+      snapshot = next_snapshot map slot;
+      is = refl;
+      number = refl;
+      fits = fits;
+      time = time;
+      flags = refl;
+      area = area;
+      player = player;
+      entities = AreHeld-take profile most_entities map.entities entities;
+      few = few_taken most_entities map.entities;
+    }
 
 -- one message more was begun
 pub AreEnds-built : (profile : Profile) (map : MapState) (slot : SlotState) (client : ClientState) (history : History)
-    → map.time < 2 ^ 32 → slot.begun + 1 < sequence_end → AreEnds profile slot client history
+    → map.time < 2 ^ 32 → AreHeld profile map.entities → slot.begun + 1 < sequence_end → AreEnds profile slot client history
     → AreEnds profile (record slot { begun = slot.begun + 1 }) client (record history { built = history.built ++ next_message map slot ∷ [] })
-AreEnds-built profile map slot client history time fits ends =
+AreEnds-built profile map slot client history time entities fits ends =
     let next = next_message map slot in
     let begun = ends.begun in
     record {
       begun = omega (arith, length_push history.built next);
       player = ends.player;
-      built = each_more (λ (k : ℕ) (b : Built). IsBuilt profile (k + 1) b.snapshot) history.built next ends.built
-          (record { number = omega arith; fits = omega arith; time = time; flags = refl; player = ends.player });
+      area = ends.area;
+      built = each_more (λ (k : ℕ) (b : Built). IsBuilt profile (k + 1) b) history.built next ends.built
+          (subst (λ (n : ℕ). IsBuilt profile (n + 1) next) begun (next_is_built profile map slot time entities fits ends.player ends.area));
       by = ends.by;
     }
 
 -- another state of the client, and more snapshots accepted
 pub AreEnds-client : (profile : Profile) (slot : SlotState) (client next : ClientState) (history : History) (accepted : List Snapshot)
     → next.profile ≡ profile → AreEnds profile slot client history → AreEnds profile slot next (record history { accepted = accepted })
-AreEnds-client profile slot client next history accepted by ends = record { begun = ends.begun; player = ends.player; built = ends.built; by = by }
+AreEnds-client profile slot client next history accepted by ends = record { begun = ends.begun; player = ends.player; area = ends.area; built = ends.built; by = by }
 
 -- ---- what joins the ends
 
@@ -104,18 +136,18 @@ last_is o (x ∷ y ∷ xs) d some =
 
 -- each accepted snapshot is at most the newest taken
 at_most : (accepted : List Snapshot) (k : ℕ) (d : Snapshot) → Rise accepted → k < length accepted
-    → (get_or accepted k d).number ≤ number_of_newest (last_or None accepted)
+    → (get_or accepted k d).head.number ≤ number_of_newest (last_or None accepted)
 at_most accepted k d rise lt =
     let last = length accepted - 1 in
     rw (last_is None accepted d (omega arith))
     (elim (cases_lt k last) [
       | inl below ↦ omega (arith, rise k last d below (omega arith))
-      | inr past ↦ let e : k ≡ last = omega arith in subst (λ (j : ℕ). (get_or accepted k d).number ≤ (get_or accepted j d).number) e (omega arith)
+      | inr past ↦ let e : k ≡ last = omega arith in subst (λ (j : ℕ). (get_or accepted k d).head.number ≤ (get_or accepted j d).head.number) e (omega arith)
     ])
 
 -- numbers rise where one above all comes behind them
 rise_more : (accepted : List Snapshot) (next : Snapshot) → Rise accepted
-    → ((k : ℕ) (d : Snapshot) → k < length accepted → (get_or accepted k d).number < next.number) → Rise (accepted ++ next ∷ [])
+    → ((k : ℕ) (d : Snapshot) → k < length accepted → (get_or accepted k d).head.number < next.head.number) → Rise (accepted ++ next ∷ [])
 rise_more accepted next rise above j k d lt within =
     elim (cases_lt k (length accepted)) [
       | inl inside ↦ rw (get_or_append_left accepted (next ∷ []) d k inside, get_or_append_left accepted (next ∷ []) d j (omega arith)) (rise j k d lt inside)
@@ -126,8 +158,8 @@ rise_more accepted next rise above j k d lt within =
 
 -- a newer snapshot that was built is accepted
 pub AreJoined-accepted : (map : MapState) (slot : SlotState) (client : ClientState) (history : History) (snapshot : Snapshot)
-    → WasBuilt history.built snapshot → client.taken < snapshot.number → AreJoined map slot client history
-    → AreJoined map slot (applied client snapshot).client (record history { accepted = history.accepted ++ snapshot ∷ [] })
+    → WasBuilt history.built snapshot → client.taken < snapshot.head.number → AreJoined map slot client history
+    → AreJoined map slot (apply_message client snapshot.head.number (message_of snapshot)).client (record history { accepted = history.accepted ++ snapshot ∷ [] })
 AreJoined-accepted map slot client history snapshot was newer joined =
     let newest = joined.taken ∙ ap number_of_newest joined.newest in
     record {

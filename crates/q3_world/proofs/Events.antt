@@ -8,15 +8,17 @@ use Rattle.q3_profile.specs.Profile.{IsCodec}
 use Rattle.q3_player.specs.State.{zero_player, normal_player}
 use Rattle.q3_player.specs.declared.state.PlayerState.{PlayerState}
 use Rattle.q3_io.specs.declared.address.Address.{Address}
-use Rattle.q3_world.specs.Message.{IsHeld, IsBuilt, sequence_end, datagram_bytes}
-use Rattle.q3_world.specs.Server.{MapState, SlotState, Built, places, slot_at, with_slot, new_slot, with_player, next_message, built_bits}
-use Rattle.q3_world.specs.Client.{ClientState, new_client, applied}
+use Rattle.arrayvec.specs.ArrayVec.{ArrayVec}
+use Rattle.q3_world.specs.Message.{Snapshot, message_of, IsHeld, IsArea, AreHeld, IsBuilt, sequence_end, datagram_bytes}
+use Rattle.q3_world.specs.Server.{MapState, SlotState, Built, places, slot_at, with_slot, new_slot, with_player, with_area, next_message, built_bits}
+use Rattle.q3_world.specs.Client.{ClientState, new_client, apply_message}
 use Rattle.q3_world.specs.Ends.{client_at, with_client}
-use Rattle.q3_world.specs.World.{Tag, History, Whole, no_history, no_message, history_at, built_at, with_built, with_accepted, snapshot_of, opening}
+use Rattle.q3_world.specs.World.{Tag, History, Whole, no_history, no_message, history_at, built_at, with_built, with_accepted, named, opening}
 use Rattle.q3_world.specs.StandsFor.{AreEnds, IsClient, IsSent, Facts, AreJoined, IsJoined, AllJoined, WasBuilt}
 use Rattle.q3_world.proofs.OnePlace.{set_there, OnlyAt, OnlyAt-set, OnlyAt-same, Each, each_at}
 use Rattle.q3_world.proofs.Growth.{Grows, Grows-same, Grows-built, Grows-accepted, AllSent, all_sent_grow, each_more}
-use Rattle.q3_world.proofs.Clients.{no_client, a_client, a_slot, AreEnds-new, AreEnds-player, AreEnds-built, AreEnds-client, AreJoined-new, AreJoined-built, AreJoined-slot, AreJoined-accepted}
+use Rattle.q3_world.proofs.Clients.{no_client, a_client, a_slot, AreEnds-new, AreEnds-player, AreEnds-area, AreEnds-built, AreEnds-client, AreJoined-new, AreJoined-built, AreJoined-slot, AreJoined-accepted}
+use Rattle.q3_world.proofs.Held.{AreHeld-none}
 
 -- what holds of a whole world
 pub record Holds (profile : Profile) (whole : Whole) : Type 0 where
@@ -37,6 +39,7 @@ Holds-opening profile codec =
         clients = refl;
         histories = refl;
         time = lit< tt;
+        entities = AreHeld-none profile;
         each = λ c lt. rw (no_slots c lt, no_clients c lt, get_or-replicate places c no_history no_history lt) refl;
         sent = λ k d lt. absurd (omega (arith, lt));
       };
@@ -69,6 +72,7 @@ Holds-at profile c old new differ client joined sent holds =
         clients = differ.clients.count ∙ facts.clients;
         histories = differ.histories.count ∙ facts.histories;
         time = subst (λ (map : MapState). map.time < 2 ^ 32) (sym differ.map) facts.time;
+        entities = subst (λ (map : MapState). AreHeld profile map.entities) (sym differ.map) facts.entities;
         each = each_at (IsClient profile) c old.ends.server.slots new.ends.server.slots old.ends.clients new.ends.clients old.histories new.histories
             differ.slots differ.clients differ.histories client facts.each;
         sent = sent;
@@ -131,15 +135,15 @@ has profile whole c slot lt found holds =
     let joined : IsJoined map (some_slot slot) (client_at whole.ends c) history = subst (λ (s : Option SlotState). IsJoined map s (client_at whole.ends c) history) found (holds.joined c lt) in
     (ends.0, ends.1, ends.2, subst (λ (e : Option ClientState). IsJoined map (some_slot slot) e history) ends.1 joined)
 
-pub Holds-player : (profile : Profile) (whole : Whole) (c : ℕ) (slot : SlotState) (player : PlayerState) → c < places
-    → slot_at whole.ends.server c ≡ Some slot → IsHeld profile (normal_player profile.player.kinds player) → Holds profile whole
-    → Holds profile (with_new_slot whole c (with_player profile slot player))
-Holds-player profile whole c slot player lt found held holds =
+-- a slot changes, and not how many messages it began
+holds_slot : (profile : Profile) (whole : Whole) (c : ℕ) (slot next : SlotState) → c < places → slot_at whole.ends.server c ≡ Some slot
+    → ((client : ClientState) → AreEnds profile slot client (history_at whole.histories c) → AreEnds profile next client (history_at whole.histories c))
+    → Holds profile whole → Holds profile (with_new_slot whole c next)
+holds_slot profile whole c slot next lt found stays holds =
     let facts = holds.facts in
     let slots = whole.ends.server.slots in
     let map = whole.ends.server.map in
     let history = history_at whole.histories c in
-    let next = with_player profile slot player in
     let had = has profile whole c slot lt found holds in
     let slot_is = set_there slots c None (Some next) facts.slots lt in
     Holds-at profile c whole (with_new_slot whole c next)
@@ -151,9 +155,23 @@ Holds-player profile whole c slot player lt found held holds =
       histories = OnlyAt-same no_history c whole.histories;
       grows = Grows-same whole.histories;
     })
-    (rw (slot_is, had.1) (AreEnds-player profile slot had.0 history player held had.2))
+    (rw (slot_is, had.1) (stays had.0 had.2))
     (rw (slot_is, had.1) (AreJoined-slot map map slot next had.0 history had.3))
     facts.sent holds
+
+pub Holds-player : (profile : Profile) (whole : Whole) (c : ℕ) (slot : SlotState) (player : PlayerState) → c < places
+    → slot_at whole.ends.server c ≡ Some slot → IsHeld profile (normal_player profile.player.kinds player) → Holds profile whole
+    → Holds profile (with_new_slot whole c (with_player profile slot player))
+Holds-player profile whole c slot player lt found held holds =
+    holds_slot profile whole c slot (with_player profile slot player) lt found
+    (λ client ends. AreEnds-player profile slot client (history_at whole.histories c) player held ends) holds
+
+pub Holds-area : (profile : Profile) (whole : Whole) (c : ℕ) (slot : SlotState) (area : ArrayVec ℕ) → c < places
+    → slot_at whole.ends.server c ≡ Some slot → IsArea area.items → Holds profile whole
+    → Holds profile (with_new_slot whole c (with_area slot area))
+Holds-area profile whole c slot area lt found is holds =
+    holds_slot profile whole c slot (with_area slot area) lt found
+    (λ client ends. AreEnds-area profile slot client (history_at whole.histories c) area is ends) holds
 
 -- ---- a message was begun
 
@@ -214,7 +232,7 @@ Holds-begun profile whole c slot lt found fits holds =
       histories = OnlyAt-set no_history c histories grown;
       grows = grows;
     })
-    (rw (slot_is, had.1, history_is) (AreEnds-built profile map slot had.0 history facts.time fits had.2))
+    (rw (slot_is, had.1, history_is) (AreEnds-built profile map slot had.0 history facts.time facts.entities fits had.2))
     (rw (slot_is, had.1, history_is) (AreJoined-built map map slot begun had.0 history (next ∷ []) had.3))
     (each_more (λ (k : ℕ) (tag : Tag). IsSent profile (with_built histories c next) tag) whole.sent (next_tag profile map c slot)
     (all_sent_grow profile histories (with_built histories c next) whole.sent grows facts.sent)
@@ -226,7 +244,7 @@ Holds-begun profile whole c slot lt found fits holds =
 -- the message that a tag names was built
 pub tag_was_built : (profile : Profile) (whole : Whole) (tag : Tag) (client : ClientState) → IsSent profile whole.histories tag
     → client_at whole.ends tag.client ≡ Some client → Holds profile whole
-    → IsBuilt profile tag.number (snapshot_of whole.histories tag)
+    → IsBuilt profile tag.number (named whole.histories tag)
 tag_was_built profile whole tag client is found holds =
     let history = history_at whole.histories tag.client in
     let had = a_slot profile (slot_at whole.ends.server tag.client) client history
@@ -234,18 +252,16 @@ tag_was_built profile whole tag client is found holds =
     let some = is.some in
     let begun = is.begun in
     let place : tag.number - 1 + 1 ≡ tag.number = omega arith in
-    subst (λ (n : ℕ). IsBuilt profile n (snapshot_of whole.histories tag)) place (had.2.built (tag.number - 1) no_message (omega arith))
+    subst (λ (n : ℕ). IsBuilt profile n (named whole.histories tag)) place (had.2.built (tag.number - 1) no_message (omega arith))
 
 -- and so the snapshot that it names is one that was built
-pub names_built : (profile : Profile) (whole : Whole) (tag : Tag) (client : ClientState) → IsSent profile whole.histories tag
-    → client_at whole.ends tag.client ≡ Some client → Holds profile whole
-    → WasBuilt (history_at whole.histories tag.client).built (snapshot_of whole.histories tag)
-names_built profile whole tag client is found holds =
-    let built = tag_was_built profile whole tag client is found holds in
+pub names_built : (profile : Profile) (whole : Whole) (tag : Tag) → IsSent profile whole.histories tag
+    → (built : IsBuilt profile tag.number (named whole.histories tag)) → WasBuilt (history_at whole.histories tag.client).built built.snapshot
+names_built profile whole tag is built =
     let number = built.number in
     let some = is.some in
     let begun = is.begun in
-    (omega arith, omega arith, ap (λ (n : ℕ). (built_at (history_at whole.histories tag.client).built n).snapshot) (sym number))
+    (omega arith, omega arith, sym built.is ∙ ap (λ (n : ℕ). built_at (history_at whole.histories tag.client).built n) (sym number))
 
 -- a client that is there goes by the profile
 pub client_by : (profile : Profile) (whole : Whole) (c : ℕ) (client : ClientState) → c < places → client_at whole.ends c ≡ Some client → Holds profile whole
@@ -256,16 +272,19 @@ client_by profile whole c client lt found holds =
     (subst (λ (e : Option ClientState). IsClient profile (slot_at whole.ends.server c) e history) found (holds.facts.each c lt)) in
     had.2.by
 
-abbrev pub with_applied : Whole → Tag → ClientState → Whole
-with_applied whole tag client =
+-- a client accepted a snapshot under its number
+abbrev pub with_applied : Whole → ℕ → ℕ → ClientState → Snapshot → Whole
+with_applied whole c number client snapshot =
     record whole {
-      ends = with_client whole.ends tag.client (applied client (snapshot_of whole.histories tag)).client;
-      histories = with_accepted whole.histories tag.client (snapshot_of whole.histories tag);
+      ends = with_client whole.ends c (apply_message client number (message_of snapshot)).client;
+      histories = with_accepted whole.histories c snapshot;
     }
 
-pub Holds-applied : (profile : Profile) (whole : Whole) (tag : Tag) (client : ClientState) → IsSent profile whole.histories tag
-    → client_at whole.ends tag.client ≡ Some client → client.taken < tag.number → Holds profile whole → Holds profile (with_applied whole tag client)
-Holds-applied profile whole tag client is found newer holds =
+pub Holds-applied : (profile : Profile) (whole : Whole) (tag : Tag) (client : ClientState) (snapshot : Snapshot) → IsSent profile whole.histories tag
+    → client_at whole.ends tag.client ≡ Some client → client.taken < tag.number → snapshot.head.number ≡ tag.number
+    → WasBuilt (history_at whole.histories tag.client).built snapshot → Holds profile whole
+    → Holds profile (with_applied whole tag.client tag.number client snapshot)
+Holds-applied profile whole tag client snapshot is found newer number was holds =
     let facts = holds.facts in
     let c = tag.client in
     let slots = whole.ends.server.slots in
@@ -273,21 +292,19 @@ Holds-applied profile whole tag client is found newer holds =
     let map = whole.ends.server.map in
     let histories = whole.histories in
     let history = history_at histories c in
-    let snapshot = snapshot_of histories tag in
     let more = record history { accepted = history.accepted ++ snapshot ∷ [] } in
-    let next = (applied client snapshot).client in
+    let next = (apply_message client tag.number (message_of snapshot)).client in
     let grows = Grows-accepted histories c snapshot facts.histories is.client in
     let had = a_slot profile (slot_at whole.ends.server c) client history
     (subst (λ (e : Option ClientState). IsClient profile (slot_at whole.ends.server c) e history) found (facts.each c is.client)) in
     let joined : IsJoined map (some_slot had.0) (Some client) history =
     subst (λ (s : Option SlotState). IsJoined map s (Some client) history) had.1
     (subst (λ (e : Option ClientState). IsJoined map (slot_at whole.ends.server c) e history) found (holds.joined c is.client)) in
-    let built = tag_was_built profile whole tag client is found holds in
-    let number = built.number in
-    let was : WasBuilt history.built snapshot = names_built profile whole tag client is found holds in
     let client_is = set_there clients c None (Some next) facts.clients is.client in
     let history_is = set_there histories c no_history more facts.histories is.client in
-    Holds-at profile c whole (with_applied whole tag client)
+    let accepted = subst (λ (n : ℕ). AreJoined map had.0 (apply_message client n (message_of snapshot)).client more) number
+    (AreJoined-accepted map had.0 client history snapshot was (omega (arith, newer, number)) joined) in
+    Holds-at profile c whole (with_applied whole c tag.number client snapshot)
     (record {
       by = refl;
       map = refl;
@@ -297,7 +314,7 @@ Holds-applied profile whole tag client is found newer holds =
       grows = grows;
     })
     (rw (had.1, client_is, history_is) (AreEnds-client profile had.0 client next history more.accepted had.2.by had.2))
-    (rw (had.1, client_is, history_is) (AreJoined-accepted map had.0 client history snapshot was (omega arith) joined))
+    (rw (had.1, client_is, history_is) accepted)
     (all_sent_grow profile histories (with_accepted histories c snapshot) whole.sent grows facts.sent)
     holds
 
@@ -312,10 +329,10 @@ joined_map map map' (Some slot) (Some client) history joined = AreJoined-slot ma
 abbrev pub with_map : Whole → MapState → Whole
 with_map whole map = record whole { ends = record whole.ends { server = record whole.ends.server { map = map } } }
 
-pub Holds-map : (profile : Profile) (whole : Whole) (map : MapState) → map.time < 2 ^ 32 → Holds profile whole → Holds profile (with_map whole map)
-Holds-map profile whole map time holds =
+pub Holds-map : (profile : Profile) (whole : Whole) (map : MapState) → map.time < 2 ^ 32 → AreHeld profile map.entities → Holds profile whole → Holds profile (with_map whole map)
+Holds-map profile whole map time entities holds =
     let facts = holds.facts in
     record {
-      facts = record { codec = facts.codec; by = facts.by; slots = facts.slots; clients = facts.clients; histories = facts.histories; time = time; each = facts.each; sent = facts.sent };
+      facts = record { codec = facts.codec; by = facts.by; slots = facts.slots; clients = facts.clients; histories = facts.histories; time = time; entities = entities; each = facts.each; sent = facts.sent };
       joined = λ c lt. joined_map whole.ends.server.map map (slot_at whole.ends.server c) (client_at whole.ends c) (history_at whole.histories c) (holds.joined c lt);
     }

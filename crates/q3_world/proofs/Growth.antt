@@ -4,8 +4,7 @@ use Rattle.std.proofs.lemmas.List.{append-nil, length-append, length_push, get_o
 use Rattle.std.proofs.lemmas.Bool.{cases_eq, cases_lt}
 use Rattle.q3_bits.specs.Bits.{message_bytes}
 use Rattle.q3_profile.specs.declared.profile.Profile.{Profile}
-use Rattle.q3_world.specs.declared.message.Snapshot.{Snapshot}
-use Rattle.q3_world.specs.Message.{datagram_bytes}
+use Rattle.q3_world.specs.Message.{Snapshot, datagram_bytes}
 use Rattle.q3_world.specs.Server.{Built, places, built_bits}
 use Rattle.q3_world.specs.World.{Tag, History, no_history, no_message, history_at, built_at, with_built, with_accepted}
 use Rattle.q3_world.specs.StandsFor.{IsSent, WasBuilt}
@@ -18,7 +17,7 @@ built_stays built more number some few = get_or_append_left built more no_messag
 -- a snapshot that was built was built
 pub was_built_more : (built more : List Built) (snapshot : Snapshot) → WasBuilt built snapshot → WasBuilt (built ++ more) snapshot
 was_built_more built more snapshot was =
-    (was.0, omega (arith, length-append built more, was.1), was.2 ∙ ap (λ (b : Built). b.snapshot) (sym (built_stays built more snapshot.number was.0 was.1)))
+    (was.0, omega (arith, length-append built more, was.1), was.2 ∙ sym (built_stays built more snapshot.head.number was.0 was.1))
 
 -- of each client, more may have been built
 abbrev pub Grows : List History → List History → Type 0

@@ -27,7 +27,10 @@ few_delivered kept number (Some sent) = few_arrived kept number sent (client_at 
 pub few_more : (kept : Kept) (event : Event) → length (kept_step kept event).kept.datagrams ≤ length kept.datagrams + 1
 unfolding kept_step
 few_more kept (events.Client c challenge qport dup address) = omega arith
+few_more kept (events.Entity state) = omega arith
+few_more kept (events.Remove number) = omega arith
 few_more kept (events.Player c player) = omega arith
+few_more kept (events.Area c area) = omega arith
 few_more kept (events.Time time) = omega arith
 few_more kept (events.Serve c) = few_served kept.datagrams c (emit_at kept.ends.server c).piece
 few_more kept (events.Deliver number) = few_delivered kept number (slice_get kept.datagrams (number - 1))

@@ -3,11 +3,15 @@ use Rattle.std.specs.Prelude.{ℕ, if◌then◌else◌, List, length, take, drop
 use Rattle.std.specs.Int.{w32, from_le_bytes}
 use Rattle.q3_profile.specs.declared.profile.Profile.{Profile}
 use Rattle.q3_bits.specs.Bits.{bits_of}
-use Rattle.q3_world.specs.declared.message.Snapshot.{Snapshot}
-use Rattle.q3_world.specs.declared.message.Illegible as cause
+use Rattle.q3_svmsg.specs.declared.error.Illegible as cause
+use Rattle.q3_svmsg.specs.Values as told
+use Rattle.q3_svmsg.specs.Values.{Told, Message}
+use Rattle.q3_svmsg.specs.Reading.{message_at}
 use Rattle.q3_world.specs.declared.client.ClientTook.{ClientTook}
 use Rattle.q3_world.specs.declared.client.ClientTook.TheVariants.{Runt, Old, Illegible, Applied}
-use Rattle.q3_world.specs.Message.{snapshot_at}
+use Rattle.q3_world.specs.declared.client.SnapOutcome.TheVariants.{NoSnap, Accepted, Skipped}
+use Rattle.q3_world.specs.declared.client.NoBase.TheVariants.{NeverHeld}
+use Rattle.q3_world.specs.Message.{Snapshot, no_bases}
 
 -- a client: by which profile, how it joined, how many old moves it repeats, the newest number taken, 0 for none, and the
 -- newest snapshot accepted
@@ -29,21 +33,32 @@ pub record Taken : Type 0 where
   pub client : ClientState
   pub answer : ClientTook
 
--- what a message does to a client: its snapshot is accepted
-abbrev pub applied : ClientState → Snapshot → Taken
-applied client snapshot =
-    record { client = record client { taken = snapshot.number; accepted = Some snapshot }; answer = Applied snapshot.number 0 }
+-- what the section of a message does to a client: a snapshot is accepted, and one that was skipped, or none, changes
+-- nothing but the number taken
+abbrev pub apply_section : ClientState → ℕ → Told → Taken
+apply_section client number told.Nothing = record { client = record client { taken = number }; answer = Applied number NoSnap }
+apply_section client number (told.Snap base head entities) =
+    record {
+      client = record client { taken = number; accepted = Some (record { head = head; entities = entities }) };
+      answer = Applied number (Accepted base);
+    }
+apply_section client number (told.Skipped base) =
+    record { client = record client { taken = number }; answer = Applied number (Skipped base NeverHeld) }
+
+-- what a message does to a client
+abbrev pub apply_message : ClientState → ℕ → Message → Taken
+apply_message client number message = apply_section client number message.section
 
 -- at this stage a message that isn't legible leaves its number untaken
-abbrev pub apply_read : ClientState → Result Snapshot cause.Illegible → Taken
-apply_read client (Ok snapshot) = applied client snapshot
-apply_read client (Err e) = record { client = client; answer = Illegible e }
+abbrev pub apply_read : ClientState → ℕ → Result Message cause.Illegible → Taken
+apply_read client number (Ok message) = apply_message client number message
+apply_read client number (Err e) = record { client = client; answer = Illegible e }
 
 -- a message under a number at or below the newest is old, and another is read
 abbrev pub take_message : ClientState → ℕ → List ℕ → Taken
 take_message client number message =
     if nat_le number client.taken then record { client = client; answer = Old }
-    else apply_read client (snapshot_at client.profile number (bits_of message))
+    else apply_read client number (message_at client.profile no_bases number (bits_of message))
 
 -- the number of a datagram's message
 abbrev pub number_of_datagram : List ℕ → ℕ

@@ -2,16 +2,18 @@
 use Rattle.std.specs.Prelude.{ℕ, List, replicate, Option, Some, None, slice_set, slice_index_or, Result, Ok, Err}
 use Rattle.q3_profile.specs.declared.profile.Profile.{Profile}
 use Rattle.q3_player.specs.declared.state.PlayerState.{PlayerState}
+use Rattle.arrayvec.specs.ArrayVec.{ArrayVec}
+use Rattle.q3_entity.specs.declared.state.EntityState.{EntityState}
 use Rattle.q3_io.specs.declared.address.Address.{Address}
-use Rattle.q3_world.specs.declared.message.Snapshot.{Snapshot}
+use Rattle.q3_world.specs.Message.{Snapshot}
 use Rattle.q3_world.specs.declared.server.Emitted.{Emitted}
 use Rattle.q3_world.specs.declared.client.ClientTook.{ClientTook}
 use Rattle.q3_world.specs.declared.server.SlotError.{SlotError}
 use Rattle.q3_world.specs.declared.answer.Answer.{Answer}
-use Rattle.q3_world.specs.declared.answer.Answer.TheVariants.{Client, Time, Player, Serve, Unknown, Deliver, Show}
+use Rattle.q3_world.specs.declared.answer.Answer.TheVariants.{Client, Entity, Remove, Time, Player, Area, Serve, Unknown, Deliver, Show}
 use Rattle.q3_world.specs.declared.answer.Shown.{Shown}
 use Rattle.q3_world.specs.declared.answer.Shown.TheVariants as shown
-use Rattle.q3_world.specs.Server.{ServerState, places, new_server, add_client_at, set_time_at, set_player_at}
+use Rattle.q3_world.specs.Server.{ServerState, places, new_server, add_client_at, set_time_at, set_entity_at, remove_entity_at, set_player_at, set_area_at}
 use Rattle.q3_world.specs.Client.{ClientState, new_client}
 
 -- the server, and each client at its place
@@ -77,14 +79,25 @@ join profile ends c challenge qport dup address =
     let added = add_client_at ends.server c challenge qport address in
     joined (record ends { server = added.server }) c (new_client profile challenge qport dup) added.answer
 
--- the time, and the player of a client, as the game hands them in
+-- the time, the entities, and the player and the area of a client, as the game hands them in
 abbrev pub set_time : Ends → ℕ → EndsStep
 set_time ends time = record { ends = record ends { server = set_time_at ends.server time }; answer = Time }
+
+abbrev pub set_entity : Ends → EntityState → EndsStep
+set_entity ends state = record { ends = record ends { server = set_entity_at ends.server state }; answer = Entity state.number }
+
+abbrev pub remove_entity : Ends → ℕ → EndsStep
+remove_entity ends number = record { ends = record ends { server = remove_entity_at ends.server number }; answer = Remove number }
 
 abbrev pub set_player : Ends → ℕ → PlayerState → EndsStep
 set_player ends c player =
     let given = set_player_at ends.server c player in
     record { ends = record ends { server = given.server }; answer = Player c given.answer }
+
+abbrev pub set_area : Ends → ℕ → ArrayVec ℕ → EndsStep
+set_area ends c area =
+    let given = set_area_at ends.server c area in
+    record { ends = record ends { server = given.server }; answer = Area c given.answer }
 
 -- what a client shows
 abbrev pub shown_of : Option ClientState → Shown

@@ -5,7 +5,7 @@ use Rattle.q3_script.specs.declared.event.Event.{Event}
 use Rattle.q3_script.specs.declared.event.Event.TheVariants as events
 use Rattle.q3_world.specs.Server.{Piece, Emission, emit_at}
 use Rattle.q3_world.specs.Client.{ClientState, Taken, take_at}
-use Rattle.q3_world.specs.Ends.{Ends, EndsStep, Answered, answered, client_at, with_client, new_ends, served, unknown, delivered, join, set_time, set_player, show}
+use Rattle.q3_world.specs.Ends.{Ends, EndsStep, Answered, answered, client_at, with_client, new_ends, served, unknown, delivered, join, set_time, set_entity, remove_entity, set_player, set_area, show}
 
 -- a datagram that was made, and the client that it is for
 pub record SentBytes : Type 0 where
@@ -72,7 +72,10 @@ kept_deliver kept number (Some sent) = kept_arrive kept number sent (client_at k
 -- one event
 unfoldable pub kept_step : Kept → Event → KeptStep
 kept_step kept (events.Client c challenge qport dup address) = kept_ends kept (join kept.profile kept.ends c challenge qport dup address)
+kept_step kept (events.Entity state) = kept_ends kept (set_entity kept.ends state)
+kept_step kept (events.Remove number) = kept_ends kept (remove_entity kept.ends number)
 kept_step kept (events.Player c player) = kept_ends kept (set_player kept.ends c player)
+kept_step kept (events.Area c area) = kept_ends kept (set_area kept.ends c area)
 kept_step kept (events.Time time) = kept_ends kept (set_time kept.ends time)
 kept_step kept (events.Serve c) = kept_serve kept c (emit_at kept.ends.server c)
 kept_step kept (events.Deliver number) = kept_deliver kept number (slice_get kept.datagrams (number - 1))

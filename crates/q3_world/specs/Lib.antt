@@ -1,7 +1,8 @@
 pub mod Message
-pub mod MessageLaws
 pub mod Server
+pub mod MessageLaws
 pub mod Client
+pub mod Views
 pub mod Ends
 pub mod Kept
 pub mod World

@@ -1,23 +1,37 @@
 -- The report of a replay: the lines of each event's answer.
-use Rattle.std.specs.Prelude.{ℕ, List, [], ◌∷◌, codes, decimal, Option, Some, Result, Ok, Err}
+use Rattle.std.specs.Prelude.{ℕ, List, [], ◌∷◌, codes, decimal, Option, Some, None, Result, Ok, Err}
 use Rattle.std.specs.List.{concat, flat_map}
 use Rattle.q3_profile.specs.declared.profile.Profile.{Profile}
 use Rattle.q3_script.specs.declared.event.Event.{Event}
-use Rattle.q3_world.specs.declared.message.Snapshot.{Snapshot}
+use Rattle.q3_world.specs.Message.{Snapshot}
 use Rattle.q3_world.specs.declared.server.Emitted.{Emitted}
 use Rattle.q3_world.specs.declared.server.Emitted.TheVariants as emitted
-use Rattle.q3_world.specs.declared.message.Illegible.{Illegible as IllegibleCause}
-use Rattle.q3_world.specs.declared.message.Illegible.TheVariants.{Form}
+use Rattle.q3_bits.specs.declared.reader.ReadError.{ReadError}
+use Rattle.q3_bits.specs.declared.reader.ReadError.TheVariants as bits
+use Rattle.q3_fields.specs.declared.delta.DeltaError.{DeltaError}
+use Rattle.q3_fields.specs.declared.delta.DeltaError.TheVariants as deltas
+use Rattle.q3_entity.specs.declared.error.EntityError.{EntityError}
+use Rattle.q3_entity.specs.declared.error.EntityError.TheVariants as entities
+use Rattle.q3_svmsg.specs.declared.error.Illegible.{Illegible as IllegibleCause}
+use Rattle.q3_svmsg.specs.declared.error.Illegible.TheVariants as causes
 use Rattle.q3_world.specs.declared.client.ClientTook.{ClientTook}
 use Rattle.q3_world.specs.declared.client.ClientTook.TheVariants.{Runt, Old, Illegible, Applied}
+use Rattle.q3_world.specs.declared.client.SnapOutcome.{SnapOutcome}
+use Rattle.q3_world.specs.declared.client.SnapOutcome.TheVariants.{NoSnap, Accepted, Skipped}
+use Rattle.q3_world.specs.declared.client.NoBase.{NoBase}
+use Rattle.q3_world.specs.declared.client.NoBase.TheVariants.{NeverHeld}
 use Rattle.q3_world.specs.declared.server.NoClient.{NoClient}
 use Rattle.q3_world.specs.declared.server.SlotError.{SlotError}
 use Rattle.q3_world.specs.declared.server.SlotError.TheVariants.{Taken}
 use Rattle.q3_world.specs.declared.answer.Shown.{Shown}
 use Rattle.q3_world.specs.declared.answer.Shown.TheVariants as shown
 use Rattle.q3_world.specs.declared.answer.Answer.{Answer}
-use Rattle.q3_world.specs.declared.answer.Answer.TheVariants.{Client, Time, Player, Serve, Unknown, Deliver, Show}
+use Rattle.q3_world.specs.declared.answer.Answer.TheVariants.{Client, Entity, Remove, Time, Player, Area, Serve, Unknown, Deliver, Show}
+use Rattle.q3_io.specs.Print.{hex_text}
+use Rattle.q3_player.specs.declared.head.SnapHead.{SnapHead}
 use Rattle.q3_player.specs.Report.{player_text}
+use Rattle.q3_entity.specs.declared.state.EntityState.{EntityState}
+use Rattle.q3_entity.specs.Report.{fields_text}
 use Rattle.q3_world.specs.Ends.{Answered}
 use Rattle.q3_world.specs.World.{opening, answers}
 
@@ -43,26 +57,97 @@ emitted_text (emitted.Snapshot number base bytes) datagram =
     concat (codes " snapshot " ∷ decimal number ∷ codes " base " ∷ decimal base ∷ codes " bytes " ∷ decimal bytes
     ∷ codes " datagram " ∷ decimal datagram ∷ codes "\n" ∷ [])
 
--- why a message isn't legible
-abbrev pub cause_text : IllegibleCause → List ℕ
-cause_text Form = codes "form"
+-- why a message isn't legible: a word, and for some causes a number behind it
+abbrev pub bits_word : ReadError → List ℕ
+bits_word bits.End = codes "end"
+bits_word bits.NoWord = codes "noword"
+
+abbrev pub player_word : DeltaError → List ℕ
+player_word (deltas.Bits e) = bits_word e
+player_word (deltas.Count count) = codes "count"
+
+abbrev pub entity_word : EntityError → List ℕ
+entity_word (entities.Bits e) = bits_word e
+entity_word (entities.Count count) = codes "count"
+entity_word (entities.Order number) = codes "order"
+entity_word entities.Many = codes "many"
+entity_word (entities.Removes number) = codes "removes"
+
+abbrev pub cause_word : IllegibleCause → List ℕ
+cause_word (causes.Bits e) = bits_word e
+cause_word (causes.BadOp byte) = codes "op"
+cause_word (causes.Entity e) = entity_word e
+cause_word (causes.Player e) = player_word e
+cause_word (causes.Area count) = codes "area"
+cause_word causes.TextLong = codes "text"
+cause_word causes.Commands = codes "commands"
+
+abbrev pub player_number : DeltaError → Option ℕ
+player_number (deltas.Bits e) = None
+player_number (deltas.Count count) = Some count
+
+abbrev pub entity_number : EntityError → Option ℕ
+entity_number (entities.Bits e) = None
+entity_number (entities.Count count) = Some count
+entity_number (entities.Order number) = Some number
+entity_number entities.Many = None
+entity_number (entities.Removes number) = Some number
+
+abbrev pub cause_number : IllegibleCause → Option ℕ
+cause_number (causes.Bits e) = None
+cause_number (causes.BadOp byte) = Some byte
+cause_number (causes.Entity e) = entity_number e
+cause_number (causes.Player e) = player_number e
+cause_number (causes.Area count) = Some count
+cause_number causes.TextLong = None
+cause_number causes.Commands = None
+
+abbrev pub illegible_text : List ℕ → Option ℕ → List ℕ
+illegible_text word None = concat (codes " illegible " ∷ word ∷ codes "\n" ∷ [])
+illegible_text word (Some number) = concat (codes " illegible " ∷ word ∷ codes " " ∷ decimal number ∷ codes "\n" ∷ [])
+
+-- why a snapshot was skipped
+abbrev pub no_base_text : NoBase → List ℕ
+no_base_text NeverHeld = codes " neverheld\n"
+
+-- what stands behind `deliver D client C` where a message was applied: with no snapshot, its number alone
+abbrev pub outcome_text : ℕ → SnapOutcome → List ℕ
+outcome_text number NoSnap = concat (codes " applied " ∷ decimal number ∷ codes "\n" ∷ [])
+outcome_text number (Accepted base) =
+    concat (codes " applied " ∷ decimal number ∷ codes "\n+ accepted " ∷ decimal number ∷ codes " base " ∷ decimal base ∷ codes "\n" ∷ [])
+outcome_text number (Skipped base cause) =
+    concat (codes " applied " ∷ decimal number ∷ codes "\n+ skipped " ∷ decimal number ∷ codes " base " ∷ decimal base ∷ no_base_text cause ∷ [])
 
 -- what stands behind `deliver D client C`
 abbrev pub took_text : ClientTook → List ℕ
 took_text Runt = codes " runt\n"
 took_text Old = codes " old\n"
-took_text (Illegible cause) = concat (codes " illegible " ∷ cause_text cause ∷ codes "\n" ∷ [])
-took_text (Applied number base) =
-    concat (codes " applied " ∷ decimal number ∷ codes "\n+ accepted " ∷ decimal number ∷ codes " base " ∷ decimal base ∷ codes "\n" ∷ [])
+took_text (Illegible cause) = illegible_text (cause_word cause) (cause_number cause)
+took_text (Applied number snap) = outcome_text number snap
 
--- a snapshot, as `show C` prints it: an area of no bytes is `-`, and the player has a line of its own
+-- area bytes: two digits each, and `-` for none
+abbrev pub area_text : List ℕ → List ℕ
+area_text [] = codes "-"
+area_text (byte ∷ bytes) = hex_text (byte ∷ bytes)
+
+-- what stands in front of the area
+abbrev pub start_text : ℕ → SnapHead → List ℕ
+start_text c head =
+    concat (codes "show " ∷ decimal c ∷ codes " snapshot " ∷ decimal head.number ∷ codes " time " ∷ decimal head.time
+    ∷ codes " flags " ∷ decimal head.flags ∷ codes " area " ∷ [])
+
+-- a snapshot, as `show C` prints it: its head, the player in a line of its own, and each entity in one
 abbrev pub head_text : Snapshot → List ℕ
 head_text snapshot =
-    concat (codes " snapshot " ∷ decimal snapshot.number ∷ codes " time " ∷ decimal snapshot.time ∷ codes " flags " ∷ decimal snapshot.flags
-    ∷ codes " area -\n+ player" ∷ [])
+    concat (codes " snapshot " ∷ decimal snapshot.head.number ∷ codes " time " ∷ decimal snapshot.head.time
+    ∷ codes " flags " ∷ decimal snapshot.head.flags ∷ codes " area " ∷ area_text snapshot.head.area.items ∷ codes "\n+ player" ∷ [])
+
+abbrev pub entity_text : EntityState → List ℕ
+entity_text entity = concat (codes "+ entity " ∷ decimal entity.number ∷ fields_text entity.words ∷ codes "\n" ∷ [])
 
 abbrev pub snapshot_text : Snapshot → List ℕ
-snapshot_text snapshot = concat (head_text snapshot ∷ player_text snapshot.player ∷ codes "\n" ∷ [])
+snapshot_text snapshot =
+    concat (head_text snapshot ∷ player_text snapshot.head.player ∷ codes "\n" ∷ flat_map entity_text snapshot.entities ∷ [])
 
 -- what stands behind `show C`: where a snapshot is shown, it is lent
 abbrev pub shown_text : Shown → Option Snapshot → List ℕ
@@ -73,8 +158,11 @@ shown_text other lent = codes " none\n"
 -- the lines of an answer, with the snapshot that is lent to be printed
 unfoldable pub lines_of : Answer → Option Snapshot → List ℕ
 lines_of (Client c outcome) lent = concat (codes "client " ∷ decimal c ∷ handed_in_text slot_error_text outcome ∷ [])
+lines_of (Entity number) lent = concat (codes "entity " ∷ decimal number ∷ codes " ok\n" ∷ [])
+lines_of (Remove number) lent = concat (codes "remove " ∷ decimal number ∷ codes " ok\n" ∷ [])
 lines_of Time lent = codes "time ok\n"
 lines_of (Player c outcome) lent = concat (codes "player " ∷ decimal c ∷ handed_in_text no_client_text outcome ∷ [])
+lines_of (Area c outcome) lent = concat (codes "area " ∷ decimal c ∷ handed_in_text no_client_text outcome ∷ [])
 lines_of (Serve c emission datagram) lent = concat (codes "serve " ∷ decimal c ∷ emitted_text emission datagram ∷ [])
 lines_of (Unknown datagram) lent = concat (codes "deliver " ∷ decimal datagram ∷ codes " unknown\n" ∷ [])
 lines_of (Deliver datagram c took) lent =

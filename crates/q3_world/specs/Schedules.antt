@@ -6,7 +6,9 @@ use Rattle.q3_profile.specs.Profile.{IsCodec}
 use Rattle.q3_script.specs.declared.event.Event.{Event}
 use Rattle.q3_script.specs.declared.event.Event.TheVariants as events
 use Rattle.q3_script.specs.Grammar.{IsReplayEvent}
-use Rattle.q3_world.specs.declared.message.Snapshot.{Snapshot}
+use Rattle.q3_world.specs.Message.{Snapshot}
+use Rattle.q3_world.specs.declared.client.SnapOutcome.{SnapOutcome}
+use Rattle.q3_world.specs.declared.client.SnapOutcome.TheVariants.{Accepted}
 use Rattle.q3_world.specs.declared.client.ClientTook.TheVariants.{Runt, Illegible, Applied}
 use Rattle.q3_world.specs.declared.answer.Answer.{Answer}
 use Rattle.q3_world.specs.declared.answer.Answer.TheVariants.{Deliver}
@@ -73,14 +75,15 @@ abbrev pub WasApplied : Ends → Ends → ℕ → ℕ → List Built → Type 0
 WasApplied before now c n built =
     (client : ClientState) × (snapshot : Snapshot)
     × (client_at before c ≡ Some client) × (client.taken < n)
-    × (newest (client_at now c) ≡ Some snapshot) × (snapshot.number ≡ n) × WasBuilt built snapshot
+    × (newest (client_at now c) ≡ Some snapshot) × (snapshot.head.number ≡ n) × WasBuilt built snapshot
 
 -- where a client that takes datagrams by their bytes applies one, the number that it answers is above every number that
--- it took before, its newest snapshot then is the one that the server built for it under that number, and the base is none
+-- it took before, its newest snapshot then is the one that the server built for it under that number, and the answer says
+-- that a snapshot without a base was accepted
 abbrev pub AppliedWasBuilt : Type 0
-AppliedWasBuilt = (profile : Profile) (all : List Event) (number c n base : ℕ) → IsCodec profile → AllByRecursion IsReplayEvent all
-    → (kept_step (kept_then profile all) (events.Deliver number)).answer ≡ delivered number c (Applied n base)
-    → (base ≡ 0) × WasApplied (kept_then profile all).ends (kept_step (kept_then profile all) (events.Deliver number)).kept.ends c n
+AppliedWasBuilt = (profile : Profile) (all : List Event) (number c n : ℕ) (snap : SnapOutcome) → IsCodec profile → AllByRecursion IsReplayEvent all
+    → (kept_step (kept_then profile all) (events.Deliver number)).answer ≡ delivered number c (Applied n snap)
+    → (snap ≡ Accepted 0) × WasApplied (kept_then profile all).ends (kept_step (kept_then profile all) (events.Deliver number)).kept.ends c n
     (history_then profile all c).built
 
 -- a datagram whose number is above every number that its client has taken is accepted, by its bytes, when it arrives
@@ -91,4 +94,4 @@ NewerIsAccepted = (profile : Profile) (all : List Event) (number : ℕ) (sent : 
     → client_at (kept_then profile all).ends sent.client ≡ Some client
     → client.taken < number_of_datagram sent.bytes
     → (kept_step (kept_then profile all) (events.Deliver number)).answer
-    ≡ delivered number sent.client (Applied (number_of_datagram sent.bytes) 0)
+    ≡ delivered number sent.client (Applied (number_of_datagram sent.bytes) (Accepted 0))

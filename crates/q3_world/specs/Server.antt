@@ -1,18 +1,24 @@
 -- The server's end: what the game handed in for all clients, and a slot for each of them. Each call gives the server
 -- after it, and its answer.
-use Rattle.std.specs.Prelude.{◌≡◌, ℕ, ◌<◌, ◌+◌, if◌then◌else◌, Bool, List, [], length, replicate, nat_le, Option, Some, None, slice_set, slice_index_or, Result, Ok, Err}
+use Rattle.std.specs.Prelude.{◌≡◌, ℕ, ◌<◌, ◌+◌, ◌==◌, if◌then◌else◌, Bool, not, List, [], ◌∷◌, length, replicate, take, nat_le, nat_lt, Option, Some, None, slice_set, slice_index_or, Result, Ok, Err}
+use Rattle.std.specs.List.{filter}
+use Rattle.arrayvec.specs.ArrayVec.{ArrayVec}
 use Rattle.q3_profile.specs.declared.profile.Profile.{Profile}
 use Rattle.q3_bits.specs.Bits.{message_bytes, message_length}
 use Rattle.q3_player.specs.declared.state.PlayerState.{PlayerState}
 use Rattle.q3_player.specs.State.{zero_player, normal_player}
+use Rattle.q3_entity.specs.declared.state.EntityState.{EntityState}
+use Rattle.q3_entity.specs.Entities.{normal_entity, most_entities}
+use Rattle.q3_entity.specs.Baselines.{no_lines}
+use Rattle.q3_svmsg.specs.Values.{Message}
+use Rattle.q3_svmsg.specs.Texts.{message_text}
 use Rattle.q3_io.specs.declared.address.Address.{Address}
-use Rattle.q3_world.specs.declared.message.Snapshot.{Snapshot}
 use Rattle.q3_world.specs.declared.server.Emitted.{Emitted}
 use Rattle.q3_world.specs.declared.server.Emitted.TheVariants as emitted
 use Rattle.q3_world.specs.declared.server.NoClient.{NoClient}
 use Rattle.q3_world.specs.declared.server.SlotError.{SlotError}
 use Rattle.q3_world.specs.declared.server.SlotError.TheVariants.{Taken}
-use Rattle.q3_world.specs.Message.{sequence_end, snapshot_bits, datagram_bytes}
+use Rattle.q3_world.specs.Message.{sequence_end, Snapshot, message_of, datagram_bytes}
 
 -- how many clients there may be
 abbrev pub places : ℕ
@@ -22,17 +28,24 @@ places = 16
 abbrev pub fragment_size : ℕ
 fragment_size = 1300
 
--- what the game handed in for all clients
+-- how many numbers entities may have: 0 to 1022
+abbrev pub most_numbers : ℕ
+most_numbers = 1023
+
+-- what the game handed in for all clients: the time, and the entities in normal form, by rising number
 pub record MapState : Type 0 where
   pub time : ℕ
+  pub entities : List EntityState
 
--- a client at the server: how it joined and from where, how many messages were begun for it, and its player in normal form
+-- a client at the server: how it joined and from where, how many messages were begun for it, its player in normal form,
+-- and its area bytes
 pub record SlotState : Type 0 where
   pub challenge : ℕ
   pub address : Address
   pub qport : ℕ
   pub begun : ℕ
   pub player : PlayerState
+  pub area : ArrayVec ℕ
 
 -- the server: by which profile, what the game handed in, and each client's slot at its place
 pub record ServerState : Type 0 where
@@ -41,8 +54,8 @@ pub record ServerState : Type 0 where
   pub slots : List (Option SlotState)
 
 -- the whole value of a message that was begun
-pub record Built : Type 0 where
-  pub snapshot : Snapshot
+abbrev pub Built : Type 0
+Built = Message
 
 -- a client's slot, by its place
 abbrev pub slot_at : ServerState → ℕ → Option SlotState
@@ -52,9 +65,9 @@ slot_at server c = slice_index_or server.slots c None
 abbrev pub with_slot : ServerState → ℕ → SlotState → ServerState
 with_slot server c slot = record server { slots = slice_set server.slots c (Some slot) }
 
--- a server with no client, at the time 0
+-- a server with no client and no entity, at the time 0
 abbrev pub new_server : Profile → ServerState
-new_server profile = record { profile = profile; map = record { time = 0 }; slots = replicate places None }
+new_server profile = record { profile = profile; map = record { time = 0; entities = [] }; slots = replicate places None }
 
 -- ---- what the game hands in
 
@@ -66,7 +79,7 @@ pub record Handed (E : Type 0) : Type 0 where
 -- a client that just joined
 abbrev pub new_slot : ℕ → ℕ → Address → SlotState
 new_slot challenge qport address =
-    record { challenge = challenge; address = address; qport = qport; begun = 0; player = zero_player }
+    record { challenge = challenge; address = address; qport = qport; begun = 0; player = zero_player; area = record { items = [] } }
 
 -- a client takes over a place, unless there is one
 abbrev pub add_to : ServerState → ℕ → SlotState → Option SlotState → Handed SlotError
@@ -80,6 +93,27 @@ add_client_at server c challenge qport address = add_to server c (new_slot chall
 -- the time, in milliseconds
 abbrev pub set_time_at : ServerState → ℕ → ServerState
 set_time_at server time = record server { map = record server.map { time = time } }
+
+-- the entity put at its place, where its number rises, for the one that has its number
+unfoldable pub with_entity : EntityState → List EntityState → List EntityState
+with_entity entity [] = entity ∷ []
+with_entity entity (first ∷ others) =
+    if nat_lt first.number entity.number then first ∷ with_entity entity others
+    else (if first.number == entity.number then entity ∷ others else entity ∷ first ∷ others)
+
+-- the entities but that of a number
+abbrev pub without_entity : ℕ → List EntityState → List EntityState
+without_entity number entities = filter (λ entity. not (entity.number == number)) entities
+
+-- the whole state of an entity, in the normal form of the profile's table
+abbrev pub set_entity_at : ServerState → EntityState → ServerState
+set_entity_at server state =
+    record server { map = record server.map { entities = with_entity (normal_entity server.profile.entity state) server.map.entities } }
+
+-- an entity is there no more; where there was none, nothing changes
+abbrev pub remove_entity_at : ServerState → ℕ → ServerState
+remove_entity_at server number =
+    record server { map = record server.map { entities = without_entity number server.map.entities } }
 
 -- the slot with another player, in the normal form of the profile's table
 abbrev pub with_player : Profile → SlotState → PlayerState → SlotState
@@ -95,16 +129,36 @@ give_player server c player (Some slot) =
 abbrev pub set_player_at : ServerState → ℕ → PlayerState → Handed NoClient
 set_player_at server c player = give_player server c player (slot_at server c)
 
+-- the slot with other area bytes
+abbrev pub with_area : SlotState → ArrayVec ℕ → SlotState
+with_area slot area = record slot { area = area }
+
+-- area bytes for the client at a place, if there is one
+abbrev pub give_area : ServerState → ℕ → ArrayVec ℕ → Option SlotState → Handed NoClient
+give_area server c area None = record { server = server; answer = Err (record {}) }
+give_area server c area (Some slot) = record { server = with_slot server c (with_area slot area); answer = Ok tt }
+
+-- the area bytes of a client
+abbrev pub set_area_at : ServerState → ℕ → ArrayVec ℕ → Handed NoClient
+set_area_at server c area = give_area server c area (slot_at server c)
+
 -- ---- messages
+
+-- the snapshot that goes to a slot next: of more than 256 entities those of the lowest numbers
+abbrev pub next_snapshot : MapState → SlotState → Snapshot
+next_snapshot map slot =
+    record {
+      head = record { number = slot.begun + 1; time = map.time; flags = 0; area = slot.area; player = slot.player };
+      entities = take most_entities map.entities;
+    }
 
 -- the message that goes to a slot next
 abbrev pub next_message : MapState → SlotState → Built
-next_message map slot =
-    record { snapshot = record { number = slot.begun + 1; time = map.time; flags = 0; player = slot.player } }
+next_message map slot = message_of (next_snapshot map slot)
 
--- the bits of a message
+-- the bits of a message: there is no base, and there are no baselines
 abbrev pub built_bits : Profile → Built → List Bool
-built_bits profile built = snapshot_bits profile built.snapshot
+built_bits profile built = message_text profile no_lines None built
 
 -- a datagram that is handed out: the number of the message that it carries, and its bytes
 pub record Piece : Type 0 where

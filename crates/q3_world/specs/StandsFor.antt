@@ -5,8 +5,7 @@ use Rattle.std.specs.List.{last_or}
 use Rattle.q3_profile.specs.declared.profile.Profile.{Profile}
 use Rattle.q3_profile.specs.Profile.{IsCodec}
 use Rattle.q3_bits.specs.Bits.{message_bytes}
-use Rattle.q3_world.specs.declared.message.Snapshot.{Snapshot}
-use Rattle.q3_world.specs.Message.{IsHeld, IsBuilt, datagram_bytes}
+use Rattle.q3_world.specs.Message.{Snapshot, message_of, IsHeld, IsArea, AreHeld, IsBuilt, datagram_bytes}
 use Rattle.q3_world.specs.Server.{MapState, SlotState, Built, places, slot_at, built_bits}
 use Rattle.q3_world.specs.Client.{ClientState}
 use Rattle.q3_world.specs.Ends.{client_at}
@@ -19,7 +18,8 @@ use Rattle.q3_world.specs.World.{Tag, History, Whole, no_history, history_at, bu
 pub record AreEnds (profile : Profile) (slot : SlotState) (client : ClientState) (history : History) : Type 0 where
   pub begun : slot.begun ≡ length history.built
   pub player : IsHeld profile slot.player
-  pub built : (k : ℕ) (d : Built) → k < length history.built → IsBuilt profile (k + 1) (slice_index_or history.built k d).snapshot
+  pub area : IsArea slot.area.items
+  pub built : (k : ℕ) (d : Built) → k < length history.built → IsBuilt profile (k + 1) (slice_index_or history.built k d)
   pub by : client.profile ≡ profile
 
 -- a client is at both ends or at none
@@ -43,6 +43,7 @@ pub record Facts (profile : Profile) (whole : Whole) : Type 0 where
   pub clients : length whole.ends.clients ≡ places
   pub histories : length whole.histories ≡ places
   pub time : whole.ends.server.map.time < 2 ^ 32
+  pub entities : AreHeld profile whole.ends.server.map.entities
   pub each : (c : ℕ) → c < places → IsClient profile (slot_at whole.ends.server c) (client_at whole.ends c) (history_at whole.histories c)
   pub sent : (k : ℕ) (d : Tag) → k < length whole.sent → IsSent profile whole.histories (slice_index_or whole.sent k d)
 
@@ -51,17 +52,17 @@ pub record Facts (profile : Profile) (whole : Whole) : Type 0 where
 -- a snapshot was built under its number
 abbrev pub WasBuilt : List Built → Snapshot → Type 0
 WasBuilt built snapshot =
-    (1 ≤ snapshot.number) × (snapshot.number ≤ length built) × (snapshot ≡ (built_at built snapshot.number).snapshot)
+    (1 ≤ snapshot.head.number) × (snapshot.head.number ≤ length built) × (message_of snapshot ≡ built_at built snapshot.head.number)
 
 -- the number of the newest snapshot, 0 for none
 abbrev pub number_of_newest : Option Snapshot → ℕ
 number_of_newest None = 0
-number_of_newest (Some snapshot) = snapshot.number
+number_of_newest (Some snapshot) = snapshot.head.number
 
 -- numbers rise
 abbrev pub Rise : List Snapshot → Type 0
 Rise snapshots = (j k : ℕ) (d : Snapshot) → j < k → k < length snapshots
-    → (slice_index_or snapshots j d).number < (slice_index_or snapshots k d).number
+    → (slice_index_or snapshots j d).head.number < (slice_index_or snapshots k d).head.number
 
 -- of one client: each snapshot that it accepted was built, their numbers rise, and it keeps the newest
 pub record AreJoined (map : MapState) (slot : SlotState) (client : ClientState) (history : History) : Type 0 where

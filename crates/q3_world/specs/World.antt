@@ -2,14 +2,15 @@
 -- what arrives is the message that was built under its number.
 use Rattle.std.specs.Prelude.{ℕ, ◌+◌, ◌-◌, if◌then◌else◌, List, [], ◌∷◌, ◌++◌, length, replicate, nat_le, Option, Some, None, slice_get, slice_set, slice_index_or}
 use Rattle.q3_profile.specs.declared.profile.Profile.{Profile}
-use Rattle.q3_player.specs.State.{zero_player}
+use Rattle.q3_player.specs.Heads.{empty_head}
 use Rattle.q3_script.specs.declared.event.Event.{Event}
 use Rattle.q3_script.specs.declared.event.Event.TheVariants as events
-use Rattle.q3_world.specs.declared.message.Snapshot.{Snapshot}
+use Rattle.q3_svmsg.specs.Values.{Told, Nothing, Snap, Skipped}
+use Rattle.q3_world.specs.Message.{Snapshot, message_of}
 use Rattle.q3_world.specs.declared.client.ClientTook.TheVariants.{Old}
 use Rattle.q3_world.specs.Server.{Built, Emission, Piece, places, emit_at}
-use Rattle.q3_world.specs.Client.{ClientState, Taken, applied}
-use Rattle.q3_world.specs.Ends.{Ends, EndsStep, Answered, answered, client_at, with_client, new_ends, served, unknown, delivered, join, set_time, set_player, show}
+use Rattle.q3_world.specs.Client.{ClientState, Taken, apply_message}
+use Rattle.q3_world.specs.Ends.{Ends, EndsStep, Answered, answered, client_at, with_client, new_ends, served, unknown, delivered, join, set_time, set_entity, remove_entity, set_player, set_area, show}
 
 -- a datagram that was made: the client that it is for, its message's number, and its bytes
 pub record Tag : Type 0 where
@@ -43,7 +44,7 @@ history_at histories c = slice_index_or histories c no_history
 
 -- what stands where no message was built
 abbrev pub no_message : Built
-no_message = record { snapshot = record { number = 0; time = 0; flags = 0; player = zero_player } }
+no_message = message_of (record { head = empty_head; entities = [] })
 
 -- the message that was built under a number
 abbrev pub built_at : List Built → ℕ → Built
@@ -57,6 +58,17 @@ with_built histories c built =
 abbrev pub with_accepted : List History → ℕ → Snapshot → List History
 with_accepted histories c snapshot =
     slice_set histories c (record (history_at histories c) { accepted = (history_at histories c).accepted ++ snapshot ∷ [] })
+
+-- the snapshot that a section carries for a client to accept, if it does
+abbrev pub snapshot_in : Told → Option Snapshot
+snapshot_in Nothing = None
+snapshot_in (Snap base head entities) = Some (record { head = head; entities = entities })
+snapshot_in (Skipped base) = None
+
+-- the snapshot that a client accepted, if it did, is noted
+abbrev pub accepted_after : List History → ℕ → Option Snapshot → List History
+accepted_after histories c None = histories
+accepted_after histories c (Some snapshot) = with_accepted histories c snapshot
 
 -- before the first event
 unfoldable pub opening : Profile → Whole
@@ -88,15 +100,15 @@ serve whole c emission =
       answer = served c emission.answer (length whole.sent + 1);
     }
 
--- the snapshot that a tag names
-abbrev pub snapshot_of : List History → Tag → Snapshot
-snapshot_of histories tag = (built_at (history_at histories tag.client).built tag.number).snapshot
+-- the message that a tag names
+abbrev pub named : List History → Tag → Built
+named histories tag = built_at (history_at histories tag.client).built tag.number
 
--- a client took a message, and accepted its snapshot
-abbrev pub arrive_new : Whole → ℕ → ℕ → Taken → Snapshot → Step
+-- a client took a message that carries this snapshot, if it carries one
+abbrev pub arrive_new : Whole → ℕ → ℕ → Taken → Option Snapshot → Step
 arrive_new whole number c taken snapshot =
     record {
-      whole = record whole { ends = with_client whole.ends c taken.client; histories = with_accepted whole.histories c snapshot };
+      whole = record whole { ends = with_client whole.ends c taken.client; histories = accepted_after whole.histories c snapshot };
       answer = delivered number c taken.answer;
     }
 
@@ -105,7 +117,7 @@ abbrev pub arrive : Whole → ℕ → Tag → Option ClientState → Step
 arrive whole number tag None = record { whole = whole; answer = unknown number }
 arrive whole number tag (Some client) =
     if nat_le tag.number client.taken then record { whole = whole; answer = delivered number tag.client Old }
-    else arrive_new whole number tag.client (applied client (snapshot_of whole.histories tag)) (snapshot_of whole.histories tag)
+    else arrive_new whole number tag.client (apply_message client tag.number (named whole.histories tag)) (snapshot_in (named whole.histories tag).section)
 
 -- the datagram of a number, if it was made, arrives
 abbrev pub deliver : Whole → ℕ → Option Tag → Step
@@ -115,7 +127,10 @@ deliver whole number (Some tag) = arrive whole number tag (client_at whole.ends 
 -- one event
 unfoldable pub step : Profile → Whole → Event → Step
 step profile whole (events.Client c challenge qport dup address) = with_ends whole (join profile whole.ends c challenge qport dup address)
+step profile whole (events.Entity state) = with_ends whole (set_entity whole.ends state)
+step profile whole (events.Remove number) = with_ends whole (remove_entity whole.ends number)
 step profile whole (events.Player c player) = with_ends whole (set_player whole.ends c player)
+step profile whole (events.Area c area) = with_ends whole (set_area whole.ends c area)
 step profile whole (events.Time time) = with_ends whole (set_time whole.ends time)
 step profile whole (events.Serve c) = serve whole c (emit_at whole.ends.server c)
 step profile whole (events.Deliver number) = deliver whole number (slice_get whole.sent (number - 1))

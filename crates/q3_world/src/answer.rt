@@ -21,7 +21,19 @@ pub enum Answer {
         c: u8,
         outcome: Result<(), SlotError>,
     },
+    /// The state of the entity of this number was taken over.
+    Entity {
+        number: u16,
+    },
+    /// There is no entity of this number any more.
+    Remove {
+        number: u16,
+    },
     Player {
+        c: u8,
+        outcome: Result<(), NoClient>,
+    },
+    Area {
         c: u8,
         outcome: Result<(), NoClient>,
     },

@@ -2,14 +2,36 @@
 //! Keeps the rule "when a message is old", and an interim rule of this project's own: a message that isn't legible
 //! leaves its number untaken.
 
-ghost use Rattle.std.specs.Prelude.{◌≡◌, ◌≢◌, ◌<◌, Some, IfOk};
-ghost use Rattle.std.specs.Option.{option_copied};
-ghost use Rattle.q3_world.specs.Client.{new_client, take_at};
+ghost use Rattle.std.specs.Prelude.{◌≡◌, ◌≢◌, ◌<◌, Some, IfOk, option_map, length};
+ghost use Rattle.q3_world.specs.Client.{new_client, take_message, take_at};
+ghost use Rattle.q3_world.specs.Views.{snapshot_of};
 
-use crate::message::{Illegible, Snapshot, read_snapshot};
+use crate::bases::NoBases;
 use q3_bits::NoMemory;
+use q3_entity::EntityState;
+use q3_player::SnapHead;
 use q3_profile::Profile;
+use q3_svmsg::{Illegible, Section, ServerMessage, read_server_message};
+use std::alloc::Global;
 use std::marker::Model;
+
+/// Why a snapshot's base isn't there.
+#[derive(Clone, Copy, Debug, PartialEq, Eq)]
+pub enum NoBase {
+    /// No snapshot of that number is held.
+    NeverHeld,
+}
+
+/// What became of the snapshot of a message.
+#[derive(Clone, Copy, Debug, PartialEq, Eq)]
+pub enum SnapOutcome {
+    /// The message has none.
+    NoSnap,
+    /// It was accepted: the number of its base, 0 for none.
+    Accepted { base: u32 },
+    /// It was read to its end, and nothing of it is kept: the number of its base, and why that isn't there.
+    Skipped { base: u32, cause: NoBase },
+}
 
 /// What a client's take answers.
 #[derive(Clone, Copy, Debug, PartialEq, Eq)]
@@ -19,12 +41,20 @@ pub enum ClientTook {
     /// The message's number isn't above the newest taken.
     Old,
     Illegible(Illegible),
-    /// The message was applied, and its snapshot accepted: its number, and that of the base, 0 for none.
-    Applied { number: u32, base: u32 },
+    /// The message was applied: its number, and what became of its snapshot.
+    Applied { number: u32, snap: SnapOutcome },
 }
 
-/// A client: a copy of the profile, the newest number taken, 0 for none, and two snapshots.
-/// One of them is the newest accepted, if there is one, and the next message is read into the other.
+/// A snapshot that a client accepted, where it lies.
+#[derive(Clone, Copy)]
+pub struct SnapshotView<'a> {
+    pub head: &'a SnapHead,
+    /// By rising number.
+    pub entities: &'a [EntityState],
+}
+
+/// A client: a copy of the profile, the newest number taken, 0 for none, and two messages.
+/// One of them has the newest snapshot accepted, if there is one, and the next message is read into the other.
 #[derive(Drop)]
 pub(crate) struct Client {
     profile: Profile,
@@ -32,13 +62,16 @@ pub(crate) struct Client {
     qport: u16,
     dup: u8,
     taken: u32,
-    snapshots: [Snapshot; 2],
+    bases: NoBases,
+    messages: Vec<ServerMessage>,
     newest: Option<usize>,
 }
 
 impl Model for Client {
-    ghost use Rattle.std.specs.Prelude.{◌≡◌, ◌<◌, length, slice_get, option_and_then, IfSome};
+    ghost use Rattle.std.specs.Prelude.{◌≡◌, ◌<◌, length, slice_get, option_map, option_and_then, IfSome};
     ghost use Rattle.q3_world.specs.Client.{ClientState};
+    ghost use Rattle.q3_world.specs.Views.{snapshot_in_message};
+    ghost use Rattle.q3_entity.specs.Baselines.{no_lines};
 
     ghost Value = { ClientState };
 
@@ -48,15 +81,17 @@ impl Model for Client {
       qport = c.qport;
       dup = c.dup;
       taken = c.taken;
-      accepted = option_and_then (slice_get c.snapshots) c.newest;
+      accepted = option_map snapshot_in_message (option_and_then (slice_get c.messages.items) c.newest);
     } };
 
-    ghost invariant = { λ c. (length c.snapshots ≡ 2) × IfSome c.newest (λ place. place < 2) };
+    ghost invariant = { λ c. (length c.messages.items ≡ 2) × IfSome c.newest (λ place. place < 2)
+        × (c.bases.lines ≡ no_lines) };
 }
 
 impl Client {
     /// A client that has taken nothing. It repeats `dup` old moves. `Err` is want of memory.
     pub(crate) fn new(
+        alloc: Global,
         profile: &Profile,
         challenge: u32,
         qport: u16,
@@ -70,7 +105,8 @@ impl Client {
             qport,
             dup,
             taken: 0,
-            snapshots: [Snapshot::new(), Snapshot::new()],
+            bases: NoBases::new(alloc)?,
+            messages: two_messages(alloc)?,
             newest: None,
         })
     }
@@ -85,25 +121,57 @@ impl Client {
         }
         let (head, message) = datagram.split_at(4);
         let number = u32::from_le_bytes([head[0], head[1], head[2], head[3]]);
+        self.take_message(number, message)
+    }
+
+    /// Takes a message under its number.
+    fn take_message(&mut self, number: u32, message: &[u8]) -> ClientTook
+        ensures { take_message self.old number message.now ≡ record { client = self.new; answer = result } }
+    {
         if number <= self.taken {
             return ClientTook::Old;
         }
         let place = other(self.newest);
-        let into = &mut self.snapshots[place];
-        if let Err(e) = read_snapshot(&self.profile, number, message, into) {
+        let into = &mut self.messages[place];
+        if let Err(e) = read_server_message(&self.profile, number, message, &self.bases, into) {
             return ClientTook::Illegible(e);
         }
+        let section = into.section;
         self.taken = number;
-        self.newest = Some(place);
-        ClientTook::Applied { number, base: 0 }
+        let snap = match section {
+            Section::Nothing => SnapOutcome::NoSnap,
+            Section::Snap { base, held: true } => {
+                self.newest = Some(place);
+                SnapOutcome::Accepted { base }
+            }
+            Section::Snap { base, held: false } => SnapOutcome::Skipped {
+                base,
+                cause: NoBase::NeverHeld,
+            },
+        };
+        ClientTook::Applied { number, snap }
     }
 
     /// The newest snapshot accepted.
-    pub(crate) fn newest(&self) -> Option<&Snapshot>
-        ensures { option_copied result ≡ self.now.accepted }
+    pub(crate) fn newest(&self) -> Option<SnapshotView<'_>>
+        ensures { option_map snapshot_of result ≡ self.now.accepted }
     {
-        Some(&self.snapshots[self.newest?])
+        let message = &self.messages[self.newest?];
+        Some(SnapshotView {
+            head: &message.head,
+            entities: &message.entities,
+        })
     }
+}
+
+/// Two messages with nothing in them. `Err` is want of memory.
+fn two_messages(alloc: Global) -> Result<Vec<ServerMessage>, NoMemory>
+    ensures { IfOk result (λ made. length made.items ≡ 2) }
+{
+    let mut made = Vec::with_capacity(alloc, 2)?;
+    made.push(ServerMessage::new(alloc)?)?;
+    made.push(ServerMessage::new(alloc)?)?;
+    Ok(made)
 }
 
 /// The one of two places that isn't this one.

@@ -1,38 +1,19 @@
-//! Laws of the messages and of every schedule, each the contract of a call that does nothing but cite the laws below it.
+//! Laws of what is built and of every schedule, each the contract of a call that does nothing but cite the laws below it.
 
-ghost use Rattle.q3_world.specs.MessageLaws.{BuiltIsRead, ReadIsSpelled, SpelledIsRead};
+ghost use Rattle.q3_world.specs.MessageLaws.{BuiltIsRead};
 ghost use Rattle.q3_world.specs.Schedules.{StepFollows, BytesFollowTags, AlwaysLegible, AcceptedWereBuilt, ShownWasBuilt, AppliedWasBuilt, NewerIsAccepted};
 
 use q3_bits::laws as bits;
+use q3_entity::laws as entity;
 use q3_player::laws as player;
+use q3_svmsg::laws as svmsg;
 
 /// A message that was built is read back from its bytes.
 pub fn built_is_read()
     ensures { BuiltIsRead }
 {
-    bits::put_is_read();
     bits::message_holds_bits();
-    player::written_is_read();
-    player::zero_is_normal();
-}
-
-/// What is read as a snapshot was spelled so.
-pub fn read_is_spelled()
-    ensures { ReadIsSpelled }
-{
-    bits::read_was_put();
-    player::read_is_spelled();
-    player::zero_is_normal();
-}
-
-/// What is spelled as a snapshot is read, with whatever follows it:
-/// a message is illegible exactly where its bits don't begin so.
-pub fn spelled_is_read()
-    ensures { SpelledIsRead }
-{
-    bits::put_is_read();
-    player::spelled_is_read();
-    player::zero_is_normal();
+    svmsg::written_is_read();
 }
 
 /// A step of what stands for a whole world, where each datagram is taken by its bytes, is the whole world's step, where
@@ -41,6 +22,7 @@ pub fn step_follows()
     ensures { StepFollows }
 {
     built_is_read();
+    entity::normal_is_normal();
     player::normal_is_normal();
     player::zero_is_normal();
 }
@@ -81,6 +63,7 @@ pub fn applied_was_built()
 {
     bytes_follow_tags();
     built_is_read();
+    entity::normal_is_normal();
     player::normal_is_normal();
     player::zero_is_normal();
 }
@@ -91,6 +74,7 @@ pub fn newer_is_accepted()
 {
     bytes_follow_tags();
     built_is_read();
+    entity::normal_is_normal();
     player::normal_is_normal();
     player::zero_is_normal();
 }

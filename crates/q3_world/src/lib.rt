@@ -2,16 +2,15 @@
 #![tactic(auto)]
 
 pub mod answer;
+mod bases;
 mod client;
 pub mod laws;
-mod message;
 mod places;
 mod report;
 mod server;
 pub mod world;
 
 pub use answer::{Answer, Shown};
-pub use client::ClientTook;
-pub use message::{Illegible, Snapshot};
+pub use client::{ClientTook, NoBase, SnapOutcome, SnapshotView};
 pub use server::{Emitted, NoClient, SlotError};
 pub use world::{StepError, World};

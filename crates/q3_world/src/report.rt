@@ -1,27 +1,30 @@
 //! Prints the lines of an answer, and hands them on behind the last: one write, where a line buffer has room for them.
 
-ghost use Rattle.std.specs.Prelude.{◌≡◌, [], ◌∷◌, codes, decimal, OnOk};
-ghost use Rattle.std.specs.Option.{option_copied};
-ghost use Rattle.std.specs.List.{concat};
+ghost use Rattle.std.specs.Prelude.{◌≡◌, [], ◌∷◌, codes, decimal, option_map, OnOk};
+ghost use Rattle.std.specs.List.{concat, flat_map};
 ghost use Rattle.q3_io.specs.Faults.{HasCause};
 ghost use Rattle.q3_io.specs.Written.{Adds, NothingWaits};
-ghost use Rattle.q3_world.specs.Report.{lines_of, handed_in_text, slot_error_text, no_client_text, emitted_text, took_text, shown_text, head_text, snapshot_text};
+ghost use Rattle.q3_world.specs.Report.{lines_of, handed_in_text, slot_error_text, no_client_text, emitted_text, bits_word, player_word, entity_word, cause_word, player_number, entity_number, cause_number, illegible_text, outcome_text, took_text, area_text, start_text, entity_text, shown_text, head_text, snapshot_text};
+ghost use Rattle.q3_world.specs.Views.{snapshot_of};
 
 use crate::answer::{Answer, Shown};
-use crate::client::ClientTook;
-use crate::message::{Illegible, Snapshot};
+use crate::client::{ClientTook, NoBase, SnapOutcome, SnapshotView};
 use crate::server::{Emitted, NoClient, SlotError};
-use q3_io::{Failed, Piece, Sink, laws, print_all};
-use q3_player::print_words;
+use arrayvec::ArrayVec;
+use q3_bits::ReadError;
+use q3_entity::{EntityError, EntityState, print_fields};
+use q3_io::{Failed, Piece, Sink, laws, print_all, print_hex};
+use q3_player::{PlayerError, SnapHead, print_words};
+use q3_svmsg::Illegible;
 
 /// Prints the lines of an answer, with the snapshot that is lent for it, and hands them on, or a front of them and
 /// answers `Failed`.
 pub(crate) fn print_answer<O: Sink>(
     answer: &Answer,
-    lent: Option<&Snapshot>,
+    lent: Option<SnapshotView>,
     out: &mut O,
 ) -> Result<(), Failed>
-    ensures adds { Adds (O.written out.old) (O.written out.new) (lines_of answer.now (option_copied lent.entry)) result }
+    ensures adds { Adds (O.written out.old) (O.written out.new) (lines_of answer.now (option_map snapshot_of lent.entry)) result }
     ensures flushed { OnOk result (NothingWaits (O.written out.new)) }
     ensures cause { HasCause (O.faults out.old) (O.faults out.new) result }
 {
@@ -32,8 +35,8 @@ pub(crate) fn print_answer<O: Sink>(
 
 /// Prints the lines of an answer.
 #[tactic(auto, unfolding(crate::specs::Report::lines_of))]
-fn print_lines<O: Sink>(answer: &Answer, lent: Option<&Snapshot>, out: &mut O) -> Result<(), Failed>
-    ensures adds { Adds (O.written out.old) (O.written out.new) (lines_of answer.now (option_copied lent.entry)) result }
+fn print_lines<O: Sink>(answer: &Answer, lent: Option<SnapshotView>, out: &mut O) -> Result<(), Failed>
+    ensures adds { Adds (O.written out.old) (O.written out.new) (lines_of answer.now (option_map snapshot_of lent.entry)) result }
     ensures cause { HasCause (O.faults out.old) (O.faults out.new) result }
 {
     match answer {
@@ -45,9 +48,33 @@ fn print_lines<O: Sink>(answer: &Answer, lent: Option<&Snapshot>, out: &mut O) -
             ],
             out,
         ),
+        Answer::Entity { number } => print_all(
+            &[
+                Piece::Text(b"entity "),
+                Piece::Number(u64::from(*number)),
+                Piece::Text(b" ok\n"),
+            ],
+            out,
+        ),
+        Answer::Remove { number } => print_all(
+            &[
+                Piece::Text(b"remove "),
+                Piece::Number(u64::from(*number)),
+                Piece::Text(b" ok\n"),
+            ],
+            out,
+        ),
         Answer::Player { c, outcome } => print_all(
             &[
                 Piece::Text(b"player "),
+                Piece::Number(u64::from(*c)),
+                Piece::Text(given(*outcome)),
+            ],
+            out,
+        ),
+        Answer::Area { c, outcome } => print_all(
+            &[
+                Piece::Text(b"area "),
                 Piece::Number(u64::from(*c)),
                 Piece::Text(given(*outcome)),
             ],
@@ -126,27 +153,12 @@ fn print_took<O: Sink>(datagram: u32, c: u8, took: &ClientTook, out: &mut O) -> 
     ensures cause { HasCause (O.faults out.old) (O.faults out.new) result }
 {
     let word: &[u8] = match took {
-        ClientTook::Applied { number, base } => {
-            return print_all(
-                &[
-                    Piece::Text(b"deliver "),
-                    Piece::Number(u64::from(datagram)),
-                    Piece::Text(b" client "),
-                    Piece::Number(u64::from(c)),
-                    Piece::Text(b" applied "),
-                    Piece::Number(u64::from(*number)),
-                    Piece::Text(b"\n+ accepted "),
-                    Piece::Number(u64::from(*number)),
-                    Piece::Text(b" base "),
-                    Piece::Number(u64::from(*base)),
-                    Piece::Text(b"\n"),
-                ],
-                out,
-            );
+        ClientTook::Applied { number, snap } => {
+            return print_applied(datagram, c, *number, *snap, out);
         }
+        ClientTook::Illegible(cause) => return print_illegible(datagram, c, *cause, out),
         ClientTook::Runt => b" runt\n",
         ClientTook::Old => b" old\n",
-        ClientTook::Illegible(Illegible::Form) => b" illegible form\n",
     };
     print_all(
         &[
@@ -160,14 +172,118 @@ fn print_took<O: Sink>(datagram: u32, c: u8, took: &ClientTook, out: &mut O) -> 
     )
 }
 
+/// Prints the line of a delivery of what isn't legible.
+fn print_illegible<O: Sink>(
+    datagram: u32,
+    c: u8,
+    cause: Illegible,
+    out: &mut O,
+) -> Result<(), Failed>
+    ensures adds { Adds (O.written out.old) (O.written out.new)
+        (concat (codes "deliver " ∷ decimal datagram ∷ codes " client " ∷ decimal c ∷ illegible_text (cause_word cause) (cause_number cause) ∷ [])) result }
+    ensures cause { HasCause (O.faults out.old) (O.faults out.new) result }
+{
+    let Some(number) = cause_number(cause) else {
+        return print_all(
+            &[
+                Piece::Text(b"deliver "),
+                Piece::Number(u64::from(datagram)),
+                Piece::Text(b" client "),
+                Piece::Number(u64::from(c)),
+                Piece::Text(b" illegible "),
+                Piece::Text(cause_word(cause)),
+                Piece::Text(b"\n"),
+            ],
+            out,
+        );
+    };
+    print_all(
+        &[
+            Piece::Text(b"deliver "),
+            Piece::Number(u64::from(datagram)),
+            Piece::Text(b" client "),
+            Piece::Number(u64::from(c)),
+            Piece::Text(b" illegible "),
+            Piece::Text(cause_word(cause)),
+            Piece::Text(b" "),
+            Piece::Number(u64::from(number)),
+            Piece::Text(b"\n"),
+        ],
+        out,
+    )
+}
+
+/// Prints the lines of a delivery of what was applied.
+fn print_applied<O: Sink>(
+    datagram: u32,
+    c: u8,
+    number: u32,
+    snap: SnapOutcome,
+    out: &mut O,
+) -> Result<(), Failed>
+    ensures adds { Adds (O.written out.old) (O.written out.new)
+        (concat (codes "deliver " ∷ decimal datagram ∷ codes " client " ∷ decimal c ∷ outcome_text number snap ∷ [])) result }
+    ensures cause { HasCause (O.faults out.old) (O.faults out.new) result }
+{
+    match snap {
+        SnapOutcome::NoSnap => print_all(
+            &[
+                Piece::Text(b"deliver "),
+                Piece::Number(u64::from(datagram)),
+                Piece::Text(b" client "),
+                Piece::Number(u64::from(c)),
+                Piece::Text(b" applied "),
+                Piece::Number(u64::from(number)),
+                Piece::Text(b"\n"),
+            ],
+            out,
+        ),
+        SnapOutcome::Accepted { base } => print_all(
+            &[
+                Piece::Text(b"deliver "),
+                Piece::Number(u64::from(datagram)),
+                Piece::Text(b" client "),
+                Piece::Number(u64::from(c)),
+                Piece::Text(b" applied "),
+                Piece::Number(u64::from(number)),
+                Piece::Text(b"\n+ accepted "),
+                Piece::Number(u64::from(number)),
+                Piece::Text(b" base "),
+                Piece::Number(u64::from(base)),
+                Piece::Text(b"\n"),
+            ],
+            out,
+        ),
+        SnapOutcome::Skipped {
+            base,
+            cause: NoBase::NeverHeld,
+        } => print_all(
+            &[
+                Piece::Text(b"deliver "),
+                Piece::Number(u64::from(datagram)),
+                Piece::Text(b" client "),
+                Piece::Number(u64::from(c)),
+                Piece::Text(b" applied "),
+                Piece::Number(u64::from(number)),
+                Piece::Text(b"\n+ skipped "),
+                Piece::Number(u64::from(number)),
+                Piece::Text(b" base "),
+                Piece::Number(u64::from(base)),
+                Piece::Text(b" neverheld\n"),
+            ],
+            out,
+        ),
+    }
+}
+
 /// Prints the lines of a `show`.
 fn print_shown<O: Sink>(
     c: u8,
     shown: Shown,
-    lent: Option<&Snapshot>,
+    lent: Option<SnapshotView>,
     out: &mut O,
 ) -> Result<(), Failed>
-    ensures adds { Adds (O.written out.old) (O.written out.new) (concat (codes "show " ∷ decimal c ∷ shown_text shown (option_copied lent.entry) ∷ [])) result }
+    ensures adds { Adds (O.written out.old) (O.written out.new) (concat (codes "show " ∷ decimal c ∷ shown_text shown (option_map snapshot_of lent.entry) ∷ [])) result }
     ensures cause { HasCause (O.faults out.old) (O.faults out.new) result }
 {
     let word: &[u8] = match (shown, lent) {
@@ -186,19 +302,31 @@ fn print_shown<O: Sink>(
 }
 
 /// Prints the lines of a `show` that shows a snapshot.
-fn print_snapshot<O: Sink>(c: u8, snapshot: &Snapshot, out: &mut O) -> Result<(), Failed>
-    ensures adds { Adds (O.written out.old) (O.written out.new) (concat (codes "show " ∷ decimal c ∷ snapshot_text snapshot.now ∷ [])) result }
+fn print_snapshot<O: Sink>(c: u8, snapshot: SnapshotView, out: &mut O) -> Result<(), Failed>
+    ensures adds { Adds (O.written out.old) (O.written out.new) (concat (codes "show " ∷ decimal c ∷ snapshot_text (snapshot_of snapshot.entry) ∷ [])) result }
     ensures cause { HasCause (O.faults out.old) (O.faults out.new) result }
 {
     laws::texts_follow();
     print_head(c, snapshot, out)?;
-    print_words(&snapshot.player, out)?;
-    out.write_all(b"\n")
+    print_words(&snapshot.head.player, out)?;
+    out.write_all(b"\n")?;
+    print_entities(snapshot.entities, out)
 }
 
 /// Prints what stands in front of the player's words.
-fn print_head<O: Sink>(c: u8, snapshot: &Snapshot, out: &mut O) -> Result<(), Failed>
-    ensures adds { Adds (O.written out.old) (O.written out.new) (concat (codes "show " ∷ decimal c ∷ head_text snapshot.now ∷ [])) result }
+fn print_head<O: Sink>(c: u8, snapshot: SnapshotView, out: &mut O) -> Result<(), Failed>
+    ensures adds { Adds (O.written out.old) (O.written out.new) (concat (codes "show " ∷ decimal c ∷ head_text (snapshot_of snapshot.entry) ∷ [])) result }
+    ensures cause { HasCause (O.faults out.old) (O.faults out.new) result }
+{
+    laws::texts_follow();
+    print_start(c, snapshot.head, out)?;
+    print_area(&snapshot.head.area, out)?;
+    out.write_all(b"\n+ player")
+}
+
+/// Prints what stands in front of the area.
+fn print_start<O: Sink>(c: u8, head: &SnapHead, out: &mut O) -> Result<(), Failed>
+    ensures adds { Adds (O.written out.old) (O.written out.new) (start_text c head.now) result }
     ensures cause { HasCause (O.faults out.old) (O.faults out.new) result }
 {
     print_all(
@@ -206,15 +334,121 @@ fn print_head<O: Sink>(c: u8, snapshot: &Snapshot, out: &mut O) -> Result<(), Fa
             Piece::Text(b"show "),
             Piece::Number(u64::from(c)),
             Piece::Text(b" snapshot "),
-            Piece::Number(u64::from(snapshot.number)),
+            Piece::Number(u64::from(head.number)),
             Piece::Text(b" time "),
-            Piece::Number(u64::from(snapshot.time)),
+            Piece::Number(u64::from(head.time)),
             Piece::Text(b" flags "),
-            Piece::Number(u64::from(snapshot.flags)),
-            Piece::Text(b" area -\n+ player"),
+            Piece::Number(u64::from(head.flags)),
+            Piece::Text(b" area "),
         ],
         out,
     )
+}
+
+/// Prints area bytes.
+fn print_area<O: Sink>(area: &ArrayVec<u8, 32>, out: &mut O) -> Result<(), Failed>
+    ensures adds { Adds (O.written out.old) (O.written out.new) (area_text area.now.items) result }
+    ensures cause { HasCause (O.faults out.old) (O.faults out.new) result }
+{
+    if area.is_empty() {
+        return out.write_all(b"-");
+    }
+    print_hex(area, out)
+}
+
+/// Prints a line for each entity.
+fn print_entities<O: Sink>(entities: &[EntityState], out: &mut O) -> Result<(), Failed>
+    ensures adds { Adds (O.written out.old) (O.written out.new) (flat_map entity_text entities.now) result }
+    ensures cause { HasCause (O.faults out.old) (O.faults out.new) result }
+{
+    laws::items_follow::<EntityState>();
+    for entity in entities {
+        print_entity(entity, out)?;
+    }
+    Ok(())
+}
+
+fn print_entity<O: Sink>(entity: &EntityState, out: &mut O) -> Result<(), Failed>
+    ensures adds { Adds (O.written out.old) (O.written out.new) (entity_text entity.now) result }
+    ensures cause { HasCause (O.faults out.old) (O.faults out.new) result }
+{
+    laws::texts_follow();
+    print_number(entity.number, out)?;
+    print_fields(&entity.words, out)?;
+    out.write_all(b"\n")
+}
+
+/// Prints what stands in front of an entity's words.
+fn print_number<O: Sink>(number: u16, out: &mut O) -> Result<(), Failed>
+    ensures adds { Adds (O.written out.old) (O.written out.new) (concat (codes "+ entity " ∷ decimal number ∷ [])) result }
+    ensures cause { HasCause (O.faults out.old) (O.faults out.new) result }
+{
+    print_all(
+        &[
+            Piece::Text(b"+ entity "),
+            Piece::Number(u64::from(number)),
+        ],
+        out,
+    )
+}
+
+fn bits_word(e: ReadError) -> &'static [u8]
+    ensures { result.now ≡ bits_word e }
+{
+    match e {
+        ReadError::End => b"end",
+        ReadError::NoWord => b"noword",
+    }
+}
+
+fn player_word(e: PlayerError) -> &'static [u8]
+    ensures { result.now ≡ player_word e }
+{
+    match e {
+        PlayerError::Bits(e) => bits_word(e),
+        PlayerError::Count(_) => b"count",
+    }
+}
+
+fn entity_word(e: EntityError) -> &'static [u8]
+    ensures { result.now ≡ entity_word e }
+{
+    match e {
+        EntityError::Bits(e) => bits_word(e),
+        EntityError::Count(_) => b"count",
+        EntityError::Order(_) => b"order",
+        EntityError::Many => b"many",
+        EntityError::Removes(_) => b"removes",
+    }
+}
+
+fn cause_word(cause: Illegible) -> &'static [u8]
+    ensures { result.now ≡ cause_word cause }
+{
+    match cause {
+        Illegible::Bits(e) => bits_word(e),
+        Illegible::BadOp(_) => b"op",
+        Illegible::Entity(e) => entity_word(e),
+        Illegible::Player(e) => player_word(e),
+        Illegible::Area(_) => b"area",
+        Illegible::TextLong => b"text",
+        Illegible::Commands => b"commands",
+    }
+}
+
+/// The number that is printed behind the word of a cause.
+fn cause_number(cause: Illegible) -> Option<u32>
+    ensures { result ≡ cause_number cause }
+{
+    match cause {
+        Illegible::BadOp(byte) => Some(u32::from(byte)),
+        Illegible::Area(count) => Some(u32::from(count)),
+        Illegible::Player(PlayerError::Count(count)) => Some(u32::from(count)),
+        Illegible::Entity(EntityError::Count(count)) => Some(u32::from(count)),
+        Illegible::Entity(EntityError::Order(number)) => Some(u32::from(number)),
+        Illegible::Entity(EntityError::Removes(number)) => Some(u32::from(number)),
+        _ => None,
+    }
 }
 
 fn joined(outcome: Result<(), SlotError>) -> &'static [u8]

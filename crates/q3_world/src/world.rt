@@ -1,27 +1,28 @@
 //! Both ends over a schedule of events: the world of a replay.
 
-ghost use Rattle.std.specs.Prelude.{◌≡◌, ◌+◌, ◌-◌, ◌<◌, ◌≤◌, length, slice_get, IfOk, OnOk, OnErr, IsErrOf};
-ghost use Rattle.std.specs.Option.{option_copied};
+ghost use Rattle.std.specs.Prelude.{◌≡◌, ◌+◌, ◌-◌, ◌<◌, ◌≤◌, length, slice_get, option_map, IfOk, OnOk, OnErr, IsErrOf};
 ghost use Rattle.q3_profile.specs.declared.profile.Profile.{Profile as ProfileValue};
 ghost use Rattle.q3_profile.specs.Profile.{IsProfile};
 ghost use Rattle.q3_script.specs.Grammar.{IsReplayEvent};
 ghost use Rattle.q3_io.specs.Written.{NothingWaits};
-ghost use Rattle.q3_world.specs.Server.{places, emit_at};
-ghost use Rattle.q3_world.specs.Ends.{answered, lent, newest, client_at, shown_of, join, set_time, set_player};
+ghost use Rattle.q3_world.specs.Server.{places, most_numbers, emit_at};
+ghost use Rattle.q3_world.specs.Ends.{answered, lent, newest, client_at, shown_of, join, set_time, set_entity, remove_entity, set_player, set_area};
 ghost use Rattle.q3_world.specs.Kept.{most_datagrams, kept_step, kept_ends, kept_serve, kept_deliver};
 ghost use Rattle.q3_world.specs.World.{Whole, opening, step as step_of};
 ghost use Rattle.q3_world.specs.StandsFor.{StandsFor};
+ghost use Rattle.q3_world.specs.Views.{snapshot_of};
 ghost use Rattle.q3_world.specs.Report.{answer_text};
 ghost use Rattle.q3_world.specs.Outcome.{TakesMemory, Prints, HasStepCause};
 
 use crate::answer::{Answer, Shown};
-use crate::client::Client;
+use crate::client::{Client, SnapshotView};
 use crate::laws;
-use crate::message::Snapshot;
 use crate::places::empty_places;
 use crate::report::print_answer;
 use crate::server::{DATAGRAM_ROOM, Datagram, Server};
+use arrayvec::ArrayVec;
 use q3_bits::NoMemory;
+use q3_entity::EntityState;
 use q3_io::{Address, Failed, Files, Sink};
 use q3_player::PlayerState;
 use q3_profile::Profile;
@@ -152,7 +153,10 @@ impl World {
                 dup,
                 address,
             } => self.join(*c, *challenge, *qport, *dup, *address),
+            Event::Entity { state } => Ok(self.set_entity(state)),
+            Event::Remove { number } => Ok(self.remove_entity(*number)),
             Event::Player { c, player } => Ok(self.set_player(*c, player)),
+            Event::Area { c, area } => Ok(self.set_area(*c, area)),
             Event::Time { time } => Ok(self.set_time(*time)),
             Event::Serve { c } => self.serve(*c),
             Event::Deliver { datagram } => Ok(self.deliver(*datagram)),
@@ -174,12 +178,31 @@ impl World {
             ≡ record { kept = self.new; answer = answered self.new.ends answer }) }
         ensures err { OnErr result (self.new ≡ self.old) }
     {
-        let client = Client::new(&self.profile, challenge, qport, dup)?;
+        let client = Client::new(self.alloc, &self.profile, challenge, qport, dup)?;
         let outcome = self.server.add_client(c, challenge, qport, address);
         if outcome.is_ok() {
             self.clients[c as usize] = Some(client);
         }
         Ok(Answer::Client { c, outcome })
+    }
+
+    fn set_entity(&mut self, state: &EntityState) -> Answer
+        requires { state.now.number < most_numbers }
+        ensures { kept_ends self.old (set_entity self.old.ends state.now)
+            ≡ record { kept = self.new; answer = answered self.new.ends result } }
+    {
+        self.server.set_entity(state);
+        Answer::Entity {
+            number: state.number,
+        }
+    }
+
+    fn remove_entity(&mut self, number: u16) -> Answer
+        ensures { kept_ends self.old (remove_entity self.old.ends number)
+            ≡ record { kept = self.new; answer = answered self.new.ends result } }
+    {
+        self.server.remove_entity(number);
+        Answer::Remove { number }
     }
 
     fn set_player(&mut self, c: u8, player: &PlayerState) -> Answer
@@ -190,6 +213,17 @@ impl World {
         Answer::Player {
             c,
             outcome: self.server.set_player(c, player),
+        }
+    }
+
+    fn set_area(&mut self, c: u8, area: &ArrayVec<u8, 32>) -> Answer
+        requires { c < places }
+        ensures { kept_ends self.old (set_area self.old.ends c area.now)
+            ≡ record { kept = self.new; answer = answered self.new.ends result } }
+    {
+        Answer::Area {
+            c,
+            outcome: self.server.set_area(c, area),
         }
     }
 
@@ -258,8 +292,8 @@ impl World {
     }
 
     /// The snapshot that is printed with an answer.
-    fn lent(&self, answer: Answer) -> Option<&Snapshot>
-        ensures { option_copied result ≡ lent self.now.ends answer }
+    fn lent(&self, answer: Answer) -> Option<SnapshotView<'_>>
+        ensures { option_map snapshot_of result ≡ lent self.now.ends answer }
     {
         match answer {
             Answer::Show { c, .. } => self.newest(c),
@@ -268,8 +302,8 @@ impl World {
     }
 
     /// The newest snapshot that a client accepted.
-    fn newest(&self, c: u8) -> Option<&Snapshot>
-        ensures { option_copied result ≡ newest (client_at self.now.ends c) }
+    fn newest(&self, c: u8) -> Option<SnapshotView<'_>>
+        ensures { option_map snapshot_of result ≡ newest (client_at self.now.ends c) }
     {
         self.clients.get(c as usize)?.as_ref()?.newest()
     }

@@ -16,7 +16,8 @@ use Rattle.q3_world.specs.Report.{report}
 use Rattle.q3net.specs.declared.fault.Fault.{Fault}
 use Rattle.q3net.specs.declared.fault.Fault.TheVariants as faults
 use Rattle.q3net.specs.Command.{Replay}
-use Rattle.q3net.specs.Faults.{Gets, step_fault}
+use Rattle.q3_world.specs.Outcome.{HasStepCause}
+use Rattle.q3net.specs.Faults.{Gets, step_fault, ReadCause, WriteCause}
 use Rattle.q3net.specs.Input.{IsFront, Holds, LooksUpTold, Gives}
 use Rattle.q3net.specs.Verdict.{IsVerdict, settled, profile_in, events_in, replayed, names_by, GetsFrom}
 use Rattle.q3net.specs.Run.{AddsLines, Stops, Executes}
@@ -149,3 +150,12 @@ steps_done told profile script by events old now read adds =
 pub nothing_sent : (profile : Profile) (kept : Kept) → StandsFor profile kept (opening profile) → length kept.datagrams ≡ 0
 unfolding opening
 nothing_sent profile kept stands = ap length stands.datagrams
+
+-- where a step failed, no read did, and a write as the step says
+pub step_read_cause : (before now : ℕ) (e : StepError) → now ≡ before → ReadCause {T = Unit {0}} before now (Err (step_fault e))
+step_read_cause before now step.NoMemory same = same
+step_read_cause before now step.WriteFault same = same
+
+pub step_write_cause : (before now : ℕ) (e : StepError) → HasStepCause before now (Err e) → WriteCause before now (Err (step_fault e))
+step_write_cause before now step.NoMemory cause = cause
+step_write_cause before now step.WriteFault cause = cause

@@ -52,23 +52,24 @@ HasStepped profile start now had written events k =
     × (drop k (answers profile whole events) ≡ answers profile next (drop k events))
 
 -- the answers that come are that of the k-th event and the others
-comes : (profile : Profile) (all : List Answered) (next : Whole) (events : List Event) (k : ℕ) (d : Event) → k < length events
+comes : (profile : Profile) (all : List Answered) (next : Whole) (events : List Event) (k : ℕ) (event : Event) → event ≡ get_or events k event → k < length events
     → drop k all ≡ answers profile next (drop k events)
-    → drop k all ≡ (step profile next (get_or events k d)).answer ∷ answers profile (step profile next (get_or events k d)).whole (drop (k + 1) events)
-comes profile all next events k d lt left =
-    left ∙ (ap (answers profile next) (drop_more events k d lt) ∙ answers-next profile next (get_or events k d) (drop (k + 1) events))
+    → drop k all ≡ (step profile next event).answer ∷ answers profile (step profile next event).whole (drop (k + 1) events)
+comes profile all next events k event is lt left =
+    left ∙ (ap (answers profile next) (drop_more events k event lt ∙ ap (λ (e : Event). e ∷ drop (k + 1) events) (sym is))
+    ∙ answers-next profile next event (drop (k + 1) events))
 
-pub HasStepped-more : (follow : TextsFollow) (profile : Profile) (start now after : Kept) (had written more : Option Written) (events : List Event) (k : ℕ) (d : Event) → k < length events
+pub HasStepped-more : (follow : TextsFollow) (profile : Profile) (start now after : Kept) (had written more : Option Written) (events : List Event) (k : ℕ) (event : Event) → event ≡ get_or events k event → k < length events
     → HasStepped profile start now had written events k
-    → ((whole : Whole) → StandsFor profile now whole → StandsFor profile after (step profile whole (get_or events k d)).whole)
-    → ((whole : Whole) → StandsFor profile now whole → Wrote written more (answer_text (step profile whole (get_or events k d)).answer) true)
+    → ((whole : Whole) → StandsFor profile now whole → StandsFor profile after (step profile whole event).whole)
+    → ((whole : Whole) → StandsFor profile now whole → Wrote written more (answer_text (step profile whole event).answer) true)
     → HasStepped profile start after had more events (k + 1)
-HasStepped-more follow profile start now after had written more events k d lt stepped stands lines = λ whole begun.
+HasStepped-more follow profile start now after had written more events k event is lt stepped stands lines = λ whole begun.
     let was = stepped whole begun in
-    let done = step profile was.0 (get_or events k d) in
+    let done = step profile was.0 event in
     let all = answers profile whole events in
     let others = answers profile done.whole (drop (k + 1) events) in
-    let parts = comes profile all was.0 events k d lt was.3 in (
+    let parts = comes profile all was.0 events k event is lt was.3 in (
       done.whole,
       stands was.0 was.1,
       follow.more was.2 (lines was.0 was.1) (lines-more all k done.answer others parts),
@@ -76,21 +77,21 @@ HasStepped-more follow profile start now after had written more events k d lt st
     )
 
 -- the sink or memory failed at the k-th event
-pub HasStepped-early : (follow : TextsFollow) (profile : Profile) (start now : Kept) (had written more : Option Written) (events : List Event) (k : ℕ) (d : Event) (e : StepError) → k < length events
+pub HasStepped-early : (follow : TextsFollow) (profile : Profile) (start now : Kept) (had written more : Option Written) (events : List Event) (k : ℕ) (event : Event) (e : StepError) → event ≡ get_or events k event → k < length events
     → HasStepped profile start now had written events k
-    → ((whole : Whole) → StandsFor profile now whole → Prints written more (answer_text (step profile whole (get_or events k d)).answer) (Err e))
+    → ((whole : Whole) → StandsFor profile now whole → Prints written more (answer_text (step profile whole event).answer) (Err e))
     → (whole : Whole) → StandsFor profile start whole → AddsLines (answers profile whole events) had more (Err e)
-HasStepped-early follow profile start now had written more events k d errors.NoMemory lt stepped lines whole begun =
+HasStepped-early follow profile start now had written more events k event errors.NoMemory is lt stepped lines whole begun =
     let was = stepped whole begun in
     (k, subst (λ (m : Option Written). Wrote had m (lines_of (take k (answers profile whole events))) true) (sym (lines was.0 was.1)) was.2)
-HasStepped-early follow profile start now had written more events k d errors.WriteFault lt stepped lines whole begun =
+HasStepped-early follow profile start now had written more events k event errors.WriteFault is lt stepped lines whole begun =
     let was = stepped whole begun in
-    let done = step profile was.0 (get_or events k d) in
+    let done = step profile was.0 event in
     let all = answers profile whole events in
     let others = answers profile done.whole (drop (k + 1) events) in
     let first = lines_of (take k all) in
     let total : lines_of all ≡ (first ++ answer_text done.answer) ++ lines_of others =
-    lines-all all k ∙ (ap (λ (left : List Answered). first ++ lines_of left) (comes profile all was.0 events k d lt was.3)
+    lines-all all k ∙ (ap (λ (left : List Answered). first ++ lines_of left) (comes profile all was.0 events k event is lt was.3)
     ∙ sym (append_assoc first (answer_text done.answer) (lines_of others))) in
     follow.early (lines_of others) (follow.more was.2 (lines was.0 was.1) refl) total
 

@@ -1,5 +1,5 @@
-use Rattle.q3_world.proofs.MessageText.{built_is_read}
+use Rattle.q3_world.proofs.BuiltRead.{built_is_read}
 use Rattle.q3_world.proofs.laws.built_is_read.Goals as goal
 
 pub returns : goal.returns
-returns c = built_is_read c.put_is_read.ensures c.message_holds_bits.ensures.holds c.written_is_read.ensures c.zero_is_normal.ensures
+returns c = built_is_read c.message_holds_bits.ensures.holds c.written_is_read.ensures

@@ -1,10 +1,10 @@
-use Rattle.std.proofs.Common.{List, Err, subst, arith}
+use Rattle.std.proofs.Common.{List, Err, ap, subst, ◌∙◌, arith}
 use Rattle.std.proofs.lemmas.Result.{err_from_is_err_and}
 use Rattle.q3_script.specs.declared.event.Event.{Event}
 use Rattle.q3_world.specs.World.{opening, answers}
 use Rattle.q3net.specs.Run.{AddsLines}
 use Rattle.q3net.proofs.Looking.{profile_gives, script_gives, both_given}
-use Rattle.q3net.proofs.Replaying.{profile_ended, events_ended, both_read, memory_ended, steps_ended, steps_done, nothing_sent}
+use Rattle.q3net.proofs.Replaying.{profile_ended, events_ended, both_read, memory_ended, steps_ended, steps_done, nothing_sent, step_read_cause, step_write_cause}
 use Rattle.q3net.proofs.run.replay.Goals as goal
 
 pub returns-in_err-profile-clause-executes : goal.returns-in_err-profile-clause-executes
@@ -71,3 +71,14 @@ pub returns-clause-gives : goal.returns-clause-gives
 returns-clause-gives g c =
     rw c.in_ok-step_all.ensures.files (both_given (g.F.Files.told c.args.files.now) (g.F.Files.told c.load_profile.new.files) (g.F.Files.told c.load_events.new.files) c.args.profile.now c.args.script.now c.in_ok-profile.profile
     c.in_ok-events.events _ c.in_ok-profile.ensures.gets c.in_ok-profile.ensures.gives c.in_ok-events.ensures.gives)
+
+pub returns-in_err-step_all-clause-read_cause : goal.returns-in_err-step_all-clause-read_cause
+returns-in_err-step_all-clause-read_cause g c =
+    let p = err_from_is_err_and c.from_residual-in_err-step_all.result c.from_residual-in_err-step_all.ensures.1 in
+    rw (p.1, p.2) (step_read_cause (g.F.Files.faults c.args.files.now) (g.F.Files.faults c.step_all.new.files) c.in_err-step_all.field-0.0
+    (ap (λ files. g.F.Files.faults files) c.step_all.ensures.files ∙ (c.in_ok-events.ensures.read_cause ∙ c.in_ok-profile.ensures.read_cause)))
+
+pub returns-in_err-step_all-clause-write_cause : goal.returns-in_err-step_all-clause-write_cause
+returns-in_err-step_all-clause-write_cause g c =
+    let p = err_from_is_err_and c.from_residual-in_err-step_all.result c.from_residual-in_err-step_all.ensures.1 in
+    rw (p.1, p.2) (step_write_cause (g.O.Sink.faults c.args.out.now) (g.O.Sink.faults c.step_all.new.out) c.in_err-step_all.field-0.0 c.in_err-step_all.ensures.cause)

@@ -1,23 +1,18 @@
 use Rattle.std.proofs.Common.{arith}
 use Rattle.std.proofs.lemmas.Grind.{common_steps}
 use Rattle.std.proofs.lemmas.Result.{err_from_is_err_and}
-use Rattle.q3_script.specs.declared.event.Event.{Event}
-use Rattle.q3_script.specs.declared.event.Event.TheVariants.{Client}
 use Rattle.q3net.proofs.Stepping.{HasStepped-more, HasStepped-early, HasStepped-all}
 use Rattle.q3net.proofs.run.step_all.Goals as goal
-
-abbrev no_event : Event
-no_event = Client 0 0 0 0 (record { host = 0; port = 0 })
 
 pub returns-in_err-step-clause-adds : goal.returns-in_err-step-clause-adds
 returns-in_err-step-clause-adds g c =
     let p = err_from_is_err_and c.from_residual.result c.from_residual.ensures.1 in
-    rw (p.1, p.2) (λ profile. HasStepped-early c.texts_follow.ensures profile c.args.world.now c.loop-event.world _ (g.O.Sink.written c.loop-event.out) (g.O.Sink.written c.step.new.out) c.args.events.now c.loop-event.event-index no_event
-    c.in_err-step.field-0.0 c.loop-event-test.true (c.loop-event.invariant.0 profile) (c.in_err-step.ensures.lines profile))
+    rw (p.1, p.2) (λ profile. HasStepped-early c.texts_follow.ensures profile c.args.world.now c.loop-event.world _ (g.O.Sink.written c.loop-event.out) (g.O.Sink.written c.step.new.out) c.args.events.now c.loop-event.event-index c.event-item.result
+    c.in_err-step.field-0.0 c.event-item.is c.loop-event-test.true (c.loop-event.invariant.0 profile) (c.in_err-step.ensures.lines profile))
 
 pub loop-event-preserved : goal.loop-event-preserved
 loop-event-preserved g c = (
-  λ profile. HasStepped-more c.texts_follow.ensures profile c.args.world.now c.loop-event.world c.step.new.self _ (g.O.Sink.written c.loop-event.out) (g.O.Sink.written c.step.new.out) c.args.events.now c.loop-event.event-index no_event
+  λ profile. HasStepped-more c.texts_follow.ensures profile c.args.world.now c.loop-event.world c.step.new.self _ (g.O.Sink.written c.loop-event.out) (g.O.Sink.written c.step.new.out) c.args.events.now c.loop-event.event-index c.event-item.result c.event-item.is
       c.loop-event-test.true (c.loop-event.invariant.0 profile) (c.in_ok-step.ensures.stands profile) (c.in_ok-step.ensures.lines profile),
   omega (arith, c.loop-event.invariant.1, c.in_ok-step.ensures.few),
   grind (arith, common_steps),
