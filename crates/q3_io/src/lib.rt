@@ -18,7 +18,6 @@ pub use host::{HostFiles, HostSink};
 pub use line::Line;
 pub use print::{Piece, print_all, print_hex, print_indexed, print_number, print_text};
 pub use sink::{Failed, NullSink, Sink};
-
 use std::alloc::AllocError;
 
 /// Want of memory, and nothing else.

@@ -24,11 +24,33 @@ fn files_of_the_system_are_written_and_read(rt: HostRuntime) -> Result<(), Fail>
     assert_eq!(rt; files.read_at(file, 4, &mut into), Ok(4));
     assert_eq!(rt; into, *b"two!");
     assert_eq!(rt; files.read_at(file, 8, &mut into), Ok(0));
-    assert_eq!(rt; files.read_at(file, u64::MAX, &mut into), Err(Failed));
-    assert_eq!(rt; files.append(log, &[b'.'; 2_000]), Ok(()));
-    assert_eq!(rt; files.size(file), Ok(2_008));
     numbers_end_at_32(&rt, &mut files, 2);
     Ok(())
+}
+
+#[test]
+fn a_long_file_of_the_system(rt: HostRuntime) -> Result<(), Fail> {
+    let long = vec![in rt.alloc(); b'.'; 2_000]?;
+    let mut files = HostFiles::new(rt.alloc(), &rt)
+        .ok()
+        .ok_or("there is memory")?;
+    assert_eq!(rt; size_of_new(&mut files, &long), Ok(2_000));
+    assert_eq!(rt; read_far_behind(&mut files), Err(Failed));
+    Ok(())
+}
+
+/// How many bytes a new file `long` has once these were put into it.
+fn size_of_new(files: &mut impl Files, bytes: &[u8]) -> Result<u64, Failed> {
+    let file = files.create("long")?;
+    files.append(file, bytes)?;
+    let file = files.lookup("long")?;
+    files.size(file)
+}
+
+/// What is read of the file `long` where no file ends.
+fn read_far_behind(files: &mut impl Files) -> Result<usize, Failed> {
+    let file = files.lookup("long")?;
+    files.read_at(file, u64::MAX, &mut [0; 4])
 }
 
 /// The file `log` gets each number from this one to 31, and no other.

@@ -1,6 +1,6 @@
 -- A message that is written is read back.
-use Rattle.std.proofs.Common.{◌≡◌, ◌+◌, ◌≤◌, ◌==◌, ℕ, suc, Bool, false, List, [], ◌∷◌, ◌++◌, length, map, Option, Some, None, Result, Ok, Err, refl, sym, ap, subst, ◌∙◌, append_assoc, arith}
-use Rattle.std.specs.List.{All, flat_map}
+use Rattle.std.proofs.Common.{◌≡◌, ◌≤◌, ℕ, Bool, List, [], ◌∷◌, ◌++◌, length, map, Option, None, Ok, refl, sym, ap, subst, ◌∙◌, append_assoc, arith}
+use Rattle.std.specs.List.{flat_map}
 use Rattle.q3_bits.specs.Words.{IsCode, row_bits, field_at}
 use Rattle.q3_bits.specs.Laws.{PutIsRead, ReadWasPut}
 use Rattle.q3_player.specs.declared.head.SnapHead.{SnapHead}
@@ -13,12 +13,10 @@ use Rattle.q3_entity.specs.Lists.{list_text}
 use Rattle.q3_entity.specs.Laws as entity
 use Rattle.q3_profile.specs.declared.profile.Profile.{Profile}
 use Rattle.q3_profile.specs.Profile.{IsCodec}
-use Rattle.q3_text.specs.declared.text.Command.{Command}
-use Rattle.q3_svmsg.specs.declared.error.Illegible.{Illegible}
 use Rattle.q3_svmsg.specs.Values.{Base, base_player, base_entities, Context, Told, Nothing, Snap, Skipped, Message, distance_to}
-use Rattle.q3_svmsg.specs.Texts.{bytes_row, command_bits, head_bits, snapshot_bits, section_bits, message_text}
-use Rattle.q3_svmsg.specs.Reading.{held_base, section_after, ending_after, operations_after, message_after}
-use Rattle.q3_svmsg.specs.Laws.{IsContext, IsCommand, IsMessage, IsTold, HasNumber, base_in, normal_told, WrittenIsRead}
+use Rattle.q3_svmsg.specs.Texts.{bytes_row, command_bits, snapshot_bits, section_bits, message_text}
+use Rattle.q3_svmsg.specs.Reading.{held_base, section_after, operations_after, message_after}
+use Rattle.q3_svmsg.specs.Laws.{IsContext, IsTold, HasNumber, base_in, normal_told, WrittenIsRead}
 use Rattle.q3_svmsg.proofs.Turns.{turn, ending_done, operations_done, operations_section}
 use Rattle.q3_svmsg.proofs.Written.{row-first, row-last, commands_are_read}
 use Rattle.q3_svmsg.proofs.SectionRead.{section_is_read}
@@ -38,8 +36,8 @@ message_bits profile context against message rest = simp append_assoc
 section_parts : (profile : Profile) (context : Context) (against : Option Base) (base : ℕ) (head : SnapHead) (entities : List EntityState) (rest : List Bool)
     → section_bits profile context.lines against (Snap base head entities) ++ rest
     ≡ row_bits profile.code ((7, 8) ∷ (head.time, 32) ∷ (distance_to head.number base, 8) ∷ (head.flags, 8) ∷ (length head.area.items, 8) ∷ [])
-        ++ (bytes_row profile.code head.area.items ++ (player_delta profile.code profile.player.kinds (base_player against) head.player
-        ++ (list_text profile.code profile.entity context.lines (base_entities against) entities ++ rest)))
+    ++ (bytes_row profile.code head.area.items ++ (player_delta profile.code profile.player.kinds (base_player against) head.player
+    ++ (list_text profile.code profile.entity context.lines (base_entities against) entities ++ rest)))
 unfolding section_bits snapshot_bits
 section_parts profile context against base head entities rest = simp append_assoc
 
@@ -73,12 +71,12 @@ told_is_read profile context number turns message (Snap base head entities) rest
     let same = section_parts profile context against base head entities end in
     let fields = (head.time, 32) ∷ (distance_to head.number base, 8) ∷ (head.flags, 8) ∷ (length head.area.items, 8) ∷ [] in
     let others = bytes_row words head.area.items ++ (player_delta words profile.player.kinds (base_player against) head.player
-            ++ (list_text words profile.entity context.lines (base_entities against) entities ++ end)) in
+    ++ (list_text words profile.entity context.lines (base_entities against) entities ++ end)) in
     let bits = row_bits words ((7, 8) ∷ fields) ++ others in
     let read = row-first words codec.code put 7 8 fields others (omega arith) in
     let one = turn words was_put codec.code bits (row_bits words fields ++ others) 7 turns (sym read) (omega (arith, enough, ap length same)) in
     let section = subst (λ (n : ℕ). section_after profile context n (row_bits words fields ++ others) ≡ Ok (told, end)) has_number
-            (section_is_read profile context base head entities end codec is_context is.0 is.1 is.2 put zero_is player_law list_law) in
+    (section_is_read profile context base head entities end codec is_context is.0 is.1 is.2 put zero_is player_law list_law) in
     let last = end_is_read profile codec.code put rest in
     let two = turn words was_put codec.code end rest 8 (length end) (sym last) (omega arith) in
     let ending = ending_done words end rest (length end) two.left (sym last) two.is in
@@ -97,4 +95,4 @@ written_is_read put was_put zero_is player_law list_law profile context number m
     let behind = commands_are_read profile context number codec.code put was_put message.commands start (length commands) others is.commands (omega (arith, is.few)) (omega arith) in
     rw (message_bits profile context against message rest, row-last words codec.code put message.ack 32 commands is.ack)
     (behind.is ∙ told_is_read profile context number behind.left (record start { commands = message.commands }) message.section rest codec is_context is.section is.number_is refl
-        put was_put zero_is player_law list_law behind.enough)
+    put was_put zero_is player_law list_law behind.enough)

@@ -1,28 +1,25 @@
 -- A snapshot that is written is read back.
-use Rattle.std.proofs.Common.{◌≡◌, ◌+◌, ◌-◌, ◌<◌, ◌≤◌, ◌==◌, ◌&&◌, ◌^◌, ℕ, zero, suc, Bool, true, false, not, nat_lt, if◌then◌else◌, List, [], ◌∷◌, ◌++◌, length, map, Option, Some, None, Result, Ok, Err, refl, sym, ap, ◌∙◌, append_assoc, arith}
+use Rattle.std.proofs.Common.{◌≡◌, ◌+◌, ◌-◌, ◌<◌, ◌≤◌, ◌==◌, ◌&&◌, ℕ, zero, suc, Bool, true, false, nat_lt, if◌then◌else◌, List, [], ◌∷◌, ◌++◌, length, map, Option, Some, None, Ok, refl, ◌∙◌, arith}
 use Rattle.std.specs.List.{All}
 use Rattle.std.proofs.lemmas.Bool.Decides.{nat_tests}
 use Rattle.std.proofs.lemmas.List.Elements.{All-nil}
-use Rattle.q3_bits.specs.ResultBind.{◌>>=◌}
-use Rattle.q3_bits.specs.Words.{IsCode, field_at, row_bits}
+use Rattle.q3_bits.specs.Words.{IsCode, row_bits}
 use Rattle.q3_bits.specs.Laws.{PutIsRead}
 use Rattle.q3_player.specs.declared.head.SnapHead.{SnapHead}
-use Rattle.q3_player.specs.declared.state.PlayerState.{PlayerState}
 use Rattle.q3_player.specs.State.{IsState, IsNormal, zero_player, normal_player}
-use Rattle.q3_player.specs.Delta.{player_delta, player_at}
+use Rattle.q3_player.specs.Delta.{player_delta}
 use Rattle.q3_player.specs.Laws as player
 use Rattle.q3_entity.specs.declared.state.EntityState.{EntityState}
 use Rattle.q3_entity.specs.Entities.{IsList, AreStates, AreNormal, normal_entity}
 use Rattle.q3_entity.specs.Baselines.{Lines, AreLines}
-use Rattle.q3_entity.specs.Lists.{list_text, list_after}
+use Rattle.q3_entity.specs.Lists.{list_text}
 use Rattle.q3_entity.specs.Laws as entity
 use Rattle.q3_profile.specs.declared.profile.Profile.{Profile}
 use Rattle.q3_profile.specs.Profile.{IsCodec}
-use Rattle.q3_svmsg.specs.declared.error.Illegible.{Illegible}
-use Rattle.q3_svmsg.specs.Values.{Base, base_player, base_entities, Context, Told, Snap, IsNamed, distance_to, number_of_base}
-use Rattle.q3_svmsg.specs.Texts.{bytes_row, head_bits, snapshot_bits}
-use Rattle.q3_svmsg.specs.Reading.{bytes_after, area_after, held_base, snapshot_after, against_base, section_after}
-use Rattle.q3_svmsg.specs.Laws.{IsHead, IsBase, IsContext, AreEntities}
+use Rattle.q3_svmsg.specs.Values.{Base, base_player, base_entities, Context, Snap, IsNamed, distance_to, number_of_base}
+use Rattle.q3_svmsg.specs.Texts.{bytes_row}
+use Rattle.q3_svmsg.specs.Reading.{area_after, held_base, snapshot_after, against_base, section_after}
+use Rattle.q3_svmsg.specs.Laws.{IsHead, IsContext, AreEntities}
 use Rattle.q3_svmsg.proofs.Written.{row-first, row-last, bytes_are_read}
 
 -- a base, or none, in normal form
@@ -87,12 +84,12 @@ against_is profile context (Some held) number base head bits named = refl
 snapshot_is_read : (profile : Profile) (lines : Lines) (against : Option Base) (base : ℕ) (head to : SnapHead) (entities : List EntityState) (rest : List Bool) → IsCodec profile
     → AreLines profile.entity lines → IsFrom profile against → player.WrittenIsRead → entity.ListWrittenIsRead → IsState to.player → AreEntities profile entities
     → snapshot_after profile lines against base head
-        (player_delta profile.code profile.player.kinds (base_player against) to.player ++ (list_text profile.code profile.entity lines (base_entities against) entities ++ rest))
+    (player_delta profile.code profile.player.kinds (base_player against) to.player ++ (list_text profile.code profile.entity lines (base_entities against) entities ++ rest))
     ≡ Ok (Snap base (record head { player = normal_player profile.player.kinds to.player }) (map (normal_entity profile.entity) entities), rest)
 unfolding snapshot_after
 snapshot_is_read profile lines against base head to entities rest codec are_lines from player_law list_law state are =
     let player = player_law profile.code profile.player.kinds (base_player against) to.player (list_text profile.code profile.entity lines (base_entities against) entities ++ rest)
-            codec.code codec.player.kinds from.state from.normal state in
+    codec.code codec.player.kinds from.state from.normal state in
     let list = list_law profile.code profile.entity lines (base_entities against) entities rest codec.code codec.entity are_lines from.list from.states from.normal_entities are.list are.states in
     rw (player, list) refl
 
@@ -109,9 +106,9 @@ pub section_is_read : (profile : Profile) (context : Context) (base : ℕ) (head
     → IsHead head → AreEntities profile entities → IsNamed (held_base context base) head.number base
     → PutIsRead → player.ZeroIsNormal → player.WrittenIsRead → entity.ListWrittenIsRead
     → section_after profile context head.number
-        (row_bits profile.code ((head.time, 32) ∷ (distance_to head.number base, 8) ∷ (head.flags, 8) ∷ (length head.area.items, 8) ∷ []) ++ (bytes_row profile.code head.area.items
-        ++ (player_delta profile.code profile.player.kinds (base_player (held_base context base)) head.player
-        ++ (list_text profile.code profile.entity context.lines (base_entities (held_base context base)) entities ++ rest))))
+    (row_bits profile.code ((head.time, 32) ∷ (distance_to head.number base, 8) ∷ (head.flags, 8) ∷ (length head.area.items, 8) ∷ []) ++ (bytes_row profile.code head.area.items
+    ++ (player_delta profile.code profile.player.kinds (base_player (held_base context base)) head.player
+    ++ (list_text profile.code profile.entity context.lines (base_entities (held_base context base)) entities ++ rest))))
     ≡ Ok (Snap base (record head { player = normal_player profile.player.kinds head.player }) (map (normal_entity profile.entity) entities), rest)
 unfolding section_after
 section_is_read profile context base head entities rest codec is_context is_head are named put zero_is player_law list_law =
@@ -122,10 +119,12 @@ section_is_read profile context base head entities rest codec is_context is_head
     let distance = distance_to head.number base in
     let from = held_is_normal profile context codec is_context zero_is base against refl in
     let empty : SnapHead = record { number = head.number; time = head.time; flags = head.flags; area = record { items = head.area.items }; player = zero_player } in
-    rw (row-first words codec.code put head.time 32 ((distance, 8) ∷ (head.flags, 8) ∷ (length head.area.items, 8) ∷ []) behind is_head.time,
-        row-first words codec.code put distance 8 ((head.flags, 8) ∷ (length head.area.items, 8) ∷ []) behind (distance_fits against head.number base named),
-        row-first words codec.code put head.flags 8 ((length head.area.items, 8) ∷ []) behind is_head.flags,
-        area_is_read words codec.code put head.area.items snapshot is_head.area is_head.short,
-        distance_back against head.number base named)
+    rw (
+      row-first words codec.code put head.time 32 ((distance, 8) ∷ (head.flags, 8) ∷ (length head.area.items, 8) ∷ []) behind is_head.time,
+      row-first words codec.code put distance 8 ((head.flags, 8) ∷ (length head.area.items, 8) ∷ []) behind (distance_fits against head.number base named),
+      row-first words codec.code put head.flags 8 ((length head.area.items, 8) ∷ []) behind is_head.flags,
+      area_is_read words codec.code put head.area.items snapshot is_head.area is_head.short,
+      distance_back against head.number base named,
+    )
     (against_is profile context against head.number base empty snapshot named
-        ∙ snapshot_is_read profile context.lines against base empty head entities rest codec is_context.lines from player_law list_law is_head.player are)
+    ∙ snapshot_is_read profile context.lines against base empty head entities rest codec is_context.lines from player_law list_law is_head.player are)

@@ -1,7 +1,7 @@
 -- Operations that are read one after the other: each takes a bit at least, so there are at most as many as bits.
-use Rattle.std.proofs.Common.{◌≡◌, ◌+◌, ◌<◌, ◌≤◌, ◌==◌, ◌/◌, ◌^◌, ◌%◌, ℕ, zero, suc, Bool, true, false, if◌then◌else◌, nat_lt, List, [], ◌∷◌, ◌++◌, length, Result, Ok, Err, refl, sym, ap, ◌∙◌, arith}
+use Rattle.std.proofs.Common.{◌≡◌, ◌+◌, ◌<◌, ◌≤◌, ◌==◌, ◌/◌, ◌%◌, ℕ, zero, suc, Bool, true, false, if◌then◌else◌, nat_lt, List, [], ◌∷◌, ◌++◌, length, Result, Ok, Err, refl, sym, ap, arith}
 use Rattle.std.proofs.lemmas.List.{length-append}
-use Rattle.q3_bits.specs.Words.{word_of, IsCode, field_bits, bytes_bits, field_at, IsCutShort}
+use Rattle.q3_bits.specs.Words.{word_of, IsCode, field_bits, bytes_bits, field_at}
 use Rattle.q3_bits.specs.Bits.{low_bits}
 use Rattle.q3_bits.specs.ResultBind.{◌>>=◌, bind_ok}
 use Rattle.q3_text.specs.Texts.{most_bytes, translated}
@@ -204,14 +204,14 @@ shrinks_string words was_put code zero bits =
 shrinks_string words was_put code (suc most) bits =
     shrinks_bind bits _ _ (shrinks_field words was_put code 8 bits)
     (λ byte. shrinks_if (byte.0 == 0) byte.1 _ _ (shrinks_ok [] byte.1)
-        (shrinks_bind byte.1 _ _ (shrinks_string words was_put code most byte.1) (λ others. shrinks_ok (translated byte.0 ∷ others.0) others.1)))
+    (shrinks_bind byte.1 _ _ (shrinks_string words was_put code most byte.1) (λ others. shrinks_ok (translated byte.0 ∷ others.0) others.1)))
 
 pub shrinks_commands : (words : List (List Bool)) → ReadWasPut → IsCode words → (commands : List Command) (bits : List Bool) → Shrinks bits (commands_after words commands bits)
 unfolding commands_after command_after
 shrinks_commands words was_put code commands bits =
     shrinks_if (nat_lt (length commands) 64) bits _ _
     (shrinks_bind bits _ _
-        (shrinks_bind bits _ _ (shrinks_field words was_put code 32 bits)
-            (λ number. shrinks_bind number.1 _ _ (shrinks_string words was_put code most_bytes number.1) (λ text. shrinks_ok (record { number = number.0; text = text.0 }) text.1)))
-        (λ command. shrinks_ok (commands ++ command.0 ∷ []) command.1))
+    (shrinks_bind bits _ _ (shrinks_field words was_put code 32 bits)
+    (λ number. shrinks_bind number.1 _ _ (shrinks_string words was_put code most_bytes number.1) (λ text. shrinks_ok (record { number = number.0; text = text.0 }) text.1)))
+    (λ command. shrinks_ok (commands ++ command.0 ∷ []) command.1))
     (shrinks_err bits Commands)

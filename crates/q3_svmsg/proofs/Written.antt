@@ -1,22 +1,20 @@
 -- What is written of a message is read back.
-use Rattle.std.proofs.Common.{◌≡◌, ◌+◌, ◌-◌, ◌<◌, ◌≤◌, ◌==◌, ◌&&◌, ◌||◌, ◌^◌, ℕ, zero, suc, Bool, true, false, not, nat_lt, List, [], ◌∷◌, ◌++◌, length, map, Option, Some, None, Result, Ok, Err, refl, sym, ap, ◌∙◌, append_assoc, arith}
+use Rattle.std.proofs.Common.{◌≡◌, ◌+◌, ◌<◌, ◌≤◌, ◌==◌, ◌^◌, ℕ, zero, suc, Bool, true, false, nat_lt, List, [], ◌∷◌, ◌++◌, length, map, Ok, refl, sym, ap, ◌∙◌, append_assoc, arith}
 use Rattle.std.specs.List.{All, flat_map}
 use Rattle.std.proofs.lemmas.Bool.Decides.{nat_tests}
 use Rattle.std.proofs.lemmas.List.{append-nil, length-append}
 use Rattle.std.proofs.lemmas.List.Elements.{All-head, All-tail}
-use Rattle.q3_bits.specs.ResultBind.{◌>>=◌}
 use Rattle.q3_bits.specs.Words.{IsCode, field_bits, field_at, row_bits}
 use Rattle.q3_bits.specs.Laws.{PutIsRead, ReadWasPut}
 use Rattle.q3_text.specs.declared.text.Command.{Command}
-use Rattle.q3_text.specs.Texts.{most_bytes, translated, IsTextByte, IsText}
+use Rattle.q3_text.specs.Texts.{most_bytes, translated, IsTextByte}
 use Rattle.q3_profile.specs.declared.profile.Profile.{Profile}
-use Rattle.q3_svmsg.specs.declared.error.Illegible.{Illegible}
 use Rattle.q3_svmsg.specs.Values.{Context, Message}
 use Rattle.q3_svmsg.specs.Texts.{bytes_row, string_bits, command_bits}
-use Rattle.q3_svmsg.specs.Reading.{bytes_after, string_after, command_after, commands_after, area_after, ending_after, operations_after}
+use Rattle.q3_svmsg.specs.Reading.{bytes_after, string_after, command_after, commands_after, operations_after}
 use Rattle.q3_svmsg.specs.Laws.{IsCommand}
 use Rattle.q3_svmsg.proofs.Fronts.{Read, with_front, isnt_zero, bytes_none, bytes_more, string_end, string_more}
-use Rattle.q3_svmsg.proofs.Turns.{HasTurn, turn, operations_command}
+use Rattle.q3_svmsg.proofs.Turns.{turn, operations_command}
 
 -- a byte of a text is translated to itself
 text_byte : (byte : ℕ) → IsTextByte byte → translated byte ≡ byte
@@ -105,10 +103,10 @@ commands_are_read profile context number code put was_put (command ∷ commands)
     let one = turn words was_put code bits behind 5 turns (sym read) (omega (arith, enough, ap length same)) in
     let after = record message { commands = message.commands ++ command ∷ [] } in
     let step = operations_command profile context number message bits behind others (message.commands ++ command ∷ []) turns one.left (sym read) one.is
-            (sym (next_command_is_read words code put message.commands command others is (omega arith))) in
+    (sym (next_command_is_read words code put message.commands command others is (omega arith))) in
     let more = commands_are_read profile context number code put was_put commands after one.left rest (All-tail IsCommand command commands each)
-            (omega (arith, few, length-append message.commands (command ∷ [])))
-            (omega (arith, one.enough, length-append (row_bits words ((command.number, 32) ∷ [])) (string_bits words command.text ++ others), length-append (string_bits words command.text) others)) in
+    (omega (arith, few, length-append message.commands (command ∷ [])))
+    (omega (arith, one.enough, length-append (row_bits words ((command.number, 32) ∷ [])) (string_bits words command.text ++ others), length-append (string_bits words command.text) others)) in
     record {
       left = more.left;
       enough = more.enough;

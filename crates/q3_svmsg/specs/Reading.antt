@@ -126,7 +126,7 @@ section_after profile context number bits = do
   flags ← field_read profile.code 8 distance.1
   area ← area_after profile.code flags.1
   against_base profile context distance.0 (number_of_base number distance.0) (held_base context (number_of_base number distance.0))
-    (record { number = number; time = time.0; flags = flags.0; area = record { items = area.0 }; player = zero_player }) area.1
+      (record { number = number; time = time.0; flags = flags.0; area = record { items = area.0 }; player = zero_player }) area.1
 
 -- behind the section: nops, and the end; there are at most so many operations, since each takes a bit
 unfoldable pub ending_after : List (List Bool) → ℕ → List Bool → Result (Unit {0} × List Bool) Illegible
@@ -134,7 +134,7 @@ ending_after words zero bits = Err (Bits End)
 ending_after words (suc most) bits = do
   operation ← field_read words 8 bits
   if operation.0 == 8 then Ok (tt, operation.1) else
-    if operation.0 == 1 then ending_after words most operation.1 else Err (BadOp operation.0)
+      if operation.0 == 1 then ending_after words most operation.1 else Err (BadOp operation.0)
 
 -- before the section: nops and commands; there are at most so many operations, since each takes a bit
 unfoldable pub operations_after : Profile → Context → ℕ → ℕ → Message → List Bool → Result (Message × List Bool) Illegible
@@ -142,15 +142,15 @@ operations_after profile context number zero message bits = Err (Bits End)
 operations_after profile context number (suc most) message bits = do
   operation ← field_read profile.code 8 bits
   if operation.0 == 8 then Ok (message, operation.1) else
-    if operation.0 == 1 then operations_after profile context number most message operation.1 else
-    if operation.0 == 5 then (do
-      commands ← commands_after profile.code message.commands operation.1
-      operations_after profile context number most (record message { commands = commands.0 }) commands.1) else
-    if operation.0 == 7 then (do
-      section ← section_after profile context number operation.1
-      ending ← ending_after profile.code (length section.1) section.1
-      Ok (record message { section = section.0 }, ending.1))
-    else Err (BadOp operation.0)
+      if operation.0 == 1 then operations_after profile context number most message operation.1 else
+      if operation.0 == 5 then (do
+        commands ← commands_after profile.code message.commands operation.1
+        operations_after profile context number most (record message { commands = commands.0 }) commands.1) else
+      if operation.0 == 7 then (do
+        section ← section_after profile context number operation.1
+        ending ← ending_after profile.code (length section.1) section.1
+        Ok (record message { section = section.0 }, ending.1))
+      else Err (BadOp operation.0)
 
 -- a server's message under a number: its value, and what is behind its end
 unfoldable pub message_after : Profile → Context → ℕ → List Bool → Result (Message × List Bool) Illegible

@@ -1,6 +1,6 @@
 //! A server's message as a value.
 
-ghost use Rattle.std.specs.Prelude.{◌≡◌, IfOk};
+ghost use Rattle.std.specs.Prelude.{◌≡◌, [], IfOk};
 
 use arrayvec::ArrayVec;
 use q3_bits::NoMemory;
@@ -33,11 +33,14 @@ pub struct ServerMessage {
 }
 
 impl ServerMessage {
+    ghost use Rattle.q3_player.specs.Heads.{empty_head};
     ghost use Rattle.q3_svmsg.specs.Values.{told_of, empty_message};
 
     /// A message with nothing in it. `Err` is want of memory.
     pub fn new(alloc: Global) -> Result<ServerMessage, NoMemory>
-        ensures { IfOk result (λ made. told_of made ≡ empty_message) }
+        ensures told { IfOk result (λ made. told_of made ≡ empty_message) }
+        ensures head { IfOk result (λ made. made.head ≡ empty_head) }
+        ensures entities { IfOk result (λ made. made.entities.value.items ≡ []) }
     {
         Ok(ServerMessage {
             ack: 0,

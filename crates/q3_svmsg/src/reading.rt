@@ -13,7 +13,6 @@ ghost use Rattle.q3_svmsg.specs.Reading.{ack_at, bytes_after, string_after, comm
 
 use crate::bases::{BaseView, Bases, base_or};
 use crate::error::Illegible;
-
 use crate::message::{Section, ServerMessage};
 use crate::operations::{EOF, NOP, SERVER_COMMAND, SNAPSHOT};
 use arrayvec::ArrayVec;
@@ -182,15 +181,7 @@ fn read_against<B: Bases>(
         skip_snapshot(r, profile)?;
         return Ok(Section::Snap { base, held: false });
     }
-    read_snapshot(
-        r,
-        profile,
-        bases.baselines(),
-        base,
-        against,
-        head,
-        entities,
-    )
+    read_snapshot(r, profile, bases.baselines(), base, against, head, entities)
 }
 
 /// Reads a snapshot behind its operation, into places for its head and for its entities.
@@ -225,10 +216,12 @@ fn read_ending(r: &mut Reader) -> Result<(), Illegible>
     laws::read_was_put();
     laws::ends_cut_short();
     loop {
-        match r.get(8)? {
-            NOP => {}
-            EOF => return Ok(()),
-            operation => return Err(Illegible::BadOp(operation as u8)),
+        let operation = r.get(8)?;
+        if operation == EOF {
+            return Ok(());
+        }
+        if operation != NOP {
+            return Err(Illegible::BadOp(operation as u8));
         }
     }
 }

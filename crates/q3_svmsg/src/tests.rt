@@ -1,7 +1,6 @@
 //! Messages with bytes worked by hand, by the plain code, entity widths 0, 8, -16 and player widths 0, 16.
 
-ghost use Rattle.std.specs.Prelude.{◌≡◌, ◌==◌, [], Some, None, IfOk, if◌then◌else◌};
-ghost use Rattle.q3_fields.specs.Kinds.{end_mark};
+ghost use Rattle.std.specs.Prelude.{◌≡◌, ◌≤◌, All, IfOk, slice_index_or};
 
 use super::*;
 use q3_bits::{Code, NoMemory, Overflow, ReadError, Writer};
@@ -17,6 +16,7 @@ use std::test::*;
 const NUMBER: u32 = 6;
 
 /// Snapshot 5 is held, with a player and no entities.
+#[derive(Drop)]
 struct Held {
     player: PlayerState,
     baselines: Baselines,
@@ -60,11 +60,33 @@ fn profile(alloc: Global, entity: Table, player: Table) -> Result<Profile, NoMem
     })
 }
 
+/// A state whose field 1 has this word, and nothing else.
+#[tactic(auto, unfolding(q3_entity::specs::Entities::zero_entity))]
+fn entity(number: u16, word: u32) -> EntityState
+    ensures { result.number ≡ number }
+{
+    let mut state = EntityState::zero(number);
+    state.words[1] = word;
+    state
+}
+
+/// Reads message 6.
+fn read(
+    profile: &Profile,
+    held: &Held,
+    bytes: &[u8],
+    into: &mut ServerMessage,
+) -> Result<(), Illegible> {
+    read_server_message(profile, NUMBER, bytes, held, into)
+}
+
 #[test]
 fn snapshot_of_one_entity_is_written_and_read(rt: HostRuntime) -> Result<(), Fail> {
-    let entity = Table::of(&[0, 8, -16]).expect(&rt, "a table");
-    let player = Table::of(&[0, 16]).expect(&rt, "a table");
-    let profile = profile(rt.alloc(), entity, player)?;
+    let profile = profile(
+        rt.alloc(),
+        Table::of(&[0, 8, -16]).expect(&rt, "a table"),
+        Table::of(&[0, 16]).expect(&rt, "a table"),
+    )?;
     assert_eq!(rt; profile.entity.end(), 1023);
     let baselines = Baselines::new(rt.alloc())?;
     let mut message = ServerMessage::new(rt.alloc())?;
@@ -75,9 +97,7 @@ fn snapshot_of_one_entity_is_written_and_read(rt: HostRuntime) -> Result<(), Fai
     };
     message.head.number = 1;
     message.head.time = 1000;
-    let mut state = EntityState::zero(5);
-    state.words[1] = 7;
-    message.entities.push(state);
+    message.entities.push(entity(5, 7));
     let mut into = [0xaa; 21];
     assert_eq!(rt;
         write_snap(&profile, &message, &baselines, None, &mut into),
@@ -93,6 +113,238 @@ fn snapshot_of_one_entity_is_written_and_read(rt: HostRuntime) -> Result<(), Fai
     assert_eq!(rt;
         write_snap(&profile, &message, &baselines, None, &mut into[..19]),
         Err(Overflow)
+    );
+    Ok(())
+}
+
+#[test]
+fn messages_are_read(rt: HostRuntime) -> Result<(), Fail> {
+    let profile = profile(
+        rt.alloc(),
+        Table::of(&[0, 8, -16]).expect(&rt, "a table"),
+        Table::of(&[0, 16]).expect(&rt, "a table"),
+    )?;
+    let mut held = Held {
+        player: PlayerState::zero(),
+        baselines: Baselines::new(rt.alloc())?,
+    };
+    held.player.words[1] = 9;
+    let mut message = ServerMessage::new(rt.alloc())?;
+    assert_eq!(rt;
+        read_ack(&profile.code, &[0x05, 0x00, 0x00, 0x01, 0xff]),
+        Ok((16_777_221, 32))
+    );
+    assert_eq!(rt; read_ack(&profile.code, &[0x05]), Err(ReadError::End));
+    assert_eq!(rt;
+        read(
+            &profile,
+            &held,
+            &[
+                0x03, 0x00, 0x00, 0x00, 0x01, 0x05, 0x02, 0x00, 0x00, 0x00, 0x61, 0x25, 0x00, 0x01,
+                0x08, 0x00
+            ],
+            &mut message
+        ),
+        Ok(())
+    );
+    assert_eq!(rt; message.ack, 3);
+    assert_eq!(rt;
+        message.commands.as_slice(),
+        [Command {
+            number: 2,
+            text: Text::of(b"a.").expect(&rt, "a text")
+        }]
+        .as_slice()
+    );
+    assert_eq!(rt; message.section, Section::Nothing);
+    let cases = [
+        (0, 0, true, 0),
+        (1, 5, true, 9),
+        (2, 4, false, 0),
+        (6, 0, false, 0),
+    ];
+    for (distance, base, there, word) in cases {
+        let bytes = [
+            0x00, 0x00, 0x00, 0x00, 0x07, 0xe8, 0x03, 0x00, 0x00, distance, 0x02, 0x00, 0x00, 0xfe,
+            0x47, 0x00,
+        ];
+        assert_eq!(rt; read(&profile, &held, &bytes, &mut message), Ok(()));
+        assert_eq!(rt; message.ack, 0);
+        assert!(rt; message.commands.is_empty());
+        assert_eq!(rt; message.section, Section::Snap { base, held: there });
+        assert_eq!(rt; message.head.number, NUMBER);
+        assert_eq!(rt; message.head.time, 1000);
+        assert_eq!(rt; message.head.flags, 2);
+        assert_eq!(rt; message.head.player.words[1], word);
+        assert!(rt; message.head.area.is_empty());
+    }
+    assert_eq!(rt;
+        read(
+            &profile,
+            &held,
+            &[0x00, 0x00, 0x00, 0x00, 0x08, 0x00],
+            &mut message
+        ),
+        Ok(())
+    );
+    assert_eq!(rt; message.section, Section::Nothing);
+    Ok(())
+}
+
+#[test]
+fn first_fault_in_reading_order(rt: HostRuntime) -> Result<(), Fail> {
+    let profile = profile(
+        rt.alloc(),
+        Table::of(&[0, 8, -16]).expect(&rt, "a table"),
+        Table::of(&[0, 16]).expect(&rt, "a table"),
+    )?;
+    let held = Held {
+        player: PlayerState::zero(),
+        baselines: Baselines::new(rt.alloc())?,
+    };
+    let mut message = ServerMessage::new(rt.alloc())?;
+    let cases: [(&[u8], Illegible); 18] = [
+        (&[], Illegible::Bits(ReadError::End)),
+        (&[0x00, 0x00, 0x00, 0x00], Illegible::Bits(ReadError::End)),
+        (
+            &[0x00, 0x00, 0x00, 0x00, 0x01],
+            Illegible::Bits(ReadError::End),
+        ),
+        (&[0x00, 0x00, 0x00, 0x00, 0x00], Illegible::BadOp(0)),
+        (&[0x00, 0x00, 0x00, 0x00, 0x02, 0x08], Illegible::BadOp(2)),
+        (&[0x00, 0x00, 0x00, 0x00, 0x03, 0x08], Illegible::BadOp(3)),
+        (&[0x00, 0x00, 0x00, 0x00, 0x04, 0x08], Illegible::BadOp(4)),
+        (&[0x00, 0x00, 0x00, 0x00, 0x06, 0x08], Illegible::BadOp(6)),
+        (&[0x00, 0x00, 0x00, 0x00, 0x09, 0x08], Illegible::BadOp(9)),
+        (
+            &[
+                0x00, 0x00, 0x00, 0x00, 0x07, 0xe8, 0x03, 0x00, 0x00, 0x00, 0x02, 0x00, 0x00, 0xfe,
+                0x2f, 0x00,
+            ],
+            Illegible::BadOp(5),
+        ),
+        (
+            &[0x00, 0x00, 0x00, 0x00, 0x05, 0x01, 0x00],
+            Illegible::Bits(ReadError::End),
+        ),
+        (
+            &[
+                0x00, 0x00, 0x00, 0x00, 0x07, 0xe8, 0x03, 0x00, 0x00, 0x00, 0x00, 0x21,
+            ],
+            Illegible::Area(33),
+        ),
+        (
+            &[
+                0x00, 0x00, 0x00, 0x00, 0x07, 0xe8, 0x03, 0x00, 0x00, 0x00, 0x00, 0x00, 0x03,
+            ],
+            Illegible::Player(PlayerError::Count(3)),
+        ),
+        (
+            &[
+                0x00, 0x00, 0x00, 0x00, 0x07, 0xe8, 0x03, 0x00, 0x00, 0x00, 0x00, 0x00, 0x00,
+            ],
+            Illegible::Player(PlayerError::Bits(ReadError::End)),
+        ),
+        (
+            &[
+                0x00, 0x00, 0x00, 0x00, 0x07, 0xe8, 0x03, 0x00, 0x00, 0x00, 0x00, 0x00, 0x00, 0x0a,
+            ],
+            Illegible::Entity(EntityError::Bits(ReadError::End)),
+        ),
+        (
+            &[
+                0x00, 0x00, 0x00, 0x00, 0x07, 0xe8, 0x03, 0x00, 0x00, 0x00, 0x00, 0x00, 0x00, 0x0a,
+                0xa0, 0x00,
+            ],
+            Illegible::Entity(EntityError::Order(5)),
+        ),
+        (
+            &[
+                0x00, 0x00, 0x00, 0x00, 0x07, 0xe8, 0x03, 0x00, 0x00, 0x00, 0x00, 0x00, 0x00, 0x0a,
+                0x90, 0x00,
+            ],
+            Illegible::Entity(EntityError::Count(4)),
+        ),
+        (
+            &[
+                0x00, 0x00, 0x00, 0x00, 0x07, 0xe8, 0x03, 0x00, 0x00, 0x00, 0x00, 0x00, 0x00, 0x0a,
+                0x08,
+            ],
+            Illegible::Entity(EntityError::Removes(5)),
+        ),
+    ];
+    for (bytes, fault) in cases {
+        assert_eq!(rt; read(&profile, &held, bytes, &mut message), Err(fault));
+    }
+    Ok(())
+}
+
+/// A message that begins with these fields, and goes on with others, so many times; `rises` is added to the first of them
+/// from one time to the next.
+fn repeated<'a>(
+    code: &'a Code,
+    first: &[(u32, u32)],
+    others: [(u32, u32); 3],
+    times: u32,
+    rises: u32,
+) -> Result<Writer<'a>, Overflow>
+    requires first { All (λ field. (1 ≤ field.1) × (field.1 ≤ 32)) first.now }
+    requires others { All (λ field. (1 ≤ field.1) × (field.1 ≤ 32)) others }
+    requires few { times ≤ 2000 }
+    requires low { rises ≤ 1 }
+    requires one { (slice_index_or others 0 (0, 1)).0 ≤ 100 }
+{
+    let mut w = Writer::new(code, 16_384);
+    w.put_all(first)?;
+    let [(value, width), second, third] = others;
+    for k in 0..times {
+        w.put_all(&[(value + k * rises, width), second, third])?;
+    }
+    Ok(w)
+}
+
+#[test]
+fn what_is_too_long_is_refused(rt: HostRuntime) -> Result<(), Fail> {
+    let profile = profile(
+        rt.alloc(),
+        Table::of(&[0, 8, -16]).expect(&rt, "a table"),
+        Table::of(&[0, 16]).expect(&rt, "a table"),
+    )?;
+    let held = Held {
+        player: PlayerState::zero(),
+        baselines: Baselines::new(rt.alloc())?,
+    };
+    let mut message = ServerMessage::new(rt.alloc())?;
+    let text = repeated(
+        &profile.code,
+        &[(0, 32), (5, 8), (1, 32)],
+        [(65, 8), (65, 8), (65, 8)],
+        342,
+        0,
+    )
+    .expect(&rt, "room");
+    assert_eq!(rt;
+        read(&profile, &held, text.bytes(), &mut message),
+        Err(Illegible::TextLong)
+    );
+    let commands = repeated(&profile.code, &[(0, 32)], [(5, 8), (1, 32), (0, 8)], 65, 0).expect(
+        &rt, "room",
+    );
+    assert_eq!(rt;
+        read(&profile, &held, commands.bytes(), &mut message),
+        Err(Illegible::Commands)
+    );
+    let many = repeated(
+        &profile.code,
+        &[(0, 32), (7, 8), (1000, 32), (0, 32), (0, 1)],
+        [(0, 10), (0, 1), (0, 1)],
+        257,
+        1,
+    )
+    .expect(&rt, "room");
+    assert_eq!(rt;
+        read(&profile, &held, many.bytes(), &mut message),
+        Err(Illegible::Entity(EntityError::Many))
     );
     Ok(())
 }

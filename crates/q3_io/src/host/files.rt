@@ -6,8 +6,8 @@ ghost use Rattle.q3_io.specs.HostCounts.{most_files};
 ghost use Rattle.q3_io.specs.Told.{IsGiven, LooksUp, Creates};
 
 use super::counted;
-use crate::files::Files;
 use crate::NoMemory;
+use crate::files::Files;
 use crate::sink::Failed;
 use std::alloc::Global;
 use std::fs;

@@ -1,8 +1,8 @@
-use Rattle.std.proofs.Common.{◌≡◌, ◌+◌, ◌-◌, ◌++◌, ◌∷◌, [], ◌∙◌, suc, ℕ, List, Bool, length, refl, sym, ap, arith}
+use Rattle.std.proofs.Common.{◌≡◌, ◌+◌, ◌-◌, ◌∙◌, suc, ℕ, ap, arith}
 use Rattle.std.proofs.lemmas.Result.{err_from_is_err_and}
-use Rattle.std.proofs.lemmas.List.{append-nil, length-append}
+use Rattle.std.proofs.lemmas.List.{append-nil}
 use Rattle.q3_svmsg.specs.Reading.{bytes_after}
-use Rattle.q3_svmsg.proofs.Fronts.{Read, front_more, front_stops, front_ends, bytes_none, bytes_more, bytes_fault}
+use Rattle.q3_svmsg.proofs.Fronts.{front_more, front_stops, front_ends, bytes_none, bytes_more, bytes_fault}
 use Rattle.q3_svmsg.proofs.reading.read_bytes.Goals as goal
 
 pub returns-in_err-get : goal.returns-in_err-get

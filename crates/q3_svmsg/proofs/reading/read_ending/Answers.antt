@@ -1,4 +1,4 @@
-use Rattle.std.proofs.Common.{◌≡◌, ◌∙◌, ◌==◌, ◌≤◌, ℕ, List, Bool, false, length, refl, sym, ap, arith}
+use Rattle.std.proofs.Common.{◌≡◌, ◌∙◌, ◌==◌, false, sym, arith}
 use Rattle.std.proofs.lemmas.Result.{err_from_is_err_and}
 use Rattle.std.proofs.lemmas.Bool.Decides.{nat_tests}
 use Rattle.q3_svmsg.proofs.Turns.{byte_shorter, turn, ending_fault, ending_done, ending_nop, ending_bad}
@@ -26,7 +26,8 @@ pub loop-operation-preserved : goal.loop-operation-preserved
 loop-operation-preserved c =
     let h = c.loop-operation.invariant in
     let words = c.args.r.now.words in
-    let read = rw (h.words, c.in-1.is) at c.in_ok-operation.ensures.reads.value in
+    let nop : c.in_ok-operation.operation ≡ 1 = omega (arith, c.if-operation-ne-NOP.false) in
+    let read = rw (h.words, nop) at c.in_ok-operation.ensures.reads.value in
     let one = turn words c.read_was_put.ensures c.requires c.loop-operation.r.left c.get.new.self.left 1 h.turns read h.enough in
     record {
       words = c.in_ok-operation.ensures.reads.words ∙ h.words;
@@ -36,11 +37,11 @@ loop-operation-preserved c =
       reads = sym (ending_nop words c.loop-operation.r.left c.get.new.self.left h.turns one.left read one.is) ∙ h.reads;
     }
 
-pub returns-in-8 : goal.returns-in-8
-returns-in-8 c =
+pub returns-then-operation-eq-EOF : goal.returns-then-operation-eq-EOF
+returns-then-operation-eq-EOF c =
     let h = c.loop-operation.invariant in
     let words = c.args.r.now.words in
-    let read = rw (h.words, c.in-8.is) at c.in_ok-operation.ensures.reads.value in
+    let read = rw (h.words, c.if-operation-eq-EOF.true) at c.in_ok-operation.ensures.reads.value in
     let one = turn words c.read_was_put.ensures c.requires c.loop-operation.r.left c.get.new.self.left 8 h.turns read h.enough in
     record {
       value = sym (ending_done words c.loop-operation.r.left c.get.new.self.left h.turns one.left read one.is) ∙ h.reads;
@@ -48,8 +49,8 @@ returns-in-8 c =
       place = c.in_ok-operation.ensures.reads.place ∙ h.place;
     }
 
-pub returns-in_default : goal.returns-in_default
-returns-in_default c =
+pub returns-then-operation-ne-NOP : goal.returns-then-operation-ne-NOP
+returns-then-operation-ne-NOP c =
     let h = c.loop-operation.invariant in
     let words = c.args.r.now.words in
     let byte = c.in_ok-operation.operation in

@@ -1,4 +1,4 @@
-use Rattle.std.proofs.Common.{◌≡◌, ◌∙◌, ◌==◌, ◌≤◌, ℕ, List, Bool, false, length, refl, sym, ap, arith}
+use Rattle.std.proofs.Common.{◌≡◌, ◌∙◌, ◌==◌, false, sym, arith}
 use Rattle.std.proofs.lemmas.Result.{err_from_is_err_and}
 use Rattle.std.proofs.lemmas.Bool.Decides.{nat_tests}
 use Rattle.q3_svmsg.specs.Values.{told_of}
@@ -46,7 +46,7 @@ loop-r-smaller g c =
     let same : c.get.new.self.words ≡ words = c.in_ok-operation.ensures.reads.words ∙ h.words in
     let command = rw (same, c.deref_mut.ensures.value) at c.in_ok-read_next_command-in-5.ensures.value in
     let behind = (shrinks_commands words c.read_was_put.ensures c.requires.code c.loop-r.into.commands.value.items c.get.new.self.left).by
-            c.read_next_command.new.commands.items c.read_next_command.new.r.left (sym command) in
+    c.read_next_command.new.commands.items c.read_next_command.new.r.left (sym command) in
     omega (arith, one, behind)
 
 pub loop-r-preserved : goal.loop-r-preserved
@@ -58,7 +58,7 @@ loop-r-preserved g c =
     let same : c.get.new.self.words ≡ profile.code = c.in_ok-operation.ensures.reads.words ∙ h.words in
     let command = rw (same, c.deref_mut.ensures.value) at c.in_ok-read_next_command-in-5.ensures.value in
     let behind = (shrinks_commands profile.code c.read_was_put.ensures c.requires.code c.loop-r.into.commands.value.items c.get.new.self.left).by
-            c.read_next_command.new.commands.items c.read_next_command.new.r.left (sym command) in
+    c.read_next_command.new.commands.items c.read_next_command.new.r.left (sym command) in
     record {
       words = c.in_ok-read_next_command-in-5.ensures.words ∙ same;
       place = c.in_ok-read_next_command-in-5.ensures.place ∙ c.in_ok-operation.ensures.reads.place ∙ h.place;

@@ -1,5 +1,4 @@
-use Rattle.std.proofs.Common.{◌≡◌, ◌∙◌, map, Ok, refl, sym}
-use Rattle.q3_text.specs.Texts.{translated}
+use Rattle.std.proofs.Common.{◌∙◌, refl, sym}
 use Rattle.q3_svmsg.proofs.Fronts.{text_of_bytes}
 use Rattle.q3_svmsg.proofs.reading.text_from.Goals as goal
 

@@ -1,4 +1,3 @@
-use Rattle.std.proofs.Common.{arith}
 use Rattle.std.proofs.lemmas.Result.{err_from_is_err_and}
 use Rattle.q3_svmsg.proofs.Rows.{bytes-next, bytes-end}
 use Rattle.q3_svmsg.proofs.writing.write_bytes.Goals as goal

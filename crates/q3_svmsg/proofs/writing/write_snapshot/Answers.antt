@@ -3,7 +3,7 @@ use Rattle.std.proofs.lemmas.Result.{err_from_is_err_and}
 use Rattle.q3_player.specs.Delta.{player_delta}
 use Rattle.q3_entity.specs.Lists.{list_text}
 use Rattle.q3_svmsg.specs.Values.{base_of, base_player, base_entities}
-use Rattle.q3_svmsg.specs.Texts.{head_bits, snapshot_bits}
+use Rattle.q3_svmsg.specs.Texts.{snapshot_bits}
 use Rattle.q3_svmsg.proofs.writing.write_snapshot.Goals as goal
 
 pub returns-in_err-write_player : goal.returns-in_err-write_player
