@@ -7,7 +7,8 @@ use Rattle.std.proofs.lemmas.List.Folds.{list_all-append}
 use Rattle.q3_io.specs.declared.address.Address.{Address}
 use Rattle.q3_bits.specs.OptionBind.{◌>>=◌}
 use Rattle.q3_script.specs.Words.{cut}
-use Rattle.q3_script.specs.Numbers.{number_at, host_of, address_at}
+use Rattle.q3_text.specs.Decimals.{number_at}
+use Rattle.q3_script.specs.Addresses.{host_of, address_at}
 use Rattle.q3_script.specs.Grammar.{SpellsAddress}
 use Rattle.q3_script.proofs.Cuts.{lacks, cut-spelled, cut-again}
 use Rattle.q3_script.proofs.Numerals.{number_at-spelled, number_at-again, lacks-decimal}

@@ -1,12 +1,9 @@
-pub mod Decimals
 pub mod Cuts
 pub mod Spaces
 pub mod Gather
 pub mod Numerals
 pub mod Addresses
 pub mod FieldWords
-pub mod Digits
-pub mod HexWords
 pub mod Rising
 pub mod Steps
 pub mod SpelledEvents

@@ -1,6 +1,5 @@
 pub mod Words
-pub mod Numbers
-pub mod Hex
+pub mod Addresses
 pub mod Fields
 pub mod Lines
 pub mod Script

@@ -1,16 +1,15 @@
-//! Fields in a line, and the entity or the player that they make.
+//! Fields in a line, and the player that they make.
 
 ghost use Rattle.std.specs.Prelude.{◌≡◌, ◌≤◌, ◌<◌, ◌^◌, length, IfSome};
 ghost use Rattle.q3_fields.specs.Places.{with_changes};
 ghost use Rattle.q3_script.specs.Words.{words_left};
-ghost use Rattle.q3_script.specs.Fields.{field_at, fields_at, entity_at, player_at};
+ghost use Rattle.q3_script.specs.Fields.{field_at, fields_at, player_at};
 
 use crate::cause::LineCause;
-use crate::number::number;
 use crate::words::{behind, cut_at, next_word};
-use q3_entity::EntityState;
 use q3_player::PlayerState;
 use q3_player::state::shorts;
+use q3_text::decimal_within;
 
 /// The index and the value in a word of this letter: the index is from `least` up to below `limit`.
 #[tactic(auto, unfolding(crate::specs::Fields::field_at))]
@@ -21,8 +20,8 @@ fn field(letter: &[u8], limit: u32, least: u32, word: &[u8]) -> Option<(u32, u32
 {
     let text = behind(letter, word)?;
     let (index, value) = cut_at(text, b':')?;
-    let index = number(index, least, limit - 1)?;
-    Some((index, number(value, 0, u32::MAX)?))
+    let index = decimal_within(index, least, limit - 1)?;
+    Some((index, decimal_within(value, 0, u32::MAX)?))
 }
 
 /// Puts the fields in the leading words of this letter over the values, by rising index, and answers what is left
@@ -44,19 +43,6 @@ pub fn take_fields<'a>(letter: &[u8], values: &mut [u32], start: &'a [u8]) -> &'
         left = others;
     }
     left
-}
-
-/// The state of the entity of this number that the words that are left spell.
-#[tactic(auto, unfolding(crate::specs::Fields::entity_at))]
-pub fn entity_state(number: u16, start: &[u8]) -> Result<EntityState, LineCause>
-    ensures { result ≡ entity_at number (words_left start.now) }
-{
-    let mut words = [0; 64];
-    let others = take_fields(b"", &mut words, start);
-    if !others.is_empty() {
-        return Err(LineCause::Fields);
-    }
-    Ok(EntityState { number, words })
 }
 
 /// The player that the words that are left spell.

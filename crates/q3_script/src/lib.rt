@@ -1,13 +1,12 @@
 //! The script language, this project's own: each line of a script is an event of a replay.
 #![tactic(auto)]
 
-mod area;
+mod address;
 pub mod cause;
 pub mod event;
 mod fields;
 pub mod laws;
 mod line;
-mod number;
 mod script;
 mod words;
 
