@@ -1,6 +1,7 @@
 //! The script language, this project's own: each line of a script is an event of a replay.
 #![tactic(auto)]
 
+mod area;
 pub mod cause;
 pub mod event;
 mod fields;
