@@ -55,15 +55,15 @@ hex_at-spelled word bytes e =
           let same : [] ≡ bytes = same_Some [] bytes (rw dash at e) in
           rw (← same) (record { spelled = sym ((bytes_eq-Decides (codes "-") word).0 dash); each = All-from_get_or (λ byte. byte < 256) [] 0 (λ i lt. omega arith) })
       | inr other ↦ elim (cases_Bool (eqb (length word) 0 || list_any is_capital word)) [
-          | inl refused ↦ let nothing : no_bytes ≡ some_bytes bytes = rw (other, refused) at e in absurd cc
-          | inr good ↦
-              let decoded = ok_is_some (decode_of word) bytes (rw (other, good) at e) in
-              let both = or_parts (eqb (length word) 0) (list_any is_capital word) good in
-              let ok = decode_of-ok word bytes decoded in
-              let text = pairs_spelled 0 word bytes (sym (decode_of-even word ok.0) ∙ decoded) both.1 in
-              let some : 0 < length bytes = grind (arith) in
-              record { spelled = text ∙ sym (hex_text_some bytes some); each = All-from_get_or (λ byte. byte < 256) bytes 0 (λ i lt. ok.3 i) }
-        ]
+        | inl refused ↦ let nothing : no_bytes ≡ some_bytes bytes = rw (other, refused) at e in absurd cc
+        | inr good ↦
+            let decoded = ok_is_some (decode_of word) bytes (rw (other, good) at e) in
+            let both = or_parts (eqb (length word) 0) (list_any is_capital word) good in
+            let ok = decode_of-ok word bytes decoded in
+            let text = pairs_spelled 0 word bytes (sym (decode_of-even word ok.0) ∙ decoded) both.1 in
+            let some : 0 < length bytes = grind (arith) in
+            record { spelled = text ∙ sym (hex_text_some bytes some); each = All-from_get_or (λ byte. byte < 256) bytes 0 (λ i lt. ok.3 i) }
+      ]
     ]
 
 -- and what is spelled so is read

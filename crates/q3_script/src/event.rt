@@ -21,7 +21,7 @@ pub enum Event {
     Entity {
         state: EntityState,
     },
-    /// The entity of this number is there no more.
+    /// The entity of this number is gone from now on.
     Remove {
         number: u16,
     },
@@ -30,7 +30,7 @@ pub enum Event {
         c: u8,
         player: PlayerState,
     },
-    /// The area bytes of a client's snapshots: a bit for each area of the map that the client doesn't see.
+    /// The area bytes of a client's snapshots, a bit for each area of the map: 1 where the client can't see it.
     Area {
         c: u8,
         area: ArrayVec<u8, 32>,

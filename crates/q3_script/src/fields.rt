@@ -52,8 +52,8 @@ pub fn entity_state(number: u16, start: &[u8]) -> Result<EntityState, LineCause>
     ensures { result ≡ entity_at number (words_left start.now) }
 {
     let mut words = [0; 64];
-    let left = take_fields(b"", &mut words, start);
-    if !left.is_empty() {
+    let others = take_fields(b"", &mut words, start);
+    if !others.is_empty() {
         return Err(LineCause::Fields);
     }
     Ok(EntityState { number, words })

@@ -6,5 +6,5 @@ use Rattle.q3_script.proofs.fields.entity_state.Goals as goal
 
 pub returns-then-not-is_empty : goal.returns-then-not-is_empty
 returns-then-not-is_empty c =
-    let some : 0 < length c.take_fields-left.result.now = grind (arith, nat_tests) in
-    is_no_entity c.args.number (words_left c.args.start.now) c.take_fields-left.result.now c.take_fields-left.ensures.left some
+    let some : 0 < length c.take_fields-others.result.now = grind (arith, nat_tests) in
+    is_no_entity c.args.number (words_left c.args.start.now) c.take_fields-others.result.now c.take_fields-others.ensures.left some
