@@ -16,7 +16,7 @@ use Rattle.q3_script.specs.declared.cause.LineCause.TheVariants as causes
 use Rattle.q3_bits.specs.OptionBind.{◌>>=◌}
 use Rattle.q3_script.specs.Words.{cut, behind}
 use Rattle.q3_script.specs.Numbers.{is_digit, number_at}
-use Rattle.q3_script.specs.Fields.{field_at, Fields, fields_at, values_of, entity_of, entity_at, player_of, player_at}
+use Rattle.q3_script.specs.Fields.{field_at, Fields, fields_at, entity_of, entity_at, player_of, player_at}
 use Rattle.q3_script.specs.Grammar.{field_words, AreFields, SpellsEntity, SpellsPlayer}
 use Rattle.q3_script.proofs.Cuts.{cut-spelled, cut-again, behind-spelled, behind-again}
 use Rattle.q3_script.proofs.Numerals.{own, number_at-spelled, number_at-again, lacks-decimal}

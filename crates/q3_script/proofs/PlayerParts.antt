@@ -3,7 +3,7 @@ use Rattle.std.proofs.Common.{◌≡◌, ℕ, ◌<◌, cond, eqb, List, [], ◌�
 use Rattle.std.specs.Prelude.{codes}
 use Rattle.q3_player.specs.declared.state.PlayerState.{PlayerState}
 use Rattle.q3_script.specs.declared.cause.LineCause.TheVariants.{Fields as BadFields}
-use Rattle.q3_script.specs.Words.{words_of, words_left}
+use Rattle.q3_script.specs.Words.{words_left}
 use Rattle.q3_script.specs.Fields.{fields_at, entity_at, player_of, player_at}
 use Rattle.q3_script.proofs.Spaces.{some_left}
 
