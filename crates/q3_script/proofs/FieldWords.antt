@@ -1,4 +1,4 @@
--- The words of fields and of players against their grammar: what is read was spelled so, and what is spelled so is read.
+-- The words of fields, entities and players against their grammar: what is read was spelled so, and what is spelled so is read.
 use Rattle.std.proofs.Common.{◌≡◌, ℕ, ◌+◌, ◌-◌, ◌^◌, ◌<◌, ◌≤◌, true, false, cond, eqb, List, [], ◌∷◌, ◌++◌, length, Option, Some, None, Result, Ok, Err, inl, inr, ◌⊎◌, refl, sym, ap, subst, ◌∙◌, arith, add-one, append_assoc, append-nil}
 use Rattle.std.specs.Prelude.{codes}
 use Rattle.std.specs.Fmt.{decimal}
@@ -9,14 +9,15 @@ use Rattle.std.proofs.lemmas.Option.{same_Some}
 use Rattle.std.proofs.lemmas.Fmt.{decimal_nonempty, digits_decimal}
 use Rattle.q3_io.specs.Print.{indexed_text}
 use Rattle.q3_fields.specs.Places.{Change}
+use Rattle.q3_entity.specs.declared.state.EntityState.{EntityState}
 use Rattle.q3_player.specs.declared.state.PlayerState.{PlayerState}
 use Rattle.q3_script.specs.declared.cause.LineCause.{LineCause}
 use Rattle.q3_script.specs.declared.cause.LineCause.TheVariants as causes
 use Rattle.q3_bits.specs.OptionBind.{◌>>=◌}
 use Rattle.q3_script.specs.Words.{cut, behind}
 use Rattle.q3_text.specs.Decimals.{is_digit, number_at}
-use Rattle.q3_script.specs.Fields.{field_at, Fields, fields_at, player_of, player_at}
-use Rattle.q3_script.specs.Grammar.{field_words, AreFields, SpellsPlayer}
+use Rattle.q3_script.specs.Fields.{field_at, Fields, fields_at, entity_of, entity_at, player_of, player_at}
+use Rattle.q3_script.specs.Grammar.{field_words, AreFields, SpellsEntity, SpellsPlayer}
 use Rattle.q3_script.proofs.Cuts.{cut-spelled, cut-again, behind-spelled, behind-again}
 use Rattle.q3_script.proofs.Numerals.{own, number_at-spelled, number_at-again, lacks-decimal}
 use Rattle.q3_script.proofs.Addresses.{bind_some}
@@ -148,13 +149,52 @@ none_of_nothing : (letter : List ℕ) (limit : ℕ) → HasNone letter limit []
 unfolding fields_at
 none_of_nothing letter limit least = refl
 
--- ---- players
+-- ---- entities
 
-abbrev accept : PlayerState → Result PlayerState LineCause
-accept player = Ok player
+abbrev accept : {A : Type 0} → A → Result A LineCause
+accept x = Ok x
 
-abbrev refuse : Result PlayerState LineCause
+abbrev refuse : {A : Type 0} → Result A LineCause
 refuse = Err causes.Fields
+
+-- what is left is nothing
+all_read : {A : Type 0} (words : List (List ℕ)) (x y : A) → cond (eqb (length words) 0) (accept x) refuse ≡ accept y → (words ≡ []) × (x ≡ y)
+all_read [] x y e = (refl, cc)
+all_read {A} (word ∷ words) x y e =
+    let some : eqb (length words + 1) 0 ≡ false = ne_eqb (length words + 1) 0 (λ z. absurd (omega arith)) in
+    let nothing : refuse {A = A} ≡ accept y = rw some at (rw (← add-one) at e) in
+    absurd cc
+
+-- an entity that is read
+pub record WasEntity (number : ℕ) (words : List (List ℕ)) (entity : EntityState) : Type 0 where
+  pub is : entity.number ≡ number
+  pub spelled : SpellsEntity words entity
+
+-- was spelled so
+pub entity_at-spelled : (number : ℕ) (words : List (List ℕ)) (entity : EntityState) → entity_at number words ≡ Ok entity → WasEntity number words entity
+unfolding entity_at
+entity_at-spelled number words entity e =
+    let read = fields_at [] 64 0 words in
+    let ends = all_read read.left (entity_of number read.fields) entity e in
+    let were = fields_at-spelled [] 64 0 words (omega arith) (omega arith) in
+    record {
+      is = ap (λ (state : EntityState). state.number) (sym ends.1);
+      spelled = record {
+        fields = read.fields;
+        are_fields = were.are;
+        whole = were.whole ∙ ap (λ (ws : List (List ℕ)). field_words [] read.fields ++ ws) ends.0 ∙ append-nil (field_words [] read.fields);
+        state = ap (λ (state : EntityState). state.words) (sym ends.1);
+      };
+    }
+
+-- and what is spelled so is read
+pub entity_at-again : (words : List (List ℕ)) (entity : EntityState) → SpellsEntity words entity → entity_at entity.number words ≡ Ok entity
+unfolding entity_at
+entity_at-again words entity spelled =
+    let read = fields_at-again [] 64 0 spelled.fields [] (omega arith) spelled.are_fields (none_of_nothing [] 64) in
+    ap (entity_at entity.number) (spelled.whole ∙ sym (append-nil (field_words [] spelled.fields))) ∙ rw read (ap (λ (words : List ℕ). accept (record { number = entity.number; words = words })) (sym spelled.state))
+
+-- ---- players
 
 -- the parts of a player, one behind the other
 grouped : (a b c d e : List (List ℕ)) → a ++ b ++ c ++ d ++ e ≡ a ++ (b ++ (c ++ (d ++ (e ++ []))))
@@ -163,14 +203,6 @@ grouped a b c d e = simp (append_assoc, append-nil)
 -- words that are read in five parts
 behind_each : {words : List (List ℕ)} {behind_a behind_b behind_c behind_d : List (List ℕ)} (a b c d e : List (List ℕ)) → words ≡ a ++ behind_a → behind_a ≡ b ++ behind_b → behind_b ≡ c ++ behind_c → behind_c ≡ d ++ behind_d → behind_d ≡ e ++ [] → words ≡ a ++ b ++ c ++ d ++ e
 behind_each a b c d e at_a at_b at_c at_d at_e = rw (at_a, at_b, at_c, at_d, at_e) (sym (grouped a b c d e))
-
--- what is left is nothing
-all_read : (words : List (List ℕ)) (player other : PlayerState) → cond (eqb (length words) 0) (accept player) refuse ≡ accept other → (words ≡ []) × (player ≡ other)
-all_read [] player other e = (refl, cc)
-all_read (word ∷ words) player other e =
-    let some : eqb (length words + 1) 0 ≡ false = ne_eqb (length words + 1) 0 (λ z. absurd (omega arith)) in
-    let nothing : refuse ≡ accept other = rw some at (rw (← add-one) at e) in
-    absurd cc
 
 -- a player that is read was spelled so
 pub player_at-spelled : (words : List (List ℕ)) (player : PlayerState) → player_at words ≡ Ok player → SpellsPlayer words player

@@ -4,6 +4,8 @@ pub mod Gather
 pub mod Numerals
 pub mod Addresses
 pub mod FieldWords
+pub mod Digits
+pub mod HexWords
 pub mod Rising
 pub mod Steps
 pub mod SpelledEvents

@@ -1,12 +1,11 @@
--- A player in the five parts by which it is read.
-use Rattle.std.proofs.Common.{◌≡◌, ℕ, ◌<◌, cond, eqb, false, List, [], ◌∷◌, length, Ok, Err, refl, sym, ◌∙◌, arith}
+-- A player in the five parts by which it is read, and an entity in its one.
+use Rattle.std.proofs.Common.{◌≡◌, ℕ, ◌<◌, cond, eqb, List, [], ◌∷◌, length, Ok, Err, refl, sym, ◌∙◌, arith}
 use Rattle.std.specs.Prelude.{codes}
-use Rattle.std.proofs.lemmas.Bool.{ne_eqb}
 use Rattle.q3_player.specs.declared.state.PlayerState.{PlayerState}
 use Rattle.q3_script.specs.declared.cause.LineCause.TheVariants.{Fields as BadFields}
-use Rattle.q3_script.specs.Words.{words_of, words_left}
-use Rattle.q3_script.specs.Fields.{fields_at, player_of, player_at}
-use Rattle.q3_script.proofs.Spaces.{words_at_space}
+use Rattle.q3_script.specs.Words.{words_left}
+use Rattle.q3_script.specs.Fields.{fields_at, entity_at, player_of, player_at}
+use Rattle.q3_script.proofs.Spaces.{some_left}
 
 -- the words in front of each part, and those behind the last
 pub record Parts (words : List (List ℕ)) (stats persistant ammo powerups others : List (List ℕ)) : Type 0 where
@@ -25,16 +24,16 @@ in_parts : {words stats persistant ammo powerups others : List (List ℕ)} → P
 unfolding player_at
 in_parts p = rw (p.at_others, p.at_powerups, p.at_ammo, p.at_persistant, p.at_stats) refl
 
--- there are words behind a space
-some_words : (text : List ℕ) → eqb (length (words_of text)) 0 ≡ false
-some_words text = rw (words_at_space text) (ne_eqb _ 0 (λ none. absurd (omega arith)))
-
 -- words are left behind a player
 pub is_refused : {words stats persistant ammo powerups : List (List ℕ)} (left : List ℕ) → Parts words stats persistant ammo powerups (words_left left) → 0 < length left → Err BadFields ≡ player_at words
-is_refused [] p some = absurd (omega arith)
-is_refused (space ∷ text) p some = sym (in_parts p ∙ rw (some_words text) refl)
+is_refused left p some = sym (in_parts p ∙ rw (some_left left some) refl)
 
 -- none is left
 pub is_read : {words stats persistant ammo powerups : List (List ℕ)} (left : List ℕ) → Parts words stats persistant ammo powerups (words_left left) → length left ≡ 0 → Ok (player_from words stats persistant ammo powerups) ≡ player_at words
 is_read [] p none = sym (in_parts p)
 is_read (space ∷ text) p none = absurd (omega arith)
+
+-- words are left behind an entity
+pub is_no_entity : (number : ℕ) (words : List (List ℕ)) (left : List ℕ) → words_left left ≡ (fields_at [] 64 0 words).left → 0 < length left → Err BadFields ≡ entity_at number words
+unfolding entity_at
+is_no_entity number words left behind some = rw (← behind, some_left left some) refl

@@ -1,7 +1,7 @@
 -- The words of a text, the first at the first space.
-use Rattle.std.proofs.Common.{◌≡◌, ℕ, ◌<◌, ◌≤◌, Bool, eqb, ltb, List, [], ◌∷◌, length, take, drop, Option, Some, None, refl, sym, ap, ◌∙◌, arith, one-add, inl, inr}
+use Rattle.std.proofs.Common.{◌≡◌, ℕ, ◌<◌, ◌≤◌, Bool, false, eqb, ltb, List, [], ◌∷◌, length, take, drop, Option, Some, None, refl, sym, ap, ◌∙◌, arith, one-add, inl, inr}
 use Rattle.std.specs.List.{position, position_or_len}
-use Rattle.std.proofs.lemmas.Bool.{cases_Bool, ltb-false}
+use Rattle.std.proofs.lemmas.Bool.{cases_Bool, ltb-false, ne_eqb}
 use Rattle.std.proofs.lemmas.Option.{same_Some}
 use Rattle.std.proofs.lemmas.List.{take_all, drop_all}
 use Rattle.q3_script.specs.Words.{words_of, words_left, next_of, only_of}
@@ -25,6 +25,11 @@ words_at_space (x ∷ text) =
       | inl space ↦ rw space refl
       | inr other ↦ rw (other, words_at_space text, one-add) refl
     ]
+
+-- words are left where bytes are
+pub some_left : (left : List ℕ) → 0 < length left → eqb (length (words_left left)) 0 ≡ false
+some_left [] some = absurd (omega arith)
+some_left (space ∷ text) some = rw (words_at_space text) (ne_eqb _ 0 (λ none. absurd (omega arith)))
 
 abbrev none_word : Option (List ℕ)
 none_word = None

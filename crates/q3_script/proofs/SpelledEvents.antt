@@ -2,8 +2,7 @@
 use Rattle.std.proofs.Common.{◌≡◌, ℕ, ◌^◌, ◌%◌, ◌<◌, ◌≤◌, Bool, true, false, cond, List, [], ◌∷◌, length, set, replicate, slice_index_or, Option, Some, None, Result, Ok, Err, inl, inr, refl, sym, ap, subst, ◌∙◌, arith}
 use Rattle.std.specs.Prelude.{codes, All}
 use Rattle.std.specs.Fmt.{decimal}
-use Rattle.std.specs.Map.{lookup}
-use Rattle.std.specs.Option.{ok_or, option_map_or}
+use Rattle.std.specs.Option.{ok_or}
 use Rattle.std.specs.Str.{bytes_eq}
 use Rattle.std.specs.Int.{w16, cast_signed}
 use mir.Val.{SFits}
@@ -16,21 +15,24 @@ use Rattle.std.proofs.lemmas.Slice.Eq.{bytes_eq-Decides}
 use Rattle.q3_fields.specs.Places.{Change, with_changes}
 use Rattle.q3_fields.specs.States.{AreWords}
 use Rattle.q3_player.specs.State.{IsShort, AreShorts, IsState, shorts_of}
+use Rattle.q3_entity.specs.declared.state.EntityState.{EntityState}
 use Rattle.q3_player.specs.declared.state.PlayerState.{PlayerState}
 use Rattle.q3_io.specs.declared.address.Address.{Address}
 use Rattle.q3_script.specs.declared.event.Event.{Event}
-use Rattle.q3_script.specs.declared.event.Event.TheVariants.{Client, Player, Time, Serve, Deliver, Show}
+use Rattle.q3_script.specs.declared.event.Event.TheVariants.{Client, Entity, Remove, Player, Area, Time, Serve, Deliver, Show}
 use Rattle.q3_script.specs.declared.cause.LineCause.{LineCause}
 use Rattle.q3_script.specs.declared.cause.LineCause.TheVariants as causes
 use Rattle.q3_bits.specs.ResultBind.{◌>>=◌, bind_ok}
 use Rattle.q3_text.specs.Decimals.{number_at}
 use Rattle.q3_script.specs.Addresses.{address_at}
-use Rattle.q3_script.specs.Fields.{values_of, player_of, player_at}
-use Rattle.q3_script.specs.Lines.{last_datagram, number_word, client_word, client_line, player_line, time_line, serve_line, deliver_line, show_line, replay_lines, line_at}
-use Rattle.q3_script.specs.Grammar.{AreFields, SpellsPlayer, SpellsEvent}
+use Rattle.q3_script.specs.Hex.{area_at}
+use Rattle.q3_script.specs.Fields.{values_of, player_of, entity_at, player_at}
+use Rattle.q3_script.specs.Lines.{last_entity, last_datagram, number_word, entity_word, client_word, client_line, entity_line, remove_line, player_line, area_line, time_line, serve_line, deliver_line, show_line, Table, replay_lines, line_in, line_at}
+use Rattle.q3_script.specs.Grammar.{AreFields, SpellsEntity, SpellsPlayer, SpellsEvent}
 use Rattle.q3_script.proofs.Numerals.{number_at-spelled, number_at-again}
 use Rattle.q3_script.proofs.Addresses.{address_at-spelled, address_at-again}
-use Rattle.q3_script.proofs.FieldWords.{player_at-spelled, player_at-again}
+use Rattle.q3_script.proofs.FieldWords.{entity_at-spelled, entity_at-again, player_at-spelled, player_at-again}
+use Rattle.q3_script.proofs.HexWords.{area_at-spelled, area_at-again}
 
 -- an answer, and a refusal
 abbrev pub done : {A E : Type 0} → A → Result A E
@@ -61,7 +63,7 @@ number_word-spelled low high word n small e = number_at-spelled low high word n 
 number_word-again : (low high n : ℕ) → high < 2 ^ 64 → low ≤ n → n ≤ high → number_word low high (decimal n) ≡ Ok n
 number_word-again low high n small lower upper = rw (number_at-again low high n small lower upper) refl
 
--- ---- players
+-- ---- entities and players
 
 -- changes put over values keep their number
 length-with_changes : (values : List ℕ) (changes : List Change) → length (with_changes values changes) ≡ length values
@@ -83,6 +85,10 @@ words_are count fields are = record {
   count = length-with_changes (replicate count 0) fields ∙ length-replicate count 0;
   each = with_changes-each (replicate count 0) fields are.1 (All-replicate (λ word. word < 2 ^ 32) count 0 (omega arith));
 }
+
+-- the words of an entity that is spelled are such words
+entity_words : (words : List (List ℕ)) (entity : EntityState) → SpellsEntity words entity → AreWords 64 entity.words
+entity_words words entity spelled = subst (AreWords 64) (sym spelled.state) (words_are 64 spelled.fields spelled.are_fields)
 
 -- a word as a signed value of 16 bits
 short_is : (word : ℕ) → IsShort (cast_signed w16 (word % 2 ^ 16))
@@ -143,6 +149,27 @@ client_line-spelled (c ∷ challenge ∷ qport ∷ dup ∷ last ∷ []) event e 
     (client_from c challenge qport dup last c'.0 challenge'.0 qport'.0 dup'.0 address.0 c'.1 challenge'.1 qport'.1 dup'.1 (ok_or-ok (address_at last) causes.Address address.0 address.1))
 client_line-spelled (c ∷ challenge ∷ qport ∷ dup ∷ address ∷ other ∷ others) event e = absurd cc
 
+entity_line-spelled : (words : List (List ℕ)) (event : Event) → entity_line words ≡ Ok event → SpellsEvent (codes "entity" ∷ words) event
+unfolding entity_line
+entity_line-spelled [] event e = absurd cc
+entity_line-spelled (word ∷ words) event e =
+    let number = bind_ok (entity_word word) (λ number. entity_at number words >>= λ state. Ok (Entity state)) event e in
+    let state = bind_ok (entity_at number.0 words) (λ state. Ok (Entity state)) event number.2 in
+    let is = number_word-spelled 0 last_entity word number.0 (omega arith) number.1 in
+    let was = entity_at-spelled number.0 words state.0 state.1 in
+    let same = was.is in
+    subst (λ (x : Event). SpellsEvent (codes "entity" ∷ word ∷ words) x) (ok_is (Entity state.0) event state.2)
+    (record { event_of_replay = (omega arith, entity_words words state.0 was.spelled); whole = (words, was.spelled, ap (λ (w : List ℕ). codes "entity" ∷ w ∷ words) (is.2 ∙ ap decimal (sym same))) })
+
+remove_line-spelled : (words : List (List ℕ)) (event : Event) → remove_line words ≡ Ok event → SpellsEvent (codes "remove" ∷ words) event
+unfolding remove_line
+remove_line-spelled [] event e = absurd cc
+remove_line-spelled (word ∷ []) event e =
+    let number = bind_ok (entity_word word) (λ number. Ok (Remove number)) event e in
+    let is = number_word-spelled 0 last_entity word number.0 (omega arith) number.1 in
+    subst (λ (x : Event). SpellsEvent (codes "remove" ∷ word ∷ []) x) (ok_is (Remove number.0) event number.2) (record { event_of_replay = is.1; whole = ap (λ (w : List ℕ). codes "remove" ∷ w ∷ []) is.2 })
+remove_line-spelled (word ∷ other ∷ others) event e = absurd cc
+
 player_line-spelled : (words : List (List ℕ)) (event : Event) → player_line words ≡ Ok event → SpellsEvent (codes "player" ∷ words) event
 unfolding player_line
 player_line-spelled [] event e = absurd cc
@@ -153,6 +180,19 @@ player_line-spelled (word ∷ words) event e =
     let spelled = player_at-spelled words player.0 player.1 in
     subst (λ (x : Event). SpellsEvent (codes "player" ∷ word ∷ words) x) (ok_is (Player c.0 player.0) event player.2)
     (record { event_of_replay = (omega arith, is_state words player.0 spelled); whole = (words, spelled, ap (λ (w : List ℕ). codes "player" ∷ w ∷ words) is.2) })
+
+area_line-spelled : (words : List (List ℕ)) (event : Event) → area_line words ≡ Ok event → SpellsEvent (codes "area" ∷ words) event
+unfolding area_line
+area_line-spelled [] event e = absurd cc
+area_line-spelled (word ∷ []) event e = absurd cc
+area_line-spelled (word ∷ last ∷ []) event e =
+    let c = bind_ok (client_word word) (λ c. ok_or (area_at last) causes.Number >>= λ area. Ok (Area c area)) event e in
+    let area = bind_ok (ok_or (area_at last) causes.Number) (λ area. Ok (Area c.0 area)) event c.2 in
+    let is = number_word-spelled 0 0 word c.0 (omega arith) c.1 in
+    let were = area_at-spelled last area.0 (ok_or-ok (area_at last) causes.Number area.0 area.1) in
+    subst (λ (x : Event). SpellsEvent (codes "area" ∷ word ∷ last ∷ []) x) (ok_is (Area c.0 area.0) event area.2)
+    (record { event_of_replay = (omega arith, were.few, were.each); whole = (last, were.spelled, ap (λ (w : List ℕ). codes "area" ∷ w ∷ last ∷ []) is.2) })
+area_line-spelled (word ∷ last ∷ other ∷ others) event e = absurd cc
 
 time_line-spelled : (words : List (List ℕ)) (event : Event) → time_line words ≡ Ok event → SpellsEvent (codes "time" ∷ words) event
 unfolding time_line
@@ -195,17 +235,11 @@ word_is : (word text : List ℕ) (others : List (List ℕ)) (event : Event) → 
 word_is word text others event same spelled = subst (λ (w : List ℕ). SpellsEvent (w ∷ others) event) ((bytes_eq-Decides text word).0 same) spelled
 
 -- a line of a table, whose entries each read what is spelled so
-abbrev Reader : Type 0
-Reader = List (List ℕ) → Result Event LineCause
-
-abbrev EachIsSpelled : List (List ℕ × Reader) → Type 0
+abbrev EachIsSpelled : Table → Type 0
 EachIsSpelled [] = Unit {0}
 EachIsSpelled (line ∷ lines) = ((others : List (List ℕ)) (event : Event) → line.1 others ≡ Ok event → SpellsEvent (line.0 ∷ others) event) × EachIsSpelled lines
 
-abbrev read_by : Option Reader → Reader
-read_by line others = option_map_or (λ line. line others) line (Err causes.Word)
-
-found : (lines : List (List ℕ × Reader)) (word : List ℕ) (others : List (List ℕ)) (event : Event) → EachIsSpelled lines → read_by (lookup (λ text. bytes_eq text word) lines) others ≡ Ok event → SpellsEvent (word ∷ others) event
+found : (lines : Table) (word : List ℕ) (others : List (List ℕ)) (event : Event) → EachIsSpelled lines → line_in lines word others ≡ Ok event → SpellsEvent (word ∷ others) event
 found [] word others event each e = let none : refuse causes.Word ≡ done event = e in absurd cc
 found (line ∷ lines) word others event each e =
     elim (cases_Bool (bytes_eq line.0 word)) [
@@ -218,11 +252,11 @@ pub line_at-spelled : (words : List (List ℕ)) (event : Event) → line_at word
 unfolding line_at
 line_at-spelled [] event e = absurd cc
 line_at-spelled (word ∷ others) event e =
-    found replay_lines word others event (client_line-spelled, (player_line-spelled, (time_line-spelled, (serve_line-spelled, (deliver_line-spelled, (show_line-spelled, tt)))))) e
+    found replay_lines word others event (client_line-spelled, (entity_line-spelled, (remove_line-spelled, (player_line-spelled, (area_line-spelled, (time_line-spelled, (serve_line-spelled, (deliver_line-spelled, (show_line-spelled, tt))))))))) e
 
 -- and what is spelled so is read
 pub line_at-again : (words : List (List ℕ)) (event : Event) → SpellsEvent words event → line_at words ≡ Ok event
-unfolding line_at client_line player_line time_line serve_line deliver_line show_line
+unfolding line_at client_line entity_line remove_line player_line area_line time_line serve_line deliver_line show_line
 line_at-again words (Client c challenge qport dup address) spelled =
     let is = spelled.event_of_replay in
     ap line_at spelled.whole.2 ∙ rw (
@@ -232,9 +266,16 @@ line_at-again words (Client c challenge qport dup address) spelled =
       number_word-again 0 5 dup (omega arith) (omega arith) is.3,
       address_at-again spelled.whole.0 address spelled.whole.1 is.4 is.5,
     ) refl
+line_at-again words (Entity state) spelled =
+    let is = spelled.event_of_replay in
+    ap line_at spelled.whole.2 ∙ rw (number_word-again 0 last_entity state.number (omega arith) (omega arith) is.0, entity_at-again spelled.whole.0 state spelled.whole.1) refl
+line_at-again words (Remove number) spelled = let is = spelled.event_of_replay in ap line_at spelled.whole ∙ rw (number_word-again 0 last_entity number (omega arith) (omega arith) is) refl
 line_at-again words (Player c player) spelled =
     let is = spelled.event_of_replay in
     ap line_at spelled.whole.2 ∙ rw (number_word-again 0 0 c (omega arith) (omega arith) (omega arith), player_at-again spelled.whole.0 player spelled.whole.1) refl
+line_at-again words (Area c area) spelled =
+    let is = spelled.event_of_replay in
+    ap line_at spelled.whole.2 ∙ rw (number_word-again 0 0 c (omega arith) (omega arith) (omega arith), area_at-again spelled.whole.0 area spelled.whole.1 is.1 is.2) refl
 line_at-again words (Time time) spelled = let is = spelled.event_of_replay in ap line_at spelled.whole ∙ rw (number_word-again 0 4294967295 time (omega arith) (omega arith) (omega arith)) refl
 line_at-again words (Serve c) spelled = let is = spelled.event_of_replay in ap line_at spelled.whole ∙ rw (number_word-again 0 0 c (omega arith) (omega arith) (omega arith)) refl
 line_at-again words (Deliver datagram) spelled = let is = spelled.event_of_replay in ap line_at spelled.whole ∙ rw (number_word-again 1 last_datagram datagram (omega arith) is.0 is.1) refl

@@ -1,13 +1,14 @@
 -- Each line in the steps by which it is read.
 use Rattle.std.proofs.Common.{◌≡◌, ℕ, List, [], ◌∷◌, Ok, refl}
 use Rattle.std.specs.Option.{ok_or}
-use Rattle.q3_script.specs.declared.event.Event.TheVariants.{Client, Player, Time, Serve, Deliver, Show}
-use Rattle.q3_script.specs.declared.cause.LineCause.TheVariants.{Address, Count}
+use Rattle.q3_script.specs.declared.event.Event.TheVariants.{Client, Entity, Remove, Player, Area, Time, Serve, Deliver, Show}
+use Rattle.q3_script.specs.declared.cause.LineCause.TheVariants.{Address, Count, Number}
 use Rattle.q3_bits.specs.ResultBind.{◌>>=◌}
 use Rattle.q3_script.specs.Words.{next_of, only_of}
 use Rattle.q3_script.specs.Addresses.{address_at}
-use Rattle.q3_script.specs.Fields.{player_at}
-use Rattle.q3_script.specs.Lines.{last_datagram, number_word, client_word, client_line, player_line, time_line, serve_line, deliver_line, show_line}
+use Rattle.q3_script.specs.Hex.{area_at}
+use Rattle.q3_script.specs.Fields.{entity_at, player_at}
+use Rattle.q3_script.specs.Lines.{last_datagram, number_word, entity_word, client_word, client_line, entity_line, remove_line, player_line, area_line, time_line, serve_line, deliver_line, show_line}
 
 -- a client: four words and the last, then each of them
 pub client_steps : (words : List (List ℕ)) → client_line words ≡ (ok_or (next_of words) Count >>= λ c. ok_or (next_of c.1) Count >>= λ challenge. ok_or (next_of challenge.1) Count >>= λ qport. ok_or (next_of qport.1) Count >>= λ dup. ok_or (only_of dup.1) Count >>= λ address.
@@ -21,6 +22,27 @@ client_steps (c ∷ challenge ∷ qport ∷ []) = refl
 client_steps (c ∷ challenge ∷ qport ∷ dup ∷ []) = refl
 client_steps (c ∷ challenge ∷ qport ∷ dup ∷ address ∷ []) = refl
 client_steps (c ∷ challenge ∷ qport ∷ dup ∷ address ∷ other ∷ others) = refl
+
+-- an entity: a word, and fields
+pub entity_steps : (words : List (List ℕ)) → entity_line words ≡ (ok_or (next_of words) Count >>= λ number. entity_word number.0 >>= λ n. entity_at n number.1 >>= λ state. Ok (Entity state))
+unfolding entity_line
+entity_steps [] = refl
+entity_steps (number ∷ fields) = refl
+
+-- an entity that goes: the only word is its number
+pub remove_steps : (words : List (List ℕ)) → remove_line words ≡ (ok_or (only_of words) Count >>= λ word. entity_word word >>= λ number. Ok (Remove number))
+unfolding remove_line
+remove_steps [] = refl
+remove_steps (number ∷ []) = refl
+remove_steps (number ∷ other ∷ others) = refl
+
+-- area bytes: a word and the last, then each of them
+pub area_steps : (words : List (List ℕ)) → area_line words ≡ (ok_or (next_of words) Count >>= λ c. ok_or (only_of c.1) Count >>= λ area. client_word c.0 >>= λ c. ok_or (area_at area) Number >>= λ area. Ok (Area c area))
+unfolding area_line
+area_steps [] = refl
+area_steps (c ∷ []) = refl
+area_steps (c ∷ area ∷ []) = refl
+area_steps (c ∷ area ∷ other ∷ others) = refl
 
 -- a time: the only word is a number
 pub time_steps : (words : List (List ℕ)) → time_line words ≡ (ok_or (only_of words) Count >>= λ word. number_word 0 4294967295 word >>= λ time. Ok (Time time))

@@ -1,7 +1,8 @@
--- Fields in a line: words of an index and a value behind the letter of their array, and the player that they make.
+-- Fields in a line: words of an index and a value behind the letter of their array, and the entity or the player that they make.
 use Rattle.std.specs.Prelude.{ℕ, ◌+◌, ◌-◌, ◌==◌, if◌then◌else◌, List, [], ◌∷◌, length, replicate, codes, Option, Some, Result, Ok, Err}
 use Rattle.std.specs.Option.{option_map_or}
 use Rattle.q3_fields.specs.Places.{Change, with_changes}
+use Rattle.q3_entity.specs.declared.state.EntityState.{EntityState}
 use Rattle.q3_player.specs.declared.state.PlayerState.{PlayerState}
 use Rattle.q3_player.specs.State.{shorts_of}
 use Rattle.q3_script.specs.declared.cause.LineCause.{LineCause}
@@ -34,6 +35,16 @@ fields_at letter limit least (word ∷ words) =
 -- so many values: 0 but for these fields
 abbrev pub values_of : ℕ → List Change → List ℕ
 values_of count fields = with_changes (replicate count 0) fields
+
+-- the entity of its number and its fields
+abbrev pub entity_of : ℕ → List Change → EntityState
+entity_of number fields = record { number = number; words = values_of 64 fields }
+
+-- the entity of this number that these words and no others spell
+unfoldable pub entity_at : ℕ → List (List ℕ) → Result EntityState LineCause
+entity_at number words =
+    let fields = fields_at [] 64 0 words in
+    if length fields.left == 0 then Ok (entity_of number fields.fields) else Err causes.Fields
 
 -- the player of its fields and those of its arrays
 abbrev pub player_of : List Change → List Change → List Change → List Change → List Change → PlayerState

@@ -1,23 +1,29 @@
 -- The grammar of a script: which words spell which event, and which lines which events.
 use Rattle.std.specs.Prelude.{◌≡◌, ℕ, ◌^◌, ◌<◌, ◌≤◌, Bool, true, false, List, [], ◌∷◌, ◌++◌, length, map, codes, decimal, All}
 use Rattle.q3_fields.specs.Places.{Change, AreRising}
+use Rattle.q3_fields.specs.States.{AreWords}
+use Rattle.q3_entity.specs.declared.state.EntityState.{EntityState}
 use Rattle.q3_player.specs.State.{IsState}
 use Rattle.q3_player.specs.declared.state.PlayerState.{PlayerState}
 use Rattle.q3_io.specs.Print.{indexed_text}
 use Rattle.q3_io.specs.declared.address.Address.{Address}
 use Rattle.q3_script.specs.declared.event.Event.{Event}
-use Rattle.q3_script.specs.declared.event.Event.TheVariants.{Client, Player, Time, Serve, Deliver, Show}
+use Rattle.q3_script.specs.declared.event.Event.TheVariants.{Client, Entity, Remove, Player, Area, Time, Serve, Deliver, Show}
 use Rattle.q3_script.specs.Words.{words_of}
 use Rattle.q3_script.specs.Addresses.{host_of}
-use Rattle.q3_script.specs.Fields.{player_of}
-use Rattle.q3_script.specs.Lines.{last_datagram}
+use Rattle.q3_script.specs.Hex.{hex_text, most_area}
+use Rattle.q3_script.specs.Fields.{values_of, player_of}
+use Rattle.q3_script.specs.Lines.{last_entity, last_datagram}
 use Rattle.q3_script.specs.Script.{is_passed_over, lines_of, longest_script, most_events}
 
 -- an event that a replay's script may have: the one client has the number 0
 abbrev pub IsReplayEvent : Event → Type 0
 IsReplayEvent (Client c challenge qport dup address) =
     (c ≡ 0) × (challenge < 2 ^ 32) × (qport < 2 ^ 16) × (dup ≤ 5) × (1 ≤ address.port) × (address.port < 2 ^ 16)
+IsReplayEvent (Entity state) = (state.number ≤ last_entity) × AreWords 64 state.words
+IsReplayEvent (Remove number) = number ≤ last_entity
 IsReplayEvent (Player c player) = (c ≡ 0) × IsState player
+IsReplayEvent (Area c area) = (c ≡ 0) × (length area.items ≤ most_area) × All (λ byte. byte < 256) area.items
 IsReplayEvent (Time time) = time < 2 ^ 32
 IsReplayEvent (Serve c) = c ≡ 0
 IsReplayEvent (Deliver datagram) = (1 ≤ datagram) × (datagram ≤ last_datagram)
@@ -40,6 +46,17 @@ field_words letter fields = map (λ field. indexed_text letter field.0 field.1) 
 -- the indexes rise, from least on, and stay below a limit; the values have 32 bits
 abbrev pub AreFields : ℕ → ℕ → List Change → Type 0
 AreFields limit least fields = AreRising limit least fields × All (λ field. field.1 < 2 ^ 32) fields
+
+-- bytes in hex
+abbrev pub SpellsHex : List ℕ → List ℕ → Type 0
+SpellsHex word bytes = word ≡ hex_text bytes
+
+-- an entity, but for its number: fields
+pub record SpellsEntity (words : List (List ℕ)) (entity : EntityState) : Type 0 where
+  pub fields : List Change
+  pub are_fields : AreFields 64 0 fields
+  pub whole : words ≡ field_words [] fields
+  pub state : entity.words ≡ values_of 64 fields
 
 -- a player: fields, and behind them those of each array
 pub record SpellsPlayer (words : List (List ℕ)) (player : PlayerState) : Type 0 where
@@ -66,7 +83,10 @@ pub record SpellsPlayer (words : List (List ℕ)) (player : PlayerState) : Type 
 abbrev pub HasWords : List (List ℕ) → Event → Type 0
 HasWords words (Client c challenge qport dup address) =
     (last : List ℕ) × SpellsAddress last address × (words ≡ codes "client" ∷ decimal c ∷ decimal challenge ∷ decimal qport ∷ decimal dup ∷ last ∷ [])
+HasWords words (Entity state) = (fields : List (List ℕ)) × SpellsEntity fields state × (words ≡ codes "entity" ∷ decimal state.number ∷ fields)
+HasWords words (Remove number) = words ≡ codes "remove" ∷ decimal number ∷ []
 HasWords words (Player c player) = (fields : List (List ℕ)) × SpellsPlayer fields player × (words ≡ codes "player" ∷ decimal c ∷ fields)
+HasWords words (Area c area) = (last : List ℕ) × SpellsHex last area.items × (words ≡ codes "area" ∷ decimal c ∷ last ∷ [])
 HasWords words (Time time) = words ≡ codes "time" ∷ decimal time ∷ []
 HasWords words (Serve c) = words ≡ codes "serve" ∷ decimal c ∷ []
 HasWords words (Deliver datagram) = words ≡ codes "deliver" ∷ decimal datagram ∷ []

@@ -1,5 +1,6 @@
 pub mod Words
 pub mod Addresses
+pub mod Hex
 pub mod Fields
 pub mod Lines
 pub mod Script

@@ -1,5 +1,7 @@
 //! The events of a replay.
 
+use arrayvec::ArrayVec;
+use q3_entity::EntityState;
 use q3_io::Address;
 use q3_player::PlayerState;
 
@@ -15,10 +17,23 @@ pub enum Event {
         dup: u8,
         address: Address,
     },
+    /// The whole state of an entity, under its number.
+    Entity {
+        state: EntityState,
+    },
+    /// The entity of this number is gone from now on.
+    Remove {
+        number: u16,
+    },
     /// The whole state of a client's player.
     Player {
         c: u8,
         player: PlayerState,
+    },
+    /// The area bytes of a client's snapshots, a bit for each area of the map: 1 where the client can't see it.
+    Area {
+        c: u8,
+        area: ArrayVec<u8, 32>,
     },
     /// The server's time, in milliseconds.
     Time {

@@ -1,12 +1,13 @@
-//! Fields in a line, and the player that they make.
+//! Fields in a line, and the entity or the player that they make.
 
 ghost use Rattle.std.specs.Prelude.{◌≡◌, ◌≤◌, ◌<◌, ◌^◌, length, IfSome};
 ghost use Rattle.q3_fields.specs.Places.{with_changes};
 ghost use Rattle.q3_script.specs.Words.{words_left};
-ghost use Rattle.q3_script.specs.Fields.{field_at, fields_at, player_at};
+ghost use Rattle.q3_script.specs.Fields.{field_at, fields_at, entity_at, player_at};
 
 use crate::cause::LineCause;
 use crate::words::{behind, cut_at, next_word};
+use q3_entity::EntityState;
 use q3_player::PlayerState;
 use q3_player::state::shorts;
 use q3_text::decimal_within;
@@ -43,6 +44,19 @@ pub fn take_fields<'a>(letter: &[u8], values: &mut [u32], start: &'a [u8]) -> &'
         left = others;
     }
     left
+}
+
+/// The state of the entity of this number that the words that are left spell.
+#[tactic(auto, unfolding(crate::specs::Fields::entity_at))]
+pub fn entity_state(number: u16, start: &[u8]) -> Result<EntityState, LineCause>
+    ensures { result ≡ entity_at number (words_left start.now) }
+{
+    let mut words = [0; 64];
+    let others = take_fields(b"", &mut words, start);
+    if !others.is_empty() {
+        return Err(LineCause::Fields);
+    }
+    Ok(EntityState { number, words })
 }
 
 /// The player that the words that are left spell.

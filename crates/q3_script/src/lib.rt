@@ -2,6 +2,7 @@
 #![tactic(auto)]
 
 mod address;
+mod area;
 pub mod cause;
 pub mod event;
 mod fields;

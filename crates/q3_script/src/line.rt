@@ -2,13 +2,14 @@
 
 ghost use Rattle.std.specs.Prelude.{◌≡◌, ◌≤◌, ◌∷◌, IfOk};
 ghost use Rattle.q3_script.specs.Words.{words_of, words_left};
-ghost use Rattle.q3_script.specs.Lines.{number_word, client_word, client_line, player_line, time_line, serve_line, deliver_line, show_line, line_at};
+ghost use Rattle.q3_script.specs.Lines.{number_word, entity_word, client_word, client_line, entity_line, remove_line, player_line, area_line, time_line, serve_line, deliver_line, show_line, line_at};
 
 use crate::address::address;
+use crate::area::area_bytes;
 use crate::cause::LineCause;
 use crate::event::Event;
-use crate::fields::player_state;
-use crate::words::{first_word, next_word, only_word};
+use crate::fields::{entity_state, player_state};
+use crate::words::{first_word, is, next_word, only_word};
 use q3_text::decimal_within;
 
 /// The number that a word spells, if it is one from `low` to `high`.
@@ -17,6 +18,13 @@ fn number_word(word: &[u8], low: u32, high: u32) -> Result<u32, LineCause>
     ensures within { IfOk result (λ n. (low ≤ n) × (n ≤ high)) }
 {
     decimal_within(word, low, high).ok_or(LineCause::Number)
+}
+
+/// The number of an entity.
+fn entity_word(word: &[u8]) -> Result<u16, LineCause>
+    ensures { result ≡ entity_word word.now }
+{
+    Ok(number_word(word, 0, 1022)? as u16)
 }
 
 /// The number of a client.
@@ -44,6 +52,27 @@ fn client(left: &[u8]) -> Result<Event, LineCause>
     })
 }
 
+#[tactic(auto, using(crate::proofs::Steps::entity_steps))]
+fn entity(left: &[u8]) -> Result<Event, LineCause>
+    ensures { result ≡ entity_line (words_left left.now) }
+{
+    let (number, left) = next_word(left).ok_or(LineCause::Count)?;
+    let number = entity_word(number)?;
+    Ok(Event::Entity {
+        state: entity_state(number, left)?,
+    })
+}
+
+#[tactic(auto, using(crate::proofs::Steps::remove_steps))]
+fn remove(left: &[u8]) -> Result<Event, LineCause>
+    ensures { result ≡ remove_line (words_left left.now) }
+{
+    let word = only_word(left).ok_or(LineCause::Count)?;
+    Ok(Event::Remove {
+        number: entity_word(word)?,
+    })
+}
+
 #[tactic(auto, using(crate::proofs::Steps::player_steps))]
 fn player(left: &[u8]) -> Result<Event, LineCause>
     ensures { result ≡ player_line (words_left left.now) }
@@ -52,6 +81,18 @@ fn player(left: &[u8]) -> Result<Event, LineCause>
     Ok(Event::Player {
         c: client_word(c)?,
         player: player_state(left)?,
+    })
+}
+
+#[tactic(auto, using(crate::proofs::Steps::area_steps))]
+fn area(left: &[u8]) -> Result<Event, LineCause>
+    ensures { result ≡ area_line (words_left left.now) }
+{
+    let (c, left) = next_word(left).ok_or(LineCause::Count)?;
+    let word = only_word(left).ok_or(LineCause::Count)?;
+    Ok(Event::Area {
+        c: client_word(c)?,
+        area: area_bytes(word).ok_or(LineCause::Number)?,
     })
 }
 
@@ -100,14 +141,26 @@ fn show(left: &[u8]) -> Result<Event, LineCause>
 fn event(word: &[u8], left: &[u8]) -> Result<Event, LineCause>
     ensures { result ≡ line_at (word.now ∷ words_left left.now) }
 {
-    match word {
-        b"client" => client(left),
-        b"player" => player(left),
-        b"time" => time(left),
-        b"serve" => serve(left),
-        b"deliver" => deliver(left),
-        b"show" => show(left),
-        _ => Err(LineCause::Word),
+    if is(word, b"client") {
+        client(left)
+    } else if is(word, b"entity") {
+        entity(left)
+    } else if is(word, b"remove") {
+        remove(left)
+    } else if is(word, b"player") {
+        player(left)
+    } else if is(word, b"area") {
+        area(left)
+    } else if is(word, b"time") {
+        time(left)
+    } else if is(word, b"serve") {
+        serve(left)
+    } else if is(word, b"deliver") {
+        deliver(left)
+    } else if is(word, b"show") {
+        show(left)
+    } else {
+        Err(LineCause::Word)
     }
 }
 

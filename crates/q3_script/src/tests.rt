@@ -1,11 +1,17 @@
 use super::*;
+use arrayvec::ArrayVec;
+use q3_entity::EntityState;
 use q3_io::Address;
 use q3_player::PlayerState;
 use std::test::*;
 
 /// One line of each kind, with two between them that are passed over.
 const SCRIPT: &str =
-    "client 0 17 5000 1 10.0.0.1:27960\ntime 1000\n\nplayer 0 1:7 s3:65535 s4:32768 s5:65536 p0:1 a15:7 u0:65536 u15:4294967295\nserve 0\n# a note\ndeliver 1\nshow 0\n";
+    "client 0 17 5000 1 10.0.0.1:27960\ntime 1000\n\nentity 5 2:1 63:4294967295\nremove 1022\narea 0 1fa0\narea 0 -\nplayer 0 1:7 s3:65535 s4:32768 s5:65536 p0:1 a15:7 u0:65536 u15:4294967295\nserve 0\n# a note\ndeliver 1\nshow 0\n";
+
+/// 33 area bytes, one too many.
+const AREA_OF_33: &str =
+    "area 0 000102030405060708090a0b0c0d0e0f101112131415161718191a1b1c1d1e1f20\n";
 
 #[test]
 fn one_line_of_each_kind(rt: HostRuntime) -> Result<(), Fail> {
@@ -20,6 +26,12 @@ fn one_line_of_each_kind(rt: HostRuntime) -> Result<(), Fail> {
     player.ammo[15] = 7;
     player.powerups[0] = 65_536;
     player.powerups[15] = 4_294_967_295;
+    let mut entity = EntityState::zero(5);
+    entity.words[2] = 1;
+    entity.words[63] = 4_294_967_295;
+    let mut area = ArrayVec::new();
+    area.push(0x1f);
+    area.push(0xa0);
     let wanted = [
         Event::Client {
             c: 0,
@@ -32,11 +44,33 @@ fn one_line_of_each_kind(rt: HostRuntime) -> Result<(), Fail> {
             },
         },
         Event::Time { time: 1000 },
+        Event::Entity { state: entity },
+        Event::Remove { number: 1022 },
+        Event::Area { c: 0, area },
+        Event::Area {
+            c: 0,
+            area: ArrayVec::new(),
+        },
         Event::Player { c: 0, player },
         Event::Serve { c: 0 },
         Event::Deliver { datagram: 1 },
         Event::Show { c: 0 },
     ];
+    assert_eq!(rt; events.as_slice(), wanted.as_slice());
+    Ok(())
+}
+
+/// As many area bytes as there may be.
+#[test]
+fn most_area_bytes(rt: HostRuntime) -> Result<(), Fail> {
+    let line = "area 0 0707070707070707070707070707070707070707070707070707070707070707";
+    let events = read_script(rt.alloc(), ScriptKind::Replay, line.as_bytes())
+        .ok()
+        .ok_or("the script is a good one")?;
+    let wanted = [Event::Area {
+        c: 0,
+        area: ArrayVec::from([7; 32]),
+    }];
     assert_eq!(rt; events.as_slice(), wanted.as_slice());
     Ok(())
 }
@@ -51,6 +85,25 @@ fn bad_scripts(rt: HostRuntime) {
         ("deliver 0\n", 1, LineCause::Number),
         ("deliver 01\n", 1, LineCause::Number),
         ("time 4294967296\n", 1, LineCause::Number),
+        ("entity\n", 1, LineCause::Count),
+        ("entity 1023\n", 1, LineCause::Number),
+        ("entity 1023 x\n", 1, LineCause::Number),
+        ("entity 5 \n", 1, LineCause::Fields),
+        ("entity 5 64:1\n", 1, LineCause::Fields),
+        ("entity 5 2:1 1:1\n", 1, LineCause::Fields),
+        ("entity 5 s1:1\n", 1, LineCause::Fields),
+        ("remove\n", 1, LineCause::Count),
+        ("remove 1 2\n", 1, LineCause::Count),
+        ("remove 1023\n", 1, LineCause::Number),
+        ("area 0\n", 1, LineCause::Count),
+        ("area 0 - -\n", 1, LineCause::Count),
+        ("area 1 -\n", 1, LineCause::Number),
+        ("area 0 \n", 1, LineCause::Number),
+        ("area 0 0\n", 1, LineCause::Number),
+        ("area 0 0A\n", 1, LineCause::Number),
+        ("area 0 0g\n", 1, LineCause::Number),
+        ("area 0 --\n", 1, LineCause::Number),
+        (AREA_OF_33, 1, LineCause::Number),
         ("player 0 \n", 1, LineCause::Fields),
         ("player 0 1:1 1:2\n", 1, LineCause::Fields),
         ("player 0 64:1\n", 1, LineCause::Fields),

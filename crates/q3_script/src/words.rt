@@ -1,6 +1,7 @@
 //! The words of a line, one after the other, and words that are cut at a byte.
 
 ghost use Rattle.std.specs.Prelude.{◌≡◌, ◌==◌, ◌∷◌, position, option_map};
+ghost use Rattle.std.specs.Str.{bytes_eq};
 ghost use Rattle.q3_script.specs.Words.{words_of, words_left, next_of, only_of, cut, behind};
 
 /// The place of the first such byte in a text.
@@ -36,6 +37,13 @@ pub fn only_word(left: &[u8]) -> Option<&[u8]>
 {
     let (word, behind) = next_word(left)?;
     if behind.is_empty() { Some(word) } else { None }
+}
+
+/// Whether a word is this text.
+pub fn is(word: &[u8], text: &[u8]) -> bool
+    ensures { result ≡ bytes_eq text.now word.now }
+{
+    text == word
 }
 
 /// What stands before and behind the first such byte.

@@ -1,0 +1,33 @@
+-- Bytes in hex, and the area bytes that a word spells.
+use Rattle.std.specs.Prelude.{ℕ, ◌==◌, ◌&&◌, ◌||◌, Bool, if◌then◌else◌, List, [], ◌∷◌, length, codes, nat_le, Option, Some, None}
+use Rattle.std.specs.List.{list_any}
+use Rattle.std.specs.Result.{result_ok}
+use Rattle.std.specs.Str.{bytes_eq}
+use Rattle.hex.specs.Hex.{encode_lower, decode_of}
+use Rattle.arrayvec.specs.ArrayVec.{ArrayVec}
+use Rattle.q3_bits.specs.OptionBind.{◌>>=◌}
+
+-- bytes in hex: each as two digits, with small letters, and a `-` for none
+abbrev pub hex_text : List ℕ → List ℕ
+hex_text [] = codes "-"
+hex_text (byte ∷ bytes) = encode_lower (byte ∷ bytes)
+
+abbrev pub is_capital : ℕ → Bool
+is_capital byte = nat_le 65 byte && nat_le byte 90
+
+-- the bytes that a word spells so
+unfoldable pub hex_at : List ℕ → Option (List ℕ)
+hex_at word =
+    if bytes_eq (codes "-") word then Some []
+    else if (length word == 0) || list_any is_capital word then None
+    else result_ok (decode_of word)
+
+-- the most area bytes of a snapshot
+abbrev pub most_area : ℕ
+most_area = 32
+
+-- the area bytes that a word spells, if they aren't too many
+unfoldable pub area_at : List ℕ → Option (ArrayVec ℕ)
+area_at word = do
+  bytes ← hex_at word
+  if nat_le (length bytes) most_area then Some (record { items = bytes }) else None
