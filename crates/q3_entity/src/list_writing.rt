@@ -63,6 +63,27 @@ fn write_entry<'a>(
     ensures writes { Writes w.old w.new (entry_text w.old.words table.now baselines.now (run_of base.entry) entity.now) (done result) }
     ensures left { IfOk result (λ left. run_of left ≡ left_behind entity.now (run_of base.entry)) }
 {
+    let (from, others) = take_number(base, entity.number);
+    if let Some(from) = from {
+        write_entity(w, table, from, entity, false)?;
+        return Ok(others);
+    }
+    write_behind(w, table, baselines, base, entity)
+}
+
+/// The same, where the base doesn't begin with the entity.
+#[inline(never)]
+fn write_behind<'a>(
+    w: &mut Writer,
+    table: &Table,
+    baselines: &Baselines,
+    base: Run<'a>,
+    entity: &EntityState,
+) -> Result<Run<'a>, Overflow>
+    requires { entity.now.number < most_lines }
+    ensures writes { Writes w.old w.new (entry_text w.old.words table.now baselines.now (run_of base.entry) entity.now) (done result) }
+    ensures left { IfOk result (λ left. run_of left ≡ left_behind entity.now (run_of base.entry)) }
+{
     laws::texts_are_written();
     let left = write_gone(w, table, base, entity.number)?;
     let (from, others) = take_number(left, entity.number);

@@ -81,11 +81,11 @@ fn agree(from: &[u32], to: &[u32]) -> bool
     requires { length from.now ≡ length to.now }
     ensures { IsTrue result → from.now ≡ to.now }
 {
-    let mut same = true;
+    let mut differ = 0;
     for k in 0..from.len() {
-        same &= from[k] == to[k];
+        differ |= from[k] ^ to[k];
     }
-    same
+    differ == 0
 }
 
 /// Takes blocks that agree off the end of the first words, so many, and answers how many are left.
