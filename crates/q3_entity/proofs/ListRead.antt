@@ -1,26 +1,23 @@
 -- A list that is spelled so is read.
-use Rattle.std.proofs.Common.{◌≡◌, ◌≢◌, ◌⊎◌, ℕ, zero, suc, ◌+◌, ◌<◌, ◌≤◌, Bool, true, false, cond, eqb, List, [], ◌∷◌, ◌++◌, length, Option, Some, None, IsSome, Result, Ok, Err, refl, sym, ap, subst, ◌∙◌, append_assoc, arith, inl, inr}
+use Rattle.std.proofs.Common.{◌≡◌, ◌≢◌, ℕ, zero, suc, ◌+◌, ◌≤◌, Bool, true, List, [], ◌∷◌, ◌++◌, length, Option, None, Ok, refl, sym, ap, subst, ◌∙◌, append_assoc, arith, inl, inr}
 use Rattle.std.proofs.lemmas.Bool.{cases_eq, eq-eqb, ne_eqb}
 use Rattle.std.proofs.lemmas.List.{append-nil}
 use Rattle.std.specs.Option.{is_some}
-use Rattle.q3_bits.specs.ResultBind.{◌>>=◌}
 use Rattle.q3_bits.specs.Words.{IsCode, field_bits}
 use Rattle.q3_bits.specs.Laws.{PutIsRead}
 use Rattle.q3_fields.specs.Kinds.{Layout, IsTable, end_mark}
 use Rattle.q3_fields.specs.Laws.{WordsSpelledAreRead}
 use Rattle.q3_entity.specs.declared.state.EntityState.{EntityState}
-use Rattle.q3_entity.specs.declared.error.EntityError.{EntityError}
-use Rattle.q3_entity.specs.Entities.{RiseFrom, IsList, AreStates, most_entities, with_number}
+use Rattle.q3_entity.specs.Entities.{RiseFrom, AreStates, most_entities, with_number}
 use Rattle.q3_entity.specs.Baselines.{Lines, AreLines}
-use Rattle.q3_entity.specs.Delta.{entity_at}
-use Rattle.q3_entity.specs.Lists.{number_at, stays, entered, words_from, numbers_after, list_after}
+use Rattle.q3_entity.specs.Lists.{words_from, numbers_after, list_after}
 use Rattle.q3_entity.specs.Laws.{ZeroIsNormal, ListSpelledIsRead}
-use Rattle.q3_entity.specs.Spelling.{Entered, EntriesRise, RemoveFrom, state_after, SpellsList}
+use Rattle.q3_entity.specs.Spelling.{Entered, EntriesRise, RemoveFrom, state_after}
 use Rattle.q3_entity.proofs.Results.{number_is_read}
-use Rattle.q3_entity.proofs.EntrySpelled.{words_there, SpellsMarks, TakenMarks, marks_are_read}
+use Rattle.q3_entity.proofs.EntrySpelled.{words_there, SpellsMarks, marks_are_read}
 use Rattle.q3_entity.proofs.EntriesSpelled.{first_number, SpellsBehind, behind_of_entries}
-use Rattle.q3_entity.proofs.OneNumber.{with_first, IsCut, cut, entry_of, entry_of-below, entry_of-first, entry_of-others, state_there, pushed, pushed-first, stays-is, entered-is}
-use Rattle.q3_entity.proofs.ListSpelled.{FromWords, from_words}
+use Rattle.q3_entity.proofs.OneNumber.{with_first, cut, entry_of, entry_of-below, entry_of-first, entry_of-others, state_there, pushed, pushed-first, stays-is, entered-is}
+use Rattle.q3_entity.proofs.ListSpelled.{from_words}
 
 -- the entities that are still to come at a number
 record ToCome (table : Layout) (base : List EntityState) (number : ℕ) (entities added : List EntityState) (entries : List Entered) : Type 0 where

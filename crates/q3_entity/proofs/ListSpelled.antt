@@ -1,5 +1,5 @@
 -- What is read of a list was spelled so.
-use Rattle.std.proofs.Common.{◌≡◌, ℕ, zero, suc, ◌+◌, ◌<◌, ◌≤◌, Bool, true, eqb, List, [], ◌∷◌, ◌++◌, Option, Some, None, IfSome, unwrap_or, Ok, refl, sym, ap, subst, ◌∙◌, append_assoc, arith, inl, inr}
+use Rattle.std.proofs.Common.{◌≡◌, ℕ, zero, suc, ◌+◌, ◌<◌, ◌≤◌, Bool, true, eqb, List, [], ◌∷◌, ◌++◌, Option, Some, None, Ok, refl, sym, ap, subst, ◌∙◌, append_assoc, arith, inl, inr}
 use Rattle.std.proofs.lemmas.Bool.{cases_eq, cases_Bool, eqb-true, eqb-false}
 use Rattle.std.proofs.lemmas.List.{append-nil}
 use Rattle.std.proofs.lemmas.List.Elements.{All-nil}
@@ -13,8 +13,8 @@ use Rattle.q3_fields.specs.Laws.{WordsReadAreSpelled}
 use Rattle.q3_entity.specs.declared.state.EntityState.{EntityState}
 use Rattle.q3_entity.specs.declared.reading.Entry.{Entry}
 use Rattle.q3_entity.specs.declared.reading.Entry.TheVariants.{Removed, Changed, Same}
-use Rattle.q3_entity.specs.Entities.{zero_entity, IsNormal, RiseFrom, IsList, AreStates, AreNormal, with_number}
-use Rattle.q3_entity.specs.Baselines.{Lines, set_at, line_of, AreLines}
+use Rattle.q3_entity.specs.Entities.{IsNormal, RiseFrom, IsList, AreStates, AreNormal, with_number}
+use Rattle.q3_entity.specs.Baselines.{Lines, AreLines}
 use Rattle.q3_entity.specs.Delta.{entity_at}
 use Rattle.q3_entity.specs.Lists.{number_at, stays, entered, words_from, numbers_after, list_after}
 use Rattle.q3_entity.specs.Laws.{ZeroIsNormal, ListReadIsSpelled}

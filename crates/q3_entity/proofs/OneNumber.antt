@@ -1,16 +1,11 @@
 -- What a list has at one number, before the entities of larger ones.
-use Rattle.std.proofs.Common.{◌≡◌, ◌≢◌, ◌==◌, ◌⊎◌, ℕ, ◌+◌, ◌<◌, ◌≤◌, Bool, true, false, List, [], ◌∷◌, ◌++◌, length, Option, Some, None, Result, Ok, Err, refl, sym, ap, subst, append_assoc, ◌∙◌, inl, inr, arith, eqb, ltb, cond, length-append, IfSome, IsSome}
+use Rattle.std.proofs.Common.{◌≡◌, ◌≢◌, ◌==◌, ℕ, ◌+◌, ◌<◌, ◌≤◌, Bool, true, false, List, [], ◌∷◌, ◌++◌, length, Option, Some, None, Ok, refl, sym, subst, append_assoc, ◌∙◌, inl, inr, arith, eqb, ltb, length-append, IfSome}
 use Rattle.std.specs.List.{All, find}
-use Rattle.std.specs.Option.{is_some}
-use Rattle.std.proofs.lemmas.Bool.{cases_eq, cases_Bool, ne_eqb, eq-eqb, ltb-true, lt-ltb}
-use Rattle.std.proofs.lemmas.List.{append-nil}
-use Rattle.std.proofs.lemmas.List.Elements.{All-nil, All-cons, All-head, All-tail}
-use Rattle.q3_fields.specs.Kinds.{Layout}
+use Rattle.std.proofs.lemmas.Bool.{cases_eq, cases_Bool, ne_eqb, eq-eqb, lt-ltb}
+use Rattle.std.proofs.lemmas.List.Elements.{All-cons}
 use Rattle.q3_entity.specs.declared.state.EntityState.{EntityState}
 use Rattle.q3_entity.specs.declared.reading.Entry.{Entry}
 use Rattle.q3_entity.specs.declared.reading.Entry.TheVariants.{Removed, Changed, Same}
-use Rattle.q3_entity.specs.declared.error.EntityError.{EntityError}
-use Rattle.q3_entity.specs.declared.error.EntityError.TheVariants.{Many, Removes}
 use Rattle.q3_entity.specs.Entities.{RiseFrom, most_entities, with_number}
 use Rattle.q3_entity.specs.Lists.{one_more, stays, entered}
 use Rattle.q3_entity.specs.Spelling.{Entered, EntriesRise, state_after}

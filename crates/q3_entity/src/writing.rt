@@ -16,7 +16,6 @@ const CHANGED: u32 = 0b10;
 
 /// Writes what changed of an entity, under the number of `to`. Where nothing changed nothing is written, unless it is
 /// forced. `Overflow` comes exactly where the text doesn't fit the writer's room; a front of it was then written.
-#[inline(always)]
 #[tactic(auto, unfolding(crate::specs::Delta::entity_delta))]
 pub fn write_entity(
     w: &mut Writer,
@@ -41,7 +40,6 @@ pub fn write_entity(
 }
 
 /// Writes an entity of which the first fields changed, so many.
-#[inline(never)]
 fn write_changed(
     w: &mut Writer,
     table: &Table,

@@ -2,7 +2,7 @@
 //! "player delta" and "normal form" for the words, the engine's `MSG_WriteDeltaEntity` and `MSG_WriteDeltaPlayerstate`
 //! and their readers.
 
-ghost use Rattle.std.specs.Prelude.{◌≡◌, ◌≤◌, ◌<◌, [], ◌∷◌, length, take, drop, slice_get, Some, IsTrue};
+ghost use Rattle.std.specs.Prelude.{◌≡◌, ◌≤◌, ◌<◌, ◌↔◌, [], ◌∷◌, length, take, drop, slice_get, Some, IsTrue};
 ghost use Rattle.q3_bits.specs.Streams.{Reads, Writes, holding};
 ghost use Rattle.q3_fields.specs.Kinds.{IsKind};
 ghost use Rattle.q3_fields.specs.States.{normal_words};
@@ -68,18 +68,14 @@ pub fn changed_count(table: &Table, from: &[u32; 64], to: &[u32; 64]) -> usize
     ensures in_table { result ≤ length table.now.kinds }
     ensures few { result ≤ 64 }
 {
-    // most entities didn't change
-    if agree(from, to) {
-        return 0;
-    }
     let limit = changed_blocks(from, to, table.count());
     changed_words(from, to, limit)
 }
 
-/// Whether all words agree. Each is looked at, with no branch.
-fn agree(from: &[u32], to: &[u32]) -> bool
+/// Whether words agree at every place. All are looked at, with no branch.
+pub fn agree(from: &[u32], to: &[u32]) -> bool
     requires { length from.now ≡ length to.now }
-    ensures { IsTrue result → from.now ≡ to.now }
+    ensures { IsTrue result ↔ (from.now ≡ to.now) }
 {
     let mut differ = 0;
     for k in 0..from.len() {

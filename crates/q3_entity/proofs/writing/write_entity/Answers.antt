@@ -1,4 +1,4 @@
-use Rattle.std.proofs.Common.{◌≡◌, ◌≢◌, true, arith}
+use Rattle.std.proofs.Common.{◌≡◌, ◌≢◌, arith}
 use Rattle.q3_fields.specs.Deltas.{changed_count}
 use Rattle.q3_entity.proofs.DeltaTexts.{entity_delta-changed, entity_delta-unchanged}
 use Rattle.q3_entity.proofs.writing.write_entity.Goals as goal

@@ -8,7 +8,7 @@ loop-left-preserved c =
     let test = c.loop-left-test.true in
     record {
       changed =
-          last_changed-block c.args.from.now c.args.to.now (left - 16) left (omega arith) (omega arith) (omega arith) (c.agree.ensures c.if-not-agree.false)
+          last_changed-block c.args.from.now c.args.to.now (left - 16) left (omega arith) (omega arith) (omega arith) (c.agree.ensures.0 c.if-not-agree.false)
           ∙ c.loop-left.invariant.changed;
       most = omega arith;
     }

@@ -1,4 +1,4 @@
-use Rattle.std.proofs.Common.{◌≡◌, ◌+◌, ◌-◌, refl, sym, ap, ◌∙◌, take, arith}
+use Rattle.std.proofs.Common.{◌≡◌, ◌+◌, ◌-◌, sym, ap, ◌∙◌, take, arith}
 use Rattle.q3_fields.specs.Deltas.{last_changed}
 use Rattle.q3_fields.proofs.LastChanged.{last_changed-differs, last_changed-same}
 use Rattle.q3_fields.proofs.delta.changed_words.Goals as goal
