@@ -1,5 +1,5 @@
 -- What is left of a run: a writer and a reader of a list go along it by number.
-use Rattle.std.specs.Prelude.{◌≡◌, ◌==◌, ℕ, nat_lt, if◌then◌else◌, List, [], ◌∷◌, ◌++◌, Option, Some, None}
+use Rattle.std.specs.Prelude.{◌≡◌, ◌==◌, ◌≤◌, ℕ, nat_lt, if◌then◌else◌, List, [], ◌∷◌, ◌++◌, Option, Some, None}
 use Rattle.q3_entity.specs.declared.state.EntityState.{EntityState}
 
 -- the entity of a number, where it is the first, and those behind it
@@ -17,3 +17,8 @@ pub record ShareFront (base now base' now' : List EntityState) : Type 0 where
   pub front : List EntityState
   pub base-is : base ≡ front ++ base'
   pub now-is : now ≡ front ++ now'
+
+-- the first entity, if there is one, isn't below a number
+abbrev pub IsFrom : ℕ → List EntityState → Type 0
+IsFrom number [] = Unit {0}
+IsFrom number (entity ∷ others) = number ≤ entity.number

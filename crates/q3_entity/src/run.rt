@@ -1,9 +1,9 @@
 //! Goes along entities in order.
 
-ghost use Rattle.std.specs.Prelude.{◌≡◌, ◌≤◌, [], ◌∷◌, length, take, MatchOption};
+ghost use Rattle.std.specs.Prelude.{◌≡◌, ◌<◌, ◌≤◌, [], ◌∷◌, length, take, drop, All, MatchOption};
 ghost use Rattle.std.specs.Option.{option_copied};
 ghost use Rattle.q3_entity.specs.Entities.{run_of};
-ghost use Rattle.q3_entity.specs.Runs.{taken, ShareFront};
+ghost use Rattle.q3_entity.specs.Runs.{taken, IsFrom, ShareFront};
 
 use crate::state::{EntityState, Run};
 use q3_fields::agree;
@@ -81,4 +81,18 @@ fn count_same(base: &[EntityState], now: &[EntityState]) -> usize
         }
     }
     most
+}
+
+/// How many of the first entities are below a number.
+pub(crate) fn count_below(part: &[EntityState], number: u16) -> usize
+    ensures below { All (λ entity. entity.number < number) (take result part.now) }
+    ensures behind { IsFrom number (drop result part.now) }
+    ensures most { result ≤ length part.now }
+{
+    for k in 0..part.len() {
+        if part[k].number >= number {
+            return k;
+        }
+    }
+    part.len()
 }
