@@ -1,5 +1,7 @@
 -- The text of an entity delta, by whether a field changed.
-use Rattle.std.proofs.Common.{◌≡◌, ◌≢◌, Bool, List, [], ◌∷◌, ◌++◌, refl}
+use Rattle.std.proofs.Common.{◌≡◌, ◌≢◌, ℕ, ◌/◌, ◌%◌, Bool, List, [], ◌∷◌, ◌++◌, refl, arith}
+use Rattle.q3_bits.specs.Bits.{low_bits}
+use Rattle.q3_bits.specs.Words.{bytes_bits, field_bits, row_bits}
 use Rattle.std.proofs.lemmas.Bool.{ne_eqb}
 use Rattle.q3_fields.specs.Kinds.{Layout}
 use Rattle.q3_fields.specs.Deltas.{changed_count, counted_text, words_delta}
@@ -19,3 +21,11 @@ pub entity_delta-unchanged : (words : List (List Bool)) (table : Layout) (from t
     → entity_delta words table from to force ≡ unchanged words table to.number force
 unfolding entity_delta
 entity_delta-unchanged words table from to force none = rw none refl
+
+-- two marks behind a number are a field of two bits
+pub opening-marks : (words : List (List Bool)) (table : Layout) (number marks : ℕ)
+    → opening words table number ((marks % 2, 1) ∷ (marks / 2, 1) ∷ []) ≡ field_bits words table.number_bits number ++ field_bits words 2 marks
+unfolding low_bits bytes_bits field_bits row_bits
+opening-marks words table number marks =
+    let first : marks % 2 % 2 ≡ marks % 2 = omega arith in
+    rw first refl

@@ -1,11 +1,14 @@
 -- Along the entities of a base, those below a number are gone.
-use Rattle.std.proofs.Common.{◌≡◌, ℕ, ◌<◌, ◌≤◌, Bool, List, [], ◌∷◌, ◌++◌, refl}
-use Rattle.std.proofs.lemmas.Bool.{lt-ltb, le-ltb}
+use Rattle.std.proofs.Common.{◌≡◌, ℕ, ◌<◌, ◌≤◌, Bool, false, eqb, List, [], ◌∷◌, ◌++◌, Some, refl, ap, ◌∙◌, arith, inl, inr}
+use Rattle.std.proofs.lemmas.Bool.{cases_Bool, eqb-true, lt-ltb, le-ltb}
+use Rattle.std.proofs.lemmas.Option.{none-some}
 use Rattle.q3_fields.specs.Kinds.{Layout}
 use Rattle.q3_entity.specs.declared.state.EntityState.{EntityState}
-use Rattle.q3_entity.specs.Delta.{removal}
-use Rattle.q3_entity.specs.Runs.{from_number}
-use Rattle.q3_entity.specs.Merging.{removals}
+use Rattle.q3_entity.specs.Baselines.{Lines}
+use Rattle.q3_entity.specs.Delta.{removal, entity_delta}
+use Rattle.q3_entity.specs.Lists.{piece}
+use Rattle.q3_entity.specs.Runs.{taken, from_number}
+use Rattle.q3_entity.specs.Merging.{removals, entry_text, left_behind}
 
 -- one is removed
 pub removals-next : (words : List (List Bool)) (table : Layout) (number : ℕ) (gone : EntityState) (others : List EntityState) → gone.number < number
@@ -35,3 +38,24 @@ from_number-stay number entity others above = rw (le-ltb entity.number number ab
 pub from_number-none : (number : ℕ) → from_number number [] ≡ []
 unfolding from_number
 from_number-none number = refl
+
+-- an entity with which the base begins
+pub record IsFirst (words : List (List Bool)) (table : Layout) (lines : Lines) (base : List EntityState) (to first : EntityState) (others : List EntityState) : Type 0 where
+  pub text : entry_text words table lines base to ≡ entity_delta words table first to false
+  pub left : left_behind to base ≡ others
+
+pub is_first : (words : List (List Bool)) (table : Layout) (lines : Lines) (base : List EntityState) (to first : EntityState) (others : List EntityState)
+    → taken to.number base ≡ (Some first, others) → IsFirst words table lines base to first others
+is_first words table lines [] to first others found = absurd (none-some first (ap (λ p. p.0) found))
+is_first words table lines (entity ∷ base) to first others found =
+    elim (cases_Bool (eqb entity.number to.number)) [
+      | inl same ↦
+          let number : entity.number ≡ to.number = eqb-true entity.number to.number same in
+          let stay = removals-stay words table to.number entity base (omega arith) in
+          let run = ap (taken to.number) (from_number-stay to.number entity base (omega arith)) ∙ found in
+          record {
+            text = rw stay (ap (λ p. piece words table lines to.number p.0 (Some to)) run);
+            left = ap (λ p. p.1) run;
+          }
+      | inr other ↦ absurd (none-some first (ap (λ p. p.0) (rw other at found)))
+    ]

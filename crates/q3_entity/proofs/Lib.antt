@@ -3,6 +3,7 @@ pub mod DeltaTexts
 pub mod Gone
 pub mod Risen
 pub mod ListTexts
+pub mod Shared
 pub mod Binds
 pub mod Numbers
 pub mod Turns

@@ -1,19 +1,21 @@
 -- The text of a list goes on by the entry of its least number.
-use Rattle.std.proofs.Common.{◌≡◌, inl, inr, ℕ, zero, suc, ◌+◌, ◌<◌, ◌≤◌, Bool, List, [], ◌∷◌, ◌++◌, length, get_or, drop, Some, refl, sym, ap, subst, ◌∙◌, append_assoc, arith}
+use Rattle.std.proofs.Common.{◌≡◌, inl, inr, ℕ, zero, suc, ◌+◌, ◌<◌, ◌≤◌, Bool, false, List, [], ◌∷◌, ◌++◌, length, take, Some, refl, sym, ap, subst, ◌∙◌, append_assoc, arith}
 use Rattle.std.specs.List.{range_with_len, flat_map}
-use Rattle.std.proofs.lemmas.Bool.{cases_eq, cases_lt}
-use Rattle.std.proofs.lemmas.List.{drop_more}
+use Rattle.std.proofs.lemmas.Bool.{eq-eqb, cases_eq, cases_lt}
 use Rattle.q3_bits.specs.Words.{field_bits}
 use Rattle.q3_fields.specs.Kinds.{Layout, end_mark}
+use Rattle.q3_fields.specs.Deltas.{changed_count}
+use Rattle.q3_fields.specs.Laws.{LastChangedIsLeast}
 use Rattle.q3_entity.specs.declared.state.EntityState.{EntityState}
 use Rattle.q3_entity.specs.Entities.{RiseFrom, with_number}
 use Rattle.q3_entity.specs.Baselines.{Lines}
 use Rattle.q3_entity.specs.Delta.{removal}
 use Rattle.q3_entity.specs.Lists.{piece, list_text}
-use Rattle.q3_entity.specs.Runs.{taken, from_number}
+use Rattle.q3_entity.specs.Runs.{taken, from_number, ShareFront}
 use Rattle.q3_entity.specs.Merging.{removals, end_text, entry_text, left_behind}
-use Rattle.q3_entity.proofs.Gone.{removals-next, removals-stay, removals-none, from_number-next, from_number-stay, from_number-none}
-use Rattle.q3_entity.proofs.Risen.{rise-lower, with_number-first, with_number-behind, with_number-below, from_number-rises, from_number-limit, is_taken}
+use Rattle.q3_entity.proofs.DeltaTexts.{entity_delta-unchanged}
+use Rattle.q3_entity.proofs.Gone.{removals-next, removals-stay, removals-none, from_number-next, from_number-stay, from_number-none, is_first}
+use Rattle.q3_entity.proofs.Risen.{rise-lower, rise-behind, with_number-first, with_number-behind, with_number-below, from_number-rises, from_number-limit, is_taken}
 
 -- the pieces of numbers, where they are the same, where there are none, and from the first on that has one
 pub pieces-same : (f g : ℕ → List Bool) (a count : ℕ) → ((n : ℕ) → a ≤ n → f n ≡ g n) → flat_map f (range_with_len a count) ≡ flat_map g (range_with_len a count)
@@ -115,22 +117,50 @@ module _ (words : List (List Bool)) (table : Layout) (lines : Lines) where
 
   -- one entity more of those that there are now, written by the same words: the text goes on by its entry, and what is left
   -- rises as before
-  pub record IsTurn (same : List (List Bool)) (base now : List EntityState) (k : ℕ) (to : EntityState) : Type 0 where
-    pub text : list_text words table lines base (drop k now) ≡ entry_text same table lines base to ++ list_text words table lines (left_behind to base) (drop (k + 1) now)
+  pub record IsTurn (same : List (List Bool)) (base : List EntityState) (to : EntityState) (now : List EntityState) : Type 0 where
+    pub text : list_text words table lines base (to ∷ now) ≡ entry_text same table lines base to ++ list_text words table lines (left_behind to base) now
     pub rise : RiseFrom (end_mark table) 0 (left_behind to base)
-    pub rise-now : RiseFrom (end_mark table) 0 (drop (k + 1) now)
+    pub rise-now : RiseFrom (end_mark table) 0 now
 
-  pub is_turn : (same : List (List Bool)) (base now : List EntityState) (k : ℕ) (d : EntityState) → same ≡ words → k < length now
-      → RiseFrom (end_mark table) 0 base → RiseFrom (end_mark table) 0 (drop k now) → IsTurn same base now k (get_or now k d)
-  is_turn same base now k d is more rise rise-now =
+  pub is_turn : (same : List (List Bool)) (base : List EntityState) (to : EntityState) (now : List EntityState) → same ≡ words
+      → RiseFrom (end_mark table) 0 base → RiseFrom (end_mark table) 0 (to ∷ now) → IsTurn same base to now
+  is_turn same base to now is rise rise-now =
       let end = end_mark table in
-      let to = get_or now k d in
-      let next = drop_more now k d more in
-      let risen : RiseFrom end 0 (to ∷ drop (k + 1) now) = subst (RiseFrom end 0) next rise-now in
       let left = from_number to.number base in
       record {
-        text = ap (list_text words table lines base) next ∙ list_text-entry 0 base to (drop (k + 1) now) rise risen
-            ∙ ap (λ ws. entry_text ws table lines base to ++ list_text words table lines (left_behind to base) (drop (k + 1) now)) (sym is);
+        text = list_text-entry 0 base to now rise rise-now ∙ ap (λ ws. entry_text ws table lines base to ++ list_text words table lines (left_behind to base) now) (sym is);
         rise = rise-lower end (to.number + 1) 0 (taken to.number left).1 (omega arith) (is_taken end to.number left (from_number-rises end 0 to.number base rise)).rise;
-        rise-now = rise-lower end (to.number + 1) 0 (drop (k + 1) now) (omega arith) risen.2;
+        rise-now = rise-lower end (to.number + 1) 0 now (omega arith) rise-now.2;
+      }
+
+  -- of entities, the same in both, with which both begin, nothing is said
+  list_text-same : LastChangedIsLeast → (front base now : List EntityState) → RiseFrom (end_mark table) 0 (front ++ base) → RiseFrom (end_mark table) 0 (front ++ now)
+      → list_text words table lines (front ++ base) (front ++ now) ≡ list_text words table lines base now
+  list_text-same law [] base now rise rise-now = refl
+  list_text-same law (entity ∷ front) base now rise rise-now =
+      let end = end_mark table in
+      let n = entity.number in
+      let fields = take (length table.kinds) entity.words in
+      let none : changed_count table.kinds entity.words entity.words ≡ 0 = omega (arith, (law fields fields refl).1 0 refl) in
+      let first = is_first words table lines (entity ∷ (front ++ base)) entity entity (front ++ base) (rw (eq-eqb n n refl) refl) in
+      list_text-entry 0 (entity ∷ (front ++ base)) entity (front ++ now) rise rise-now
+      ∙ ap (λ t. t ++ list_text words table lines (left_behind entity (entity ∷ (front ++ base))) (front ++ now)) (first.text ∙ entity_delta-unchanged words table entity entity false none)
+      ∙ ap (λ left. list_text words table lines left (front ++ now)) first.left
+      ∙ list_text-same law front base now (rise-lower end (n + 1) 0 (front ++ base) (omega arith) rise.2) (rise-lower end (n + 1) 0 (front ++ now) (omega arith) rise-now.2)
+
+  -- they are passed over
+  pub record IsSkipped (base now base' now' : List EntityState) : Type 0 where
+    pub text : list_text words table lines base now ≡ list_text words table lines base' now'
+    pub rise : RiseFrom (end_mark table) 0 base'
+    pub rise-now : RiseFrom (end_mark table) 0 now'
+
+  pub is_skipped : LastChangedIsLeast → (base now base' now' : List EntityState) → ShareFront base now base' now'
+      → RiseFrom (end_mark table) 0 base → RiseFrom (end_mark table) 0 now → IsSkipped base now base' now'
+  is_skipped law base now base' now' share rise rise-now =
+      let risen = subst (RiseFrom (end_mark table) 0) share.base-is rise in
+      let risen-now = subst (RiseFrom (end_mark table) 0) share.now-is rise-now in
+      record {
+        text = rw (share.base-is, share.now-is) (list_text-same law share.front base' now' risen risen-now);
+        rise = rise-behind (end_mark table) share.front base' risen;
+        rise-now = rise-behind (end_mark table) share.front now' risen-now;
       }

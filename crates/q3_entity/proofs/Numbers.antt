@@ -1,12 +1,15 @@
 -- The entities of a rising list, by their numbers.
-use Rattle.std.proofs.Common.{◌≡◌, ℕ, ◌+◌, ◌<◌, List, [], ◌∷◌, Some, Result, Ok, refl, ap, subst, inl, inr}
+use Rattle.std.proofs.Common.{◌≡◌, ◌≢◌, ℕ, suc, ◌+◌, ◌<◌, ◌≤◌, List, [], ◌∷◌, ◌++◌, length, All, Some, Result, Ok, Err, refl, sym, ap, subst, ◌∙◌, append_assoc, length-append, arith, inl, inr}
 use Rattle.std.proofs.lemmas.Bool.{cases_lt, eq-eqb, lt-ltb, le-ltb}
+use Rattle.std.proofs.lemmas.List.{append-nil}
 use Rattle.q3_bits.specs.ResultBind.{◌>>=◌, bind_ok}
 use Rattle.q3_entity.specs.declared.state.EntityState.{EntityState}
 use Rattle.q3_entity.specs.declared.error.EntityError.{EntityError}
-use Rattle.q3_entity.specs.Entities.{RiseFrom, with_number}
+use Rattle.q3_entity.specs.declared.error.EntityError.TheVariants.{Many}
+use Rattle.q3_entity.specs.Entities.{RiseFrom, with_number, most_entities}
 use Rattle.q3_entity.specs.Lists.{one_more}
-use Rattle.q3_entity.specs.Walking.{kept_below}
+use Rattle.q3_entity.specs.Runs.{IsFrom}
+use Rattle.q3_entity.specs.Walking.{kept_below, KeepsFront}
 
 -- the first entity is that of its number
 pub with_number-named : (x : EntityState) (xs : List EntityState) (number : ℕ) → x.number ≡ number → with_number number (x ∷ xs) ≡ Some x
@@ -44,3 +47,51 @@ kept_below-rises limit least number entities (x ∷ xs) kept rise e =
           let left : x ∷ xs ≡ kept.1 = ap (λ (k : List EntityState × List EntityState). k.1) (ok_value (entities, x ∷ xs) kept (rw (le-ltb x.number number above) at e)) in
           subst (RiseFrom limit number) left (above, rise.1, rise.2)
     ]
+
+-- the first is below a number, and the others are
+below-first : (number : ℕ) (x : EntityState) (xs : List EntityState) → All (λ entity. entity.number < number) (x ∷ xs) → x.number < number
+below-first number x xs below = below 0 x (omega arith)
+
+below-others : (number : ℕ) (x : EntityState) (xs : List EntityState) → All (λ entity. entity.number < number) (x ∷ xs) → All (λ entity. entity.number < number) xs
+below-others number x xs below = λ k d within. below (suc k) d (omega (arith, within))
+
+-- entities below the number stay, as far as there is room for all
+pub kept_below-fits : (number : ℕ) (entities front behind : List EntityState) → All (λ entity. entity.number < number) front
+    → length entities + length front ≤ most_entities
+    → kept_below number entities (front ++ behind) ≡ kept_below number (entities ++ front) behind
+kept_below-fits number entities [] behind below fit = ap (λ xs. kept_below number xs behind) (sym (append-nil entities))
+kept_below-fits number entities (x ∷ front) behind below fit =
+    kept_below-more number entities x (front ++ behind) (below-first number x front below)
+    ∙ rw (lt-ltb (length entities) most_entities (omega arith)) (kept_below-fits number (entities ++ x ∷ []) front behind (below-others number x front below) (omega (arith, length-append entities (x ∷ []))))
+    ∙ ap (λ xs. kept_below number xs behind) (append_assoc entities (x ∷ []) front)
+
+-- and are refused where there isn't
+pub kept_below-many : (number : ℕ) (entities front behind : List EntityState) → All (λ entity. entity.number < number) front
+    → length entities ≤ most_entities → most_entities < length entities + length front
+    → kept_below number entities (front ++ behind) ≡ Err Many
+kept_below-many number entities [] behind below few many = absurd (omega arith)
+kept_below-many number entities (x ∷ front) behind below few many =
+    kept_below-more number entities x (front ++ behind) (below-first number x front below)
+    ∙ elim (cases_lt (length entities) most_entities) [
+      | inl room ↦
+          rw (lt-ltb (length entities) most_entities room)
+          (kept_below-many number (entities ++ x ∷ []) front behind (below-others number x front below) (omega (arith, length-append entities (x ∷ []))) (omega (arith, length-append entities (x ∷ []))))
+      | inr full ↦ rw (le-ltb (length entities) most_entities full) refl
+    ]
+
+-- what isn't below the number is left
+kept_below-stays : (number : ℕ) (entities left : List EntityState) → IsFrom number left → kept_below number entities left ≡ Ok (entities, left)
+unfolding kept_below
+kept_below-stays number entities [] from = refl
+kept_below-stays number entities (x ∷ xs) from = rw (le-ltb x.number number from) refl
+
+-- of a part something is left, or all stay
+pub kept_below-left : (number : ℕ) (entities part kept left behind : List EntityState) → KeepsFront number entities part kept left → length left ≢ 0
+    → kept_below number entities (part ++ behind) ≡ Ok (kept, left ++ behind)
+kept_below-left number entities part kept [] behind keeps some = absurd (some refl)
+kept_below-left number entities part kept (x ∷ xs) behind keeps some = keeps.goes_on behind ∙ kept_below-stays number kept (x ∷ (xs ++ behind)) keeps.from
+
+pub kept_below-part : (number : ℕ) (entities part kept left : List EntityState) → KeepsFront number entities part kept left
+    → kept_below number entities part ≡ Ok (kept, left)
+kept_below-part number entities part kept left keeps =
+    ap (kept_below number entities) (sym (append-nil part)) ∙ keeps.goes_on [] ∙ ap (kept_below number kept) (append-nil left) ∙ kept_below-stays number kept left keeps.from

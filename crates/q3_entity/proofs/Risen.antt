@@ -1,5 +1,5 @@
 -- Entities whose numbers rise, as a finite map.
-use Rattle.std.proofs.Common.{◌≡◌, ◌≢◌, inl, inr, ℕ, ◌+◌, ◌<◌, ◌≤◌, true, false, eqb, List, [], ◌∷◌, Some, None, refl, sym, ◌∙◌, arith}
+use Rattle.std.proofs.Common.{◌≡◌, ◌≢◌, inl, inr, ℕ, ◌+◌, ◌<◌, ◌≤◌, true, false, eqb, List, [], ◌∷◌, ◌++◌, Some, None, refl, sym, ◌∙◌, arith}
 use Rattle.std.proofs.lemmas.Bool.{eq-eqb, ne_eqb, cases_eq, cases_lt}
 use Rattle.q3_entity.specs.declared.state.EntityState.{EntityState}
 use Rattle.q3_entity.specs.Entities.{RiseFrom, with_number}
@@ -10,6 +10,12 @@ use Rattle.q3_entity.proofs.Gone.{from_number-next, from_number-stay, from_numbe
 pub rise-lower : (limit most least : ℕ) (entities : List EntityState) → least ≤ most → RiseFrom limit most entities → RiseFrom limit least entities
 rise-lower limit most least [] le rise = tt
 rise-lower limit most least (entity ∷ others) le rise = (omega (arith, le, rise.0), rise.1, rise.2)
+
+-- and behind others
+pub rise-behind : (limit : ℕ) (front entities : List EntityState) → RiseFrom limit 0 (front ++ entities) → RiseFrom limit 0 entities
+rise-behind limit [] entities rise = rise
+rise-behind limit (entity ∷ front) entities rise =
+    rise-behind limit front entities (rise-lower limit (entity.number + 1) 0 (front ++ entities) (omega arith) rise.2)
 
 -- the first is found under its number
 pub with_number-first : (entity : EntityState) (others : List EntityState) → with_number entity.number (entity ∷ others) ≡ Some entity

@@ -2,6 +2,7 @@ pub mod Entities
 pub mod Baselines
 pub mod KeptLines
 pub mod Delta
+pub mod Changed
 pub mod Lists
 pub mod Runs
 pub mod Merging

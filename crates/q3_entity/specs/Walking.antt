@@ -1,5 +1,5 @@
 -- How a reader of a list walks along the base: entities are passed in order, each of them once.
-use Rattle.std.specs.Prelude.{ℕ, ◌+◌, nat_lt, Bool, if◌then◌else◌, List, [], ◌∷◌, Result, Ok, Err}
+use Rattle.std.specs.Prelude.{◌≡◌, ℕ, ◌+◌, nat_lt, Bool, if◌then◌else◌, List, [], ◌∷◌, ◌++◌, Result, Ok, Err}
 use Rattle.std.specs.Option.{is_some}
 use Rattle.q3_bits.specs.ResultBind.{◌>>=◌}
 use Rattle.q3_fields.specs.Kinds.{Layout}
@@ -11,13 +11,18 @@ use Rattle.q3_entity.specs.Entities.{run_of}
 use Rattle.q3_entity.specs.Baselines.{Lines}
 use Rattle.q3_entity.specs.Delta.{entity_at}
 use Rattle.q3_entity.specs.Lists.{number_at, one_more, entered, words_from}
-use Rattle.q3_entity.specs.Runs.{taken}
+use Rattle.q3_entity.specs.Runs.{taken, IsFrom}
 
 -- the entities below a number stay, and those from it on are left
 unfoldable pub kept_below : ℕ → List EntityState → List EntityState → Result (List EntityState × List EntityState) EntityError
 kept_below number entities [] = Ok (entities, [])
 kept_below number entities (entity ∷ base) =
     if nat_lt entity.number number then (one_more entities entity >>= λ more. kept_below number more base) else Ok (entities, entity ∷ base)
+
+-- the first entities of a part stay, as far as they are below a number, and these are left of it
+pub record KeepsFront (number : ℕ) (entities part kept left : List EntityState) : Type 0 where
+  pub goes_on : (behind : List EntityState) → kept_below number entities (part ++ behind) ≡ kept_below number kept (left ++ behind)
+  pub from : IsFrom number left
 
 -- where a list stands: its next number, what is left of the base, and the entities so far
 pub record Reached : Type 0 where

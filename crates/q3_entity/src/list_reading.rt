@@ -1,18 +1,19 @@
 //! Reads a list of entities against a base, or passes over one whose base isn't there. Keeps the rules "entity list"
 //! and "spellings that a reader accepts", the engine's `CL_ParsePacketEntities`. The refusals are this project's own.
 
-ghost use Rattle.std.specs.Prelude.{◌≡◌, ◌+◌, ◌^◌, ◌<◌, ◌≤◌, IfOk, OnOk};
+ghost use Rattle.std.specs.Prelude.{◌≡◌, ◌+◌, ◌^◌, ◌<◌, ◌≤◌, ◌++◌, List, Err, IfOk, IfErr, OnOk};
 ghost use Rattle.q3_bits.specs.Streams.{Reads, holding};
 ghost use Rattle.q3_fields.specs.Kinds.{end_mark};
 ghost use Rattle.q3_entity.specs.Entities.{IsList, run_of};
 ghost use Rattle.q3_entity.specs.Baselines.{most_lines};
 ghost use Rattle.q3_entity.specs.Lists.{one_more, number_at, list_after, list_skipped};
-ghost use Rattle.q3_entity.specs.Walking.{kept_below, next_at, entry_at, turn_at, skipped_at, with_kept, reached};
+ghost use Rattle.q3_entity.specs.declared.state.EntityState.{EntityState};
+ghost use Rattle.q3_entity.specs.Walking.{kept_below, KeepsFront, next_at, entry_at, turn_at, skipped_at, with_kept, reached};
 
 use crate::baselines::Baselines;
 use crate::error::EntityError;
 use crate::reading::{Entry, read_entity};
-use crate::run::{split_first, take_number};
+use crate::run::{count_below, take_number};
 use crate::state::{EntityState, List, Run};
 use q3_bits::Reader;
 use q3_fields::Table;
@@ -155,19 +156,38 @@ fn read_number(r: &mut Reader, table: &Table, least: u16) -> Result<u16, EntityE
 }
 
 /// Lets the base's entities below a number stay, and lends those from it on.
-#[tactic(auto, unfolding(crate::specs::Walking::kept_below))]
 fn keep_below<'a>(base: Run<'a>, number: u16, into: &mut List) -> Result<Run<'a>, EntityError>
     ensures { with_kept into.new.items result ≡ kept_below number into.old.items (run_of base.entry) }
 {
-    let mut left = base;
-    while let Some((entity, others)) = split_first(left) {
-        if entity.number >= number {
-            return Ok(left);
-        }
-        add(into, entity)?;
-        left = others;
+    let head = keep_front(base.head, number, into)?;
+    let tail = base.tail;
+    if !head.is_empty() {
+        return Ok(Run { head, tail });
     }
-    Ok(left)
+    let tail = keep_front(tail, number, into)?;
+    Ok(Run { head, tail })
+}
+
+/// Lets the first entities stay, as far as they are below a number, and lends those behind. `Many` comes where there
+/// would be more than 256.
+fn keep_front<'a>(
+    part: &'a [EntityState],
+    number: u16,
+    into: &mut List,
+) -> Result<&'a [EntityState], EntityError>
+    ensures kept { IfOk result (λ left. KeepsFront number into.old.items part.now into.new.items left.now) }
+    ensures many { IfErr result (λ e. (behind : List EntityState) → kept_below number into.old.items (part.now ++ behind) ≡ Err e) }
+{
+    let count = count_below(part, number);
+    if count == 0 {
+        return Ok(part);
+    }
+    // there are never more
+    prove!(into.len() <= 256);
+    match into.try_extend_from_slice(&part[..count]) {
+        Ok(()) => Ok(&part[count..]),
+        Err(_) => Err(EntityError::Many),
+    }
 }
 
 /// Puts an entity behind the others. `Many` comes where there are 256.

@@ -10,11 +10,11 @@ ghost use Rattle.q3_entity.specs.Runs.{from_number};
 ghost use Rattle.q3_entity.specs.Merging.{removals, end_text, entry_text, left_behind, done};
 
 use crate::baselines::Baselines;
-use crate::run::{split_first, take_number};
+use crate::run::{skip_same, split_first, take_number};
 use crate::state::{EntityState, Run};
 use crate::writing::{write_entity, write_removal};
 use q3_bits::{Overflow, Writer, laws};
-use q3_fields::Table;
+use q3_fields::{Table, laws as fields};
 
 /// Writes the entities that there are now against those of a base, by rising number: an entity that both have by what
 /// changed, a new one by force from its baseline, and a removal for one that is gone; and the end mark behind them.
@@ -34,9 +34,12 @@ pub fn write_list(
     // what stands there fits the room, and each number may have a baseline
     prove!(w.length() > 0);
     prove!(table.end() <= 1023);
-    let mut left = base;
-    for entity in now {
-        left = write_entry(w, table, baselines, left, entity)?;
+    // an entity that both have as it was is passed over
+    fields::last_changed_is_least();
+    let (mut left, mut rest) = skip_same(base, now);
+    while let Some((entity, others)) = rest.split_first() {
+        let behind = write_entry(w, table, baselines, left, entity)?;
+        (left, rest) = skip_same(behind, others);
     }
     write_end(w, table, left)
 }
@@ -53,6 +56,26 @@ fn write_end(w: &mut Writer, table: &Table, base: Run) -> Result<(), Overflow>
 
 /// Writes an entity, and in front of it what is gone below its number. Lends what is left of the base behind it.
 fn write_entry<'a>(
+    w: &mut Writer,
+    table: &Table,
+    baselines: &Baselines,
+    base: Run<'a>,
+    entity: &EntityState,
+) -> Result<Run<'a>, Overflow>
+    requires { entity.now.number < most_lines }
+    ensures writes { Writes w.old w.new (entry_text w.old.words table.now baselines.now (run_of base.entry) entity.now) (done result) }
+    ensures left { IfOk result (λ left. run_of left ≡ left_behind entity.now (run_of base.entry)) }
+{
+    let (from, others) = take_number(base, entity.number);
+    if let Some(from) = from {
+        write_entity(w, table, from, entity, false)?;
+        return Ok(others);
+    }
+    write_behind(w, table, baselines, base, entity)
+}
+
+/// The same, where the base doesn't begin with the entity.
+fn write_behind<'a>(
     w: &mut Writer,
     table: &Table,
     baselines: &Baselines,

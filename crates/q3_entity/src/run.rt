@@ -1,11 +1,12 @@
 //! Goes along entities in order.
 
-ghost use Rattle.std.specs.Prelude.{◌≡◌, [], ◌∷◌, MatchOption};
+ghost use Rattle.std.specs.Prelude.{◌≡◌, ◌<◌, ◌≤◌, [], ◌∷◌, length, take, drop, All, MatchOption};
 ghost use Rattle.std.specs.Option.{option_copied};
 ghost use Rattle.q3_entity.specs.Entities.{run_of};
-ghost use Rattle.q3_entity.specs.Runs.{taken};
+ghost use Rattle.q3_entity.specs.Runs.{taken, IsFrom, ShareFront};
 
 use crate::state::{EntityState, Run};
+use q3_fields::agree;
 
 /// The first entity, and those behind it.
 pub(crate) fn split_first<'a>(run: Run<'a>) -> Option<(&'a EntityState, Run<'a>)>
@@ -38,4 +39,60 @@ pub(crate) fn take_number<'a>(run: Run<'a>, number: u16) -> (Option<&'a EntitySt
         Some((entity, others)) if entity.number == number => (Some(entity), others),
         _ => (None, run),
     }
+}
+
+/// Passes over the entities, the same in both, with which both begin.
+pub(crate) fn skip_same<'a, 'b>(
+    base: Run<'a>,
+    now: &'b [EntityState],
+) -> (Run<'a>, &'b [EntityState])
+    ensures { ShareFront (run_of base.entry) now.now (run_of result.0) result.1.now }
+{
+    let (head, now) = behind_same(base.head, now);
+    let tail = base.tail;
+    if !head.is_empty() {
+        return (Run { head, tail }, now);
+    }
+    let (tail, now) = behind_same(tail, now);
+    (Run { head, tail }, now)
+}
+
+/// What is behind the entities, the same in both, with which both begin.
+fn behind_same<'a, 'b>(
+    base: &'a [EntityState],
+    now: &'b [EntityState],
+) -> (&'a [EntityState], &'b [EntityState])
+    ensures { ShareFront base.now now.now result.0.now result.1.now }
+{
+    let count = count_same(base, now);
+    (&base[count..], &now[count..])
+}
+
+/// With how many entities, the same in both, both begin.
+fn count_same(base: &[EntityState], now: &[EntityState]) -> usize
+    ensures same { take result base.now ≡ take result now.now }
+    ensures in_base { result ≤ length base.now }
+    ensures in_now { result ≤ length now.now }
+{
+    let most = base.len().min(now.len());
+    for k in 0..most {
+        if base[k].number != now[k].number || !agree(&base[k].words, &now[k].words) {
+            return k;
+        }
+    }
+    most
+}
+
+/// How many of the first entities are below a number.
+pub(crate) fn count_below(part: &[EntityState], number: u16) -> usize
+    ensures below { All (λ entity. entity.number < number) (take result part.now) }
+    ensures behind { IsFrom number (drop result part.now) }
+    ensures most { result ≤ length part.now }
+{
+    for k in 0..part.len() {
+        if part[k].number >= number {
+            return k;
+        }
+    }
+    part.len()
 }

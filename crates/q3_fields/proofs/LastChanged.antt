@@ -1,7 +1,9 @@
 -- The count of fields that a delta carries.
-use Rattle.std.proofs.Common.{◌≡◌, ◌≢◌, ℕ, zero, suc, ◌+◌, ◌≤◌, ◌<◌, false, cond, eqb, ◌&&◌, List, [], ◌∷◌, ◌++◌, length, take, drop, get_or, refl, sym, ap, ◌∙◌, add-one, arith, inl, inr}
+use Rattle.std.proofs.Common.{◌≡◌, ◌≢◌, ℕ, zero, suc, ◌+◌, ◌-◌, ◌≤◌, ◌<◌, false, cond, eqb, ◌&&◌, List, [], ◌∷◌, ◌++◌, length, take, drop, get_or, refl, sym, ap, ◌∙◌, add-one, arith, inl, inr}
 use Rattle.std.proofs.lemmas.Bool.{cases_Bool, eqb-true, ne_eqb, eq-eqb, and_parts}
 use Rattle.std.proofs.lemmas.List.{take_more, length-take-le}
+use Rattle.std.proofs.Math.Seq.{take-add}
+use Rattle.std.specs.List.{slice_range}
 use Rattle.q3_fields.specs.Deltas.{last_changed}
 
 -- a word more at the end counts all before it where it differs, and else none
@@ -87,3 +89,27 @@ last_changed-le (x ∷ from) (y ∷ to) =
       | inl none ↦ rw none (omega arith)
       | inr some ↦ rw some (omega arith)
     ]
+
+-- words that agree count nothing
+pub last_changed-none : (words : List ℕ) → last_changed words words ≡ 0
+last_changed-none words = omega (arith, last_changed-least words words refl 0 refl)
+
+-- nor do they behind others
+last_changed-behind : (from to words : List ℕ) → length from ≡ length to → last_changed (from ++ words) (to ++ words) ≡ last_changed from to
+unfolding last_changed
+last_changed-behind [] [] words same = last_changed-none words
+last_changed-behind [] (y ∷ to) words same = absurd (omega arith)
+last_changed-behind (x ∷ from) [] words same = absurd (omega arith)
+last_changed-behind (x ∷ from) (y ∷ to) words same = rw (last_changed-behind from to words (omega arith)) refl
+
+-- the words from one place to another agree
+pub last_changed-block : (from to : List ℕ) (start end : ℕ) → start ≤ end → end ≤ length from → end ≤ length to
+    → slice_range from start end ≡ slice_range to start end
+    → last_changed (take start from) (take start to) ≡ last_changed (take end from) (take end to)
+last_changed-block from to start end some within within' agree =
+    let long : length (take start from) ≡ start = length-take-le start from (omega arith) in
+    let long' : length (take start to) ≡ start = length-take-le start to (omega arith) in
+    let whole : start + (end - start) ≡ end = omega arith in
+    let front : take end from ≡ take start from ++ slice_range from start end = ap (λ n. take n from) (sym whole) ∙ take-add start (end - start) from in
+    let front' : take end to ≡ take start to ++ slice_range to start end = ap (λ n. take n to) (sym whole) ∙ take-add start (end - start) to in
+    sym (rw (front, front', agree) (last_changed-behind (take start from) (take start to) (slice_range to start end) (long ∙ sym long')))

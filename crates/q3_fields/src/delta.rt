@@ -2,18 +2,21 @@
 //! "player delta" and "normal form" for the words, the engine's `MSG_WriteDeltaEntity` and `MSG_WriteDeltaPlayerstate`
 //! and their readers.
 
-ghost use Rattle.std.specs.Prelude.{◌≡◌, ◌≤◌, ◌<◌, [], ◌∷◌, length, take, drop, slice_get, Some};
+ghost use Rattle.std.specs.Prelude.{◌≡◌, ◌≤◌, ◌<◌, ◌↔◌, [], ◌∷◌, length, take, drop, slice_get, Some, IsTrue};
 ghost use Rattle.q3_bits.specs.Streams.{Reads, Writes, holding};
 ghost use Rattle.q3_fields.specs.Kinds.{IsKind};
 ghost use Rattle.q3_fields.specs.States.{normal_words};
 ghost use Rattle.q3_fields.specs.declared.delta.DeltaError.TheVariants.{Bits};
-ghost use Rattle.q3_fields.specs.Deltas.{changed_count as changed_of, changed_text, field_text, fields_text, counted_text, changed_at, field_after, fields_after, words_after};
+ghost use Rattle.q3_fields.specs.Deltas.{last_changed, changed_count as changed_of, changed_text, field_text, fields_text, counted_text, changed_at, field_after, fields_after, words_after};
 
 use crate::kind::{Kind, norm};
 use crate::reading::{read_entity_field, read_player_field};
 use crate::table::Table;
 use crate::writing::{write_entity_field, write_player_field};
 use q3_bits::{Overflow, ReadError, Reader, Writer, laws};
+
+/// How many words are compared at a time.
+const BLOCK: usize = 16;
 
 /// Whose words they are. Of an entity a field that changed to zero takes one bit.
 #[derive(Clone, Copy, Debug, PartialEq, Eq)]
@@ -65,13 +68,53 @@ pub fn changed_count(table: &Table, from: &[u32; 64], to: &[u32; 64]) -> usize
     ensures in_table { result ≤ length table.now.kinds }
     ensures few { result ≤ 64 }
 {
-    let mut count = 0;
-    for k in 0..table.count() {
-        if from[k] != to[k] {
-            count = k + 1;
-        }
+    let limit = changed_blocks(from, to, table.count());
+    changed_words(from, to, limit)
+}
+
+/// Whether words agree at every place. All are looked at, with no branch.
+pub fn agree(from: &[u32], to: &[u32]) -> bool
+    requires { length from.now ≡ length to.now }
+    ensures { IsTrue result ↔ (from.now ≡ to.now) }
+{
+    let mut differ = 0;
+    for k in 0..from.len() {
+        differ |= from[k] ^ to[k];
     }
-    count
+    differ == 0
+}
+
+/// Takes blocks that agree off the end of the first words, so many, and answers how many are left.
+fn changed_blocks(from: &[u32; 64], to: &[u32; 64], count: usize) -> usize
+    requires { count ≤ 64 }
+    ensures changed { last_changed (take result from.now) (take result to.now) ≡ last_changed (take count from.now) (take count to.now) }
+    ensures most { result ≤ count }
+{
+    let mut left = count;
+    while left >= BLOCK {
+        let start = left - BLOCK;
+        if !agree(&from[start..left], &to[start..left]) {
+            return left;
+        }
+        left = start;
+    }
+    left
+}
+
+/// The index of the last of the first words, so many, that differs, plus one; 0 where all agree.
+fn changed_words(from: &[u32; 64], to: &[u32; 64], count: usize) -> usize
+    requires { count ≤ 64 }
+    ensures changed { result ≡ last_changed (take count from.now) (take count to.now) }
+    ensures most { result ≤ count }
+{
+    let mut left = count;
+    while left > 0 {
+        if from[left - 1] != to[left - 1] {
+            return left;
+        }
+        left -= 1;
+    }
+    0
 }
 
 /// Writes a count, and the first fields, so many: for each a mark, and behind a mark of change its text.

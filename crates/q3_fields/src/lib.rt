@@ -9,7 +9,7 @@ pub mod reading;
 pub mod table;
 pub mod writing;
 
-pub use delta::{DeltaError, StateKind, changed_count, normalize, read_counted, write_counted};
+pub use delta::{DeltaError, StateKind, agree, changed_count, normalize, read_counted, write_counted};
 pub use float::{pattern_of, small_of};
 pub use kind::{Kind, norm};
 pub use reading::{read_entity_field, read_player_field};
@@ -111,6 +111,8 @@ mod tests {
         let mut to = [0; 64];
         to[1] = 0x1_0007;
         to[2] = 9;
+        assert!(rt; agree(&from, &words));
+        assert!(rt; !agree(&from, &to));
         let count = changed_count(&table, &from, &to);
         assert_eq!(rt; count, 2);
         let mut writer = Writer::new(&code, 8);

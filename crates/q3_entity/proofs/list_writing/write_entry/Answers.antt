@@ -1,22 +1,24 @@
-use Rattle.std.proofs.Common.{Some, ap, ◌∙◌}
+use Rattle.std.proofs.Common.{sym}
 use Rattle.std.proofs.lemmas.Result.{err_from_is_err_and}
 use Rattle.q3_entity.specs.Entities.{run_of}
-use Rattle.q3_entity.specs.Lists.{piece}
-use Rattle.q3_entity.specs.Runs.{taken, from_number}
+use Rattle.q3_entity.proofs.Gone.{is_first}
 use Rattle.q3_entity.proofs.list_writing.write_entry.Goals as goal
 
-pub returns-in_err-write_present-clause-writes : goal.returns-in_err-write_present-clause-writes
-returns-in_err-write_present-clause-writes c =
-    let to = c.args.entity.now in
-    let left = from_number to.number (run_of c.args.base) in
-    let found = ap (λ p. p.0) c.take_number.ensures ∙ ap (λ run. (taken to.number run).0) c.in_ok-left.ensures.left in
-    let p = err_from_is_err_and c.from_residual-in_err-write_present.result c.from_residual-in_err-write_present.ensures.1 in
-    rw (p.1, p.2)
-    (c.texts_are_written.ensures.next (λ ws. piece ws c.args.table.now c.args.baselines.now to.number (taken to.number left).0 (Some to)) c.in_ok-left.ensures.writes (rw found at c.in_err-write_present.ensures))
+pub returns-in_err-write_entity-clause-writes : goal.returns-in_err-write_entity-clause-writes
+returns-in_err-write_entity-clause-writes c =
+    let p = err_from_is_err_and c.from_residual.result c.from_residual.ensures.1 in
+    let found = rw c.in-Some.is at c.take_number.ensures in
+    let first = is_first c.args.w.now.words c.args.table.now c.args.baselines.now (run_of c.args.base) c.args.entity.now c.in-Some.from.now (run_of c.take_number.result.1) (sym found) in
+    rw (first.text, p.1, p.2) c.in_err-write_entity.ensures
 
-pub returns-clause-writes : goal.returns-clause-writes
-returns-clause-writes c =
-    let to = c.args.entity.now in
-    let left = from_number to.number (run_of c.args.base) in
-    let found = ap (λ p. p.0) c.take_number.ensures ∙ ap (λ run. (taken to.number run).0) c.in_ok-left.ensures.left in
-    c.texts_are_written.ensures.next (λ ws. piece ws c.args.table.now c.args.baselines.now to.number (taken to.number left).0 (Some to)) c.in_ok-left.ensures.writes (rw found at c.in_ok-write_present.ensures)
+pub returns-in-Some-clause-writes : goal.returns-in-Some-clause-writes
+returns-in-Some-clause-writes c =
+    let found = rw c.in-Some.is at c.take_number.ensures in
+    let first = is_first c.args.w.now.words c.args.table.now c.args.baselines.now (run_of c.args.base) c.args.entity.now c.in-Some.from.now (run_of c.take_number.result.1) (sym found) in
+    rw first.text c.in_ok-write_entity.ensures
+
+pub returns-in-Some-clause-left : goal.returns-in-Some-clause-left
+returns-in-Some-clause-left c =
+    let found = rw c.in-Some.is at c.take_number.ensures in
+    let first = is_first c.args.w.now.words c.args.table.now c.args.baselines.now (run_of c.args.base) c.args.entity.now c.in-Some.from.now (run_of c.take_number.result.1) (sym found) in
+    sym first.left

@@ -1,40 +1,56 @@
-use Rattle.std.proofs.Common.{◌++◌, [], sym, ap, ◌∙◌, arith}
+use Rattle.std.proofs.Common.{◌++◌, sym, ap, subst, ◌∙◌, arith}
 use Rattle.std.proofs.lemmas.Result.{err_from_is_err_and}
 use Rattle.std.proofs.lemmas.List.{drop_all}
-use Rattle.q3_entity.specs.Entities.{run_of}
+use Rattle.q3_fields.specs.Kinds.{end_mark}
+use Rattle.q3_entity.specs.Entities.{RiseFrom, run_of}
 use Rattle.q3_entity.specs.Lists.{list_text}
-use Rattle.q3_entity.specs.Merging.{end_text}
-use Rattle.q3_entity.proofs.ListTexts.{is_turn, list_text-ends}
+use Rattle.q3_entity.specs.Merging.{end_text, left_behind}
+use Rattle.q3_entity.proofs.ListTexts.{is_turn, is_skipped, list_text-ends}
 use Rattle.q3_entity.proofs.list_writing.write_list.Goals as goal
 
 pub loop-entity-init : goal.loop-entity-init
-loop-entity-init c = record {
-  written = c.texts_are_written.ensures.begin _ _ (λ over. omega (arith, c.length.ensures.length, c.length.ensures.within, over));
-  base = c.requires.base.rise;
-  now = c.requires.now.rise;
-}
+loop-entity-init c =
+    let words = c.args.w.now.words in
+    let s = is_skipped words c.args.table.now c.args.baselines.now c.last_changed_is_least.ensures _ _ _ _ c.skip_same.ensures c.requires.base.rise c.requires.now.rise in
+    record {
+      written = rw s.text (c.texts_are_written.ensures.begin _ _ (λ over. omega (arith, c.length.ensures.length, c.length.ensures.within, over)));
+      base = s.rise;
+      now = s.rise-now;
+    }
 
 pub loop-entity-preserved : goal.loop-entity-preserved
 loop-entity-preserved c =
     let law = c.texts_are_written.ensures in
     let h = c.loop-entity.invariant in
+    let table = c.args.table.now in
+    let lines = c.args.baselines.now in
     let words = c.args.w.now.words in
-    let t = is_turn words c.args.table.now c.args.baselines.now c.loop-entity.w.words (run_of c.loop-entity.left) c.args.now.now c.loop-entity.entity-index (record { number = 0; words = [] })
-    (law.words _ _ _ _ h.written) c.loop-entity-test.true h.base h.now in
-    rw c.in_ok-left.ensures.left (record {
-      written = law.more _ _ _ _ _ _ _ h.written t.text c.in_ok-left.ensures.writes;
-      base = t.rise;
-      now = t.rise-now;
-    })
+    let left = run_of c.loop-entity.left in
+    let to = c.in-Some.entity.now in
+    let others = c.in-Some.others.now in
+    let next = c.in-Some.ensures.cases.0 in
+    let t = is_turn words table lines c.loop-entity.w.words left to others (law.words _ _ _ _ h.written) h.base (subst (RiseFrom (end_mark table) 0) next h.now) in
+    let written = law.more _ _ _ _ _ _ _ h.written (ap (list_text words table lines left) next ∙ t.text) c.in_ok-behind.ensures.writes in
+    let behind = c.in_ok-behind.ensures.left in
+    let s = is_skipped words table lines c.last_changed_is_least.ensures (left_behind to left) others _ _ (rw behind at c.skip_same-in-Some.ensures) t.rise t.rise-now in
+    record {
+      written = rw s.text at written;
+      base = s.rise;
+      now = s.rise-now;
+    }
 
-pub returns-in_err-left : goal.returns-in_err-left
-returns-in_err-left c =
+pub returns-in_err-behind : goal.returns-in_err-behind
+returns-in_err-behind c =
     let law = c.texts_are_written.ensures in
     let h = c.loop-entity.invariant in
+    let table = c.args.table.now in
+    let words = c.args.w.now.words in
+    let left = run_of c.loop-entity.left in
+    let next = c.in-Some.ensures.cases.0 in
     let p = err_from_is_err_and c.from_residual.result c.from_residual.ensures.1 in
-    let t = is_turn c.args.w.now.words c.args.table.now c.args.baselines.now c.loop-entity.w.words (run_of c.loop-entity.left) c.args.now.now c.loop-entity.entity-index (record { number = 0; words = [] })
-    (law.words _ _ _ _ h.written) c.loop-entity-test.true h.base h.now in
-    rw (p.1, p.2) (law.stops _ _ _ _ _ _ _ _ h.written t.text c.in_err-left.ensures.writes)
+    let t = is_turn words table c.args.baselines.now c.loop-entity.w.words left c.in-Some.entity.now c.in-Some.others.now (law.words _ _ _ _ h.written) h.base
+    (subst (RiseFrom (end_mark table) 0) next h.now) in
+    rw (p.1, p.2) (law.stops _ _ _ _ _ _ _ _ h.written (ap (list_text words table c.args.baselines.now left) next ∙ t.text) c.in_err-behind.ensures.writes)
 
 pub returns : goal.returns
 returns c =
@@ -43,6 +59,7 @@ returns c =
     let words = c.args.w.now.words in
     let lines = c.args.baselines.now in
     let left = run_of c.loop-entity.left in
-    let ends = ap (list_text words table lines left) (drop_all c.loop-entity.entity-index c.args.now.now c.loop-entity-test.false) ∙ list_text-ends words table lines left h.base in
+    let none = drop_all 0 c.loop-entity.rest.now (omega (arith, c.in_default.ensures.cases)) in
+    let ends = ap (list_text words table lines left) none ∙ list_text-ends words table lines left h.base in
     c.texts_are_written.ensures.then _ _ _ h.written.written (list_text words table lines (run_of c.args.base) c.args.now.now)
     (λ ws. end_text ws table left) _ (sym h.written.parts ∙ ap (λ t. h.written.written ++ t) ends) h.written.writes c.write_end.ensures

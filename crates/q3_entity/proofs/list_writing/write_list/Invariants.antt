@@ -1,4 +1,4 @@
-use Rattle.std.proofs.Common.{drop}
+use Rattle.std.proofs.Common.{length}
 use Rattle.q3_bits.specs.Streams.{HasWritten}
 use Rattle.q3_fields.specs.Kinds.{end_mark}
 use Rattle.q3_entity.specs.Entities.{RiseFrom, run_of}
@@ -8,7 +8,10 @@ use Rattle.q3_entity.proofs.list_writing.write_list.Given as goal
 -- what is left is the text of the list of what is left
 abbrev pub invariant-loop-entity : goal.invariant-loop-entity
 invariant-loop-entity l = record {
-  written : HasWritten l.fn.w l.w (list_text l.fn.w.words l.table l.baselines (run_of l.left) (drop l.entity-index l.now)) (list_text l.fn.w.words l.table l.baselines (run_of l.fn.base) l.now);
+  written : HasWritten l.fn.w l.w (list_text l.fn.w.words l.table l.baselines (run_of l.left) l.rest) (list_text l.fn.w.words l.table l.baselines (run_of l.fn.base) l.now);
   base : RiseFrom (end_mark l.table) 0 (run_of l.left);
-  now : RiseFrom (end_mark l.table) 0 (drop l.entity-index l.now);
+  now : RiseFrom (end_mark l.table) 0 l.rest;
 }
+
+abbrev pub decreases-loop-entity : goal.decreases-loop-entity
+decreases-loop-entity l = length l.rest
