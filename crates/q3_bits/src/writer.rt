@@ -92,8 +92,7 @@ impl<'a> Writer<'a> {
     }
 
     /// Writes a row of fields, each a value and its width, one behind the other, each as `put` writes it.
-    /// `Overflow` comes exactly where the message would be longer than its room; the fields in front of the one that
-    /// doesn't fit then stand there.
+    /// `Overflow` comes exactly where the message would be longer than its room; a front of the row then stands there.
     pub fn put_all(&mut self, fields: &[(u32, u32)]) -> Result<(), Overflow>
         requires widths { All (λ field. (1 ≤ field.1) × (field.1 ≤ 32)) fields.now }
         ensures { Writes self.old self.new (row_bits self.old.words fields.now) result }
