@@ -25,8 +25,8 @@ use Rattle.q3_svmsg.specs.Reading.{message_at}
 use Rattle.q3_world.specs.declared.server.Emitted.{Emitted}
 use Rattle.q3_world.specs.declared.server.Emitted.TheVariants as emitted
 use Rattle.q3_world.specs.declared.client.ClientTook.TheVariants.{Old}
-use Rattle.q3_world.specs.Message.{Snapshot, message_of, no_bases, IsHeld, IsArea, IsBuilt, sequence_end, datagram_bytes}
-use Rattle.q3_world.specs.Server.{MapState, SlotState, ServerState, Emission, SlotEmission, places, fragment_size, slot_at, with_slot, with_player, with_area, with_entity, without_entity, next_message, built_bits, nothing, emit_bits, emit_slot, emission_at, emit_from, emit_at}
+use Rattle.q3_world.specs.Message.{no_bases, IsHeld, IsArea, IsBuilt, sequence_end, datagram_bytes}
+use Rattle.q3_world.specs.Server.{MapState, SlotState, ServerState, Emission, SlotEmission, places, fragment_size, slot_at, with_slot, with_player, with_entity, without_entity, next_message, built_bits, nothing, emit_bits, emit_slot, emission_at, emit_from, emit_at}
 use Rattle.q3_world.specs.Client.{ClientState, Taken, apply_message, number_of_datagram, take_at}
 use Rattle.q3_world.specs.Ends.{Ends, EndsStep, client_at, join, set_entity, remove_entity, set_player, set_area, delivered}
 use Rattle.q3_world.specs.Kept.{SentBytes, Kept, KeptStep, kept_ends, kept_serve, kept_taken, kept_arrive, kept_deliver, kept_step}
@@ -110,9 +110,13 @@ holds_entity profile whole state cited le words holds =
     let entity = normal_entity profile.entity state in
     let normal = cited.normal_entity state words in
     let held = AreHeld-put profile entity server.map.entities (omega (arith, le, cited.end)) normal.0 normal.1 facts.entities in
-    subst (λ (p : Profile). Holds profile (record whole { ends = record whole.ends { server = record server {
-      map = record server.map { entities = with_entity (normal_entity p.entity state) server.map.entities };
-    } } })) (sym facts.by)
+    subst (λ (p : Profile). Holds profile (record whole {
+      ends = record whole.ends {
+        server = record server {
+          map = record server.map { entities = with_entity (normal_entity p.entity state) server.map.entities };
+        };
+      };
+    })) (sym facts.by)
     (Holds-map profile whole (record server.map { entities = with_entity entity server.map.entities }) facts.time held holds)
 
 holds_removed : (profile : Profile) (whole : Whole) (number : ℕ) → Holds profile whole

@@ -1,9 +1,9 @@
 -- A message that was built is read back from its bytes.
-use Rattle.std.proofs.Common.{◌≡◌, ℕ, zero, suc, ◌-◌, ◌*◌, ◌<◌, Bool, false, List, [], ◌∷◌, ◌++◌, length, map, get_or, replicate, Option, Some, None, Result, Ok, Err, refl, sym, ap, subst, ◌∙◌, arith, lit<}
-use Rattle.std.specs.Prelude.{All, IfSome}
+use Rattle.std.proofs.Common.{◌≡◌, ℕ, zero, suc, ◌-◌, ◌*◌, Bool, false, List, [], ◌∷◌, ◌++◌, length, map, get_or, replicate, Option, Some, None, Result, Ok, refl, sym, ap, subst, ◌∙◌, arith, lit<}
+use Rattle.std.specs.Prelude.{IfSome}
 use Rattle.std.proofs.lemmas.List.{length-replicate}
 use Rattle.std.proofs.lemmas.List.Elements.{All-nil, All-head, All-tail}
-use Rattle.q3_bits.specs.Bits.{bits_of, message_bytes, message_length}
+use Rattle.q3_bits.specs.Bits.{message_length}
 use Rattle.q3_bits.specs.ResultBind.{◌>>=◌}
 use Rattle.q3_bits.specs.Laws.{MessageHoldsBits}
 use Rattle.q3_fields.specs.Kinds.{Layout}
@@ -11,7 +11,6 @@ use Rattle.q3_fields.specs.States.{AreWords}
 use Rattle.q3_profile.specs.declared.profile.Profile.{Profile}
 use Rattle.q3_profile.specs.Profile.{IsCodec}
 use Rattle.q3_player.specs.declared.state.PlayerState.{PlayerState}
-use Rattle.q3_player.specs.State.{normal_player}
 use Rattle.q3_entity.specs.declared.state.EntityState.{EntityState}
 use Rattle.q3_entity.specs.Entities.{normal_entity, IsNormal, AreNormal}
 use Rattle.q3_entity.specs.Baselines.{most_lines, no_lines, set_at, AreLines}
@@ -19,7 +18,7 @@ use Rattle.q3_svmsg.specs.declared.error.Illegible.{Illegible}
 use Rattle.q3_svmsg.specs.Values.{Base, Message}
 use Rattle.q3_svmsg.specs.Texts.{message_text}
 use Rattle.q3_svmsg.specs.Reading.{message_at}
-use Rattle.q3_svmsg.specs.Laws.{IsCommand, IsHead, AreEntities, IsBase, IsContext, IsMessage, WrittenIsRead}
+use Rattle.q3_svmsg.specs.Laws.{IsCommand, IsContext, IsMessage, WrittenIsRead}
 use Rattle.q3_world.specs.Message.{Snapshot, message_of, no_bases, IsBuilt}
 use Rattle.q3_world.specs.Server.{built_bits}
 use Rattle.q3_world.specs.MessageLaws.{BuiltIsRead}

@@ -10,8 +10,6 @@ use Rattle.q3_player.specs.State.{zero_player, normal_player}
 use Rattle.q3_player.specs.declared.state.PlayerState.{PlayerState}
 use Rattle.q3_io.specs.declared.address.Address.{Address}
 use Rattle.q3_entity.specs.Entities.{most_entities}
-use Rattle.q3_svmsg.specs.Values.{Message}
-use Rattle.q3_world.specs.declared.client.SnapOutcome.TheVariants.{Accepted}
 use Rattle.q3_world.specs.Message.{Snapshot, message_of, IsHeld, IsArea, AreHeld, IsBuilt, sequence_end}
 use Rattle.q3_world.specs.Server.{MapState, SlotState, Built, new_slot, with_player, with_area, next_snapshot, next_message}
 use Rattle.q3_world.specs.Client.{ClientState, new_client, apply_message}

@@ -11,7 +11,6 @@ use Rattle.q3_player.specs.Laws.{NormalIsNormal, ZeroIsNormal}
 use Rattle.q3_script.specs.declared.event.Event.{Event}
 use Rattle.q3_script.specs.declared.event.Event.TheVariants as events
 use Rattle.q3_script.specs.Grammar.{IsReplayEvent}
-use Rattle.q3_fields.specs.Kinds.{end_mark}
 use Rattle.q3_entity.specs.Laws.{NormalIsNormal as EntityNormalIsNormal}
 use Rattle.q3_svmsg.specs.Values.{Told, Nothing, Snap, Skipped, Message}
 use Rattle.q3_world.specs.declared.client.SnapOutcome.{SnapOutcome}
@@ -21,7 +20,7 @@ use Rattle.q3_world.specs.declared.client.ClientTook.TheVariants.{Old, Applied}
 use Rattle.q3_world.specs.declared.client.ClientTook.{ClientTook}
 use Rattle.q3_world.specs.declared.answer.Answer.TheVariants.{Unknown, Deliver}
 use Rattle.q3_bits.specs.Bits.{message_bytes}
-use Rattle.q3_world.specs.Message.{Snapshot, message_of, IsBuilt}
+use Rattle.q3_world.specs.Message.{Snapshot, message_of}
 use Rattle.q3_world.specs.MessageLaws.{BuiltIsRead}
 use Rattle.q3_world.specs.Server.{MapState, SlotState, Built, places, slot_at, add_client_at, built_bits}
 use Rattle.q3_world.specs.Client.{ClientState, Taken, new_client, apply_section, apply_message, number_of_datagram}

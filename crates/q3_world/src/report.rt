@@ -35,7 +35,11 @@ pub(crate) fn print_answer<O: Sink>(
 
 /// Prints the lines of an answer.
 #[tactic(auto, unfolding(crate::specs::Report::lines_of))]
-fn print_lines<O: Sink>(answer: &Answer, lent: Option<SnapshotView>, out: &mut O) -> Result<(), Failed>
+fn print_lines<O: Sink>(
+    answer: &Answer,
+    lent: Option<SnapshotView>,
+    out: &mut O,
+) -> Result<(), Failed>
     ensures adds { Adds (O.written out.old) (O.written out.new) (lines_of answer.now (option_map snapshot_of lent.entry)) result }
     ensures cause { HasCause (O.faults out.old) (O.faults out.new) result }
 {
@@ -384,10 +388,7 @@ fn print_number<O: Sink>(number: u16, out: &mut O) -> Result<(), Failed>
     ensures cause { HasCause (O.faults out.old) (O.faults out.new) result }
 {
     print_all(
-        &[
-            Piece::Text(b"+ entity "),
-            Piece::Number(u64::from(number)),
-        ],
+        &[Piece::Text(b"+ entity "), Piece::Number(u64::from(number))],
         out,
     )
 }

@@ -411,11 +411,7 @@ impl Server {
     }
 
     /// Takes over the area bytes of a client. `NoClient` comes exactly where the slot has none.
-    pub(crate) fn set_area(
-        &mut self,
-        slot: u8,
-        area: &ArrayVec<u8, 32>,
-    ) -> Result<(), NoClient>
+    pub(crate) fn set_area(&mut self, slot: u8, area: &ArrayVec<u8, 32>) -> Result<(), NoClient>
         requires { slot < places }
         ensures { set_area_at self.old slot area.now ≡ record { server = self.new; answer = result } }
     {

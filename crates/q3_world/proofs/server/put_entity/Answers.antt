@@ -1,7 +1,7 @@
-use Rattle.std.proofs.Common.{◌≡◌, ◌<◌, ◌++◌, [], ◌∷◌, length, Option, Some, None, List, sym, ap, subst, ◌∙◌, arith}
+use Rattle.std.proofs.Common.{length, List, sym, ap, subst, ◌∙◌, arith}
 use Rattle.q3_entity.specs.declared.state.EntityState.{EntityState}
 use Rattle.q3_entity.specs.Entities.{RiseFrom}
-use Rattle.q3_world.specs.Server.{most_numbers, with_entity}
+use Rattle.q3_world.specs.Server.{most_numbers}
 use Rattle.q3_world.proofs.Entities.{put_rises, push_is, set_is, insert_is}
 use Rattle.q3_world.proofs.server.put_entity.Goals as goal
 
