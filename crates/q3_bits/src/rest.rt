@@ -69,11 +69,22 @@ fn behind(bytes: &[u8], count: usize) -> &[u8]
 fn first_four(bytes: &[u8]) -> u32
     ensures { result ≡ number_of (take 32 (bits_of bytes.now)) }
 {
+    // all but the last three of a message's bytes have three behind them
+    if let [a, b, c, d, ..] = bytes {
+        return u32::from_le_bytes([*a, *b, *c, *d]);
+    }
+    last_three(bytes)
+}
+
+/// The same, of fewer bytes.
+fn last_three(bytes: &[u8]) -> u32
+    requires { length bytes.now < 4 }
+    ensures { result ≡ number_of (take 32 (bits_of bytes.now)) }
+{
     match bytes {
-        [] => 0,
-        [a] => u32::from_le_bytes([*a, 0, 0, 0]),
-        [a, b] => u32::from_le_bytes([*a, *b, 0, 0]),
         [a, b, c] => u32::from_le_bytes([*a, *b, *c, 0]),
-        [a, b, c, d, ..] => u32::from_le_bytes([*a, *b, *c, *d]),
+        [a, b] => u32::from_le_bytes([*a, *b, 0, 0]),
+        [a] => u32::from_le_bytes([*a, 0, 0, 0]),
+        _ => 0,
     }
 }
