@@ -12,6 +12,7 @@ use q3_fields::{StateKind, Table, changed_count, write_counted};
 /// The marks of an entity that is there and didn't change, and of one that did: first a bit for its removal, then one for
 /// a change.
 const UNCHANGED: u32 = 0b00;
+
 const CHANGED: u32 = 0b10;
 
 /// Writes what changed of an entity, under the number of `to`. Where nothing changed nothing is written, unless it is

@@ -9,7 +9,9 @@ pub mod reading;
 pub mod table;
 pub mod writing;
 
-pub use delta::{DeltaError, StateKind, agree, changed_count, normalize, read_counted, write_counted};
+pub use delta::{
+    DeltaError, StateKind, agree, changed_count, normalize, read_counted, write_counted,
+};
 pub use float::{pattern_of, small_of};
 pub use kind::{Kind, norm};
 pub use reading::{read_entity_field, read_player_field};

@@ -8,7 +8,7 @@ use Rattle.q3_entity.proofs.list_reading.keep_front.Goals as goal
 
 -- what isn't at most as many is more
 above : (count : ℕ) → (count ≤ most_entities → false ≡ true) → most_entities < count
-above count few = elim (cases_lt most_entities count) [ | inl more ↦ more | inr le ↦ absurd (false≢true (few le)) ]
+above count few = elim (cases_lt most_entities count) [ inl more ↦ more | inr le ↦ absurd (false≢true (few le)) ]
 
 pub returns-in-Err-clause-many : goal.returns-in-Err-clause-many
 returns-in-Err-clause-many c = λ behind.
