@@ -1,0 +1,5 @@
+pub mod Datagrams
+pub mod Sending
+pub mod Gathering
+pub mod Tags
+pub mod Laws
