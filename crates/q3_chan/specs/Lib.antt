@@ -1,5 +1,6 @@
 pub mod Datagrams
 pub mod Sending
 pub mod Gathering
+pub mod Buffers
 pub mod Tags
 pub mod Laws

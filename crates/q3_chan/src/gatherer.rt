@@ -1,0 +1,224 @@
+//! An end that receives. Keeps the rules "fragmentation" and "what a receiver answers", the engine's `Netchan_Process`
+//! in net_chan.c.
+
+ghost use Rattle.std.specs.Prelude.{◌≡◌, ◌+◌, ◌<◌, ◌≤◌, ℕ, true, false, ◌++◌, length, take, IfOk};
+ghost use Rattle.q3_chan.specs.Datagrams.{longest_message, fragment_size, is_fragment, header_length};
+ghost use Rattle.q3_chan.specs.Gathering.{new_gathering, gathered, gathering_of, arrives, emptied, take_newer, take_whole, take_fragment, take_piece, add_piece};
+
+use crate::buffer::put_at;
+use crate::header::{
+    behind_header, count_in, header_length, is_connectionless, is_fragment, number_in, start_in,
+};
+use crate::sender::{FRAGMENT_SIZE, LONGEST_MESSAGE, NoMemory};
+use crate::side::Side;
+use std::alloc::Global;
+use std::marker::Model;
+
+/// What a receiver answers to a datagram.
+#[derive(Clone, Copy, Debug, PartialEq, Eq)]
+pub enum Gathered {
+    /// A message came whole: its number, and how many bytes it has.
+    Whole { number: u32, length: usize },
+    /// The next piece of a message came, and not the last.
+    Partial,
+    /// The number isn't above that of the newest message taken.
+    Old,
+    /// The piece doesn't start where what was gathered ends.
+    OutOfOrder,
+    /// The message or the piece is too long, or longer than the bytes there.
+    BadFragment,
+    /// The datagram is shorter than its header.
+    Runt,
+    /// The datagram begins with four bytes of 255: it belongs to no connection.
+    Connectionless,
+}
+
+/// Gathers datagrams into messages. It has memory of its own, which `new` takes and no other call does.
+#[derive(Drop)]
+pub struct Gatherer {
+    side: Side,
+    taken: u32,
+    number: u32,
+    buffer: Vec<u8>,
+    count: usize,
+}
+
+impl Model for Gatherer {
+    ghost use Rattle.q3_chan.specs.Gathering.{Gathering};
+
+    ghost Value = { Gathering };
+
+    ghost use Rattle.q3_chan.specs.Buffers.{gathering_in, IsGathering};
+
+    ghost view = { gathering_in };
+
+    ghost invariant = { IsGathering };
+}
+
+impl Gatherer {
+    /// An end that has taken nothing of what the other side sends. `Err` is want of memory.
+    pub fn new(alloc: Global, side: Side) -> Result<Gatherer, NoMemory>
+        ensures { IfOk result (λ gatherer. gatherer ≡ new_gathering side) }
+    {
+        Ok(Gatherer {
+            side,
+            taken: 0,
+            number: 0,
+            buffer: vec![in alloc; 0; LONGEST_MESSAGE]?,
+            count: 0,
+        })
+    }
+
+    /// The number of the newest message taken, and 0 at first.
+    pub fn taken(&self) -> u32
+        ensures { result ≡ self.now.taken }
+    {
+        self.taken
+    }
+
+    /// Takes a datagram, any bytes. Where it completes a message, `into` begins with that; after every other answer
+    /// `into` may hold anything.
+    #[tactic(auto, unfolding(crate::specs::Gathering::gathered))]
+    pub fn take(&mut self, datagram: &[u8], into: &mut [u8]) -> Gathered
+        requires { length into.old ≡ longest_message }
+        ensures gathering { self.new ≡ (gathered self.old datagram.now).gathering }
+        ensures answer { result ≡ (gathered self.old datagram.now).answer }
+        ensures message { (number count : ℕ) → result ≡ Gathered.Whole number count → take count into.new ≡ (gathered self.old datagram.now).message }
+    {
+        if datagram.len() < 4 {
+            return Gathered::Runt;
+        }
+        if is_connectionless(datagram) {
+            return Gathered::Connectionless;
+        }
+        if datagram.len() < header_length(self.side, is_fragment(datagram)) {
+            return Gathered::Runt;
+        }
+        if number_in(datagram) <= self.taken {
+            return Gathered::Old;
+        }
+        self.take_newer(datagram, into)
+    }
+
+    /// Takes a datagram of a newer message.
+    fn take_newer(&mut self, datagram: &[u8], into: &mut [u8]) -> Gathered
+        requires room { length into.old ≡ longest_message }
+        requires number { 4 ≤ length datagram.now }
+        requires header { header_length self.old.side (is_fragment datagram.now) ≤ length datagram.now }
+        ensures gathering { self.new ≡ (take_newer self.old datagram.now).gathering }
+        ensures answer { result ≡ (take_newer self.old datagram.now).answer }
+        ensures message { (number count : ℕ) → result ≡ Gathered.Whole number count → take count into.new ≡ (take_newer self.old datagram.now).message }
+    {
+        let number = number_in(datagram);
+        let there = behind_header(self.side, datagram);
+        if !is_fragment(datagram) {
+            return self.take_whole(number, there, into);
+        }
+        let start = start_in(self.side, datagram);
+        let count = count_in(self.side, datagram);
+        self.gather(number);
+        self.take_fragment(start, count, there, into)
+    }
+
+    /// Takes a message that goes whole.
+    fn take_whole(&mut self, number: u32, message: &[u8], into: &mut [u8]) -> Gathered
+        requires { length into.old ≡ longest_message }
+        ensures gathering { self.new ≡ (take_whole self.old number message.now).gathering }
+        ensures answer { result ≡ (take_whole self.old number message.now).answer }
+        ensures message { (n count : ℕ) → result ≡ Gathered.Whole n count → take count into.new ≡ (take_whole self.old number message.now).message }
+    {
+        if message.len() > LONGEST_MESSAGE {
+            return Gathered::BadFragment;
+        }
+        into[..message.len()].copy_from_slice(message);
+        self.taken = number;
+        Gathered::Whole {
+            number,
+            length: message.len(),
+        }
+    }
+
+    /// Gathers the message of a number: anew, where it is another than the gathered one.
+    fn gather(&mut self, number: u32)
+        ensures { self.new ≡ gathering_of self.old number }
+    {
+        if number != self.number {
+            self.number = number;
+            self.count = 0;
+        }
+    }
+
+    /// Takes a fragment of the message that is gathered: where its piece starts, how long it is said to be, and the bytes
+    /// there.
+    fn take_fragment(
+        &mut self,
+        start: usize,
+        count: usize,
+        there: &[u8],
+        into: &mut [u8],
+    ) -> Gathered
+        requires { length into.old ≡ longest_message }
+        ensures gathering { self.new ≡ (take_fragment self.old start count there.now).gathering }
+        ensures answer { result ≡ (take_fragment self.old start count there.now).answer }
+        ensures message { (n length : ℕ) → result ≡ Gathered.Whole n length → take length into.new ≡ (take_fragment self.old start count there.now).message }
+    {
+        if start != self.count {
+            return Gathered::OutOfOrder;
+        }
+        self.take_piece(count, there, into)
+    }
+
+    /// Takes a piece behind what was gathered, which is said to have so many of the bytes there.
+    fn take_piece(&mut self, count: usize, there: &[u8], into: &mut [u8]) -> Gathered
+        requires { length into.old ≡ longest_message }
+        ensures gathering { self.new ≡ (take_piece self.old count there.now).gathering }
+        ensures answer { result ≡ (take_piece self.old count there.now).answer }
+        ensures message { (n length : ℕ) → result ≡ Gathered.Whole n length → take length into.new ≡ (take_piece self.old count there.now).message }
+    {
+        if count > FRAGMENT_SIZE || there.len() < count || count > LONGEST_MESSAGE - self.count {
+            return Gathered::BadFragment;
+        }
+        self.add_piece(&there[..count], into)
+    }
+
+    /// Puts a piece behind what was gathered. One that is shorter than a piece may be completes the message.
+    fn add_piece(&mut self, piece: &[u8], into: &mut [u8]) -> Gathered
+        requires room { length into.old ≡ longest_message }
+        requires most { length self.old.bytes + length piece.now ≤ longest_message }
+        ensures gathering { self.new ≡ (add_piece self.old piece.now).gathering }
+        ensures answer { result ≡ (add_piece self.old piece.now).answer }
+        ensures message { (n length : ℕ) → result ≡ Gathered.Whole n length → take length into.new ≡ (add_piece self.old piece.now).message }
+    {
+        self.append(piece);
+        if piece.len() < FRAGMENT_SIZE {
+            self.complete(into)
+        } else {
+            Gathered::Partial
+        }
+    }
+
+    /// Puts bytes behind those gathered.
+    fn append(&mut self, piece: &[u8])
+        requires { length self.old.bytes + length piece.now ≤ longest_message }
+        ensures { self.new ≡ record self.old { bytes = self.old.bytes ++ piece.now } }
+    {
+        put_at(&mut self.buffer, self.count, piece);
+        self.count += piece.len();
+    }
+
+    /// What was gathered is a whole message.
+    fn complete(&mut self, into: &mut [u8]) -> Gathered
+        requires { length into.old ≡ longest_message }
+        ensures gathering { self.new ≡ (arrives (emptied self.old) self.old.number self.old.bytes).gathering }
+        ensures answer { result ≡ (arrives (emptied self.old) self.old.number self.old.bytes).answer }
+        ensures message { take (length self.old.bytes) into.new ≡ self.old.bytes }
+    {
+        let number = self.number;
+        let length = self.count;
+        into[..length].copy_from_slice(&self.buffer[..length]);
+        self.taken = number;
+        self.number = 0;
+        self.count = 0;
+        Gathered::Whole { number, length }
+    }
+}

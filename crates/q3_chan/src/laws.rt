@@ -1,0 +1,30 @@
+//! Laws of messages that are cut and gathered, each the contract of a call that does nothing. A proof above cites a law by
+//! calling it.
+
+ghost use Rattle.q3_chan.specs.Laws.{PiecesAreWhole, HandsOutAll, SentIsTagged, GatheredIsOne, WholeArePieces};
+
+/// The pieces of a message, one behind the other, are the message.
+pub fn pieces_are_whole()
+    ensures { PiecesAreWhole }
+{}
+
+/// An idle end that begins a message hands out its datagrams, in order, and then is idle.
+pub fn hands_out_all()
+    ensures { HandsOutAll }
+{}
+
+/// A datagram that an end sent does what its piece does, and what is gathered then is a front of a message again.
+pub fn sent_is_tagged()
+    ensures { SentIsTagged }
+{}
+
+/// Whatever of one sender's datagrams came, in whatever order: a message that comes whole is the one under its number.
+pub fn gathered_is_one()
+    ensures { GatheredIsOne }
+{}
+
+/// Whatever bytes came: a message that comes whole stood in the last datagram, or is pieces of one number that came in
+/// their order.
+pub fn whole_are_pieces()
+    ensures { WholeArePieces }
+{}

@@ -1,0 +1,166 @@
+//! An end that sends. Keeps the rules "datagram header" and "fragmentation", the engine's `Netchan_Transmit` and
+//! `Netchan_TransmitNextFragment` in net_chan.c.
+
+ghost use Rattle.std.specs.Prelude.{◌≡◌, ◌+◌, ◌*◌, ◌<◌, ◌≤◌, ◌↔◌, ◌++◌, nat_lt, if◌then◌else◌, length, IfOk, IsSome, IsTrue};
+ghost use Rattle.byteorder.specs.Endian.{little_bytes};
+ghost use Rattle.q3_chan.specs.Datagrams.{fragment_size, longest_message, sequence_end, piece_count, datagram, piece};
+ghost use Rattle.q3_chan.specs.Sending.{IsIdle, new_sending, started, next_of};
+
+use crate::buffer::put_at;
+use crate::header::{FRAGMENT_MARK, put_bytes, put_header, put_short};
+use crate::side::Side;
+use arrayvec::ArrayVec;
+use std::alloc::{AllocError, Global};
+use std::marker::Model;
+
+/// Want of memory, and nothing else.
+pub type NoMemory = AllocError;
+
+/// The bytes of one datagram.
+pub type Datagram = ArrayVec<u8, 1320>;
+
+/// A message below this length goes whole, and no piece is longer. The engine's `FRAGMENT_SIZE`.
+pub(crate) const FRAGMENT_SIZE: usize = 1_300;
+
+/// The longest message in bytes, the engine's `MAX_MSGLEN`.
+pub(crate) const LONGEST_MESSAGE: usize = 16_384;
+
+/// Cuts messages into datagrams, one a call. It has memory of its own, which `new` takes and no other call does.
+#[derive(Drop)]
+pub struct Sender {
+    side: Side,
+    qport: u16,
+    number: u32,
+    buffer: Vec<u8>,
+    count: usize,
+    index: Option<usize>,
+}
+
+impl Model for Sender {
+    ghost use Rattle.q3_chan.specs.Sending.{Sending};
+
+    ghost Value = { Sending };
+
+    ghost use Rattle.q3_chan.specs.Buffers.{sending_of, IsSending};
+
+    ghost view = { sending_of };
+
+    ghost invariant = { IsSending };
+}
+
+impl Sender {
+    /// An end that has sent nothing. A server hands in any qport, since none goes with what it sends. `Err` is want of
+    /// memory.
+    pub fn new(alloc: Global, side: Side, qport: u16) -> Result<Sender, NoMemory>
+        ensures { IfOk result (λ sender. sender ≡ new_sending side qport) }
+    {
+        Ok(Sender {
+            side,
+            qport,
+            number: 0,
+            buffer: vec![in alloc; 0; LONGEST_MESSAGE]?,
+            count: 0,
+            index: None,
+        })
+    }
+
+    /// Begins a message of 1 to 16,384 bytes under the next number, which is 1 at first and stays below 2^30.
+    pub fn start(&mut self, message: &[u8])
+        requires idle { IsIdle self.old }
+        requires some { 1 ≤ length message.now }
+        requires most { length message.now ≤ longest_message }
+        requires number { self.old.number + 1 < sequence_end }
+        ensures { self.new ≡ started self.old message.now }
+    {
+        put_at(&mut self.buffer, 0, message);
+        self.count = message.len();
+        self.index = Some(0);
+        self.number += 1;
+    }
+
+    /// Hands out the next datagram of the message under way. What `out` held is gone.
+    pub fn next(&mut self, out: &mut Datagram)
+        requires { IsSome self.old.under_way }
+        ensures { next_of self.old ≡ record { sending = self.new; datagram = out.new.items } }
+    {
+        if let Some(index) = self.index {
+            let message = &self.buffer[..self.count];
+            write_datagram(out, self.side, self.qport, self.number, message, index);
+            self.index = index_behind(message, index);
+        }
+    }
+
+    /// Whether nothing is left to be handed out.
+    pub fn idle(&self) -> bool
+        ensures { IsTrue result ↔ IsIdle self.now }
+    {
+        self.index.is_none()
+    }
+
+    /// The number of the last message begun, and 0 at first.
+    pub fn number(&self) -> u32
+        ensures { result ≡ self.now.number }
+    {
+        self.number
+    }
+}
+
+/// Writes the datagram with the piece of a message at an index.
+#[tactic(auto, unfolding(crate::specs::Datagrams::datagram))]
+fn write_datagram(
+    out: &mut Datagram,
+    side: Side,
+    qport: u16,
+    number: u32,
+    message: &[u8],
+    index: usize,
+)
+    requires number { number < sequence_end }
+    requires most { length message.now ≤ longest_message }
+    requires within { fragment_size * index ≤ length message.now }
+    ensures { out.new.items ≡ datagram side qport number message.now index }
+{
+    out.clear();
+    if message.len() < FRAGMENT_SIZE {
+        put_header(out, side, qport, number);
+        put_bytes(out, message);
+    } else {
+        put_header(out, side, qport, number + FRAGMENT_MARK);
+        put_piece(out, message, index);
+    }
+}
+
+/// Puts the piece of a message at an index behind the bytes of a datagram: where it starts, how long it is, and its bytes.
+fn put_piece(out: &mut Datagram, message: &[u8], index: usize)
+    requires room { length out.old.items ≤ 6 }
+    requires most { length message.now ≤ longest_message }
+    requires within { fragment_size * index ≤ length message.now }
+    ensures { out.new.items ≡ out.old.items ++ little_bytes 2 (fragment_size * index)
+        ++ little_bytes 2 (length (piece message.now index)) ++ piece message.now index }
+{
+    let start = FRAGMENT_SIZE * index;
+    let piece = piece_of(message, index);
+    put_short(out, start as u16);
+    put_short(out, piece.len() as u16);
+    put_bytes(out, piece);
+}
+
+/// The piece of a message at an index.
+fn piece_of(message: &[u8], index: usize) -> &[u8]
+    requires { fragment_size * index ≤ length message.now }
+    ensures { result.now ≡ piece message.now index }
+{
+    let behind = &message[FRAGMENT_SIZE * index..];
+    &behind[..behind.len().min(FRAGMENT_SIZE)]
+}
+
+/// The index of the piece of a message behind one, if there is one.
+fn index_behind(message: &[u8], index: usize) -> Option<usize>
+    ensures { result ≡ (if nat_lt (index + 1) (piece_count (length message.now)) then Some (index + 1) else None) }
+{
+    if index < message.len() / FRAGMENT_SIZE {
+        Some(index + 1)
+    } else {
+        None
+    }
+}
