@@ -1,2 +1,4 @@
+pub mod Headers
 pub mod Receiving
+pub mod Tagging
 pub mod Handing
