@@ -1,7 +1,6 @@
 -- What a receiver sees in the datagrams that an end sends.
-use Rattle.std.proofs.Common.{◌≡◌, ◌+◌, ◌*◌, ◌^◌, ◌%◌, ◌<◌, ◌≤◌, ◌∙◌, ℕ, Bool, true, false, ltb, leb, cond, List, [], ◌∷◌, ◌++◌, length, take, drop, refl, sym, ap, subst, arith}
-use Rattle.std.specs.Str.{bytes_eq}
-use Rattle.std.proofs.lemmas.Bool.{false_from_ne_true, cond-true, cond-false, le-leb, lt-leb}
+use Rattle.std.proofs.Common.{◌≡◌, ◌+◌, ◌%◌, ◌<◌, ◌≤◌, ◌∙◌, ℕ, Bool, true, false, leb, List, [], ◌∷◌, ◌++◌, length, take, drop, refl, sym, ap, subst, arith}
+use Rattle.std.proofs.lemmas.Bool.{false_from_ne_true, le-leb, lt-leb}
 use Rattle.std.proofs.lemmas.Slice.Eq.{bytes_eq-Decides}
 use Rattle.byteorder.specs.Endian.{little_bytes, little_number}
 use Rattle.byteorder.specs.Numbers.{little_number-reads_back, little_from-take}
@@ -34,10 +33,10 @@ connected-header : (side : Side) (qport n : ℕ) (rest : List ℕ) → n < 42949
 connected-header side qport n rest small =
     let bytes : List ℕ = header side qport n ++ rest in
     false_from_ne_true (is_connectionless bytes) (λ e.
-      let is : take 4 bytes ≡ 255 ∷ 255 ∷ 255 ∷ 255 ∷ [] = (bytes_eq-Decides (take 4 bytes) (255 ∷ 255 ∷ 255 ∷ 255 ∷ [])).0 e in
-      let all : little_number 4 bytes ≡ 4294967295 = sym (little_from-take 0 4 4 bytes (omega arith)) ∙ ap (little_number 4) is in
-      let n-is : n ≡ 4294967295 = sym (number-header side qport n rest (omega arith)) ∙ all in
-      omega arith)
+    let is : take 4 bytes ≡ 255 ∷ 255 ∷ 255 ∷ 255 ∷ [] = (bytes_eq-Decides (take 4 bytes) (255 ∷ 255 ∷ 255 ∷ 255 ∷ [])).0 e in
+    let all : little_number 4 bytes ≡ 4294967295 = sym (little_from-take 0 4 4 bytes (omega arith)) ∙ ap (little_number 4) is in
+    let n-is : n ≡ 4294967295 = sym (number-header side qport n rest (omega arith)) ∙ all in
+    omega arith)
 
 -- a datagram that has its header, belongs to a connection, and has this number
 pub record IsHeaded (side : Side) (bytes : List ℕ) (number : ℕ) : Type 0 where

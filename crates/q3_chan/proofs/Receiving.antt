@@ -1,10 +1,9 @@
 -- What a receiver does with a datagram, by its parts.
-use Rattle.std.proofs.Common.{◌≡◌, ◌∙◌, ◌<◌, ◌≤◌, ℕ, Bool, true, false, ltb, leb, cond, List, length, ap, subst, sym}
+use Rattle.std.proofs.Common.{◌≡◌, ◌∙◌, ◌<◌, ◌≤◌, ℕ, false, ltb, leb, cond, List, length, ap, subst, sym}
 use Rattle.std.proofs.lemmas.Bool.{cond-true, cond-false, le-ltb, le-leb, lt-leb}
 use Rattle.q3_chan.specs.declared.gatherer.Gathered.TheVariants.{Old}
-use Rattle.q3_chan.specs.declared.side.Side.{Side}
 use Rattle.q3_chan.specs.Datagrams.{longest_message, is_fragment, number_in, header_length, start_in, count_in, behind_header}
-use Rattle.q3_chan.specs.Gathering.{Gathering, Took, answers, arrives, is_connectionless, gathered, gathering_of, take_newer, take_whole, take_fragment}
+use Rattle.q3_chan.specs.Gathering.{Gathering, answers, arrives, is_connectionless, gathered, gathering_of, take_newer, take_whole, take_fragment}
 use Rattle.q3_chan.proofs.Headers.{IsHeaded, IsWhole, IsFragment}
 
 -- a datagram that has its header and belongs to a connection is old, or is taken

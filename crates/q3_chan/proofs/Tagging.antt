@@ -1,13 +1,13 @@
 -- What a datagram that an end sent does to an end that receives.
-use Rattle.std.proofs.Common.{◌≡◌, ◌+◌, ◌-◌, ◌*◌, ◌<◌, ◌≤◌, ◌∙◌, ℕ, Bool, true, false, ltb, leb, eqb, cond, List, [], ◌++◌, length, take, drop, min, refl, sym, ap, subst, inl, inr, arith}
+use Rattle.std.proofs.Common.{◌≡◌, ◌+◌, ◌-◌, ◌*◌, ◌<◌, ◌≤◌, ◌∙◌, ℕ, ltb, leb, eqb, List, [], ◌++◌, length, take, drop, min, refl, sym, ap, subst, inl, inr, arith}
 use Rattle.std.proofs.Math.Seq.{take-add, take-length}
 use Rattle.std.proofs.lemmas.Bool.{cases_Bool, cases_lt, cond-true, cond-false, cond_both, or_from, eqb-true, ltb-true, lt-ltb, le-ltb, le-leb, lt-leb}
 use Rattle.std.proofs.lemmas.List.{length-take, length-drop, length-take-le, take_all}
-use Rattle.q3_chan.specs.declared.gatherer.Gathered.TheVariants.{Partial, Old, OutOfOrder, BadFragment}
-use Rattle.q3_chan.specs.Datagrams.{fragment_size, longest_message, sequence_end, piece_count, piece, header, fragment, datagram}
+use Rattle.q3_chan.specs.declared.gatherer.Gathered.TheVariants.{Partial, BadFragment}
+use Rattle.q3_chan.specs.Datagrams.{fragment_size, longest_message, piece_count, piece, header, fragment, datagram}
 use Rattle.q3_chan.specs.Gathering.{Gathering, Took, answers, arrives, emptied, gathering_of, add_piece, take_piece, take_fragment, gathered}
 use Rattle.q3_chan.specs.Tags.{tag_piece, tag_fragment, tagged}
-use Rattle.q3_chan.specs.Laws.{IsSendable, HoldsFront, SentIsTagged}
+use Rattle.q3_chan.specs.Laws.{HoldsFront, SentIsTagged}
 use Rattle.q3_chan.proofs.Headers.{IsHeaded, IsWhole, IsFragment, whole_is, fragment_is}
 use Rattle.q3_chan.proofs.Receiving.{gathered-old, gathered-whole, gathered-fragment}
 
@@ -46,7 +46,7 @@ add_piece-tagged : (g : Gathering) (message : List ℕ) (index : ℕ) → g.byte
 add_piece-tagged g message index front below =
     let short = length-piece message index in
     let whole : g.bytes ++ piece message index ≡ take (fragment_size * (index + 1)) message =
-      ap (λ (bytes : List ℕ). bytes ++ piece message index) front ∙ front-more message index in
+    ap (λ (bytes : List ℕ). bytes ++ piece message index) front ∙ front-more message index in
     elim (cases_lt (index + 1) (piece_count (length message))) [
       | inl more ↦
           cond-false (ltb (length (piece message index)) fragment_size) _ _ (le-ltb _ _ (omega arith))
@@ -71,9 +71,9 @@ tag_piece-front : (messages : ℕ → List ℕ) (g : Gathering) (index : ℕ) �
 tag_piece-front messages g index =
     let message = messages g.number in
     cond_both (ltb (index + 1) (piece_count (length message))) (answers (record g { bytes = take (fragment_size * (index + 1)) message }) Partial) (arrives (emptied g) g.number message)
-      (λ (t : Took). HoldsFront messages t.gathering)
-      (λ more. record { count = index + 1; not_all = ltb-true _ _ more; front = refl })
-      (λ _. record { count = 0; not_all = omega arith; front = refl })
+    (λ (t : Took). HoldsFront messages t.gathering)
+    (λ more. record { count = index + 1; not_all = ltb-true _ _ more; front = refl })
+    (λ _. record { count = 0; not_all = omega arith; front = refl })
 
 -- what a datagram does as what its tag does, and what is gathered then is a front again
 abbrev IsTagged : (ℕ → List ℕ) → Took → Took → Type 0
@@ -89,8 +89,7 @@ take_fragment-tagged messages g index h below most =
     elim (cases_Bool test) [
       | inl e ↦
           let here : index ≡ h.count = omega (arith, eqb-true _ _ e) in
-          let front : g.bytes ≡ take (fragment_size * index) message = h.front ∙ ap (λ (n : ℕ). take (fragment_size * n) message) (sym here) in
-          (
+          let front : g.bytes ≡ take (fragment_size * index) message = h.front ∙ ap (λ (n : ℕ). take (fragment_size * n) message) (sym here) in (
             cond-true test _ _ e ∙ take_piece-tagged g message index front below most ∙ sym (cond-true test _ _ e),
             subst P (sym (cond-true test _ _ e)) (tag_piece-front messages g index),
           )
@@ -116,8 +115,7 @@ whole_is_tagged messages g bytes number index h whole short =
     elim (cases_lt g.taken number) [
       | inr old ↦ old_is_tagged messages g bytes number index h whole.headed old
       | inl newer ↦
-          let is = cond-false (leb number g.taken) _ _ (lt-leb _ _ newer) ∙ cond-true (ltb (length message) fragment_size) _ _ (lt-ltb _ _ short) in
-          (
+          let is = cond-false (leb number g.taken) _ _ (lt-leb _ _ newer) ∙ cond-true (ltb (length message) fragment_size) _ _ (lt-ltb _ _ short) in (
             gathered-whole g bytes number message whole (omega arith) newer ∙ sym is,
             subst P (sym is) (record { count = h.count; not_all = h.not_all; front = h.front }),
           )
@@ -158,5 +156,5 @@ sent_is_tagged messages g qport number index h port first end sendable below =
           let most = sendable.most in
           subst Q (sym (cond-false (ltb (length message) fragment_size) _ _ (le-ltb _ _ long)))
           (fragment_is_tagged messages g (fragment g.side qport number (fragment_size * index) (piece message index)) number index h
-            (fragment_is g.side qport number (fragment_size * index) (piece message index) end (omega arith) (omega arith)) long most below)
+          (fragment_is g.side qport number (fragment_size * index) (piece message index) end (omega arith) (omega arith)) long most below)
     ]

@@ -1,10 +1,10 @@
 -- How the ends keep in a buffer what the definitions say of them.
-use Rattle.std.specs.Prelude.{◌≡◌, ℕ, ◌*◌, ◌<◌, ◌≤◌, length, take, Option, Some, None, MatchOption, ⊤}
+use Rattle.std.specs.Prelude.{◌≡◌, ◌*◌, ◌<◌, ◌≤◌, length, take, MatchOption, ⊤}
 use Rattle.std.specs.Option.{option_map}
 use Rattle.q3_chan.specs.declared.sender.Sender.TheInside.{Inside as SenderInside}
 use Rattle.q3_chan.specs.declared.gatherer.Gatherer.TheInside.{Inside as GathererInside}
 use Rattle.q3_chan.specs.Datagrams.{fragment_size, longest_message, sequence_end}
-use Rattle.q3_chan.specs.Sending.{Sending, UnderWay}
+use Rattle.q3_chan.specs.Sending.{Sending}
 use Rattle.q3_chan.specs.Gathering.{Gathering}
 
 -- the message is the front of the buffer

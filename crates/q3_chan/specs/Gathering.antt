@@ -1,10 +1,10 @@
 -- What an end that receives keeps, and what a datagram does to it.
-use Rattle.std.specs.Prelude.{ℕ, ◌+◌, ◌==◌, nat_lt, nat_le, ◌&&◌, ◌||◌, not, if◌then◌else◌, Bool, List, [], ◌∷◌, ◌++◌, length, take}
+use Rattle.std.specs.Prelude.{ℕ, ◌+◌, ◌==◌, nat_lt, nat_le, ◌||◌, if◌then◌else◌, Bool, List, [], ◌∷◌, ◌++◌, length, take}
 use Rattle.std.specs.Str.{bytes_eq}
 use Rattle.q3_chan.specs.declared.side.Side.{Side}
 use Rattle.q3_chan.specs.declared.gatherer.Gathered.{Gathered}
 use Rattle.q3_chan.specs.declared.gatherer.Gathered.TheVariants.{Whole, Partial, Old, OutOfOrder, BadFragment, Runt, Connectionless}
-use Rattle.q3_chan.specs.Datagrams.{fragment_size, longest_message, is_fragment, number_in, short_header, header_length, start_in, count_in, behind_header}
+use Rattle.q3_chan.specs.Datagrams.{fragment_size, longest_message, is_fragment, number_in, header_length, start_in, count_in, behind_header}
 
 -- which end sends, the newest number taken, 0 for none, and what was gathered: the number of its message, 0 for none, and
 -- its bytes so far

@@ -1,8 +1,7 @@
 -- Laws of messages that are cut and gathered.
-use Rattle.std.specs.Prelude.{◌≡◌, ◌⊎◌, ℕ, ◌+◌, ◌*◌, ◌^◌, ◌<◌, ◌≤◌, true, false, List, [], ◌∷◌, ◌++◌, length, take, drop, All}
+use Rattle.std.specs.Prelude.{◌≡◌, ◌⊎◌, ℕ, ◌+◌, ◌*◌, ◌^◌, ◌<◌, ◌≤◌, true, false, List, [], ◌∷◌, ◌++◌, length, take, All}
 use Rattle.std.specs.List.{concat}
 use Rattle.q3_chan.specs.declared.side.Side.{Side}
-use Rattle.q3_chan.specs.declared.gatherer.Gathered.{Gathered}
 use Rattle.q3_chan.specs.declared.gatherer.Gathered.TheVariants.{Whole}
 use Rattle.q3_chan.specs.Datagrams.{fragment_size, longest_message, sequence_end, piece_count, pieces, datagram, datagrams, is_fragment, number_in, start_in, count_in, behind_header}
 use Rattle.q3_chan.specs.Sending.{Sending, IsIdle, started, handed_out, behind}
