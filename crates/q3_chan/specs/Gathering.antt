@@ -1,5 +1,5 @@
 -- What an end that receives keeps, and what a datagram does to it.
-use Rattle.std.specs.Prelude.{ℕ, ◌+◌, ◌==◌, nat_lt, nat_le, ◌||◌, if◌then◌else◌, Bool, List, [], ◌∷◌, ◌++◌, length, take}
+use Rattle.std.specs.Prelude.{◌≡◌, ◌≤◌, ℕ, ◌+◌, ◌==◌, nat_lt, nat_le, ◌||◌, if◌then◌else◌, Bool, List, [], ◌∷◌, ◌++◌, length, take}
 use Rattle.std.specs.Str.{bytes_eq}
 use Rattle.q3_chan.specs.declared.side.Side.{Side}
 use Rattle.q3_chan.specs.declared.gatherer.Gathered.{Gathered}
@@ -79,6 +79,11 @@ gathered g datagram =
     if is_connectionless datagram then answers g Connectionless else
     if nat_lt (length datagram) (header_length g.side (is_fragment datagram)) then answers g Runt else
     if nat_le (number_in datagram) g.taken then answers g Old else take_newer g datagram
+
+-- a message that came whole stands at the front of a buffer
+abbrev pub Delivers : Gathered → List ℕ → List ℕ → Type 0
+Delivers (Whole number count) into message = (count ≤ longest_message) × (take count into ≡ message)
+Delivers other into message = Unit {0}
 
 -- an end after these datagrams
 unfoldable pub gathered_all : Gathering → List (List ℕ) → Gathering

@@ -3,7 +3,7 @@
 
 ghost use Rattle.std.specs.Prelude.{◌≡◌, ◌+◌, ◌<◌, ◌≤◌, ℕ, true, false, ◌++◌, length, take, IfOk};
 ghost use Rattle.q3_chan.specs.Datagrams.{longest_message, fragment_size, is_fragment, header_length};
-ghost use Rattle.q3_chan.specs.Gathering.{new_gathering, gathered, gathering_of, arrives, emptied, take_newer, take_whole, take_fragment, take_piece, add_piece};
+ghost use Rattle.q3_chan.specs.Gathering.{new_gathering, gathered, gathering_of, arrives, emptied, take_newer, take_whole, take_fragment, take_piece, add_piece, Delivers};
 
 use crate::buffer::put_at;
 use crate::header::{
@@ -83,7 +83,7 @@ impl Gatherer {
         requires { length into.old ≡ longest_message }
         ensures gathering { self.new ≡ (gathered self.old datagram.now).gathering }
         ensures answer { result ≡ (gathered self.old datagram.now).answer }
-        ensures message { (number count : ℕ) → result ≡ Gathered.Whole number count → take count into.new ≡ (gathered self.old datagram.now).message }
+        ensures message { Delivers result into.new (gathered self.old datagram.now).message }
     {
         if datagram.len() < 4 {
             return Gathered::Runt;
@@ -107,7 +107,7 @@ impl Gatherer {
         requires header { header_length self.old.side (is_fragment datagram.now) ≤ length datagram.now }
         ensures gathering { self.new ≡ (take_newer self.old datagram.now).gathering }
         ensures answer { result ≡ (take_newer self.old datagram.now).answer }
-        ensures message { (number count : ℕ) → result ≡ Gathered.Whole number count → take count into.new ≡ (take_newer self.old datagram.now).message }
+        ensures message { Delivers result into.new (take_newer self.old datagram.now).message }
     {
         let number = number_in(datagram);
         let there = behind_header(self.side, datagram);
@@ -125,7 +125,7 @@ impl Gatherer {
         requires { length into.old ≡ longest_message }
         ensures gathering { self.new ≡ (take_whole self.old number message.now).gathering }
         ensures answer { result ≡ (take_whole self.old number message.now).answer }
-        ensures message { (n count : ℕ) → result ≡ Gathered.Whole n count → take count into.new ≡ (take_whole self.old number message.now).message }
+        ensures message { Delivers result into.new (take_whole self.old number message.now).message }
     {
         if message.len() > LONGEST_MESSAGE {
             return Gathered::BadFragment;
@@ -160,7 +160,7 @@ impl Gatherer {
         requires { length into.old ≡ longest_message }
         ensures gathering { self.new ≡ (take_fragment self.old start count there.now).gathering }
         ensures answer { result ≡ (take_fragment self.old start count there.now).answer }
-        ensures message { (n length : ℕ) → result ≡ Gathered.Whole n length → take length into.new ≡ (take_fragment self.old start count there.now).message }
+        ensures message { Delivers result into.new (take_fragment self.old start count there.now).message }
     {
         if start != self.count {
             return Gathered::OutOfOrder;
@@ -173,7 +173,7 @@ impl Gatherer {
         requires { length into.old ≡ longest_message }
         ensures gathering { self.new ≡ (take_piece self.old count there.now).gathering }
         ensures answer { result ≡ (take_piece self.old count there.now).answer }
-        ensures message { (n length : ℕ) → result ≡ Gathered.Whole n length → take length into.new ≡ (take_piece self.old count there.now).message }
+        ensures message { Delivers result into.new (take_piece self.old count there.now).message }
     {
         if count > FRAGMENT_SIZE || there.len() < count || count > LONGEST_MESSAGE - self.count {
             return Gathered::BadFragment;
@@ -187,7 +187,7 @@ impl Gatherer {
         requires most { length self.old.bytes + length piece.now ≤ longest_message }
         ensures gathering { self.new ≡ (add_piece self.old piece.now).gathering }
         ensures answer { result ≡ (add_piece self.old piece.now).answer }
-        ensures message { (n length : ℕ) → result ≡ Gathered.Whole n length → take length into.new ≡ (add_piece self.old piece.now).message }
+        ensures message { Delivers result into.new (add_piece self.old piece.now).message }
     {
         self.append(piece);
         if piece.len() < FRAGMENT_SIZE {

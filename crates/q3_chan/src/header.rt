@@ -45,7 +45,8 @@ pub(crate) fn put_short(out: &mut Datagram, number: u16)
 /// Puts what begins each datagram: the number of its message, with or without the mark, and from a client its qport.
 pub(crate) fn put_header(out: &mut Datagram, side: Side, qport: u16, number: u32)
     requires { length out.old.items + 6 ≤ 1320 }
-    ensures { out.new.items ≡ out.old.items ++ header side qport number }
+    ensures bytes { out.new.items ≡ out.old.items ++ header side qport number }
+    ensures some { 0 < length out.new.items }
 {
     put_long(out, number);
     if side == Side::Client {

@@ -81,7 +81,9 @@ impl Sender {
     /// Hands out the next datagram of the message under way. What `out` held is gone.
     pub fn next(&mut self, out: &mut Datagram)
         requires { IsSome self.old.under_way }
-        ensures { next_of self.old ≡ record { sending = self.new; datagram = out.new.items } }
+        ensures next { next_of self.old ≡ record { sending = self.new; datagram = out.new.items } }
+        ensures number { self.new.number ≡ self.old.number }
+        ensures some { 0 < length out.new.items }
     {
         if let Some(index) = self.index {
             let message = &self.buffer[..self.count];
@@ -118,7 +120,8 @@ fn write_datagram(
     requires number { number < sequence_end }
     requires most { length message.now ≤ longest_message }
     requires within { fragment_size * index ≤ length message.now }
-    ensures { out.new.items ≡ datagram side qport number message.now index }
+    ensures bytes { out.new.items ≡ datagram side qport number message.now index }
+    ensures some { 0 < length out.new.items }
 {
     out.clear();
     if message.len() < FRAGMENT_SIZE {

@@ -1,13 +1,12 @@
 -- A step by bytes is a step by tags.
-use Rattle.std.proofs.Common.{◌≡◌, ℕ, ◌+◌, ◌-◌, ◌<◌, ◌≤◌, false, cond, List, length, map, Option, Some, None, Ok, refl, sym, ap, subst, ◌∙◌, inl, inr, arith}
+use Rattle.std.proofs.Common.{◌≡◌, ℕ, zero, suc, ◌+◌, ◌-◌, ◌<◌, ◌≤◌, Bool, false, List, length, map, Option, Some, None, Result, Ok, refl, sym, ap, subst, ◌∙◌, inl, inr, arith, lit<}
 use Rattle.std.specs.Prelude.{◌⊎◌, nat_le, nat_lt, slice_get, slice_set}
-use Rattle.std.specs.Int.{w32, to_le_bytes}
 use Rattle.std.specs.Option.{option_map}
-use Rattle.std.proofs.lemmas.List.{length-map, map_push, length-append, set-get_or}
+use Rattle.std.proofs.lemmas.List.{length-map, map_push, set-get_or}
 use Rattle.std.proofs.lemmas.Option.{slice_get-map, slice_get_within, get_or_from_slice_get}
-use Rattle.std.proofs.lemmas.Nat.{from_le_bytes-to_le_bytes_4}
-use Rattle.std.proofs.lemmas.Bool.{cases_Bool, leb-false, cond-true, cond-false, le-ltb}
+use Rattle.std.proofs.lemmas.Bool.{cases_Bool, leb-false, ltb-false}
 use Rattle.q3_bits.specs.Bits.{bits_of, message_bytes, message_length}
+use Rattle.q3_bits.specs.Laws.{MessageIsBytes}
 use Rattle.q3_profile.specs.declared.profile.Profile.{Profile}
 use Rattle.q3_player.specs.State.{zero_player, normal_player, IsState}
 use Rattle.q3_player.specs.declared.state.PlayerState.{PlayerState}
@@ -20,20 +19,31 @@ use Rattle.q3_fields.specs.States.{AreWords}
 use Rattle.q3_fields.specs.Kinds.{end_mark}
 use Rattle.q3_entity.specs.declared.state.EntityState.{EntityState}
 use Rattle.q3_entity.specs.Entities.{normal_entity, IsNormal}
-use Rattle.q3_svmsg.specs.Values.{Message}
+use Rattle.q3_svmsg.specs.declared.error.Illegible.{Illegible}
+use Rattle.q3_svmsg.specs.Values.{Told, Message}
 use Rattle.q3_svmsg.specs.Reading.{message_at}
+use Rattle.q3_chan.specs.declared.side.Side.{Side}
+use Rattle.q3_chan.specs.declared.gatherer.Gathered.{Gathered}
+use Rattle.q3_chan.specs.declared.gatherer.Gathered.TheVariants as gathered
+use Rattle.q3_chan.specs.Datagrams.{sequence_end, longest_message, piece_count, datagram}
+use Rattle.q3_chan.specs.Sending.{UnderWay}
+use Rattle.q3_chan.specs.Gathering.{Took, gathered as gathered_of}
+use Rattle.q3_chan.specs.Tags.{tagged}
+use Rattle.q3_chan.specs.Laws.{IsSendable, HoldsFront, SentIsTagged}
 use Rattle.q3_world.specs.declared.server.Emitted.{Emitted}
 use Rattle.q3_world.specs.declared.server.Emitted.TheVariants as emitted
-use Rattle.q3_world.specs.declared.client.ClientTook.TheVariants.{Old}
-use Rattle.q3_world.specs.Message.{no_bases, IsHeld, IsArea, IsBuilt, sequence_end, datagram_bytes}
-use Rattle.q3_world.specs.Server.{MapState, SlotState, ServerState, Emission, SlotEmission, places, fragment_size, slot_at, with_slot, with_player, with_entity, without_entity, next_message, built_bits, nothing, emit_bits, emit_slot, emission_at, emit_from, emit_at}
-use Rattle.q3_world.specs.Client.{ClientState, Taken, apply_message, number_of_datagram, take_at}
-use Rattle.q3_world.specs.Ends.{Ends, EndsStep, client_at, join, set_entity, remove_entity, set_player, set_area, delivered}
+use Rattle.q3_world.specs.Message.{no_bases, IsHeld, IsArea, IsBuilt}
+use Rattle.q3_world.specs.Server.{SlotState, ServerState, Built, Emission, places, slot_at, with_slot, with_player, with_entity, without_entity, next_message, built_bits, built_bytes, hand_out, emit_bits, emit_new, emit_slot, emission_at, emit_from, emit_at}
+use Rattle.q3_world.specs.Client.{ClientState, Taken, read_by, take_answer, take_gathered, take_at}
+use Rattle.q3_world.specs.Ends.{Ends, EndsStep, client_at, join, set_entity, remove_entity, set_player, set_area}
 use Rattle.q3_world.specs.Kept.{SentBytes, Kept, KeptStep, kept_ends, kept_serve, kept_taken, kept_arrive, kept_deliver, kept_step}
-use Rattle.q3_world.specs.World.{Tag, Step, Whole, with_ends, serve, named, snapshot_in, arrive_new, arrive, deliver, step}
-use Rattle.q3_world.specs.StandsFor.{IsSent, StandsFor, bytes_of}
-use Rattle.q3_world.proofs.Events.{Holds, with_new_slot, Holds-new, Holds-player, Holds-area, Holds-map, Holds-begun, Holds-applied, next_tag, tag_was_built, names_built, client_by}
+use Rattle.q3_world.specs.World.{Tag, Step, Whole, no_message, history_at, built_at, with_ends, serve, named, heard_in, arrive_piece, arrive, deliver, step}
+use Rattle.q3_world.specs.StandsFor.{AreEnds, IsSent, WasBuilt, messages_of, StandsFor, bytes_of}
+use Rattle.q3_world.proofs.Growth.{history_after}
+use Rattle.q3_world.proofs.Clients.{slot_begun, AreEnds-begun, AreJoined-gathered, AreJoined-accepted}
+use Rattle.q3_world.proofs.Events.{Holds, with_new_slot, Holds-new, Holds-player, Holds-area, Holds-map, Holds-handed, handed_tag, Holds-taken, client_from, client_joined, tag_was_built, names_built, client_by}
 use Rattle.q3_world.proofs.Held.{AreHeld-put, AreHeld-without}
+use Rattle.q3_world.proofs.Tagged.{IsQuiet, Does, tagged_does}
 
 -- ---- what is cited of the layers below
 
@@ -42,7 +52,8 @@ abbrev pub ReadsBack : Profile → Type 0
 ReadsBack profile = (number : ℕ) (message : Message) → IsBuilt profile number message
     → message_at profile no_bases number (bits_of (message_bytes (built_bits profile message))) ≡ Ok message
 
--- what is read back, which players and entities are in normal form, and which numbers entities have
+-- what is read back, which players and entities are in normal form, which numbers entities have, what a datagram does that was
+-- sent, and how many bytes a message has
 pub record Cited (profile : Profile) : Type 0 where
   pub reads : ReadsBack profile
   pub zero : IsHeld profile zero_player
@@ -50,6 +61,8 @@ pub record Cited (profile : Profile) : Type 0 where
   pub normal_entity : (entity : EntityState) → AreWords 64 entity.words
       → AreWords 64 (normal_entity profile.entity entity).words × IsNormal profile.entity (normal_entity profile.entity entity)
   pub end : end_mark profile.entity ≡ 1023
+  pub tags : SentIsTagged
+  pub bytes : MessageIsBytes
 
 -- ---- what is kept of a whole world
 
@@ -78,9 +91,9 @@ found_or (Some x) = inr (x, refl)
 
 holds_join : (profile : Profile) (whole : Whole) (c challenge qport dup : ℕ) (address : Address) → IsHeld profile zero_player → c < places → Holds profile whole
     → Holds profile (record whole { ends = (join profile whole.ends c challenge qport dup address).ends })
-holds_join profile whole c challenge qport dup address zero lt holds =
+holds_join profile whole c challenge qport dup address first lt holds =
     elim (found_or (slot_at whole.ends.server c)) [
-      | inl none ↦ rw none (Holds-new profile whole c challenge qport dup address zero lt none holds)
+      | inl none ↦ rw none (Holds-new profile whole c challenge qport dup address first lt none holds)
       | inr found ↦ rw found.1 holds
     ]
 
@@ -140,127 +153,163 @@ quiet profile whole c server answer same_as holds =
     subst (λ (s : ServerState). Served profile whole c (record { server = s; answer = answer; began = None; piece = None })) (sym same_as)
     (record { same = rw count refl; holds = holds })
 
--- what an emit of a slot may be
-emit_cases : (profile : Profile) (map_state : MapState) (slot : SlotState)
-    → (emit_slot profile map_state slot ≡ nothing slot emitted.SequenceEnd)
-    ⊎ ((emit_slot profile map_state slot ≡ nothing slot emitted.Overlong)
-    ⊎ ((slot.begun + 1 < sequence_end) × (emit_slot profile map_state slot ≡ record {
-      slot = record slot { begun = slot.begun + 1 };
-      answer = emitted.Snapshot (slot.begun + 1) 0 (message_length (length (built_bits profile (next_message map_state slot))));
-      began = Some (next_message map_state slot);
-      piece = Some (record { number = slot.begun + 1; bytes = (next_tag profile map_state 0 slot).bytes });
-    })))
-emit_cases profile map_state slot =
-    let built = next_message map_state slot in
-    let bits = built_bits profile built in
-    let sent : SlotEmission = record {
-      slot = record slot { begun = slot.begun + 1 };
-      answer = emitted.Snapshot (slot.begun + 1) 0 (message_length (length bits));
-      began = Some built;
-      piece = Some (record { number = slot.begun + 1; bytes = (next_tag profile map_state 0 slot).bytes });
-    } in
-    elim (cases_Bool (nat_le sequence_end (slot.begun + 1))) [
-      | inl e ↦ inl (cond-true (nat_le sequence_end (slot.begun + 1)) (nothing slot emitted.SequenceEnd) (emit_bits slot built bits) e)
-      | inr e ↦ inr (elim (cases_Bool (nat_le fragment_size (message_length (length bits)))) [
-        | inl f ↦ inl (cond-false (nat_le sequence_end (slot.begun + 1)) (nothing slot emitted.SequenceEnd) (emit_bits slot built bits) e
-            ∙ cond-true (nat_le fragment_size (message_length (length bits))) (nothing slot emitted.Overlong) sent f)
-        | inr f ↦ inr (
-          leb-false sequence_end (slot.begun + 1) e,
-          cond-false (nat_le sequence_end (slot.begun + 1)) (nothing slot emitted.SequenceEnd) (emit_bits slot built bits) e
-              ∙ cond-false (nat_le fragment_size (message_length (length bits))) (nothing slot emitted.Overlong) sent f,
-        )
-      ])
-    ]
-
 -- a slot put where it was
 same_server : (server : ServerState) (c : ℕ) (slot : SlotState) → slot_at server c ≡ Some slot → with_slot server c slot ≡ server
 same_server server c slot found =
     ap (λ (slots : List (Option SlotState)). record server { slots = slots })
     (ap (λ (s : Option SlotState). slice_set server.slots c s) (sym found) ∙ set-get_or server.slots c None)
 
-served_from : (profile : Profile) (whole : Whole) (c : ℕ) (slot : SlotState) → c < places → slot_at whole.ends.server c ≡ Some slot → Holds profile whole
-    → Served profile whole c (emission_at whole.ends.server c (emit_slot profile whole.ends.server.map slot))
-served_from profile whole c slot lt is holds =
+-- a piece is handed out, of a message that was begun now or before
+handed_out : (profile : Profile) (whole : Whole) (c : ℕ) (old slot : SlotState) (left : UnderWay) (answer : Emitted) (began : Option Built) → c < places
+    → slot_at whole.ends.server c ≡ Some old → slot.sending.under_way ≡ Some left
+    → ((client : ClientState) → AreEnds profile old client (history_at whole.histories c) → AreEnds profile slot client (history_after (history_at whole.histories c) began))
+    → Holds profile whole → Served profile whole c (emission_at whole.ends.server c (hand_out slot left.next answer began))
+handed_out profile whole c old slot left answer began lt found way begins holds =
+    let count = length-map whole.sent bytes_of in
+    let pushed = map_push bytes_of whole.sent (handed_tag c slot left) in
+    record { same = rw (count, pushed) refl; holds = Holds-handed profile whole c old slot left began lt found way begins holds }
+
+-- a message of a length that fits is one that may be sent
+sendable : (bits : List Bool) → MessageIsBytes → nat_lt longest_message (message_length (length bits)) ≡ false → IsSendable (message_bytes bits)
+sendable bits law fits =
+    let bytes = law bits in
+    let short = ltb-false longest_message (message_length (length bits)) fits in
+    record { some = rw bytes.0 (omega arith); most = rw bytes.0 short; bytes = bytes.1 }
+
+-- a message is begun, unless it is too long
+served_bits : (profile : Profile) (whole : Whole) (c : ℕ) (slot : SlotState) → Cited profile → c < places → slot_at whole.ends.server c ≡ Some slot
+    → slot.sending.number + 1 < sequence_end → Holds profile whole
+    → Served profile whole c (emission_at whole.ends.server c
+    (emit_bits slot (next_message whole.ends.server.map slot) (built_bits profile (next_message whole.ends.server.map slot))))
+served_bits profile whole c slot cited lt is fits holds =
     let server = whole.ends.server in
-    elim (emit_cases profile server.map slot) [
-      | inl e ↦ subst (λ (x : SlotEmission). Served profile whole c (emission_at server c x)) (sym e)
-          (quiet profile whole c (with_slot server c slot) emitted.SequenceEnd (same_server server c slot is) holds)
-      | inr more ↦ elim more [
-        | inl e ↦ subst (λ (x : SlotEmission). Served profile whole c (emission_at server c x)) (sym e)
-            (quiet profile whole c (with_slot server c slot) emitted.Overlong (same_server server c slot is) holds)
-        | inr e ↦ subst (λ (x : SlotEmission). Served profile whole c (emission_at server c x)) (sym e.1)
-            (let count = length-map whole.sent bytes_of in
-            let pushed = map_push bytes_of whole.sent (next_tag profile server.map c slot) in
-            record { same = rw (count, pushed) refl; holds = Holds-begun profile whole c slot lt is e.0 holds })
-      ]
+    let map = server.map in
+    let next = next_message map slot in
+    let bits = built_bits profile next in
+    let first : UnderWay = record { message = message_bytes bits; next = 0 } in
+    elim (cases_Bool (nat_lt longest_message (message_length (length bits)))) [
+      | inl long ↦ rw long (quiet profile whole c (with_slot server c slot) emitted.Overlong (same_server server c slot is) holds)
+      | inr short ↦ rw short (handed_out profile whole c slot (slot_begun profile map slot) first
+          (emitted.Snapshot (slot.sending.number + 1) 0 (message_length (length bits))) (Some next) lt is refl
+          (λ client ends. AreEnds-begun profile map slot client (history_at whole.histories c) holds.facts.time holds.facts.entities fits (sendable bits cited.bytes short) ends) holds)
     ]
 
-served : (profile : Profile) (whole : Whole) (c : ℕ) → c < places → Holds profile whole
+-- the next message, unless message numbers have ended
+served_new : (profile : Profile) (whole : Whole) (c : ℕ) (slot : SlotState) → Cited profile → c < places → slot_at whole.ends.server c ≡ Some slot → Holds profile whole
+    → Served profile whole c (emission_at whole.ends.server c (emit_new profile whole.ends.server.map slot))
+served_new profile whole c slot cited lt is holds =
+    let server = whole.ends.server in
+    elim (cases_Bool (nat_le sequence_end (slot.sending.number + 1))) [
+      | inl ended ↦ rw ended (quiet profile whole c (with_slot server c slot) emitted.SequenceEnd (same_server server c slot is) holds)
+      | inr goes ↦ rw goes (served_bits profile whole c slot cited lt is (leb-false sequence_end (slot.sending.number + 1) goes) holds)
+    ]
+
+-- what is left of a message goes first
+served_from : (profile : Profile) (whole : Whole) (c : ℕ) (slot : SlotState) (left : Option UnderWay) → Cited profile → c < places
+    → slot_at whole.ends.server c ≡ Some slot → slot.sending.under_way ≡ left → Holds profile whole
+    → Served profile whole c (emission_at whole.ends.server c (emit_slot profile whole.ends.server.map slot left))
+served_from profile whole c slot None cited lt is none holds = served_new profile whole c slot cited lt is holds
+served_from profile whole c slot (Some left) cited lt is some holds =
+    handed_out profile whole c slot slot left (emitted.Fragment slot.sending.number) None lt is some (λ client ends. ends) holds
+
+served : (profile : Profile) (whole : Whole) (c : ℕ) → Cited profile → c < places → Holds profile whole
     → Served profile whole c (emit_from whole.ends.server c (slot_at whole.ends.server c))
-served profile whole c lt holds =
+served profile whole c cited lt holds =
     elim (found_or (slot_at whole.ends.server c)) [
       | inl none ↦ rw none (quiet profile whole c whole.ends.server emitted.NoClient refl holds)
       | inr found ↦ rw found.1
-          (subst (λ (p : Profile). Served profile whole c (emission_at whole.ends.server c (emit_slot p whole.ends.server.map found.0))) (sym holds.facts.by)
-          (served_from profile whole c found.0 lt found.1 holds))
+          (subst (λ (p : Profile). Served profile whole c (emission_at whole.ends.server c (emit_slot p whole.ends.server.map found.0 found.0.sending.under_way))) (sym holds.facts.by)
+          (served_from profile whole c found.0 found.0.sending.under_way cited lt found.1 refl holds))
     ]
 
 -- ---- delivering
 
-not_a_runt : (number : ℕ) (message : List ℕ) → nat_lt (length (datagram_bytes number message)) 4 ≡ false
-not_a_runt number message = le-ltb (length (datagram_bytes number message)) 4 (omega (arith, length-append (to_le_bytes w32 number) message))
+abbrev Read : Type 0
+Read = Result Message Illegible
 
-abbrev taken_by_tag : ClientState → ℕ → Message → Taken
-taken_by_tag client number message = cond (nat_le number client.taken) (record { client = client; answer = Old }) (apply_message client number message)
+-- where nothing came whole, nothing is read
+quiet_same : (client : ClientState) (answer : Gathered) (read other : ℕ → Read) → IsQuiet answer → take_answer client answer read ≡ take_answer client answer other
+quiet_same client (gathered.Whole number count) read other is = absurd is
+quiet_same client gathered.Partial read other is = refl
+quiet_same client gathered.Old read other is = refl
+quiet_same client gathered.OutOfOrder read other is = refl
+quiet_same client gathered.BadFragment read other is = absurd is
+quiet_same client gathered.Runt read other is = absurd is
+quiet_same client gathered.Connectionless read other is = absurd is
 
--- the number of a datagram
-pub number_is : (profile : Profile) (number : ℕ) (message : Message) (bytes : List ℕ) → IsBuilt profile number message
-    → number_of_datagram (datagram_bytes number bytes) ≡ number
-number_is profile number message bytes built = let fits = built.fits in from_le_bytes-to_le_bytes_4 number (omega arith)
+-- and the client is as it was
+quiet_client : (client : ClientState) (answer : Gathered) (read : ℕ → Read) (told : Told) → IsQuiet answer
+    → ((take_answer client answer read).client ≡ client) × (heard_in answer told ≡ None)
+quiet_client client (gathered.Whole number count) read told is = absurd is
+quiet_client client gathered.Partial read told is = (refl, refl)
+quiet_client client gathered.Old read told is = (refl, refl)
+quiet_client client gathered.OutOfOrder read told is = (refl, refl)
+quiet_client client gathered.BadFragment read told is = absurd is
+quiet_client client gathered.Runt read told is = absurd is
+quiet_client client gathered.Connectionless read told is = absurd is
 
--- a message that was built is taken by its bytes as by its tag
-take_by_tag : (profile : Profile) (client : ClientState) (number : ℕ) (message : Message) → ReadsBack profile → IsBuilt profile number message → client.profile ≡ profile
-    → take_at client (datagram_bytes number (message_bytes (built_bits profile message))) ≡ taken_by_tag client number message
-unfolding take_at
-take_by_tag profile client number message reads built by =
-    let bytes = message_bytes (built_bits profile message) in
-    rw (not_a_runt number bytes, number_is profile number message bytes built, by, reads number message built) refl
+-- what comes whole is read as the message that was built
+taken_alike : (profile : Profile) (client : ClientState) (took : Took) (number : ℕ) (built : Built) → ReadsBack profile → IsBuilt profile number built → client.profile ≡ profile
+    → Does client.gathering number (built_bytes profile built) took
+    → take_gathered client took (read_by client.profile took.message) ≡ take_gathered client took (λ n. Ok built)
+taken_alike profile client took number built reads is by does =
+    elim does.either [
+      | inl waits ↦ quiet_same (record client { gathering = took.gathering }) took.answer (read_by client.profile took.message) (λ n. Ok built) waits.quiet
+      | inr came ↦ rw (came.answer, came.message_is, by, reads number built is) refl
+    ]
 
--- what arrives of a message that carries a snapshot
-abbrev Arrives : Profile → Whole → ℕ → Tag → ClientState → Message → Type 0
-Arrives profile whole number tag client message =
-    Agree profile (kept_taken (kept_of profile whole) number tag.client (apply_message client tag.number message))
-    (arrive_new whole number tag.client (apply_message client tag.number message) (snapshot_in message.section))
+-- the bytes of the message under a number
+at_number : (profile : Profile) (built : List Built) (number : ℕ) → 1 ≤ number → messages_of profile built number ≡ built_bytes profile (built_at built number)
+at_number profile built zero some = absurd (omega (arith, some))
+at_number profile built (suc number) some = refl
 
-arrives : (profile : Profile) (whole : Whole) (number : ℕ) (tag : Tag) (client : ClientState) (message : Message) → IsSent profile whole.histories tag
-    → client_at whole.ends tag.client ≡ Some client → client.taken < tag.number → message ≡ named whole.histories tag
-    → Holds profile whole → Arrives profile whole number tag client message
-arrives profile whole number tag client message is found newer same holds =
-    let there = tag_was_built profile whole tag client is found holds in
-    subst (λ (m : Message). Arrives profile whole number tag client m) (sym (same ∙ there.is))
-    (record {
-      same = refl;
-      holds = Holds-applied profile whole tag client there.snapshot is found newer there.number (names_built profile whole tag is there) holds;
-    })
+-- what a datagram that was made does by its bytes it does by its tag, and what is gathered then is a front of a message
+pub tag_is : (profile : Profile) (whole : Whole) (tag : Tag) (client : ClientState) → Cited profile → IsSent profile whole.histories tag
+    → client_at whole.ends tag.client ≡ Some client → Holds profile whole
+    → (gathered_of client.gathering tag.bytes ≡ tagged client.gathering tag.number (built_bytes profile (named whole.histories tag)) tag.index)
+    × HoldsFront (messages_of profile (history_at whole.histories tag.client).built)
+    (tagged client.gathering tag.number (built_bytes profile (named whole.histories tag)) tag.index).gathering
+tag_is profile whole tag client cited is found holds =
+    let g = client.gathering in
+    let built = (history_at whole.histories tag.client).built in
+    let n = tag.number in
+    let message = built_bytes profile (named whole.histories tag) in
+    let messages = messages_of profile built in
+    let at : messages n ≡ message = at_number profile built n is.some in
+    let from = client_from profile whole tag.client client is.client found holds in
+    let joined = client_joined profile whole tag.client client is.client found holds in
+    let was_built = tag_was_built profile whole tag client is found holds in
+    let some = is.some in
+    let begun = is.begun in
+    let law = cited.tags messages g 0 n tag.index joined.3.front (lit< tt) some was_built.fits
+    (subst IsSendable (sym at) (from.1 (n - 1) no_message (omega arith)))
+    (subst (λ (m : List ℕ). tag.index < piece_count (length m)) (sym at) is.piece) in (
+      ap (gathered_of g) (is.bytes ∙ (ap (λ (side : Side). datagram side 0 n message tag.index) (sym from.0)
+          ∙ ap (λ (m : List ℕ). datagram g.side 0 n m tag.index) (sym at)))
+          ∙ (law.0 ∙ ap (λ (m : List ℕ). tagged g n m tag.index) at),
+      subst (λ (m : List ℕ). HoldsFront messages (tagged g n m tag.index).gathering) at law.1,
+    )
 
--- the same, where a client takes it so
-taken_same : (profile : Profile) (whole : Whole) (number : ℕ) (tag : Tag) (client : ClientState)
-    → client_at whole.ends tag.client ≡ Some client → IsSent profile whole.histories tag → Holds profile whole
-    → Agree profile (kept_taken (kept_of profile whole) number tag.client (taken_by_tag client tag.number (named whole.histories tag)))
-    (arrive whole number tag (Some client))
-taken_same profile whole number tag client found is holds =
-    let message = named whole.histories tag in
-    let same_clients : slice_set whole.ends.clients tag.client (Some client) ≡ whole.ends.clients =
-    ap (λ (s : Option ClientState). slice_set whole.ends.clients tag.client s) (sym found) ∙ set-get_or whole.ends.clients tag.client None in
-    elim (cases_Bool (nat_le tag.number client.taken)) [
-      | inl old ↦ rw old (record {
-        same = ap (λ (clients : List (Option ClientState)). record {
-          kept = record (kept_of profile whole) { ends = record whole.ends { clients = clients } };
-          answer = delivered number tag.client Old;
-        }) same_clients;
-        holds = holds;
-      })
-      | inr new ↦ rw new (arrives profile whole number tag client message is found (leb-false tag.number client.taken new) refl holds)
+-- what arrives of a piece: what holds stays
+holds_piece : (profile : Profile) (whole : Whole) (c number n : ℕ) (client : ClientState) (took : Took) (built : Built) → c < places → client_at whole.ends c ≡ Some client
+    → Does client.gathering n (built_bytes profile built) took → HoldsFront (messages_of profile (history_at whole.histories c).built) took.gathering
+    → (is : IsBuilt profile n built) → n ≤ length (history_at whole.histories c).built → WasBuilt (history_at whole.histories c).built is.snapshot
+    → Holds profile whole → Holds profile (arrive_piece whole number c client took built).whole
+holds_piece profile whole c number n client took built lt found does front is few was holds =
+    let g = took.gathering in
+    let joined = client_joined profile whole c client lt found holds in
+    let gathers = does.below (length (history_at whole.histories c).built) joined.3.gathers few in
+    elim does.either [
+      | inl waits ↦
+          let same = quiet_client (record client { gathering = g }) took.answer (λ n. Ok built) built.section waits.quiet in
+          rw (same.0, same.1) (Holds-taken profile whole c client (record client { gathering = g }) None lt found refl does.side
+          (λ slot joins. AreJoined-gathered profile whole.ends.server.map slot client (history_at whole.histories c) g waits.taken gathers front joins) holds)
+      | inr came ↦
+          let newer = came.newer in
+          let number_is = is.number in
+          rw (came.answer, is.is) (Holds-taken profile whole c client (record client { gathering = g; accepted = Some is.snapshot }) (Some is.snapshot) lt found refl does.side
+          (λ slot joins. AreJoined-accepted profile whole.ends.server.map slot client (history_at whole.histories c) g is.snapshot (came.taken ∙ sym number_is) gathers front was
+          (omega (arith, newer, number_is)) joins) holds)
     ]
 
 -- a datagram that was made is one of a message that was begun
@@ -269,31 +318,41 @@ is_sent profile whole k tag at holds =
     subst (λ (t : Tag). IsSent profile whole.histories t) (get_or_from_slice_get whole.sent k tag tag at)
     (holds.facts.sent k tag (slice_get_within whole.sent k tag at))
 
-delivered_to : (profile : Profile) (whole : Whole) (number : ℕ) (tag : Tag) (found : Option ClientState) → ReadsBack profile
-    → IsSent profile whole.histories tag → client_at whole.ends tag.client ≡ found → Holds profile whole
-    → Agree profile (kept_arrive (kept_of profile whole) number (bytes_of tag) found) (arrive whole number tag found)
-delivered_to profile whole number tag None reads is at holds = record { same = refl; holds = holds }
-delivered_to profile whole number tag (Some client) reads is at holds =
-    let message = named whole.histories tag in
-    let built = tag_was_built profile whole tag client is at holds in
-    let by = client_by profile whole tag.client client is.client at holds in
-    let by_tag : take_at client tag.bytes ≡ taken_by_tag client tag.number message =
-    ap (take_at client) is.bytes ∙ take_by_tag profile client tag.number message reads built by in
-    subst (λ (t : Taken). Agree profile (kept_taken (kept_of profile whole) number tag.client t) (arrive whole number tag (Some client))) (sym by_tag)
-    (taken_same profile whole number tag client at is holds)
+-- a client takes a datagram by what its bytes do
+taken_by_bytes : (client : ClientState) (bytes : List ℕ) (took : Took) → gathered_of client.gathering bytes ≡ took
+    → take_at client bytes ≡ take_gathered client took (read_by client.profile took.message)
+unfolding take_at
+taken_by_bytes client bytes took e = rw e refl
 
-sent_at : (profile : Profile) (whole : Whole) (number : ℕ) (found : Option Tag) → ReadsBack profile
+delivered_to : (profile : Profile) (whole : Whole) (number : ℕ) (tag : Tag) (found : Option ClientState) → Cited profile
+    → IsSent profile whole.histories tag → client_at whole.ends tag.client ≡ found → Holds profile whole
+    → Agree profile (kept_arrive (kept_of profile whole) number (bytes_of tag) found) (arrive profile whole number tag found)
+delivered_to profile whole number tag None cited is at holds = record { same = refl; holds = holds }
+delivered_to profile whole number tag (Some client) cited is at holds =
+    let built = named whole.histories tag in
+    let was_built = tag_was_built profile whole tag client is at holds in
+    let by = client_by profile whole tag.client client is.client at holds in
+    let took = tagged client.gathering tag.number (built_bytes profile built) tag.index in
+    let does = tagged_does client.gathering tag.number (built_bytes profile built) tag.index in
+    let tags = tag_is profile whole tag client cited is at holds in
+    record {
+      same = ap (λ (t : Taken). kept_taken (kept_of profile whole) number tag.client t)
+          (taken_by_bytes client tag.bytes took tags.0 ∙ taken_alike profile client took tag.number built cited.reads was_built by does);
+      holds = holds_piece profile whole tag.client number tag.number client took built is.client at does tags.1 was_built is.begun (names_built profile whole tag is was_built) holds;
+    }
+
+sent_at : (profile : Profile) (whole : Whole) (number : ℕ) (found : Option Tag) → Cited profile
     → slice_get whole.sent (number - 1) ≡ found → Holds profile whole
-    → Agree profile (kept_deliver (kept_of profile whole) number (option_map bytes_of found)) (deliver whole number found)
-sent_at profile whole number None reads at holds = record { same = refl; holds = holds }
-sent_at profile whole number (Some tag) reads at holds =
-    delivered_to profile whole number tag (client_at whole.ends tag.client) reads (is_sent profile whole (number - 1) tag at holds) refl holds
+    → Agree profile (kept_deliver (kept_of profile whole) number (option_map bytes_of found)) (deliver profile whole number found)
+sent_at profile whole number None cited at holds = record { same = refl; holds = holds }
+sent_at profile whole number (Some tag) cited at holds =
+    delivered_to profile whole number tag (client_at whole.ends tag.client) cited (is_sent profile whole (number - 1) tag at holds) refl holds
 
 pub delivers_agree : (profile : Profile) (whole : Whole) (number : ℕ) → Cited profile → Holds profile whole
     → Agree profile (kept_step (kept_of profile whole) (events.Deliver number)) (step profile whole (events.Deliver number))
 unfolding kept_step step
 delivers_agree profile whole number cited holds =
-    rw (slice_get-map bytes_of whole.sent (number - 1)) (sent_at profile whole number (slice_get whole.sent (number - 1)) cited.reads refl holds)
+    rw (slice_get-map bytes_of whole.sent (number - 1)) (sent_at profile whole number (slice_get whole.sent (number - 1)) cited refl holds)
 
 -- ---- every event
 
@@ -311,7 +370,7 @@ steps_agree profile whole (events.Area c area) cited is holds =
 steps_agree profile whole (events.Player c player) cited is holds =
     handed profile whole (set_player whole.ends c player) (holds_player profile whole c player (cited.normal player is.1) (omega (arith, is.0)) holds)
 steps_agree profile whole (events.Time time) cited is holds = record { same = refl; holds = Holds-map profile whole (record whole.ends.server.map { time = time }) is holds.facts.entities holds }
-steps_agree profile whole (events.Serve c) cited is holds = served profile whole c (omega (arith, is)) holds
+steps_agree profile whole (events.Serve c) cited is holds = served profile whole c cited (omega (arith, is)) holds
 steps_agree profile whole (events.Deliver number) cited is holds = delivers_agree profile whole number cited holds
 steps_agree profile whole (events.Show c) cited is holds = record { same = refl; holds = holds }
 

@@ -1,21 +1,28 @@
 -- What holds of one client, and stays so.
-use Rattle.std.proofs.Common.{◌≡◌, ℕ, suc, ◌+◌, ◌-◌, ◌^◌, ◌<◌, ◌≤◌, List, [], ◌∷◌, ◌++◌, length, get_or, Option, Some, None, refl, sym, ap, subst, ◌∙◌, inl, inr, arith}
+use Rattle.std.proofs.Common.{◌≡◌, ℕ, suc, ◌+◌, ◌-◌, ◌^◌, ◌<◌, ◌≤◌, List, [], ◌∷◌, ◌++◌, length, get_or, Option, Some, None, refl, sym, ap, subst, ◌∙◌, inl, inr, arith, lit<}
+use Rattle.std.specs.Prelude.{nat_lt, IfSome}
 use Rattle.std.specs.List.{last_or}
 use Rattle.std.proofs.lemmas.List.{length_push, get_or_append_left, get_or_push}
 use Rattle.std.proofs.lemmas.List.Elements.{All-nil}
-use Rattle.std.proofs.lemmas.Bool.{cases_lt}
+use Rattle.std.proofs.lemmas.Bool.{cases_Bool, cases_lt, ltb-true}
 use Rattle.arrayvec.specs.ArrayVec.{ArrayVec}
 use Rattle.q3_profile.specs.declared.profile.Profile.{Profile}
-use Rattle.q3_player.specs.State.{zero_player, normal_player}
+use Rattle.q3_player.specs.State.{zero_player}
 use Rattle.q3_player.specs.declared.state.PlayerState.{PlayerState}
 use Rattle.q3_io.specs.declared.address.Address.{Address}
 use Rattle.q3_entity.specs.Entities.{most_entities}
-use Rattle.q3_world.specs.Message.{Snapshot, message_of, IsHeld, IsArea, AreHeld, IsBuilt, sequence_end}
-use Rattle.q3_world.specs.Server.{MapState, SlotState, Built, new_slot, with_player, with_area, next_snapshot, next_message}
-use Rattle.q3_world.specs.Client.{ClientState, new_client, apply_message}
-use Rattle.q3_world.specs.World.{History, no_history}
-use Rattle.q3_world.specs.StandsFor.{AreEnds, IsClient, WasBuilt, number_of_newest, Rise, AreJoined}
-use Rattle.q3_world.proofs.Growth.{was_built_more, each_more}
+use Rattle.q3_chan.specs.declared.side.Side.{Side}
+use Rattle.q3_chan.specs.declared.side.Side.TheVariants.{Server}
+use Rattle.q3_chan.specs.Datagrams.{sequence_end, piece_count, datagram}
+use Rattle.q3_chan.specs.Sending.{Sending, UnderWay, Handed, started, left_of, hand_out, next_of}
+use Rattle.q3_chan.specs.Gathering.{Gathering}
+use Rattle.q3_chan.specs.Laws.{IsSendable, HoldsFront}
+use Rattle.q3_world.specs.Message.{Snapshot, IsHeld, IsArea, AreHeld, IsBuilt}
+use Rattle.q3_world.specs.Server.{MapState, SlotState, Built, new_slot, next_snapshot, next_message, built_bytes}
+use Rattle.q3_world.specs.Client.{ClientState, new_client}
+use Rattle.q3_world.specs.World.{History, no_history, no_message, built_at}
+use Rattle.q3_world.specs.StandsFor.{IsUnderWay, AreEnds, IsClient, WasBuilt, number_of_newest, Rise, messages_of, AreJoined}
+use Rattle.q3_world.proofs.Growth.{was_built_more, each_more, history_after, history_heard, front_stays}
 use Rattle.q3_world.proofs.Held.{AreHeld-take, few_taken}
 
 -- ---- presence
@@ -47,21 +54,39 @@ no_area = record { bytes = All-nil (λ (byte : ℕ). byte < 256); short = omega 
 pub AreEnds-new : (profile : Profile) (challenge qport dup : ℕ) (address : Address) → IsHeld profile zero_player
     → AreEnds profile (new_slot challenge qport address) (new_client profile challenge qport dup) no_history
 AreEnds-new profile challenge qport dup address zero =
-    record { begun = refl; player = zero; area = no_area; built = λ k d lt. absurd (omega (arith, lt)); by = refl }
+    record {
+      begun = refl;
+      side = refl;
+      qport = refl;
+      under_way = tt;
+      player = zero;
+      area = no_area;
+      built = λ k d lt. absurd (omega (arith, lt));
+      short = λ k d lt. absurd (omega (arith, lt));
+      by = refl;
+      from = refl;
+    }
 
--- another player
-pub AreEnds-player : (profile : Profile) (slot : SlotState) (client : ClientState) (history : History) (player : PlayerState)
-    → IsHeld profile (normal_player profile.player.kinds player) → AreEnds profile slot client history → AreEnds profile (with_player profile slot player) client history
-AreEnds-player profile slot client history player held ends = record { begun = ends.begun; player = held; area = ends.area; built = ends.built; by = ends.by }
-
--- other area bytes
-pub AreEnds-area : (profile : Profile) (slot : SlotState) (client : ClientState) (history : History) (area : ArrayVec ℕ)
-    → IsArea area.items → AreEnds profile slot client history → AreEnds profile (with_area slot area) client history
-AreEnds-area profile slot client history area is ends = record { begun = ends.begun; player = ends.player; area = is; built = ends.built; by = ends.by }
+-- another player and other area bytes
+pub AreEnds-given : (profile : Profile) (slot : SlotState) (client : ClientState) (history : History) (player : PlayerState) (area : ArrayVec ℕ)
+    → IsHeld profile player → IsArea area.items → AreEnds profile slot client history → AreEnds profile (record slot { player = player; area = area }) client history
+AreEnds-given profile slot client history player area held is ends =
+    record {
+      begun = ends.begun;
+      side = ends.side;
+      qport = ends.qport;
+      under_way = ends.under_way;
+      player = held;
+      area = is;
+      built = ends.built;
+      short = ends.short;
+      by = ends.by;
+      from = ends.from;
+    }
 
 -- the message that goes to a slot next is built
-next_is_built : (profile : Profile) (map : MapState) (slot : SlotState) → map.time < 2 ^ 32 → AreHeld profile map.entities → slot.begun + 1 < sequence_end
-    → IsHeld profile slot.player → IsArea slot.area.items → IsBuilt profile (slot.begun + 1) (next_message map slot)
+next_is_built : (profile : Profile) (map : MapState) (slot : SlotState) → map.time < 2 ^ 32 → AreHeld profile map.entities → slot.sending.number + 1 < sequence_end
+    → IsHeld profile slot.player → IsArea slot.area.items → IsBuilt profile (slot.sending.number + 1) (next_message map slot)
 next_is_built profile map slot time entities fits player area =
     record {
       snapshot = next_snapshot map slot;
@@ -76,49 +101,155 @@ next_is_built profile map slot time entities fits player area =
       few = few_taken most_entities map.entities;
     }
 
--- one message more was begun
-pub AreEnds-built : (profile : Profile) (map : MapState) (slot : SlotState) (client : ClientState) (history : History)
-    → map.time < 2 ^ 32 → AreHeld profile map.entities → slot.begun + 1 < sequence_end → AreEnds profile slot client history
-    → AreEnds profile (record slot { begun = slot.begun + 1 }) client (record history { built = history.built ++ next_message map slot ∷ [] })
-AreEnds-built profile map slot client history time entities fits ends =
+-- one message more was begun, and is under way
+abbrev pub slot_begun : Profile → MapState → SlotState → SlotState
+slot_begun profile map slot = record slot { sending = started slot.sending (built_bytes profile (next_message map slot)) }
+
+pub AreEnds-begun : (profile : Profile) (map : MapState) (slot : SlotState) (client : ClientState) (history : History)
+    → map.time < 2 ^ 32 → AreHeld profile map.entities → slot.sending.number + 1 < sequence_end → IsSendable (built_bytes profile (next_message map slot))
+    → AreEnds profile slot client history
+    → AreEnds profile (slot_begun profile map slot) client (record history { built = history.built ++ next_message map slot ∷ [] })
+AreEnds-begun profile map slot client history time entities fits sendable ends =
     let next = next_message map slot in
     let begun = ends.begun in
+    let longer = length_push history.built next in
+    let last : built_at (history.built ++ next ∷ []) (length (history.built ++ next ∷ [])) ≡ next =
+    get_or_push history.built next no_message (length (history.built ++ next ∷ []) - 1) (omega (arith, longer)) in
     record {
-      begun = omega (arith, length_push history.built next);
+      begun = omega (arith, longer);
+      side = ends.side;
+      qport = ends.qport;
+      under_way = record { some = omega (arith, longer); message = ap (built_bytes profile) (sym last); left = omega arith };
       player = ends.player;
       area = ends.area;
       built = each_more (λ (k : ℕ) (b : Built). IsBuilt profile (k + 1) b) history.built next ends.built
           (subst (λ (n : ℕ). IsBuilt profile (n + 1) next) begun (next_is_built profile map slot time entities fits ends.player ends.area));
+      short = each_more (λ (k : ℕ) (b : Built). IsSendable (built_bytes profile b)) history.built next ends.short sendable;
       by = ends.by;
+      from = ends.from;
     }
 
--- another state of the client, and more snapshots accepted
-pub AreEnds-client : (profile : Profile) (slot : SlotState) (client next : ClientState) (history : History) (accepted : List Snapshot)
-    → next.profile ≡ profile → AreEnds profile slot client history → AreEnds profile slot next (record history { accepted = accepted })
-AreEnds-client profile slot client next history accepted by ends = record { begun = ends.begun; player = ends.player; area = ends.area; built = ends.built; by = by }
+-- ---- a piece is handed out
+
+-- of a message under way its next piece is handed out
+pub next_is : (s : Sending) (left : UnderWay) → s.under_way ≡ Some left
+    → next_of s ≡ record { sending = record s { under_way = left_of left }; datagram = datagram s.side s.qport s.number left.message left.next }
+unfolding next_of
+next_is s left e = ap (hand_out s) e
+
+-- what is left behind it is a piece of the same message
+left_is : (profile : Profile) (built : List Built) (left : UnderWay) → IsUnderWay profile built left → IfSome (left_of left) (IsUnderWay profile built)
+left_is profile built left is =
+    elim (cases_Bool (nat_lt (left.next + 1) (piece_count (length left.message)))) [
+      | inl more ↦ rw more (record { some = is.some; message = is.message; left = ltb-true (left.next + 1) (piece_count (length left.message)) more })
+      | inr last ↦ rw last tt
+    ]
+
+abbrev pub slot_handed : SlotState → SlotState
+slot_handed slot = record slot { sending = (next_of slot.sending).sending }
+
+pub AreEnds-handed : (profile : Profile) (slot : SlotState) (left : UnderWay) (client : ClientState) (history : History) → slot.sending.under_way ≡ Some left
+    → AreEnds profile slot client history → AreEnds profile (slot_handed slot) client history
+AreEnds-handed profile slot left client history e ends =
+    let way : IsUnderWay profile history.built left = subst (λ (o : Option UnderWay). IfSome o (IsUnderWay profile history.built)) e ends.under_way in
+    subst (λ (s : Sending). AreEnds profile (record slot { sending = s }) client history) (sym (ap (λ (h : Handed). h.sending) (next_is slot.sending left e)))
+    (record {
+      begun = ends.begun;
+      side = ends.side;
+      qport = ends.qport;
+      under_way = left_is profile history.built left way;
+      player = ends.player;
+      area = ends.area;
+      built = ends.built;
+      short = ends.short;
+      by = ends.by;
+      from = ends.from;
+    })
+
+-- its datagram is one of the message that is under way
+pub handed_bytes : (profile : Profile) (slot : SlotState) (left : UnderWay) (client : ClientState) (history : History) → slot.sending.under_way ≡ Some left
+    → AreEnds profile slot client history
+    → (1 ≤ slot.sending.number) × (left.next < piece_count (length (built_bytes profile (built_at history.built slot.sending.number))))
+    × ((next_of slot.sending).datagram ≡ datagram Server 0 slot.sending.number (built_bytes profile (built_at history.built slot.sending.number)) left.next)
+handed_bytes profile slot left client history e ends =
+    let way : IsUnderWay profile history.built left = subst (λ (o : Option UnderWay). IfSome o (IsUnderWay profile history.built)) e ends.under_way in
+    let some = way.some in
+    let begun = ends.begun in
+    let message : left.message ≡ built_bytes profile (built_at history.built slot.sending.number) =
+    way.message ∙ ap (λ (n : ℕ). built_bytes profile (built_at history.built n)) (sym begun) in (
+      omega (arith, some, begun),
+      subst (λ (m : List ℕ). left.next < piece_count (length m)) message way.left,
+      ap (λ (h : Handed). h.datagram) (next_is slot.sending left e)
+          ∙ (ap (λ (side : Side). datagram side slot.sending.qport slot.sending.number left.message left.next) ends.side
+          ∙ (ap (λ (qport : ℕ). datagram Server qport slot.sending.number left.message left.next) ends.qport
+          ∙ ap (λ (m : List ℕ). datagram Server 0 slot.sending.number m left.next) message)),
+    )
+
+-- ---- another state of the client
+
+pub AreEnds-client : (profile : Profile) (slot : SlotState) (client next : ClientState) (history : History) (heard : Option Snapshot)
+    → next.profile ≡ profile → next.gathering.side ≡ Server → AreEnds profile slot client history → AreEnds profile slot next (history_heard history heard)
+AreEnds-client profile slot client next history None by from ends =
+    record {
+      begun = ends.begun;
+      side = ends.side;
+      qport = ends.qport;
+      under_way = ends.under_way;
+      player = ends.player;
+      area = ends.area;
+      built = ends.built;
+      short = ends.short;
+      by = by;
+      from = from;
+    }
+AreEnds-client profile slot client next history (Some snapshot) by from ends =
+    record {
+      begun = ends.begun;
+      side = ends.side;
+      qport = ends.qport;
+      under_way = ends.under_way;
+      player = ends.player;
+      area = ends.area;
+      built = ends.built;
+      short = ends.short;
+      by = by;
+      from = from;
+    }
 
 -- ---- what joins the ends
 
 pub AreJoined-new : (map : MapState) (profile : Profile) (challenge qport dup : ℕ) (address : Address)
-    → AreJoined map (new_slot challenge qport address) (new_client profile challenge qport dup) no_history
+    → AreJoined profile map (new_slot challenge qport address) (new_client profile challenge qport dup) no_history
 AreJoined-new map profile challenge qport dup address =
-    record { accepted = λ k d lt. absurd (omega (arith, lt)); rise = λ j k d lt within. absurd (omega (arith, within)); newest = refl; taken = refl }
-
--- another map, another slot, and more messages built
-pub AreJoined-built : (map map' : MapState) (slot slot' : SlotState) (client : ClientState) (history : History) (more : List Built)
-    → AreJoined map slot client history → AreJoined map' slot' client (record history { built = history.built ++ more })
-AreJoined-built map map' slot slot' client history more joined =
     record {
-      accepted = λ k d lt. was_built_more history.built more (get_or history.accepted k d) (joined.accepted k d lt);
+      accepted = λ k d lt. absurd (omega (arith, lt));
+      rise = λ j k d lt within. absurd (omega (arith, within));
+      newest = refl;
+      taken = refl;
+      gathers = omega arith;
+      front = record { count = 0; not_all = lit< tt; front = refl };
+    }
+
+-- another map and another slot
+pub AreJoined-slot : (profile : Profile) (map map' : MapState) (slot slot' : SlotState) (client : ClientState) (history : History)
+    → AreJoined profile map slot client history → AreJoined profile map' slot' client history
+AreJoined-slot profile map map' slot slot' client history joined =
+    record { accepted = joined.accepted; rise = joined.rise; newest = joined.newest; taken = joined.taken; gathers = joined.gathers; front = joined.front }
+
+-- and a message more built, if one was begun
+pub AreJoined-after : (profile : Profile) (map : MapState) (slot slot' : SlotState) (client : ClientState) (history : History) (began : Option Built)
+    → AreJoined profile map slot client history → AreJoined profile map slot' client (history_after history began)
+AreJoined-after profile map slot slot' client history None joined = AreJoined-slot profile map map slot slot' client history joined
+AreJoined-after profile map slot slot' client history (Some next) joined =
+    let gathers = joined.gathers in
+    record {
+      accepted = λ k d lt. was_built_more history.built (next ∷ []) (get_or history.accepted k d) (joined.accepted k d lt);
       rise = joined.rise;
       newest = joined.newest;
       taken = joined.taken;
+      gathers = omega (arith, gathers, length_push history.built next);
+      front = front_stays profile history.built (next ∷ []) client.gathering gathers joined.front;
     }
-
-pub AreJoined-slot : (map map' : MapState) (slot slot' : SlotState) (client : ClientState) (history : History)
-    → AreJoined map slot client history → AreJoined map' slot' client history
-AreJoined-slot map map' slot slot' client history joined =
-    record { accepted = joined.accepted; rise = joined.rise; newest = joined.newest; taken = joined.taken }
 
 -- the last of a list, and of one more
 last_push : {X : Type 0} (o : Option X) (xs : List X) (x : X) → last_or o (xs ++ x ∷ []) ≡ Some x
@@ -154,15 +285,25 @@ rise_more accepted next rise above j k d lt within =
           rw (get_or_push accepted next d k e, get_or_append_left accepted (next ∷ []) d j (omega arith)) (above j d (omega arith))
     ]
 
--- a newer snapshot that was built is accepted
-pub AreJoined-accepted : (map : MapState) (slot : SlotState) (client : ClientState) (history : History) (snapshot : Snapshot)
-    → WasBuilt history.built snapshot → client.taken < snapshot.head.number → AreJoined map slot client history
-    → AreJoined map slot (apply_message client snapshot.head.number (message_of snapshot)).client (record history { accepted = history.accepted ++ snapshot ∷ [] })
-AreJoined-accepted map slot client history snapshot was newer joined =
+-- more was gathered, or gathered anew, and no message came whole
+pub AreJoined-gathered : (profile : Profile) (map : MapState) (slot : SlotState) (client : ClientState) (history : History) (g : Gathering)
+    → g.taken ≡ client.gathering.taken → g.number ≤ length history.built → HoldsFront (messages_of profile history.built) g
+    → AreJoined profile map slot client history → AreJoined profile map slot (record client { gathering = g }) history
+AreJoined-gathered profile map slot client history g taken gathers front joined =
+    record { accepted = joined.accepted; rise = joined.rise; newest = joined.newest; taken = taken ∙ joined.taken; gathers = gathers; front = front }
+
+-- a newer snapshot that was built came whole and is accepted
+pub AreJoined-accepted : (profile : Profile) (map : MapState) (slot : SlotState) (client : ClientState) (history : History) (g : Gathering) (snapshot : Snapshot)
+    → g.taken ≡ snapshot.head.number → g.number ≤ length history.built → HoldsFront (messages_of profile history.built) g
+    → WasBuilt history.built snapshot → client.gathering.taken < snapshot.head.number → AreJoined profile map slot client history
+    → AreJoined profile map slot (record client { gathering = g; accepted = Some snapshot }) (record history { accepted = history.accepted ++ snapshot ∷ [] })
+AreJoined-accepted profile map slot client history g snapshot taken gathers front was newer joined =
     let newest = joined.taken ∙ ap number_of_newest joined.newest in
     record {
       accepted = each_more (λ (k : ℕ) (s : Snapshot). WasBuilt history.built s) history.accepted snapshot joined.accepted was;
       rise = rise_more history.accepted snapshot joined.rise (λ k d lt. omega (arith, at_most history.accepted k d joined.rise lt, newest));
       newest = sym (last_push None history.accepted snapshot);
-      taken = refl;
+      taken = taken;
+      gathers = gathers;
+      front = front;
     }

@@ -1,29 +1,32 @@
 -- What holds between any two events holds after each event.
 use Rattle.std.proofs.Common.{◌≡◌, ℕ, ◌+◌, ◌-◌, ◌^◌, ◌<◌, ◌≤◌, List, [], ◌∷◌, ◌++◌, length, get_or, Option, Some, None, refl, sym, ap, subst, ◌∙◌, arith, lit<}
 use Rattle.std.specs.Prelude.{slice_set}
-use Rattle.std.proofs.lemmas.List.{get_or-replicate, length_push, get_or_push}
-use Rattle.q3_bits.specs.Bits.{message_bytes}
+use Rattle.std.proofs.lemmas.List.{get_or-replicate}
 use Rattle.q3_profile.specs.declared.profile.Profile.{Profile}
 use Rattle.q3_profile.specs.Profile.{IsCodec}
 use Rattle.q3_player.specs.State.{zero_player, normal_player}
 use Rattle.q3_player.specs.declared.state.PlayerState.{PlayerState}
 use Rattle.q3_io.specs.declared.address.Address.{Address}
 use Rattle.arrayvec.specs.ArrayVec.{ArrayVec}
-use Rattle.q3_world.specs.Message.{Snapshot, message_of, IsHeld, IsArea, AreHeld, IsBuilt, sequence_end, datagram_bytes}
-use Rattle.q3_world.specs.Server.{MapState, SlotState, Built, places, slot_at, with_slot, new_slot, with_player, with_area, next_message, built_bits}
-use Rattle.q3_world.specs.Client.{ClientState, new_client, apply_message}
+use Rattle.q3_chan.specs.declared.side.Side.TheVariants.{Server}
+use Rattle.q3_chan.specs.Datagrams.{piece_count, datagram}
+use Rattle.q3_chan.specs.Sending.{UnderWay, next_of}
+use Rattle.q3_chan.specs.Laws.{IsSendable}
+use Rattle.q3_world.specs.Message.{Snapshot, IsHeld, IsArea, AreHeld, IsBuilt}
+use Rattle.q3_world.specs.Server.{MapState, SlotState, Built, places, slot_at, with_slot, new_slot, with_player, with_area, built_bytes}
+use Rattle.q3_world.specs.Client.{ClientState, new_client}
 use Rattle.q3_world.specs.Ends.{client_at, with_client}
-use Rattle.q3_world.specs.World.{Tag, History, Whole, no_history, no_message, history_at, built_at, with_built, with_accepted, named, opening}
+use Rattle.q3_world.specs.World.{Tag, History, Whole, no_history, no_message, history_at, built_at, histories_after, accepted_after, named, opening}
 use Rattle.q3_world.specs.StandsFor.{AreEnds, IsClient, IsSent, Facts, AreJoined, IsJoined, AllJoined, WasBuilt}
 use Rattle.q3_world.proofs.OnePlace.{set_there, OnlyAt, OnlyAt-set, OnlyAt-same, Each, each_at}
-use Rattle.q3_world.proofs.Growth.{Grows, Grows-same, Grows-built, Grows-accepted, AllSent, all_sent_grow, each_more}
-use Rattle.q3_world.proofs.Clients.{no_client, a_client, a_slot, AreEnds-new, AreEnds-player, AreEnds-area, AreEnds-built, AreEnds-client, AreJoined-new, AreJoined-built, AreJoined-slot, AreJoined-accepted}
+use Rattle.q3_world.proofs.Growth.{Grows, Grows-same, Grows-after, Grows-heard, OnlyAt-after, OnlyAt-heard, there_after, there_heard, history_after, history_heard, AllSent, all_sent_grow, each_more}
+use Rattle.q3_world.proofs.Clients.{no_client, a_client, a_slot, AreEnds-new, AreEnds-given, AreEnds-handed, AreEnds-client, slot_handed, handed_bytes, AreJoined-new, AreJoined-slot, AreJoined-after}
 use Rattle.q3_world.proofs.Held.{AreHeld-none}
 
 -- what holds of a whole world
 pub record Holds (profile : Profile) (whole : Whole) : Type 0 where
   pub facts : Facts profile whole
-  pub joined : AllJoined whole
+  pub joined : AllJoined profile whole
 
 -- at the beginning
 pub Holds-opening : (profile : Profile) → IsCodec profile → Holds profile (opening profile)
@@ -60,7 +63,7 @@ pub record Differ (c : ℕ) (old new : Whole) : Type 0 where
 -- what holds of the others stays
 pub Holds-at : (profile : Profile) (c : ℕ) (old new : Whole) → Differ c old new
     → IsClient profile (slot_at new.ends.server c) (client_at new.ends c) (history_at new.histories c)
-    → IsJoined new.ends.server.map (slot_at new.ends.server c) (client_at new.ends c) (history_at new.histories c)
+    → IsJoined profile new.ends.server.map (slot_at new.ends.server c) (client_at new.ends c) (history_at new.histories c)
     → AllSent profile new.histories new.sent → Holds profile old → Holds profile new
 Holds-at profile c old new differ client joined sent holds =
     let facts = holds.facts in
@@ -77,9 +80,9 @@ Holds-at profile c old new differ client joined sent holds =
             differ.slots differ.clients differ.histories client facts.each;
         sent = sent;
       };
-      joined = each_at (IsJoined new.ends.server.map) c old.ends.server.slots new.ends.server.slots old.ends.clients new.ends.clients old.histories new.histories
+      joined = each_at (IsJoined profile new.ends.server.map) c old.ends.server.slots new.ends.server.slots old.ends.clients new.ends.clients old.histories new.histories
           differ.slots differ.clients differ.histories joined
-          (subst (λ (map : MapState). Each (IsJoined map) old.ends.server.slots old.ends.clients old.histories) (sym differ.map) holds.joined);
+          (subst (λ (map : MapState). Each (IsJoined profile map) old.ends.server.slots old.ends.clients old.histories) (sym differ.map) holds.joined);
     }
 
 abbrev some_slot : SlotState → Option SlotState
@@ -124,7 +127,7 @@ with_new_slot whole c slot = record whole { ends = record whole.ends { server = 
 -- the two ends of a client that has a slot, and what joins them
 abbrev Has : Profile → Whole → ℕ → SlotState → Type 0
 Has profile whole c slot = (client : ClientState) × (client_at whole.ends c ≡ Some client)
-    × AreEnds profile slot client (history_at whole.histories c) × AreJoined whole.ends.server.map slot client (history_at whole.histories c)
+    × AreEnds profile slot client (history_at whole.histories c) × AreJoined profile whole.ends.server.map slot client (history_at whole.histories c)
 
 has : (profile : Profile) (whole : Whole) (c : ℕ) (slot : SlotState) → c < places → slot_at whole.ends.server c ≡ Some slot → Holds profile whole → Has profile whole c slot
 has profile whole c slot lt found holds =
@@ -132,8 +135,8 @@ has profile whole c slot lt found holds =
     let map = whole.ends.server.map in
     let ends = a_client profile slot (client_at whole.ends c) history
     (subst (λ (s : Option SlotState). IsClient profile s (client_at whole.ends c) history) found (holds.facts.each c lt)) in
-    let joined : IsJoined map (some_slot slot) (client_at whole.ends c) history = subst (λ (s : Option SlotState). IsJoined map s (client_at whole.ends c) history) found (holds.joined c lt) in
-    (ends.0, ends.1, ends.2, subst (λ (e : Option ClientState). IsJoined map (some_slot slot) e history) ends.1 joined)
+    let joined : IsJoined profile map (some_slot slot) (client_at whole.ends c) history = subst (λ (s : Option SlotState). IsJoined profile map s (client_at whole.ends c) history) found (holds.joined c lt) in
+    (ends.0, ends.1, ends.2, subst (λ (e : Option ClientState). IsJoined profile map (some_slot slot) e history) ends.1 joined)
 
 -- a slot changes, and not how many messages it began
 holds_slot : (profile : Profile) (whole : Whole) (c : ℕ) (slot next : SlotState) → c < places → slot_at whole.ends.server c ≡ Some slot
@@ -156,7 +159,7 @@ holds_slot profile whole c slot next lt found stays holds =
       grows = Grows-same whole.histories;
     })
     (rw (slot_is, had.1) (stays had.0 had.2))
-    (rw (slot_is, had.1) (AreJoined-slot map map slot next had.0 history had.3))
+    (rw (slot_is, had.1) (AreJoined-slot profile map map slot next had.0 history had.3))
     facts.sent holds
 
 pub Holds-player : (profile : Profile) (whole : Whole) (c : ℕ) (slot : SlotState) (player : PlayerState) → c < places
@@ -164,79 +167,74 @@ pub Holds-player : (profile : Profile) (whole : Whole) (c : ℕ) (slot : SlotSta
     → Holds profile (with_new_slot whole c (with_player profile slot player))
 Holds-player profile whole c slot player lt found held holds =
     holds_slot profile whole c slot (with_player profile slot player) lt found
-    (λ client ends. AreEnds-player profile slot client (history_at whole.histories c) player held ends) holds
+    (λ client ends. AreEnds-given profile slot client (history_at whole.histories c) (normal_player profile.player.kinds player) slot.area held ends.area ends) holds
 
 pub Holds-area : (profile : Profile) (whole : Whole) (c : ℕ) (slot : SlotState) (area : ArrayVec ℕ) → c < places
     → slot_at whole.ends.server c ≡ Some slot → IsArea area.items → Holds profile whole
     → Holds profile (with_new_slot whole c (with_area slot area))
 Holds-area profile whole c slot area lt found is holds =
     holds_slot profile whole c slot (with_area slot area) lt found
-    (λ client ends. AreEnds-area profile slot client (history_at whole.histories c) area is ends) holds
+    (λ client ends. AreEnds-given profile slot client (history_at whole.histories c) slot.player area ends.player is ends) holds
 
--- ---- a message was begun
+-- ---- a datagram was handed out
 
--- the tag of a slot's next message
-abbrev pub next_tag : Profile → MapState → ℕ → SlotState → Tag
-next_tag profile map c slot =
-    record { client = c; number = slot.begun + 1; bytes = datagram_bytes (slot.begun + 1) (message_bytes (built_bits profile (next_message map slot))) }
+-- the world behind an emission of a slot that has this piece left: a message was begun, if one was, and the piece has a tag
+abbrev pub handed_tag : ℕ → SlotState → UnderWay → Tag
+handed_tag c slot left = record { client = c; number = slot.sending.number; index = left.next; bytes = (next_of slot.sending).datagram }
 
-abbrev pub with_begun : Profile → Whole → ℕ → SlotState → Whole
-with_begun profile whole c slot =
+abbrev pub with_handed : Whole → ℕ → SlotState → UnderWay → Option Built → Whole
+with_handed whole c slot left began =
     record {
-      ends = record whole.ends { server = with_slot whole.ends.server c (record slot { begun = slot.begun + 1 }) };
-      histories = with_built whole.histories c (next_message whole.ends.server.map slot);
-      sent = whole.sent ++ next_tag profile whole.ends.server.map c slot ∷ [];
+      ends = record whole.ends { server = with_slot whole.ends.server c (slot_handed slot) };
+      histories = histories_after whole.histories c began;
+      sent = whole.sent ++ handed_tag c slot left ∷ [];
     }
 
-next_is_sent : (profile : Profile) (map : MapState) (histories : List History) (c : ℕ) (slot : SlotState) → c < places → length histories ≡ places
-    → slot.begun ≡ length (history_at histories c).built
-    → IsSent profile (with_built histories c (next_message map slot)) (next_tag profile map c slot)
-next_is_sent profile map histories c slot lt count begun =
-    let next = next_message map slot in
-    let history = history_at histories c in
-    let grown = record history { built = history.built ++ next ∷ [] } in
-    let there : history_at (with_built histories c next) c ≡ grown = set_there histories c no_history grown count lt in
-    let longer = length_push history.built next in
-    let place : slot.begun + 1 - 1 ≡ slot.begun = omega arith in
-    let is_next : built_at grown.built (slot.begun + 1) ≡ next =
-    ap (λ (k : ℕ). get_or grown.built k no_message) place ∙ get_or_push history.built next no_message slot.begun (sym begun) in
+handed_is_sent : (profile : Profile) (histories : List History) (c : ℕ) (slot : SlotState) (left : UnderWay) (client : ClientState) (history : History) → c < places
+    → history_at histories c ≡ history → slot.sending.under_way ≡ Some left → AreEnds profile slot client history → IsSent profile histories (handed_tag c slot left)
+handed_is_sent profile histories c slot left client history lt there e ends =
+    let bytes = handed_bytes profile slot left client history e ends in
+    let begun = ends.begun in
     record {
       client = lt;
-      some = omega arith;
-      begun = subst (λ (h : History). slot.begun + 1 ≤ length h.built) (sym there) (omega (arith, longer));
-      bytes = ap (λ (b : Built). datagram_bytes (slot.begun + 1) (message_bytes (built_bits profile b)))
-          (sym (ap (λ (h : History). built_at h.built (slot.begun + 1)) there ∙ is_next));
+      some = bytes.0;
+      begun = subst (λ (h : History). slot.sending.number ≤ length h.built) (sym there) (omega (arith, begun));
+      piece = subst (λ (h : History). left.next < piece_count (length (built_bytes profile (built_at h.built slot.sending.number)))) (sym there) bytes.1;
+      bytes = bytes.2 ∙ ap (λ (h : History). datagram Server 0 slot.sending.number (built_bytes profile (built_at h.built slot.sending.number)) left.next) (sym there);
     }
 
-pub Holds-begun : (profile : Profile) (whole : Whole) (c : ℕ) (slot : SlotState) → c < places → slot_at whole.ends.server c ≡ Some slot
-    → slot.begun + 1 < sequence_end → Holds profile whole → Holds profile (with_begun profile whole c slot)
-Holds-begun profile whole c slot lt found fits holds =
+-- a slot that has a piece left, of a message that was begun now or before, hands it out
+pub Holds-handed : (profile : Profile) (whole : Whole) (c : ℕ) (old slot : SlotState) (left : UnderWay) (began : Option Built) → c < places
+    → slot_at whole.ends.server c ≡ Some old → slot.sending.under_way ≡ Some left
+    → ((client : ClientState) → AreEnds profile old client (history_at whole.histories c) → AreEnds profile slot client (history_after (history_at whole.histories c) began))
+    → Holds profile whole → Holds profile (with_handed whole c slot left began)
+Holds-handed profile whole c old slot left began lt found way begins holds =
     let facts = holds.facts in
     let slots = whole.ends.server.slots in
     let map = whole.ends.server.map in
     let histories = whole.histories in
     let history = history_at histories c in
-    let next = next_message map slot in
-    let begun = record slot { begun = slot.begun + 1 } in
-    let grown = record history { built = history.built ++ next ∷ [] } in
-    let grows = Grows-built histories c next facts.histories lt in
-    let had = has profile whole c slot lt found holds in
-    let slot_is = set_there slots c None (Some begun) facts.slots lt in
-    let history_is = set_there histories c no_history grown facts.histories lt in
-    Holds-at profile c whole (with_begun profile whole c slot)
+    let next = slot_handed slot in
+    let grown = history_after history began in
+    let grows = Grows-after histories c began facts.histories lt in
+    let had = has profile whole c old lt found holds in
+    let ends = begins had.0 had.2 in
+    let slot_is = set_there slots c None (Some next) facts.slots lt in
+    let history_is = there_after histories c began facts.histories lt in
+    Holds-at profile c whole (with_handed whole c slot left began)
     (record {
       by = refl;
       map = refl;
-      slots = OnlyAt-set None c slots (Some begun);
+      slots = OnlyAt-set None c slots (Some next);
       clients = OnlyAt-same None c whole.ends.clients;
-      histories = OnlyAt-set no_history c histories grown;
+      histories = OnlyAt-after histories c began;
       grows = grows;
     })
-    (rw (slot_is, had.1, history_is) (AreEnds-built profile map slot had.0 history facts.time facts.entities fits had.2))
-    (rw (slot_is, had.1, history_is) (AreJoined-built map map slot begun had.0 history (next ∷ []) had.3))
-    (each_more (λ (k : ℕ) (tag : Tag). IsSent profile (with_built histories c next) tag) whole.sent (next_tag profile map c slot)
-    (all_sent_grow profile histories (with_built histories c next) whole.sent grows facts.sent)
-    (next_is_sent profile map histories c slot lt facts.histories had.2.begun))
+    (rw (slot_is, had.1, history_is) (AreEnds-handed profile slot left had.0 grown way ends))
+    (rw (slot_is, had.1, history_is) (AreJoined-after profile map old next had.0 history began had.3))
+    (each_more (λ (k : ℕ) (tag : Tag). IsSent profile (histories_after histories c began) tag) whole.sent (handed_tag c slot left)
+    (all_sent_grow profile histories (histories_after histories c began) whole.sent grows facts.sent)
+    (handed_is_sent profile (histories_after histories c began) c slot left had.0 grown lt history_is way ends))
     holds
 
 -- ---- a message arrived
@@ -272,59 +270,71 @@ client_by profile whole c client lt found holds =
     (subst (λ (e : Option ClientState). IsClient profile (slot_at whole.ends.server c) e history) found (holds.facts.each c lt)) in
     had.2.by
 
--- a client accepted a snapshot under its number
-abbrev pub with_applied : Whole → ℕ → ℕ → ClientState → Snapshot → Whole
-with_applied whole c number client snapshot =
-    record whole {
-      ends = with_client whole.ends c (apply_message client number (message_of snapshot)).client;
-      histories = with_accepted whole.histories c snapshot;
-    }
+-- a client that is there gathers what a server sends, and each of the messages is one that may be sent
+pub client_from : (profile : Profile) (whole : Whole) (c : ℕ) (client : ClientState) → c < places → client_at whole.ends c ≡ Some client → Holds profile whole
+    → (client.gathering.side ≡ Server)
+    × ((k : ℕ) (d : Built) → k < length (history_at whole.histories c).built → IsSendable (built_bytes profile (get_or (history_at whole.histories c).built k d)))
+client_from profile whole c client lt found holds =
+    let history = history_at whole.histories c in
+    let had = a_slot profile (slot_at whole.ends.server c) client history
+    (subst (λ (e : Option ClientState). IsClient profile (slot_at whole.ends.server c) e history) found (holds.facts.each c lt)) in
+    (had.2.from, had.2.short)
 
-pub Holds-applied : (profile : Profile) (whole : Whole) (tag : Tag) (client : ClientState) (snapshot : Snapshot) → IsSent profile whole.histories tag
-    → client_at whole.ends tag.client ≡ Some client → client.taken < tag.number → snapshot.head.number ≡ tag.number
-    → WasBuilt (history_at whole.histories tag.client).built snapshot → Holds profile whole
-    → Holds profile (with_applied whole tag.client tag.number client snapshot)
-Holds-applied profile whole tag client snapshot is found newer number was holds =
+-- and what joins it to its slot
+pub client_joined : (profile : Profile) (whole : Whole) (c : ℕ) (client : ClientState) → c < places → client_at whole.ends c ≡ Some client → Holds profile whole
+    → (slot : SlotState) × (slot_at whole.ends.server c ≡ Some slot) × AreEnds profile slot client (history_at whole.histories c)
+    × AreJoined profile whole.ends.server.map slot client (history_at whole.histories c)
+client_joined profile whole c client lt found holds =
+    let history = history_at whole.histories c in
+    let map = whole.ends.server.map in
+    let had = a_slot profile (slot_at whole.ends.server c) client history
+    (subst (λ (e : Option ClientState). IsClient profile (slot_at whole.ends.server c) e history) found (holds.facts.each c lt)) in
+    let joined : IsJoined profile map (some_slot had.0) (Some client) history =
+    subst (λ (s : Option SlotState). IsJoined profile map s (Some client) history) had.1
+    (subst (λ (e : Option ClientState). IsJoined profile map (slot_at whole.ends.server c) e history) found (holds.joined c lt)) in
+    (had.0, had.1, had.2, joined)
+
+-- the client at a place took a datagram, and with it a snapshot, if it took one
+abbrev pub with_taken : Whole → ℕ → ClientState → Option Snapshot → Whole
+with_taken whole c next heard = record whole { ends = with_client whole.ends c next; histories = accepted_after whole.histories c heard }
+
+pub Holds-taken : (profile : Profile) (whole : Whole) (c : ℕ) (client next : ClientState) (heard : Option Snapshot) → c < places → client_at whole.ends c ≡ Some client
+    → next.profile ≡ client.profile → next.gathering.side ≡ client.gathering.side
+    → ((slot : SlotState) → AreJoined profile whole.ends.server.map slot client (history_at whole.histories c)
+    → AreJoined profile whole.ends.server.map slot next (history_heard (history_at whole.histories c) heard))
+    → Holds profile whole → Holds profile (with_taken whole c next heard)
+Holds-taken profile whole c client next heard lt found by from joins holds =
     let facts = holds.facts in
-    let c = tag.client in
     let slots = whole.ends.server.slots in
     let clients = whole.ends.clients in
-    let map = whole.ends.server.map in
     let histories = whole.histories in
     let history = history_at histories c in
-    let more = record history { accepted = history.accepted ++ snapshot ∷ [] } in
-    let next = (apply_message client tag.number (message_of snapshot)).client in
-    let grows = Grows-accepted histories c snapshot facts.histories is.client in
-    let had = a_slot profile (slot_at whole.ends.server c) client history
-    (subst (λ (e : Option ClientState). IsClient profile (slot_at whole.ends.server c) e history) found (facts.each c is.client)) in
-    let joined : IsJoined map (some_slot had.0) (Some client) history =
-    subst (λ (s : Option SlotState). IsJoined map s (Some client) history) had.1
-    (subst (λ (e : Option ClientState). IsJoined map (slot_at whole.ends.server c) e history) found (holds.joined c is.client)) in
-    let client_is = set_there clients c None (Some next) facts.clients is.client in
-    let history_is = set_there histories c no_history more facts.histories is.client in
-    let accepted = subst (λ (n : ℕ). AreJoined map had.0 (apply_message client n (message_of snapshot)).client more) number
-    (AreJoined-accepted map had.0 client history snapshot was (omega (arith, newer, number)) joined) in
-    Holds-at profile c whole (with_applied whole c tag.number client snapshot)
+    let grows = Grows-heard histories c heard facts.histories lt in
+    let had = client_joined profile whole c client lt found holds in
+    let client_is = set_there clients c None (Some next) facts.clients lt in
+    let history_is = there_heard histories c heard facts.histories lt in
+    Holds-at profile c whole (with_taken whole c next heard)
     (record {
       by = refl;
       map = refl;
       slots = OnlyAt-same None c slots;
       clients = OnlyAt-set None c clients (Some next);
-      histories = OnlyAt-set no_history c histories more;
+      histories = OnlyAt-heard histories c heard;
       grows = grows;
     })
-    (rw (had.1, client_is, history_is) (AreEnds-client profile had.0 client next history more.accepted had.2.by had.2))
-    (rw (had.1, client_is, history_is) accepted)
-    (all_sent_grow profile histories (with_accepted histories c snapshot) whole.sent grows facts.sent)
+    (rw (had.1, client_is, history_is) (AreEnds-client profile had.0 client next history heard (by ∙ had.2.by) (from ∙ had.2.from) had.2))
+    (rw (had.1, client_is, history_is) (joins had.0 had.3))
+    (all_sent_grow profile histories (accepted_after histories c heard) whole.sent grows facts.sent)
     holds
 
 -- ---- the map changes
 
 -- what joins the ends of a client does so with another map
-joined_map : (map map' : MapState) (slot : Option SlotState) (client : Option ClientState) (history : History) → IsJoined map slot client history → IsJoined map' slot client history
-joined_map map map' None client history joined = tt
-joined_map map map' (Some slot) None history joined = tt
-joined_map map map' (Some slot) (Some client) history joined = AreJoined-slot map map' slot slot client history joined
+joined_map : (profile : Profile) (map map' : MapState) (slot : Option SlotState) (client : Option ClientState) (history : History)
+    → IsJoined profile map slot client history → IsJoined profile map' slot client history
+joined_map profile map map' None client history joined = tt
+joined_map profile map map' (Some slot) None history joined = tt
+joined_map profile map map' (Some slot) (Some client) history joined = AreJoined-slot profile map map' slot slot client history joined
 
 abbrev pub with_map : Whole → MapState → Whole
 with_map whole map = record whole { ends = record whole.ends { server = record whole.ends.server { map = map } } }
@@ -334,5 +344,5 @@ Holds-map profile whole map time entities holds =
     let facts = holds.facts in
     record {
       facts = record { codec = facts.codec; by = facts.by; slots = facts.slots; clients = facts.clients; histories = facts.histories; time = time; entities = entities; each = facts.each; sent = facts.sent };
-      joined = λ c lt. joined_map whole.ends.server.map map (slot_at whole.ends.server c) (client_at whole.ends c) (history_at whole.histories c) (holds.joined c lt);
+      joined = λ c lt. joined_map profile whole.ends.server.map map (slot_at whole.ends.server c) (client_at whole.ends c) (history_at whole.histories c) (holds.joined c lt);
     }

@@ -1,10 +1,10 @@
 -- Every list of events: what holds after it, and what it answers.
-use Rattle.std.proofs.Common.{◌≡◌, ℕ, ◌-◌, ◌^◌, ◌<◌, Bool, true, false, cond, List, [], ◌∷◌, length, get_or, Option, Some, None, Result, Ok, Err, refl, sym, ap, subst, ◌∙◌, arith}
-use Rattle.std.specs.Prelude.{nat_le, slice_get}
+use Rattle.std.proofs.Common.{◌≡◌, ℕ, ◌-◌, ◌^◌, ◌<◌, List, [], ◌∷◌, length, get_or, Option, Some, None, Result, Ok, Err, refl, sym, ap, subst, ◌∙◌, inl, inr, arith}
+use Rattle.std.specs.Prelude.{◌⊎◌, slice_get}
 use Rattle.std.specs.List.{AllByRecursion, last_or}
 use Rattle.std.specs.Option.{option_map}
 use Rattle.std.proofs.lemmas.Option.{slice_get-map}
-use Rattle.std.proofs.lemmas.Bool.{lt-leb, leb-false}
+use Rattle.q3_bits.specs.Laws.{MessageIsBytes}
 use Rattle.q3_profile.specs.declared.profile.Profile.{Profile}
 use Rattle.q3_profile.specs.Profile.{IsCodec}
 use Rattle.q3_player.specs.Laws.{NormalIsNormal, ZeroIsNormal}
@@ -12,45 +12,61 @@ use Rattle.q3_script.specs.declared.event.Event.{Event}
 use Rattle.q3_script.specs.declared.event.Event.TheVariants as events
 use Rattle.q3_script.specs.Grammar.{IsReplayEvent}
 use Rattle.q3_entity.specs.Laws.{NormalIsNormal as EntityNormalIsNormal}
-use Rattle.q3_svmsg.specs.Values.{Told, Nothing, Snap, Skipped, Message}
+use Rattle.q3_svmsg.specs.Values.{Message}
+use Rattle.q3_chan.specs.declared.gatherer.Gathered.{Gathered}
+use Rattle.q3_chan.specs.declared.gatherer.Gathered.TheVariants as gathered
+use Rattle.q3_chan.specs.declared.gatherer.Gathered.TheVariants.{Whole as CameWhole}
+use Rattle.q3_chan.specs.Gathering.{Took, gathered as gathered_of}
+use Rattle.q3_chan.specs.Tags.{tagged}
+use Rattle.q3_chan.specs.Laws.{SentIsTagged}
 use Rattle.q3_world.specs.declared.client.SnapOutcome.{SnapOutcome}
 use Rattle.q3_world.specs.declared.client.SnapOutcome.TheVariants.{Accepted}
 use Rattle.q3_world.specs.declared.server.SlotError.{SlotError}
-use Rattle.q3_world.specs.declared.client.ClientTook.TheVariants.{Old, Applied}
+use Rattle.q3_world.specs.declared.client.ClientTook.TheVariants.{Applied}
 use Rattle.q3_world.specs.declared.client.ClientTook.{ClientTook}
 use Rattle.q3_world.specs.declared.answer.Answer.TheVariants.{Unknown, Deliver}
-use Rattle.q3_bits.specs.Bits.{message_bytes}
-use Rattle.q3_world.specs.Message.{Snapshot, message_of}
+use Rattle.q3_world.specs.Message.{Snapshot}
 use Rattle.q3_world.specs.MessageLaws.{BuiltIsRead}
-use Rattle.q3_world.specs.Server.{MapState, SlotState, Built, places, slot_at, add_client_at, built_bits}
-use Rattle.q3_world.specs.Client.{ClientState, Taken, new_client, apply_section, apply_message, number_of_datagram}
+use Rattle.q3_world.specs.Server.{MapState, SlotState, Built, places, slot_at, add_client_at, built_bytes}
+use Rattle.q3_world.specs.Client.{ClientState, Taken, new_client, outcome_of, apply_message, take_answer, take_gathered}
 use Rattle.q3_world.specs.Ends.{Ends, Answered, unknown, delivered, client_at, with_client, newest, joined}
 use Rattle.q3_world.specs.Kept.{SentBytes, Kept, KeptStep, opening_kept, kept_step, kept_after, kept_answers}
-use Rattle.q3_world.specs.World.{Tag, Step, Whole, History, history_at, opening, step, after, answers, deliver, arrive, arrive_new, named, snapshot_in}
+use Rattle.q3_world.specs.World.{Tag, Step, Whole, History, history_at, opening, step, after, answers, deliver, arrive, named}
 use Rattle.q3_world.specs.StandsFor.{IsSent, IsClient, WasBuilt, Rise, AreJoined, IsJoined, StandsFor, bytes_of}
 use Rattle.q3_world.specs.Schedules.{StepFollows, kept_then, whole_then, BytesFollowTags, IsLegible, AlwaysLegible, AcceptedWereBuilt, ShownWasBuilt, WasApplied, AppliedWasBuilt, NewerIsAccepted}
 use Rattle.q3_world.proofs.Events.{Holds, Holds-opening, tag_was_built, names_built}
-use Rattle.q3_world.proofs.Agreement.{Cited, seen, stands_of, stands_next, kept_is, is_sent, number_is, delivers_agree}
+use Rattle.q3_world.proofs.Agreement.{Cited, seen, stands_of, stands_next, kept_is, is_sent, tag_is, delivers_agree}
 use Rattle.q3_world.proofs.Clients.{last_is}
 use Rattle.q3_world.proofs.OnePlace.{set_there}
+use Rattle.q3_world.proofs.Tagged.{IsQuiet, tagged_does}
 
--- what is cited, of a profile that passed its check
-pub cited_of : BuiltIsRead → EntityNormalIsNormal → NormalIsNormal → ZeroIsNormal → (profile : Profile) → IsCodec profile → Cited profile
-cited_of reads entity normal zero profile is =
-    let at_first = zero profile.player.kinds is.player.kinds in
+-- the laws of the layers below, and what is cited of them, of a profile that passed its check
+pub record Below : Type 0 where
+  pub reads : BuiltIsRead
+  pub entity : EntityNormalIsNormal
+  pub normal : NormalIsNormal
+  pub zero : ZeroIsNormal
+  pub tags : SentIsTagged
+  pub bytes : MessageIsBytes
+
+pub cited_of : Below → (profile : Profile) → IsCodec profile → Cited profile
+cited_of below profile is =
+    let at_first = below.zero profile.player.kinds is.player.kinds in
     record {
-      reads = reads profile is;
+      reads = below.reads profile is;
       zero = record { state = at_first.0; normal = at_first.1 };
-      normal = λ player state. let made = normal profile.player.kinds player is.player.kinds state in record { state = made.0; normal = made.1 };
-      normal_entity = λ state words. entity profile.entity state is.entity words;
+      normal = λ player state. let made = below.normal profile.player.kinds player is.player.kinds state in record { state = made.0; normal = made.1 };
+      normal_entity = λ state words. below.entity profile.entity state is.entity words;
       end = ap (λ (bits : ℕ). 2 ^ bits - 1) is.numbers;
+      tags = below.tags;
+      bytes = below.bytes;
     }
 
 -- ---- bytes and tags
 
-pub step_follows : BuiltIsRead → EntityNormalIsNormal → NormalIsNormal → ZeroIsNormal → StepFollows
-step_follows reads entity normal zero profile kept whole event is stands =
-    stands_next profile kept whole event (cited_of reads entity normal zero profile stands.facts.codec) is stands
+pub step_follows : Below → StepFollows
+step_follows below profile kept whole event is stands =
+    stands_next profile kept whole event (cited_of below profile stands.facts.codec) is stands
 
 -- from what stands for a whole on, events answer the same, and what is kept stands for the whole
 follow : StepFollows → (profile : Profile) (all : List Event) (kept : Kept) (whole : Whole) → AllByRecursion IsReplayEvent all
@@ -85,28 +101,33 @@ legible_joined : (ends : Ends) (c : ℕ) (client : ClientState) (added : Result 
 legible_joined ends c client (Ok x) = tt
 legible_joined ends c client (Err e) = tt
 
--- what a message does to a client
-legible_applied : (number datagram c : ℕ) (client : ClientState) (told : Told) → IsLegible (delivered datagram c (apply_section client number told).answer).answer
-legible_applied number datagram c client Nothing = tt
-legible_applied number datagram c client (Snap base head entities) = tt
-legible_applied number datagram c client (Skipped base) = tt
+-- what a client makes of a piece: nothing came whole, or its message did, and was read
+legible_took : (datagram c n : ℕ) (client : ClientState) (answer : Gathered) (built : Built) → IsQuiet answer ⊎ ((count : ℕ) × (answer ≡ CameWhole n count))
+    → IsLegible (delivered datagram c (take_answer client answer (λ k. Ok built)).answer).answer
+legible_took datagram c n client answer built (inl quiet) = waits answer quiet
+  where
+    waits : (answer : Gathered) → IsQuiet answer → IsLegible (delivered datagram c (take_answer client answer (λ k. Ok built)).answer).answer
+    waits (CameWhole number count) is = absurd is
+    waits gathered.Partial is = tt
+    waits gathered.Old is = tt
+    waits gathered.OutOfOrder is = tt
+    waits gathered.BadFragment is = absurd is
+    waits gathered.Runt is = absurd is
+    waits gathered.Connectionless is = absurd is
+legible_took datagram c n client answer built (inr came) = rw came.1 tt
 
--- what arrives, whether it is old or new
-legible_taken : (whole : Whole) (number : ℕ) (tag : Tag) (taken : Taken) (snapshot : Option Snapshot) (old : Bool) → IsLegible (delivered number tag.client taken.answer).answer
-    → IsLegible (cond old (record { whole = whole; answer = delivered number tag.client Old }) (arrive_new whole number tag.client taken snapshot)).answer.answer
-legible_taken whole number tag taken snapshot true legible = tt
-legible_taken whole number tag taken snapshot false legible = legible
+legible_arrive : (profile : Profile) (whole : Whole) (number : ℕ) (tag : Tag) (found : Option ClientState) → IsLegible (arrive profile whole number tag found).answer.answer
+legible_arrive profile whole number tag None = tt
+legible_arrive profile whole number tag (Some client) =
+    let built = named whole.histories tag in
+    let took = tagged client.gathering tag.number (built_bytes profile built) tag.index in
+    let does = tagged_does client.gathering tag.number (built_bytes profile built) tag.index in
+    legible_took number tag.client tag.number (record client { gathering = took.gathering }) took.answer built
+    (elim does.either [ inl waits ↦ inl waits.quiet | inr came ↦ inr (length (built_bytes profile built), came.answer) ])
 
-legible_arrive : (whole : Whole) (number : ℕ) (tag : Tag) (found : Option ClientState) → IsLegible (arrive whole number tag found).answer.answer
-legible_arrive whole number tag None = tt
-legible_arrive whole number tag (Some client) =
-    let message = named whole.histories tag in
-    legible_taken whole number tag (apply_message client tag.number message) (snapshot_in message.section) (nat_le tag.number client.taken)
-    (legible_applied tag.number number tag.client client message.section)
-
-legible_deliver : (whole : Whole) (number : ℕ) (found : Option Tag) → IsLegible (deliver whole number found).answer.answer
-legible_deliver whole number None = tt
-legible_deliver whole number (Some tag) = legible_arrive whole number tag (client_at whole.ends tag.client)
+legible_deliver : (profile : Profile) (whole : Whole) (number : ℕ) (found : Option Tag) → IsLegible (deliver profile whole number found).answer.answer
+legible_deliver profile whole number None = tt
+legible_deliver profile whole number (Some tag) = legible_arrive profile whole number tag (client_at whole.ends tag.client)
 
 -- each step by tags answers legibly
 legible_step : (profile : Profile) (whole : Whole) (event : Event) → IsLegible (step profile whole event).answer.answer
@@ -120,7 +141,7 @@ legible_step profile whole (events.Player c player) = tt
 legible_step profile whole (events.Area c area) = tt
 legible_step profile whole (events.Time time) = tt
 legible_step profile whole (events.Serve c) = tt
-legible_step profile whole (events.Deliver number) = legible_deliver whole number (slice_get whole.sent (number - 1))
+legible_step profile whole (events.Deliver number) = legible_deliver profile whole number (slice_get whole.sent (number - 1))
 legible_step profile whole (events.Show c) = tt
 
 abbrev AreLegible : List Answered → Type 0
@@ -140,7 +161,7 @@ always_legible law profile all is are = subst AreLegible (sym (law profile all i
 
 -- what joins the ends of a client that is there
 joined_at : (map : MapState) (slot : Option SlotState) (client : ClientState) (history : History) (profile : Profile)
-    → IsClient profile slot (Some client) history → IsJoined map slot (Some client) history → (found : SlotState) × AreJoined map found client history
+    → IsClient profile slot (Some client) history → IsJoined profile map slot (Some client) history → (found : SlotState) × AreJoined profile map found client history
 joined_at map None client history profile is joined = absurd is
 joined_at map (Some slot) client history profile is joined = (slot, joined)
 
@@ -149,7 +170,7 @@ WereAccepted history = ((k : ℕ) (d : Snapshot) → k < length history.accepted
 
 -- what a client accepted, wherever it is
 accepted_by : (profile : Profile) (map : MapState) (slot : Option SlotState) (client : Option ClientState) (history : History)
-    → IsClient profile slot client history → IsJoined map slot client history → WereAccepted history
+    → IsClient profile slot client history → IsJoined profile map slot client history → WereAccepted history
 accepted_by profile map None None history is joined =
     rw is ((λ k d lt. absurd (omega (arith, lt))), (λ j k d lt within. absurd (omega (arith, within))))
 accepted_by profile map None (Some client) history is joined = absurd is
@@ -168,7 +189,7 @@ some_is x y e = cc
 
 -- the newest was
 newest_was : (profile : Profile) (map : MapState) (slot : Option SlotState) (client : Option ClientState) (history : History) (snapshot : Snapshot)
-    → newest client ≡ Some snapshot → IsClient profile slot client history → IsJoined map slot client history → WasBuilt history.built snapshot
+    → newest client ≡ Some snapshot → IsClient profile slot client history → IsJoined profile map slot client history → WasBuilt history.built snapshot
 newest_was profile map slot None history snapshot shown is joined = absurd cc
 newest_was profile map None (Some client) history snapshot shown is joined = absurd is
 newest_was profile map (Some slot) (Some client) history snapshot shown is joined =
@@ -203,18 +224,34 @@ tag_of : (found : Option Tag) (sent : SentBytes) → option_map bytes_of found �
 tag_of None sent e = absurd cc
 tag_of (Some tag) sent e = (tag, refl, cc)
 
--- what a delivery of it by its tag answers
-answers_tag : (profile : Profile) (whole : Whole) (number : ℕ) (tag : Tag) (client : ClientState) → slice_get whole.sent (number - 1) ≡ Some tag
-    → client_at whole.ends tag.client ≡ Some client → client.taken < tag.number
-    → (step profile whole (events.Deliver number)).answer ≡ delivered number tag.client (apply_message client tag.number (named whole.histories tag)).answer
-unfolding step
-answers_tag profile whole number tag client at found newer = rw (at, found, lt-leb tag.number client.taken newer) refl
+-- what a client makes of a piece that brings its message whole, by its tag
+came_whole : (profile : Profile) (whole : Whole) (tag : Tag) (client : ClientState) (n count : ℕ)
+    → (tagged client.gathering tag.number (built_bytes profile (named whole.histories tag)) tag.index).answer ≡ CameWhole n count
+    → (n ≡ tag.number) × (client.gathering.taken < tag.number)
+came_whole profile whole tag client n count e =
+    let does = tagged_does client.gathering tag.number (built_bytes profile (named whole.histories tag)) tag.index in
+    elim does.either [
+      | inl waits ↦ absurd (subst IsQuiet e waits.quiet)
+      | inr came ↦ (whole_is (sym e ∙ came.answer), came.newer)
+    ]
+  where
+    whole_is : {count' number' : ℕ} → CameWhole n count ≡ CameWhole number' count' → n ≡ number'
+    whole_is same = cc
 
-pub newer_is_accepted : BytesFollowTags → BuiltIsRead → EntityNormalIsNormal → NormalIsNormal → ZeroIsNormal → NewerIsAccepted
-newer_is_accepted law reads entity normal zero profile all number sent client is are at found newer =
+answers_tag : (profile : Profile) (whole : Whole) (number : ℕ) (tag : Tag) (client : ClientState) → slice_get whole.sent (number - 1) ≡ Some tag
+    → client_at whole.ends tag.client ≡ Some client
+    → (step profile whole (events.Deliver number)).answer
+    ≡ delivered number tag.client (take_gathered client (tagged client.gathering tag.number (built_bytes profile (named whole.histories tag)) tag.index)
+    (λ n. Ok (named whole.histories tag))).answer
+unfolding step
+answers_tag profile whole number tag client at found = rw (at, found) refl
+
+pub newer_is_accepted : BytesFollowTags → Below → NewerIsAccepted
+newer_is_accepted law below profile all number n count sent client is are at found came =
     let stands : Then profile all = (law profile all is are).0 in
     let kept = kept_then profile all in
     let whole = whole_then profile all in
+    let cited = cited_of below profile is in
     let holds : Holds profile whole = record { facts = stands.facts; joined = stands.joined } in
     let tag = tag_of (slice_get whole.sent (number - 1)) sent
     (sym (slice_get-map bytes_of whole.sent (number - 1)) ∙ (ap (λ (d : List SentBytes). slice_get d (number - 1)) (sym stands.datagrams) ∙ at)) in
@@ -222,16 +259,17 @@ newer_is_accepted law reads entity normal zero profile all number sent client is
     let client_is : client_at whole.ends tag.0.client ≡ Some client =
     ap (λ (e : Ends). client_at e tag.0.client) (sym stands.ends) ∙ (ap (λ (s : SentBytes). client_at kept.ends s.client) tag.2 ∙ found) in
     let built = tag_was_built profile whole tag.0 client sent_is client_is holds in
-    let number_there : number_of_datagram sent.bytes ≡ tag.0.number =
-    ap (λ (s : SentBytes). number_of_datagram s.bytes) (sym tag.2)
-    ∙ (ap number_of_datagram sent_is.bytes ∙ number_is profile tag.0.number (named whole.histories tag.0) (message_bytes (built_bits profile (named whole.histories tag.0))) built) in
+    let took = tagged client.gathering tag.0.number (built_bytes profile (named whole.histories tag.0)) tag.0.index in
+    let answer : took.answer ≡ CameWhole n count =
+    ap (λ (t : Took). t.answer) (sym (tag_is profile whole tag.0 client cited sent_is client_is holds).0)
+    ∙ (ap (λ (s : SentBytes). (gathered_of client.gathering s.bytes).answer) tag.2 ∙ came) in
     let by_bytes = ap (λ (k : Kept). (kept_step k (events.Deliver number)).answer) (kept_is profile kept whole stands)
-    ∙ ap (λ (s : KeptStep). s.answer) (delivers_agree profile whole number (cited_of reads entity normal zero profile is) holds).same in
+    ∙ ap (λ (s : KeptStep). s.answer) (delivers_agree profile whole number cited holds).same in
     by_bytes
-    ∙ (answers_tag profile whole number tag.0 client tag.1 client_is (omega (arith, number_there, newer))
-    ∙ (ap (λ (m : Message). delivered number tag.0.client (apply_message client tag.0.number m).answer) built.is
-    ∙ (ap (λ (n : ℕ). delivered number tag.0.client (Applied n (Accepted 0))) (sym number_there)
-    ∙ ap (λ (s : SentBytes). delivered number s.client (Applied (number_of_datagram sent.bytes) (Accepted 0))) tag.2)))
+    ∙ (answers_tag profile whole number tag.0 client tag.1 client_is
+    ∙ (ap (λ (a : Gathered). delivered number tag.0.client (take_answer (record client { gathering = took.gathering }) a (λ k. Ok (named whole.histories tag.0))).answer) answer
+    ∙ (ap (λ (m : Message). delivered number tag.0.client (Applied n (outcome_of m.section))) built.is
+    ∙ ap (λ (s : SentBytes). delivered number s.client (Applied n (Accepted 0))) tag.2)))
 
 -- ---- what is applied
 
@@ -250,14 +288,24 @@ not_delivered number c took e =
 abbrev Applies : Ends → Ends → ℕ → ℕ → SnapOutcome → List Built → Type 0
 Applies before now c n snap built = (snap ≡ Accepted 0) × WasApplied before now c n built
 
--- of what arrives new
-applied_new : (whole : Whole) (number c n under : ℕ) (snap : SnapOutcome) (tag : Tag) (client : ClientState) (snapshot : Snapshot) → length whole.ends.clients ≡ places → tag.client < places
-    → client_at whole.ends tag.client ≡ Some client → snapshot.head.number ≡ under → client.taken < under
+-- where nothing came whole, nothing is answered as applied
+quiet_applies : (client : ClientState) (answer : Gathered) (built : Built) (n : ℕ) (snap : SnapOutcome) → IsQuiet answer
+    → (take_answer client answer (λ k. Ok built)).answer ≡ Applied n snap → ⊥
+quiet_applies client (CameWhole number count) built n snap is e = is
+quiet_applies client gathered.Partial built n snap is e = absurd cc
+quiet_applies client gathered.Old built n snap is e = absurd cc
+quiet_applies client gathered.OutOfOrder built n snap is e = absurd cc
+quiet_applies client gathered.BadFragment built n snap is e = is
+quiet_applies client gathered.Runt built n snap is e = is
+quiet_applies client gathered.Connectionless built n snap is e = is
+
+-- of a message that came whole
+applied_whole : (whole : Whole) (number c n under : ℕ) (snap : SnapOutcome) (tag : Tag) (client next : ClientState) (snapshot : Snapshot) → length whole.ends.clients ≡ places → tag.client < places
+    → client_at whole.ends tag.client ≡ Some client → next.accepted ≡ Some snapshot → snapshot.head.number ≡ under → client.gathering.taken < under
     → WasBuilt (history_at whole.histories tag.client).built snapshot
-    → delivered number tag.client (apply_message client under (message_of snapshot)).answer ≡ delivered number c (Applied n snap)
-    → Applies whole.ends (with_client whole.ends tag.client (apply_message client under (message_of snapshot)).client) c n snap (history_at whole.histories c).built
-applied_new whole number c n under snap tag client snapshot count lt found is newer was e =
-    let next = (apply_message client under (message_of snapshot)).client in
+    → delivered number tag.client (Applied under (Accepted 0)) ≡ delivered number c (Applied n snap)
+    → Applies whole.ends (with_client whole.ends tag.client next) c n snap (history_at whole.histories c).built
+applied_whole whole number c n under snap tag client next snapshot count lt found accepted_is is newer was e =
     let alike = same_delivered number tag.client c (Applied under (Accepted 0)) (Applied n snap) e in
     let same = alike.0 in
     let took = alike.1 in
@@ -270,44 +318,40 @@ applied_new whole number c n under snap tag client snapshot count lt found is ne
         snapshot,
         subst (λ (k : ℕ). client_at whole.ends k ≡ Some client) same found,
         omega (arith, numbered, newer),
-        subst (λ (k : ℕ). newest (client_at (with_client whole.ends tag.client next) k) ≡ Some snapshot) same (ap newest there),
+        subst (λ (k : ℕ). newest (client_at (with_client whole.ends tag.client next) k) ≡ Some snapshot) same (ap newest there ∙ accepted_is),
         is ∙ numbered,
         subst (λ (k : ℕ). WasBuilt (history_at whole.histories k).built snapshot) same was,
       ),
     )
-
--- of what arrives, whether it is old or new
-abbrev arrived : Whole → ℕ → Tag → ClientState → Message → Bool → Step
-arrived whole number tag client message old =
-    cond old (record { whole = whole; answer = delivered number tag.client Old })
-    (arrive_new whole number tag.client (apply_message client tag.number message) (snapshot_in message.section))
-
-applied_taken : (whole : Whole) (number c n : ℕ) (snap : SnapOutcome) (tag : Tag) (client : ClientState) (snapshot : Snapshot) (old : Bool) → length whole.ends.clients ≡ places → tag.client < places
-    → client_at whole.ends tag.client ≡ Some client → snapshot.head.number ≡ tag.number → (old ≡ false → client.taken < tag.number)
-    → WasBuilt (history_at whole.histories tag.client).built snapshot
-    → (arrived whole number tag client (message_of snapshot) old).answer ≡ delivered number c (Applied n snap)
-    → Applies whole.ends (arrived whole number tag client (message_of snapshot) old).whole.ends c n snap (history_at whole.histories c).built
-applied_taken whole number c n snap tag client snapshot true count lt found is newer was e =
-    let took = (same_delivered number tag.client c Old (Applied n snap) e).1 in
-    absurd cc
-applied_taken whole number c n snap tag client snapshot false count lt found is newer was e =
-    applied_new whole number c n tag.number snap tag client snapshot count lt found is (newer refl) was e
 
 abbrev AppliedSo : Whole → ℕ → ℕ → ℕ → SnapOutcome → Step → Type 0
 AppliedSo whole number c n snap next =
     next.answer ≡ delivered number c (Applied n snap) → Applies whole.ends next.whole.ends c n snap (history_at whole.histories c).built
 
 applied_arrive : (profile : Profile) (whole : Whole) (number c n : ℕ) (snap : SnapOutcome) (tag : Tag) (found : Option ClientState) → client_at whole.ends tag.client ≡ found
-    → IsSent profile whole.histories tag → Holds profile whole → AppliedSo whole number c n snap (arrive whole number tag found)
+    → IsSent profile whole.histories tag → Holds profile whole → AppliedSo whole number c n snap (arrive profile whole number tag found)
 applied_arrive profile whole number c n snap tag None at is holds = λ e. absurd (not_delivered number c (Applied n snap) e)
 applied_arrive profile whole number c n snap tag (Some client) at is holds =
+    let named_is = named whole.histories tag in
+    let took = tagged client.gathering tag.number (built_bytes profile named_is) tag.index in
+    let does = tagged_does client.gathering tag.number (built_bytes profile named_is) tag.index in
     let built = tag_was_built profile whole tag client is at holds in
-    subst (λ (m : Message). AppliedSo whole number c n snap (arrived whole number tag client m (nat_le tag.number client.taken))) (sym built.is)
-    (applied_taken whole number c n snap tag client built.snapshot (nat_le tag.number client.taken) holds.facts.clients is.client
-    at built.number (leb-false tag.number client.taken) (names_built profile whole tag is built))
+    let now = record client { gathering = took.gathering } in
+    elim does.either [
+      | inl waits ↦ λ e. absurd (quiet_applies now took.answer named_is n snap waits.quiet
+          (same_delivered number tag.client c (take_answer now took.answer (λ k. Ok named_is)).answer (Applied n snap) e).1)
+      | inr came ↦
+          let next = record now { accepted = Some built.snapshot } in
+          let does_so : take_answer now took.answer (λ k. Ok named_is) ≡ record { client = next; answer = Applied tag.number (Accepted 0) } =
+          ap (λ (a : Gathered). take_answer now a (λ k. Ok named_is)) came.answer
+          ∙ ap (λ (m : Message). apply_message now tag.number m) built.is in
+          λ e. subst (λ (t : Taken). Applies whole.ends (with_client whole.ends tag.client t.client) c n snap (history_at whole.histories c).built) (sym does_so)
+          (applied_whole whole number c n tag.number snap tag client next built.snapshot holds.facts.clients is.client at refl built.number came.newer (names_built profile whole tag is built)
+          (ap (λ (t : Taken). delivered number tag.client t.answer) (sym does_so) ∙ e))
+    ]
 
 applied_deliver : (profile : Profile) (whole : Whole) (number c n : ℕ) (snap : SnapOutcome) (found : Option Tag) → slice_get whole.sent (number - 1) ≡ found → Holds profile whole
-    → AppliedSo whole number c n snap (deliver whole number found)
+    → AppliedSo whole number c n snap (deliver profile whole number found)
 applied_deliver profile whole number c n snap None at holds = λ e. absurd (not_delivered number c (Applied n snap) e)
 applied_deliver profile whole number c n snap (Some tag) at holds =
     applied_arrive profile whole number c n snap tag (client_at whole.ends tag.client) refl (is_sent profile whole (number - 1) tag at holds) holds
@@ -320,8 +364,8 @@ applied_step profile whole number c n snap holds =
     applied_deliver profile whole number c n snap (slice_get whole.sent (number - 1)) refl holds
 
 -- and by bytes
-pub applied_was_built : BytesFollowTags → BuiltIsRead → EntityNormalIsNormal → NormalIsNormal → ZeroIsNormal → AppliedWasBuilt
-applied_was_built law reads entity normal zero profile all number c n snap is are e =
+pub applied_was_built : BytesFollowTags → Below → AppliedWasBuilt
+applied_was_built law below profile all number c n snap is are e =
     let stands : Then profile all = (law profile all is are).0 in
     let kept = kept_then profile all in
     let whole = whole_then profile all in
@@ -329,7 +373,7 @@ applied_was_built law reads entity normal zero profile all number c n snap is ar
     let holds : Holds profile whole = record { facts = stands.facts; joined = stands.joined } in
     let same : kept_step kept (events.Deliver number) ≡ seen profile (step profile whole (events.Deliver number)) =
     ap (λ (k : Kept). kept_step k (events.Deliver number)) (kept_is profile kept whole stands)
-    ∙ (delivers_agree profile whole number (cited_of reads entity normal zero profile is) holds).same in
+    ∙ (delivers_agree profile whole number (cited_of below profile is) holds).same in
     subst (λ (before : Ends). Applies before (kept_step kept (events.Deliver number)).kept.ends c n snap built) (sym stands.ends)
     (subst (λ (s : KeptStep). Applies whole.ends s.kept.ends c n snap built) (sym same)
     (applied_step profile whole number c n snap holds (sym (ap (λ (s : KeptStep). s.answer) same) ∙ e)))

@@ -1,14 +1,17 @@
 -- What was built only grows.
-use Rattle.std.proofs.Common.{◌≡◌, ℕ, ◌-◌, ◌<◌, ◌≤◌, List, [], ◌∷◌, ◌++◌, length, get_or, refl, sym, ap, subst, ◌∙◌, inl, inr, arith}
+use Rattle.std.proofs.Common.{◌≡◌, ℕ, zero, suc, ◌-◌, ◌*◌, ◌<◌, ◌≤◌, List, [], ◌∷◌, ◌++◌, length, get_or, take, Option, Some, None, refl, sym, ap, subst, ◌∙◌, inl, inr, arith}
 use Rattle.std.proofs.lemmas.List.{append-nil, length-append, length_push, get_or_append_left, get_or_push}
 use Rattle.std.proofs.lemmas.Bool.{cases_eq, cases_lt}
-use Rattle.q3_bits.specs.Bits.{message_bytes}
 use Rattle.q3_profile.specs.declared.profile.Profile.{Profile}
-use Rattle.q3_world.specs.Message.{Snapshot, datagram_bytes}
-use Rattle.q3_world.specs.Server.{Built, places, built_bits}
-use Rattle.q3_world.specs.World.{Tag, History, no_history, no_message, history_at, built_at, with_built, with_accepted}
-use Rattle.q3_world.specs.StandsFor.{IsSent, WasBuilt}
-use Rattle.q3_world.proofs.OnePlace.{set_there, OnlyAt, OnlyAt-set}
+use Rattle.q3_chan.specs.declared.side.Side.TheVariants.{Server}
+use Rattle.q3_chan.specs.Datagrams.{fragment_size, piece_count, datagram}
+use Rattle.q3_chan.specs.Gathering.{Gathering}
+use Rattle.q3_chan.specs.Laws.{HoldsFront}
+use Rattle.q3_world.specs.Message.{Snapshot}
+use Rattle.q3_world.specs.Server.{Built, places, built_bytes}
+use Rattle.q3_world.specs.World.{Tag, History, no_history, no_message, history_at, built_at, with_built, with_accepted, histories_after, accepted_after}
+use Rattle.q3_world.specs.StandsFor.{IsSent, WasBuilt, messages_of}
+use Rattle.q3_world.proofs.OnePlace.{set_there, OnlyAt, OnlyAt-set, OnlyAt-same}
 
 -- the message under a number stays where more are built
 pub built_stays : (built more : List Built) (number : ℕ) → 1 ≤ number → number ≤ length built → built_at (built ++ more) number ≡ built_at built number
@@ -50,18 +53,73 @@ Grows-accepted histories c snapshot count lt =
     grows_at histories c more [] count lt (sym (append-nil history.built)) (with_accepted histories c snapshot) (OnlyAt-set no_history c histories more)
     (set_there histories c no_history more count lt)
 
+-- the history behind a message that was begun, if one was
+abbrev pub history_after : History → Option Built → History
+history_after history None = history
+history_after history (Some built) = record history { built = history.built ++ built ∷ [] }
+
+pub Grows-after : (histories : List History) (c : ℕ) (began : Option Built) → length histories ≡ places → c < places → Grows histories (histories_after histories c began)
+Grows-after histories c None count lt = Grows-same histories
+Grows-after histories c (Some built) count lt = Grows-built histories c built count lt
+
+pub OnlyAt-after : (histories : List History) (c : ℕ) (began : Option Built) → OnlyAt no_history c histories (histories_after histories c began)
+OnlyAt-after histories c None = OnlyAt-same no_history c histories
+OnlyAt-after histories c (Some built) = OnlyAt-set no_history c histories (history_after (history_at histories c) (Some built))
+
+pub there_after : (histories : List History) (c : ℕ) (began : Option Built) → length histories ≡ places → c < places
+    → history_at (histories_after histories c began) c ≡ history_after (history_at histories c) began
+there_after histories c None count lt = refl
+there_after histories c (Some built) count lt = set_there histories c no_history (history_after (history_at histories c) (Some built)) count lt
+
+-- and behind a snapshot that was accepted, if one was
+abbrev pub history_heard : History → Option Snapshot → History
+history_heard history None = history
+history_heard history (Some snapshot) = record history { accepted = history.accepted ++ snapshot ∷ [] }
+
+pub Grows-heard : (histories : List History) (c : ℕ) (heard : Option Snapshot) → length histories ≡ places → c < places → Grows histories (accepted_after histories c heard)
+Grows-heard histories c None count lt = Grows-same histories
+Grows-heard histories c (Some snapshot) count lt = Grows-accepted histories c snapshot count lt
+
+pub OnlyAt-heard : (histories : List History) (c : ℕ) (heard : Option Snapshot) → OnlyAt no_history c histories (accepted_after histories c heard)
+OnlyAt-heard histories c None = OnlyAt-same no_history c histories
+OnlyAt-heard histories c (Some snapshot) = OnlyAt-set no_history c histories (history_heard (history_at histories c) (Some snapshot))
+
+pub there_heard : (histories : List History) (c : ℕ) (heard : Option Snapshot) → length histories ≡ places → c < places
+    → history_at (accepted_after histories c heard) c ≡ history_heard (history_at histories c) heard
+there_heard histories c None count lt = refl
+there_heard histories c (Some snapshot) count lt = set_there histories c no_history (history_heard (history_at histories c) (Some snapshot)) count lt
+
+-- the bytes of a message stay where more are built
+pub messages_stay : (profile : Profile) (built more : List Built) (number : ℕ) → number ≤ length built
+    → messages_of profile (built ++ more) number ≡ messages_of profile built number
+messages_stay profile built more zero few = refl
+messages_stay profile built more (suc number) few = ap (built_bytes profile) (built_stays built more (suc number) (omega arith) few)
+
+-- and so does what was gathered of one
+pub front_stays : (profile : Profile) (built more : List Built) (g : Gathering) → g.number ≤ length built
+    → HoldsFront (messages_of profile built) g → HoldsFront (messages_of profile (built ++ more)) g
+front_stays profile built more g few holds =
+    let same = sym (messages_stay profile built more g.number few) in
+    record {
+      count = holds.count;
+      not_all = subst (λ (message : List ℕ). holds.count < piece_count (length message)) same holds.not_all;
+      front = holds.front ∙ ap (take (fragment_size * holds.count)) same;
+    }
+
 -- a tag names the same message
 sent_grows : (profile : Profile) (old new : List History) (tag : Tag) → Grows old new → IsSent profile old tag → IsSent profile new tag
 sent_grows profile old new tag grows is =
     let grown = grows tag.client in
     let built = (history_at old tag.client).built in
     let begun = is.begun in
+    let same : built_at (history_at new tag.client).built tag.number ≡ built_at built tag.number =
+    ap (λ (b : List Built). built_at b tag.number) grown.1 ∙ built_stays built grown.0 tag.number is.some is.begun in
     record {
       client = is.client;
       some = is.some;
       begun = rw grown.1 (omega (arith, length-append built grown.0, begun));
-      bytes = is.bytes ∙ ap (λ (b : Built). datagram_bytes tag.number (message_bytes (built_bits profile b)))
-          (sym (ap (λ (b : List Built). built_at b tag.number) grown.1 ∙ built_stays built grown.0 tag.number is.some is.begun));
+      piece = subst (λ (b : Built). tag.index < piece_count (length (built_bytes profile b))) (sym same) is.piece;
+      bytes = is.bytes ∙ ap (λ (b : Built). datagram Server 0 tag.number (built_bytes profile b) tag.index) (sym same);
     }
 
 abbrev pub AllSent : Profile → List History → List Tag → Type 0

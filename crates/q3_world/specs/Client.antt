@@ -1,71 +1,94 @@
 -- A client's end. Each call gives the client after it, and its answer.
-use Rattle.std.specs.Prelude.{ℕ, if◌then◌else◌, List, length, take, drop, nat_lt, nat_le, Option, Some, None, Result, Ok, Err}
-use Rattle.std.specs.Int.{w32, from_le_bytes}
+use Rattle.std.specs.Prelude.{ℕ, List, Option, Some, None, Result, Ok, Err}
 use Rattle.q3_profile.specs.declared.profile.Profile.{Profile}
 use Rattle.q3_bits.specs.Bits.{bits_of}
+use Rattle.q3_chan.specs.declared.side.Side.TheVariants.{Server}
+use Rattle.q3_chan.specs.declared.gatherer.Gathered.{Gathered}
+use Rattle.q3_chan.specs.declared.gatherer.Gathered.TheVariants as gathered
+use Rattle.q3_chan.specs.Gathering.{Gathering, Took, new_gathering, gathered as gathered_of}
 use Rattle.q3_svmsg.specs.declared.error.Illegible as cause
 use Rattle.q3_svmsg.specs.Values as told
 use Rattle.q3_svmsg.specs.Values.{Told, Message}
 use Rattle.q3_svmsg.specs.Reading.{message_at}
 use Rattle.q3_world.specs.declared.client.ClientTook.{ClientTook}
-use Rattle.q3_world.specs.declared.client.ClientTook.TheVariants.{Runt, Old, Illegible, Applied}
+use Rattle.q3_world.specs.declared.client.ClientTook.TheVariants.{Runt, Connectionless, Old, OutOfOrder, BadFragment, Partial, Illegible, Applied}
+use Rattle.q3_world.specs.declared.client.SnapOutcome.{SnapOutcome}
 use Rattle.q3_world.specs.declared.client.SnapOutcome.TheVariants.{NoSnap, Accepted, Skipped}
 use Rattle.q3_world.specs.declared.client.NoBase.TheVariants.{NeverHeld}
 use Rattle.q3_world.specs.Message.{Snapshot, no_bases}
 
--- a client: by which profile, how it joined, how many old moves it repeats, the newest number taken, 0 for none, and the
--- newest snapshot accepted
+-- a client: by which profile, how it joined, how many old moves it repeats, the newest number taken and what was gathered,
+-- and the newest snapshot accepted
 pub record ClientState : Type 0 where
   pub profile : Profile
   pub challenge : ℕ
   pub qport : ℕ
   pub dup : ℕ
-  pub taken : ℕ
+  pub gathering : Gathering
   pub accepted : Option Snapshot
 
 -- a client that just joined
 abbrev pub new_client : Profile → ℕ → ℕ → ℕ → ClientState
 new_client profile challenge qport dup =
-    record { profile = profile; challenge = challenge; qport = qport; dup = dup; taken = 0; accepted = None }
+    record { profile = profile; challenge = challenge; qport = qport; dup = dup; gathering = new_gathering Server; accepted = None }
 
 -- what a take gives
 pub record Taken : Type 0 where
   pub client : ClientState
   pub answer : ClientTook
 
--- what the section of a message does to a client: a snapshot is accepted, and one that was skipped, or none, changes
--- nothing but the number taken
-abbrev pub apply_section : ClientState → ℕ → Told → Taken
-apply_section client number told.Nothing = record { client = record client { taken = number }; answer = Applied number NoSnap }
-apply_section client number (told.Snap base head entities) =
-    record {
-      client = record client { taken = number; accepted = Some (record { head = head; entities = entities }) };
-      answer = Applied number (Accepted base);
-    }
-apply_section client number (told.Skipped base) =
-    record { client = record client { taken = number }; answer = Applied number (Skipped base NeverHeld) }
+-- the newest snapshot behind the section of a message: its own, unless it was skipped or there is none
+abbrev pub newest_after : Option Snapshot → Told → Option Snapshot
+newest_after newest told.Nothing = newest
+newest_after newest (told.Snap base head entities) = Some (record { head = head; entities = entities })
+newest_after newest (told.Skipped base) = newest
+
+-- what became of it
+abbrev pub outcome_of : Told → SnapOutcome
+outcome_of told.Nothing = NoSnap
+outcome_of (told.Snap base head entities) = Accepted base
+outcome_of (told.Skipped base) = Skipped base NeverHeld
 
 -- what a message does to a client
 abbrev pub apply_message : ClientState → ℕ → Message → Taken
-apply_message client number message = apply_section client number message.section
+apply_message client number message = record {
+  client = record client { accepted = newest_after client.accepted message.section };
+  answer = Applied number (outcome_of message.section);
+}
 
--- at this stage a message that isn't legible leaves its number untaken
+-- the newest snapshot behind a message, and the answer; one that isn't legible changes nothing
+abbrev pub newest_read : Option Snapshot → Result Message cause.Illegible → Option Snapshot
+newest_read newest (Ok message) = newest_after newest message.section
+newest_read newest (Err e) = newest
+
+abbrev pub answer_read : ℕ → Result Message cause.Illegible → ClientTook
+answer_read number (Ok message) = Applied number (outcome_of message.section)
+answer_read number (Err e) = Illegible e
+
+-- what a client does with what was read under a number
 abbrev pub apply_read : ClientState → ℕ → Result Message cause.Illegible → Taken
-apply_read client number (Ok message) = apply_message client number message
-apply_read client number (Err e) = record { client = client; answer = Illegible e }
+apply_read client number read =
+    record { client = record client { accepted = newest_read client.accepted read }; answer = answer_read number read }
 
--- a message under a number at or below the newest is old, and another is read
-abbrev pub take_message : ClientState → ℕ → List ℕ → Taken
-take_message client number message =
-    if nat_le number client.taken then record { client = client; answer = Old }
-    else apply_read client number (message_at client.profile no_bases number (bits_of message))
+-- a message that came whole is read under its number, and every other answer is handed on
+abbrev pub take_answer : ClientState → Gathered → (ℕ → Result Message cause.Illegible) → Taken
+take_answer client (gathered.Whole number count) read = apply_read client number (read number)
+take_answer client gathered.Partial read = record { client = client; answer = Partial }
+take_answer client gathered.Old read = record { client = client; answer = Old }
+take_answer client gathered.OutOfOrder read = record { client = client; answer = OutOfOrder }
+take_answer client gathered.BadFragment read = record { client = client; answer = BadFragment }
+take_answer client gathered.Runt read = record { client = client; answer = Runt }
+take_answer client gathered.Connectionless read = record { client = client; answer = Connectionless }
 
--- the number of a datagram's message
-abbrev pub number_of_datagram : List ℕ → ℕ
-number_of_datagram datagram = from_le_bytes w32 (take 4 datagram)
+-- a client with what was gathered, and what it does with a message that came whole
+abbrev pub take_gathered : ClientState → Took → (ℕ → Result Message cause.Illegible) → Taken
+take_gathered client took read = take_answer (record client { gathering = took.gathering }) took.answer read
+
+-- what bytes are as a message of a number
+abbrev pub read_by : Profile → List ℕ → ℕ → Result Message cause.Illegible
+read_by profile message number = message_at profile no_bases number (bits_of message)
 
 -- a client takes a datagram, by its bytes
 unfoldable pub take_at : ClientState → List ℕ → Taken
 take_at client datagram =
-    if nat_lt (length datagram) 4 then record { client = client; answer = Runt }
-    else take_message client (number_of_datagram datagram) (drop 4 datagram)
+    take_gathered client (gathered_of client.gathering datagram) (read_by client.profile (gathered_of client.gathering datagram).message)

@@ -1,6 +1,5 @@
--- The messages of this stage: snapshots without a base, as they are built and as they are accepted, and their datagrams.
-use Rattle.std.specs.Prelude.{◌≡◌, ℕ, ◌^◌, ◌<◌, ◌≤◌, List, [], ◌++◌, length, All, None}
-use Rattle.std.specs.Int.{w32, to_le_bytes}
+-- The messages of this stage: snapshots without a base, as they are built and as they are accepted.
+use Rattle.std.specs.Prelude.{◌≡◌, ℕ, ◌^◌, ◌<◌, ◌≤◌, List, [], length, All, None}
 use Rattle.q3_fields.specs.Kinds.{end_mark}
 use Rattle.q3_profile.specs.declared.profile.Profile.{Profile}
 use Rattle.q3_player.specs.declared.head.SnapHead.{SnapHead}
@@ -9,11 +8,8 @@ use Rattle.q3_player.specs.State.{IsState, IsNormal}
 use Rattle.q3_entity.specs.declared.state.EntityState.{EntityState}
 use Rattle.q3_entity.specs.Entities.{RiseFrom, AreStates, AreNormal, most_entities}
 use Rattle.q3_entity.specs.Baselines.{no_lines}
+use Rattle.q3_chan.specs.Datagrams.{sequence_end}
 use Rattle.q3_svmsg.specs.Values.{Context, Snap, Message}
-
--- message numbers end here
-abbrev pub sequence_end : ℕ
-sequence_end = 2 ^ 30
 
 -- a snapshot as a client accepts it
 pub record Snapshot : Type 0 where
@@ -56,7 +52,3 @@ pub record IsBuilt (profile : Profile) (n : ℕ) (message : Message) : Type 0 wh
   pub player : IsHeld profile snapshot.head.player
   pub entities : AreHeld profile snapshot.entities
   pub few : length snapshot.entities ≤ most_entities
-
--- a datagram: the message's number in four bytes, least first, and the message
-abbrev pub datagram_bytes : ℕ → List ℕ → List ℕ
-datagram_bytes number message = to_le_bytes w32 number ++ message

@@ -15,7 +15,7 @@ use Rattle.q3_entity.specs.declared.error.EntityError.TheVariants as entities
 use Rattle.q3_svmsg.specs.declared.error.Illegible.{Illegible as IllegibleCause}
 use Rattle.q3_svmsg.specs.declared.error.Illegible.TheVariants as causes
 use Rattle.q3_world.specs.declared.client.ClientTook.{ClientTook}
-use Rattle.q3_world.specs.declared.client.ClientTook.TheVariants.{Runt, Old, Illegible, Applied}
+use Rattle.q3_world.specs.declared.client.ClientTook.TheVariants.{Runt, Connectionless, Old, OutOfOrder, BadFragment, Partial, Illegible, Applied}
 use Rattle.q3_world.specs.declared.client.SnapOutcome.{SnapOutcome}
 use Rattle.q3_world.specs.declared.client.SnapOutcome.TheVariants.{NoSnap, Accepted, Skipped}
 use Rattle.q3_world.specs.declared.client.NoBase.{NoBase}
@@ -51,6 +51,7 @@ no_client_text e = codes "noclient"
 -- what stands behind `serve C`
 abbrev pub emitted_text : Emitted → ℕ → List ℕ
 emitted_text emitted.NoClient datagram = codes " noclient\n"
+emitted_text (emitted.Fragment number) datagram = concat (codes " fragment " ∷ decimal number ∷ codes " datagram " ∷ decimal datagram ∷ codes "\n" ∷ [])
 emitted_text emitted.SequenceEnd datagram = codes " sequenceend\n"
 emitted_text emitted.Overlong datagram = codes " overlong\n"
 emitted_text (emitted.Snapshot number base bytes) datagram =
@@ -121,7 +122,11 @@ outcome_text number (Skipped base cause) =
 -- what stands behind `deliver D client C`
 abbrev pub took_text : ClientTook → List ℕ
 took_text Runt = codes " runt\n"
+took_text Connectionless = codes " connectionless\n"
 took_text Old = codes " old\n"
+took_text OutOfOrder = codes " outoforder\n"
+took_text BadFragment = codes " badfragment\n"
+took_text Partial = codes " partial\n"
 took_text (Illegible cause) = illegible_text (cause_word cause) (cause_number cause)
 took_text (Applied number snap) = outcome_text number snap
 

@@ -9,11 +9,13 @@ use Rattle.q3_script.specs.Grammar.{IsReplayEvent}
 use Rattle.q3_world.specs.Message.{Snapshot}
 use Rattle.q3_world.specs.declared.client.SnapOutcome.{SnapOutcome}
 use Rattle.q3_world.specs.declared.client.SnapOutcome.TheVariants.{Accepted}
-use Rattle.q3_world.specs.declared.client.ClientTook.TheVariants.{Runt, Illegible, Applied}
+use Rattle.q3_world.specs.declared.client.ClientTook.TheVariants.{Runt, Connectionless, BadFragment, Illegible, Applied}
+use Rattle.q3_chan.specs.declared.gatherer.Gathered.TheVariants.{Whole as CameWhole}
+use Rattle.q3_chan.specs.Gathering.{gathered}
 use Rattle.q3_world.specs.declared.answer.Answer.{Answer}
 use Rattle.q3_world.specs.declared.answer.Answer.TheVariants.{Deliver}
 use Rattle.q3_world.specs.Server.{Built, places}
-use Rattle.q3_world.specs.Client.{ClientState, number_of_datagram}
+use Rattle.q3_world.specs.Client.{ClientState}
 use Rattle.q3_world.specs.Ends.{Ends, client_at, newest, delivered}
 use Rattle.q3_world.specs.Kept.{SentBytes, Kept, opening_kept, kept_step, kept_after, kept_answers}
 use Rattle.q3_world.specs.World.{Whole, History, history_at, opening, step, after, answers}
@@ -43,9 +45,11 @@ BytesFollowTags = (profile : Profile) (all : List Event) → IsCodec profile →
     → StandsFor profile (kept_then profile all) (whole_then profile all)
     × (kept_answers (opening_kept profile) all ≡ answers profile (opening profile) all)
 
--- the answer of a client that could read what arrived
+-- the answer of a client that could make something of what arrived
 abbrev pub IsLegible : Answer → Type 0
 IsLegible (Deliver datagram c Runt) = ⊥
+IsLegible (Deliver datagram c Connectionless) = ⊥
+IsLegible (Deliver datagram c BadFragment) = ⊥
 IsLegible (Deliver datagram c (Illegible cause)) = ⊥
 IsLegible other = Unit {0}
 
@@ -74,7 +78,7 @@ ShownWasBuilt = (profile : Profile) (all : List Event) (c : ℕ) (snapshot : Sna
 abbrev pub WasApplied : Ends → Ends → ℕ → ℕ → List Built → Type 0
 WasApplied before now c n built =
     (client : ClientState) × (snapshot : Snapshot)
-    × (client_at before c ≡ Some client) × (client.taken < n)
+    × (client_at before c ≡ Some client) × (client.gathering.taken < n)
     × (newest (client_at now c) ≡ Some snapshot) × (snapshot.head.number ≡ n) × WasBuilt built snapshot
 
 -- where a client that takes datagrams by their bytes applies one, the number that it answers is above every number that
@@ -86,12 +90,12 @@ AppliedWasBuilt = (profile : Profile) (all : List Event) (number c n : ℕ) (sna
     → (snap ≡ Accepted 0) × WasApplied (kept_then profile all).ends (kept_step (kept_then profile all) (events.Deliver number)).kept.ends c n
     (history_then profile all c).built
 
--- a datagram whose number is above every number that its client has taken is accepted, by its bytes, when it arrives
+-- where the bytes of a datagram bring a message whole, it is accepted; so where its number is above every number that its
+-- client took and it has the last piece of what was gathered, or the message goes whole
 abbrev pub NewerIsAccepted : Type 0
-NewerIsAccepted = (profile : Profile) (all : List Event) (number : ℕ) (sent : SentBytes) (client : ClientState) → IsCodec profile
+NewerIsAccepted = (profile : Profile) (all : List Event) (number n count : ℕ) (sent : SentBytes) (client : ClientState) → IsCodec profile
     → AllByRecursion IsReplayEvent all
     → slice_get (kept_then profile all).datagrams (number - 1) ≡ Some sent
     → client_at (kept_then profile all).ends sent.client ≡ Some client
-    → client.taken < number_of_datagram sent.bytes
-    → (kept_step (kept_then profile all) (events.Deliver number)).answer
-    ≡ delivered number sent.client (Applied (number_of_datagram sent.bytes) (Accepted 0))
+    → (gathered client.gathering sent.bytes).answer ≡ CameWhole n count
+    → (kept_step (kept_then profile all) (events.Deliver number)).answer ≡ delivered number sent.client (Applied n (Accepted 0))

@@ -18,15 +18,14 @@ use Rattle.q3_world.specs.declared.server.Emitted.TheVariants as emitted
 use Rattle.q3_world.specs.declared.server.NoClient.{NoClient}
 use Rattle.q3_world.specs.declared.server.SlotError.{SlotError}
 use Rattle.q3_world.specs.declared.server.SlotError.TheVariants.{Taken}
-use Rattle.q3_world.specs.Message.{sequence_end, Snapshot, message_of, datagram_bytes}
+use Rattle.q3_chan.specs.declared.side.Side.TheVariants.{Server}
+use Rattle.q3_chan.specs.Datagrams.{sequence_end, longest_message}
+use Rattle.q3_chan.specs.Sending.{Sending, UnderWay, new_sending, started, next_of}
+use Rattle.q3_world.specs.Message.{Snapshot, message_of}
 
 -- how many clients there may be
 abbrev pub places : ℕ
 places = 16
-
--- a message below this length goes whole; longer ones aren't sent at this stage
-abbrev pub fragment_size : ℕ
-fragment_size = 1300
 
 -- how many numbers entities may have: 0 to 1022
 abbrev pub most_numbers : ℕ
@@ -37,13 +36,13 @@ pub record MapState : Type 0 where
   pub time : ℕ
   pub entities : List EntityState
 
--- a client at the server: how it joined and from where, how many messages were begun for it, its player in normal form,
--- and its area bytes
+-- a client at the server: how it joined and from where, what is being sent to it, its player in normal form, and its area
+-- bytes
 pub record SlotState : Type 0 where
   pub challenge : ℕ
   pub address : Address
   pub qport : ℕ
-  pub begun : ℕ
+  pub sending : Sending
   pub player : PlayerState
   pub area : ArrayVec ℕ
 
@@ -79,7 +78,7 @@ pub record Handed (E : Type 0) : Type 0 where
 -- a client that just joined
 abbrev pub new_slot : ℕ → ℕ → Address → SlotState
 new_slot challenge qport address =
-    record { challenge = challenge; address = address; qport = qport; begun = 0; player = zero_player; area = record { items = [] } }
+    record { challenge = challenge; address = address; qport = qport; sending = new_sending Server 0; player = zero_player; area = record { items = [] } }
 
 -- a client takes over a place, unless there is one
 abbrev pub add_to : ServerState → ℕ → SlotState → Option SlotState → Handed SlotError
@@ -148,7 +147,7 @@ set_area_at server c area = give_area server c area (slot_at server c)
 abbrev pub next_snapshot : MapState → SlotState → Snapshot
 next_snapshot map slot =
     record {
-      head = record { number = slot.begun + 1; time = map.time; flags = 0; area = slot.area; player = slot.player };
+      head = record { number = slot.sending.number + 1; time = map.time; flags = 0; area = slot.area; player = slot.player };
       entities = take most_entities map.entities;
     }
 
@@ -160,9 +159,14 @@ next_message map slot = message_of (next_snapshot map slot)
 abbrev pub built_bits : Profile → Built → List Bool
 built_bits profile built = message_text profile no_lines None built
 
--- a datagram that is handed out: the number of the message that it carries, and its bytes
+-- and its bytes
+abbrev pub built_bytes : Profile → Built → List ℕ
+built_bytes profile built = message_bytes (built_bits profile built)
+
+-- a datagram that is handed out: the number of the message, which of its pieces it carries, and its bytes
 pub record Piece : Type 0 where
   pub number : ℕ
+  pub index : ℕ
   pub bytes : List ℕ
 
 -- what an emit of a slot gives: the slot after it, the answer, the message that it began, and the datagram that it hands out
@@ -176,23 +180,32 @@ pub record SlotEmission : Type 0 where
 abbrev pub nothing : SlotState → Emitted → SlotEmission
 nothing slot answer = record { slot = slot; answer = answer; began = None; piece = None }
 
--- a message of these bits, as long as it goes whole
+-- the piece at an index of the message under way is handed out
+abbrev pub hand_out : SlotState → ℕ → Emitted → Option Built → SlotEmission
+hand_out slot index answer began = record {
+  slot = record slot { sending = (next_of slot.sending).sending };
+  answer = answer;
+  began = began;
+  piece = Some (record { number = slot.sending.number; index = index; bytes = (next_of slot.sending).datagram });
+}
+
+-- a message of these bits is begun, unless it is too long, and its first piece is handed out
 abbrev pub emit_bits : SlotState → Built → List Bool → SlotEmission
 emit_bits slot built bits =
-    if nat_le fragment_size (message_length (length bits))
-    then nothing slot emitted.Overlong
-    else record {
-      slot = record slot { begun = slot.begun + 1 };
-      answer = emitted.Snapshot (slot.begun + 1) 0 (message_length (length bits));
-      began = Some built;
-      piece = Some (record { number = slot.begun + 1; bytes = datagram_bytes (slot.begun + 1) (message_bytes bits) });
-    }
+    if nat_lt longest_message (message_length (length bits)) then nothing slot emitted.Overlong
+    else hand_out (record slot { sending = started slot.sending (message_bytes bits) }) 0
+    (emitted.Snapshot (slot.sending.number + 1) 0 (message_length (length bits))) (Some built)
 
 -- the next message of a slot, unless message numbers have ended
-abbrev pub emit_slot : Profile → MapState → SlotState → SlotEmission
-emit_slot profile map slot =
-    if nat_le sequence_end (slot.begun + 1) then nothing slot emitted.SequenceEnd
+abbrev pub emit_new : Profile → MapState → SlotState → SlotEmission
+emit_new profile map slot =
+    if nat_le sequence_end (slot.sending.number + 1) then nothing slot emitted.SequenceEnd
     else emit_bits slot (next_message map slot) (built_bits profile (next_message map slot))
+
+-- what is left of a message goes before another is begun
+abbrev pub emit_slot : Profile → MapState → SlotState → Option UnderWay → SlotEmission
+emit_slot profile map slot None = emit_new profile map slot
+emit_slot profile map slot (Some left) = hand_out slot left.next (emitted.Fragment slot.sending.number) None
 
 -- what an emit of the server gives
 pub record Emission : Type 0 where
@@ -209,7 +222,7 @@ emission_at server c emission =
 -- an emission for the client at a place, if there is one
 abbrev pub emit_from : ServerState → ℕ → Option SlotState → Emission
 emit_from server c None = record { server = server; answer = emitted.NoClient; began = None; piece = None }
-emit_from server c (Some slot) = emission_at server c (emit_slot server.profile server.map slot)
+emit_from server c (Some slot) = emission_at server c (emit_slot server.profile server.map slot slot.sending.under_way)
 
 -- the server makes a datagram for a client
 unfoldable pub emit_at : ServerState → ℕ → Emission

@@ -1,12 +1,15 @@
 -- What is kept stands for a whole world: both ends are the same, and each datagram's bytes are those of the message
 -- that its tag names.
-use Rattle.std.specs.Prelude.{◌≡◌, ℕ, ◌+◌, ◌^◌, ◌<◌, ◌≤◌, List, length, map, Option, Some, None, slice_index_or}
+use Rattle.std.specs.Prelude.{◌≡◌, ℕ, zero, suc, ◌+◌, ◌^◌, ◌<◌, ◌≤◌, List, [], length, map, Option, Some, None, IfSome, slice_index_or}
 use Rattle.std.specs.List.{last_or}
 use Rattle.q3_profile.specs.declared.profile.Profile.{Profile}
 use Rattle.q3_profile.specs.Profile.{IsCodec}
-use Rattle.q3_bits.specs.Bits.{message_bytes}
-use Rattle.q3_world.specs.Message.{Snapshot, message_of, IsHeld, IsArea, AreHeld, IsBuilt, datagram_bytes}
-use Rattle.q3_world.specs.Server.{MapState, SlotState, Built, places, slot_at, built_bits}
+use Rattle.q3_chan.specs.declared.side.Side.TheVariants.{Server}
+use Rattle.q3_chan.specs.Datagrams.{piece_count, datagram}
+use Rattle.q3_chan.specs.Sending.{UnderWay}
+use Rattle.q3_chan.specs.Laws.{IsSendable, HoldsFront}
+use Rattle.q3_world.specs.Message.{Snapshot, message_of, IsHeld, IsArea, AreHeld, IsBuilt}
+use Rattle.q3_world.specs.Server.{MapState, SlotState, Built, places, slot_at, built_bytes}
 use Rattle.q3_world.specs.Client.{ClientState}
 use Rattle.q3_world.specs.Ends.{client_at}
 use Rattle.q3_world.specs.Kept.{SentBytes, Kept}
@@ -14,13 +17,24 @@ use Rattle.q3_world.specs.World.{Tag, History, Whole, no_history, history_at, bu
 
 -- ---- what holds whatever bytes were delivered
 
+-- a message under way is the last that was begun, and a piece of it is left
+pub record IsUnderWay (profile : Profile) (built : List Built) (way : UnderWay) : Type 0 where
+  pub some : 1 ≤ length built
+  pub message : way.message ≡ built_bytes profile (built_at built (length built))
+  pub left : way.next < piece_count (length way.message)
+
 -- what each end of a client keeps alone, and what was built for it
 pub record AreEnds (profile : Profile) (slot : SlotState) (client : ClientState) (history : History) : Type 0 where
-  pub begun : slot.begun ≡ length history.built
+  pub begun : slot.sending.number ≡ length history.built
+  pub side : slot.sending.side ≡ Server
+  pub qport : slot.sending.qport ≡ 0
+  pub under_way : IfSome slot.sending.under_way (IsUnderWay profile history.built)
   pub player : IsHeld profile slot.player
   pub area : IsArea slot.area.items
   pub built : (k : ℕ) (d : Built) → k < length history.built → IsBuilt profile (k + 1) (slice_index_or history.built k d)
+  pub short : (k : ℕ) (d : Built) → k < length history.built → IsSendable (built_bytes profile (slice_index_or history.built k d))
   pub by : client.profile ≡ profile
+  pub from : client.gathering.side ≡ Server
 
 -- a client is at both ends or at none
 abbrev pub IsClient : Profile → Option SlotState → Option ClientState → History → Type 0
@@ -33,7 +47,8 @@ pub record IsSent (profile : Profile) (histories : List History) (tag : Tag) : T
   pub client : tag.client < places
   pub some : 1 ≤ tag.number
   pub begun : tag.number ≤ length (history_at histories tag.client).built
-  pub bytes : tag.bytes ≡ datagram_bytes tag.number (message_bytes (built_bits profile (built_at (history_at histories tag.client).built tag.number)))
+  pub piece : tag.index < piece_count (length (built_bytes profile (built_at (history_at histories tag.client).built tag.number)))
+  pub bytes : tag.bytes ≡ datagram Server 0 tag.number (built_bytes profile (built_at (history_at histories tag.client).built tag.number)) tag.index
 
 -- what holds of the whole world
 pub record Facts (profile : Profile) (whole : Whole) : Type 0 where
@@ -64,22 +79,30 @@ abbrev pub Rise : List Snapshot → Type 0
 Rise snapshots = (j k : ℕ) (d : Snapshot) → j < k → k < length snapshots
     → (slice_index_or snapshots j d).head.number < (slice_index_or snapshots k d).head.number
 
--- of one client: each snapshot that it accepted was built, their numbers rise, and it keeps the newest
-pub record AreJoined (map : MapState) (slot : SlotState) (client : ClientState) (history : History) : Type 0 where
+-- the bytes of the message under a number; the number 0 has none
+abbrev pub messages_of : Profile → List Built → ℕ → List ℕ
+messages_of profile built zero = []
+messages_of profile built (suc number) = built_bytes profile (built_at built (suc number))
+
+-- of one client: each snapshot that it accepted was built, their numbers rise, and it keeps the newest; and what was gathered
+-- is the first pieces of a message that was begun
+pub record AreJoined (profile : Profile) (map : MapState) (slot : SlotState) (client : ClientState) (history : History) : Type 0 where
   pub accepted : (k : ℕ) (d : Snapshot) → k < length history.accepted → WasBuilt history.built (slice_index_or history.accepted k d)
   pub rise : Rise history.accepted
   pub newest : client.accepted ≡ last_or None history.accepted
-  pub taken : client.taken ≡ number_of_newest client.accepted
+  pub taken : client.gathering.taken ≡ number_of_newest client.accepted
+  pub gathers : client.gathering.number ≤ length history.built
+  pub front : HoldsFront (messages_of profile history.built) client.gathering
 
 -- of a client that is at both ends
-abbrev pub IsJoined : MapState → Option SlotState → Option ClientState → History → Type 0
-IsJoined map (Some slot) (Some client) history = AreJoined map slot client history
-IsJoined map slot client history = Unit {0}
+abbrev pub IsJoined : Profile → MapState → Option SlotState → Option ClientState → History → Type 0
+IsJoined profile map (Some slot) (Some client) history = AreJoined profile map slot client history
+IsJoined profile map slot client history = Unit {0}
 
 -- of every client
-abbrev pub AllJoined : Whole → Type 0
-AllJoined whole = (c : ℕ) → c < places
-    → IsJoined whole.ends.server.map (slot_at whole.ends.server c) (client_at whole.ends c) (history_at whole.histories c)
+abbrev pub AllJoined : Profile → Whole → Type 0
+AllJoined profile whole = (c : ℕ) → c < places
+    → IsJoined profile whole.ends.server.map (slot_at whole.ends.server c) (client_at whole.ends c) (history_at whole.histories c)
 
 -- ---- the two worlds
 
@@ -93,4 +116,4 @@ pub record StandsFor (profile : Profile) (kept : Kept) (whole : Whole) : Type 0 
   pub ends : kept.ends ≡ whole.ends
   pub datagrams : kept.datagrams ≡ map bytes_of whole.sent
   pub facts : Facts profile whole
-  pub joined : AllJoined whole
+  pub joined : AllJoined profile whole

@@ -1,21 +1,25 @@
 -- The whole world: both ends, and what nothing wipes. A step delivers a datagram by its tag:
 -- what arrives is the message that was built under its number.
-use Rattle.std.specs.Prelude.{ℕ, ◌+◌, ◌-◌, if◌then◌else◌, List, [], ◌∷◌, ◌++◌, length, replicate, nat_le, Option, Some, None, slice_get, slice_set, slice_index_or}
+use Rattle.std.specs.Prelude.{ℕ, ◌+◌, ◌-◌, List, [], ◌∷◌, ◌++◌, length, replicate, Option, Some, None, Ok, slice_get, slice_set, slice_index_or}
 use Rattle.q3_profile.specs.declared.profile.Profile.{Profile}
 use Rattle.q3_player.specs.Heads.{empty_head}
 use Rattle.q3_script.specs.declared.event.Event.{Event}
 use Rattle.q3_script.specs.declared.event.Event.TheVariants as events
+use Rattle.q3_chan.specs.declared.gatherer.Gathered.{Gathered}
+use Rattle.q3_chan.specs.declared.gatherer.Gathered.TheVariants.{Whole as CameWhole}
+use Rattle.q3_chan.specs.Gathering.{Took}
+use Rattle.q3_chan.specs.Tags.{tagged}
 use Rattle.q3_svmsg.specs.Values.{Told, Nothing, Snap, Skipped}
 use Rattle.q3_world.specs.Message.{Snapshot, message_of}
-use Rattle.q3_world.specs.declared.client.ClientTook.TheVariants.{Old}
-use Rattle.q3_world.specs.Server.{Built, Emission, Piece, places, emit_at}
-use Rattle.q3_world.specs.Client.{ClientState, Taken, apply_message}
+use Rattle.q3_world.specs.Server.{Built, Emission, Piece, places, emit_at, built_bytes}
+use Rattle.q3_world.specs.Client.{ClientState, Taken, take_gathered}
 use Rattle.q3_world.specs.Ends.{Ends, EndsStep, Answered, answered, client_at, with_client, new_ends, served, unknown, delivered, join, set_time, set_entity, remove_entity, set_player, set_area, show}
 
--- a datagram that was made: the client that it is for, its message's number, and its bytes
+-- a datagram that was made: the client that it is for, its message's number, which of its pieces it carries, and its bytes
 pub record Tag : Type 0 where
   pub client : ℕ
   pub number : ℕ
+  pub index : ℕ
   pub bytes : List ℕ
 
 -- of one client: the messages that the server began for it, the one under number 1 first, and the snapshots that it accepted
@@ -86,7 +90,7 @@ histories_after histories c (Some built) = with_built histories c built
 -- the tags, and behind them that of what an emission for a client hands out
 abbrev pub sent_after : List Tag → ℕ → Option Piece → List Tag
 sent_after sent c None = sent
-sent_after sent c (Some piece) = sent ++ record { client = c; number = piece.number; bytes = piece.bytes } ∷ []
+sent_after sent c (Some piece) = sent ++ record { client = c; number = piece.number; index = piece.index; bytes = piece.bytes } ∷ []
 
 -- the server makes a datagram, which gets a tag if it is handed out
 abbrev pub serve : Whole → ℕ → Emission → Step
@@ -104,25 +108,35 @@ serve whole c emission =
 abbrev pub named : List History → Tag → Built
 named histories tag = built_at (history_at histories tag.client).built tag.number
 
--- a client took a message that carries this snapshot, if it carries one
-abbrev pub arrive_new : Whole → ℕ → ℕ → Taken → Option Snapshot → Step
-arrive_new whole number c taken snapshot =
+-- the snapshot that a message carries, where it came whole
+abbrev pub heard_in : Gathered → Told → Option Snapshot
+heard_in (CameWhole number count) told = snapshot_in told
+heard_in other told = None
+
+-- a client took a datagram, and with it this snapshot, if it took one
+abbrev pub arrive_taken : Whole → ℕ → ℕ → Taken → Option Snapshot → Step
+arrive_taken whole number c taken snapshot =
     record {
       whole = record whole { ends = with_client whole.ends c taken.client; histories = accepted_after whole.histories c snapshot };
       answer = delivered number c taken.answer;
     }
 
--- a message arrives: an old one changes nothing, and of another the client takes the value that was built
-abbrev pub arrive : Whole → ℕ → Tag → Option ClientState → Step
-arrive whole number tag None = record { whole = whole; answer = unknown number }
-arrive whole number tag (Some client) =
-    if nat_le tag.number client.taken then record { whole = whole; answer = delivered number tag.client Old }
-    else arrive_new whole number tag.client (apply_message client tag.number (named whole.histories tag)) (snapshot_in (named whole.histories tag).section)
+-- what a client makes of a piece of a message: of one that comes whole it takes the value that was built
+abbrev pub arrive_piece : Whole → ℕ → ℕ → ClientState → Took → Built → Step
+arrive_piece whole number c client took built =
+    arrive_taken whole number c (take_gathered client took (λ n. Ok built)) (heard_in took.answer built.section)
+
+-- a datagram arrives, by its tag: the number and the piece decide what it does
+abbrev pub arrive : Profile → Whole → ℕ → Tag → Option ClientState → Step
+arrive profile whole number tag None = record { whole = whole; answer = unknown number }
+arrive profile whole number tag (Some client) =
+    arrive_piece whole number tag.client client
+    (tagged client.gathering tag.number (built_bytes profile (named whole.histories tag)) tag.index) (named whole.histories tag)
 
 -- the datagram of a number, if it was made, arrives
-abbrev pub deliver : Whole → ℕ → Option Tag → Step
-deliver whole number None = record { whole = whole; answer = unknown number }
-deliver whole number (Some tag) = arrive whole number tag (client_at whole.ends tag.client)
+abbrev pub deliver : Profile → Whole → ℕ → Option Tag → Step
+deliver profile whole number None = record { whole = whole; answer = unknown number }
+deliver profile whole number (Some tag) = arrive profile whole number tag (client_at whole.ends tag.client)
 
 -- one event
 unfoldable pub step : Profile → Whole → Event → Step
@@ -133,7 +147,7 @@ step profile whole (events.Player c player) = with_ends whole (set_player whole.
 step profile whole (events.Area c area) = with_ends whole (set_area whole.ends c area)
 step profile whole (events.Time time) = with_ends whole (set_time whole.ends time)
 step profile whole (events.Serve c) = serve whole c (emit_at whole.ends.server c)
-step profile whole (events.Deliver number) = deliver whole number (slice_get whole.sent (number - 1))
+step profile whole (events.Deliver number) = deliver profile whole number (slice_get whole.sent (number - 1))
 step profile whole (events.Show c) = with_ends whole (show whole.ends c)
 
 -- the world after these events

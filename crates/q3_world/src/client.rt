@@ -1,19 +1,23 @@
 //! A client's end: pure state, one call an event.
-//! Keeps the rule "when a message is old", and an interim rule of this project's own: a message that isn't legible
-//! leaves its number untaken.
+//! Keeps the rule "what a receiver answers", by q3_chan, and the interim rules on what a client keeps.
 
-ghost use Rattle.std.specs.Prelude.{◌≡◌, ◌≢◌, ◌<◌, Some, IfOk, option_map, length};
-ghost use Rattle.q3_world.specs.Client.{new_client, take_message, take_at};
+ghost use Rattle.std.specs.Prelude.{◌≡◌, ◌≢◌, ◌<◌, Some, None, IfOk, option_map};
+ghost use Rattle.q3_entity.specs.Baselines.{no_lines};
+ghost use Rattle.q3_world.specs.Client.{new_client, newest_read, answer_read, read_by, take_at};
 ghost use Rattle.q3_world.specs.Views.{snapshot_of};
 
 use crate::bases::NoBases;
 use q3_bits::NoMemory;
+use q3_chan::{Gathered, Gatherer, Side};
 use q3_entity::EntityState;
 use q3_player::SnapHead;
 use q3_profile::Profile;
 use q3_svmsg::{Illegible, Section, ServerMessage, read_server_message};
 use std::alloc::Global;
 use std::marker::Model;
+
+/// The longest message.
+const LONGEST_MESSAGE: usize = 16_384;
 
 /// Why a snapshot's base isn't there.
 #[derive(Clone, Copy, Debug, PartialEq, Eq)]
@@ -36,10 +40,18 @@ pub enum SnapOutcome {
 /// What a client's take answers.
 #[derive(Clone, Copy, Debug, PartialEq, Eq)]
 pub enum ClientTook {
-    /// The datagram has fewer than four bytes.
+    /// The datagram has fewer bytes than its header.
     Runt,
+    /// It begins with four bytes of 255.
+    Connectionless,
     /// The message's number isn't above the newest taken.
     Old,
+    /// A piece that doesn't start where what was gathered ends.
+    OutOfOrder,
+    /// A piece, or a message, that is longer than may be, or than is there.
+    BadFragment,
+    /// A piece that isn't the last of its message.
+    Partial,
     Illegible(Illegible),
     /// The message was applied: its number, and what became of its snapshot.
     Applied { number: u32, snap: SnapOutcome },
@@ -53,25 +65,112 @@ pub struct SnapshotView<'a> {
     pub entities: &'a [EntityState],
 }
 
-/// A client: a copy of the profile, the newest number taken, 0 for none, and two messages.
-/// One of them has the newest snapshot accepted, if there is one, and the next message is read into the other.
+/// Two messages. One of them has the newest snapshot accepted, if there is one, and the next message is read into the other.
+#[derive(Drop)]
+struct Snapshots {
+    messages: Vec<ServerMessage>,
+    newest: Option<usize>,
+}
+
+impl Model for Snapshots {
+    ghost use Rattle.std.specs.Prelude.{◌≡◌, ◌<◌, length, slice_get, Option, option_map, option_and_then, IfSome};
+    ghost use Rattle.q3_world.specs.Message.{Snapshot};
+    ghost use Rattle.q3_world.specs.Views.{snapshot_in_message};
+
+    ghost Value = { Option Snapshot };
+
+    ghost view = { λ s. option_map snapshot_in_message (option_and_then (slice_get s.messages.items) s.newest) };
+
+    ghost invariant = { λ s. (length s.messages.items ≡ 2) × IfSome s.newest (λ place. place < 2) };
+}
+
+impl Snapshots {
+    /// No snapshot. `Err` is want of memory.
+    fn new(alloc: Global) -> Result<Snapshots, NoMemory>
+        ensures { IfOk result (λ made. made ≡ None) }
+    {
+        let mut messages = Vec::with_capacity(alloc, 2)?;
+        messages.push(ServerMessage::new(alloc)?)?;
+        messages.push(ServerMessage::new(alloc)?)?;
+        Ok(Snapshots {
+            messages,
+            newest: None,
+        })
+    }
+
+    /// Reads a message under its number, and keeps its snapshot where it may be accepted.
+    fn read(
+        &mut self,
+        profile: &Profile,
+        bases: &NoBases,
+        number: u32,
+        message: &[u8],
+    ) -> ClientTook
+        requires { bases.now.lines ≡ no_lines }
+        ensures newest { self.new ≡ newest_read self.old (read_by profile.now message.now number) }
+        ensures answer { result ≡ answer_read number (read_by profile.now message.now number) }
+    {
+        let place = other(self.newest);
+        let into = &mut self.messages[place];
+        if let Err(e) = read_server_message(profile, number, message, bases, into) {
+            return ClientTook::Illegible(e);
+        }
+        let snap = match into.section {
+            Section::Nothing => SnapOutcome::NoSnap,
+            Section::Snap { base, held: true } => {
+                self.newest = Some(place);
+                SnapOutcome::Accepted { base }
+            }
+            Section::Snap { base, held: false } => SnapOutcome::Skipped {
+                base,
+                cause: NoBase::NeverHeld,
+            },
+        };
+        ClientTook::Applied { number, snap }
+    }
+
+    /// The newest snapshot accepted.
+    fn newest(&self) -> Option<SnapshotView<'_>>
+        ensures { option_map snapshot_of result ≡ self.now }
+    {
+        let message = &self.messages[self.newest?];
+        Some(SnapshotView {
+            head: &message.head,
+            entities: &message.entities,
+        })
+    }
+}
+
+/// The one of two places that isn't this one.
+fn other(place: Option<usize>) -> usize
+    ensures inside { result < 2 }
+    ensures another { place ≢ Some result }
+{
+    match place {
+        Some(0) => 1,
+        _ => 0,
+    }
+}
+
+/// A client: a copy of the profile, what it gathers, a place for the bytes of a message that came whole, and the newest
+/// snapshot.
 #[derive(Drop)]
 pub(crate) struct Client {
     profile: Profile,
     challenge: u32,
     qport: u16,
     dup: u8,
-    taken: u32,
+    gatherer: Gatherer,
+    whole: Vec<u8>,
     bases: NoBases,
-    messages: Vec<ServerMessage>,
-    newest: Option<usize>,
+    snapshots: Snapshots,
 }
 
 impl Model for Client {
-    ghost use Rattle.std.specs.Prelude.{◌≡◌, ◌<◌, length, slice_get, option_map, option_and_then, IfSome};
-    ghost use Rattle.q3_world.specs.Client.{ClientState};
-    ghost use Rattle.q3_world.specs.Views.{snapshot_in_message};
+    ghost use Rattle.std.specs.Prelude.{◌≡◌, length};
+    ghost use Rattle.q3_chan.specs.Datagrams.{longest_message};
     ghost use Rattle.q3_entity.specs.Baselines.{no_lines};
+    ghost use Rattle.q3_world.specs.Client.{ClientState};
 
     ghost Value = { ClientState };
 
@@ -80,12 +179,11 @@ impl Model for Client {
       challenge = c.challenge;
       qport = c.qport;
       dup = c.dup;
-      taken = c.taken;
-      accepted = option_map snapshot_in_message (option_and_then (slice_get c.messages.items) c.newest);
+      gathering = c.gatherer;
+      accepted = c.snapshots;
     } };
 
-    ghost invariant = { λ c. (length c.messages.items ≡ 2) × IfSome c.newest (λ place. place < 2)
-        × (c.bases.lines ≡ no_lines) };
+    ghost invariant = { λ c. (c.bases.lines ≡ no_lines) × (length c.whole.items ≡ longest_message) };
 }
 
 impl Client {
@@ -104,83 +202,35 @@ impl Client {
             challenge,
             qport,
             dup,
-            taken: 0,
+            gatherer: Gatherer::new(alloc, Side::Server)?,
+            whole: vec![in alloc; 0; LONGEST_MESSAGE]?,
             bases: NoBases::new(alloc)?,
-            messages: two_messages(alloc)?,
-            newest: None,
+            snapshots: Snapshots::new(alloc)?,
         })
     }
 
-    /// Takes a datagram: an old one changes nothing, nor does one that isn't legible.
+    /// Takes a datagram, any bytes. A message that came whole is read; one that isn't legible changes nothing else.
     #[tactic(auto, unfolding(crate::specs::Client::take_at))]
     pub(crate) fn take(&mut self, datagram: &[u8]) -> ClientTook
         ensures { take_at self.old datagram.now ≡ record { client = self.new; answer = result } }
     {
-        if datagram.len() < 4 {
-            return ClientTook::Runt;
-        }
-        let (head, message) = datagram.split_at(4);
-        let number = u32::from_le_bytes([head[0], head[1], head[2], head[3]]);
-        self.take_message(number, message)
-    }
-
-    /// Takes a message under its number.
-    fn take_message(&mut self, number: u32, message: &[u8]) -> ClientTook
-        ensures { take_message self.old number message.now ≡ record { client = self.new; answer = result } }
-    {
-        if number <= self.taken {
-            return ClientTook::Old;
-        }
-        let place = other(self.newest);
-        let into = &mut self.messages[place];
-        if let Err(e) = read_server_message(&self.profile, number, message, &self.bases, into) {
-            return ClientTook::Illegible(e);
-        }
-        let section = into.section;
-        self.taken = number;
-        let snap = match section {
-            Section::Nothing => SnapOutcome::NoSnap,
-            Section::Snap { base, held: true } => {
-                self.newest = Some(place);
-                SnapOutcome::Accepted { base }
-            }
-            Section::Snap { base, held: false } => SnapOutcome::Skipped {
-                base,
-                cause: NoBase::NeverHeld,
-            },
+        let (number, length) = match self.gatherer.take(datagram, &mut self.whole) {
+            Gathered::Whole { number, length } => (number, length),
+            Gathered::Partial => return ClientTook::Partial,
+            Gathered::Old => return ClientTook::Old,
+            Gathered::OutOfOrder => return ClientTook::OutOfOrder,
+            Gathered::BadFragment => return ClientTook::BadFragment,
+            Gathered::Runt => return ClientTook::Runt,
+            Gathered::Connectionless => return ClientTook::Connectionless,
         };
-        ClientTook::Applied { number, snap }
+        self.snapshots
+            .read(&self.profile, &self.bases, number, &self.whole[..length])
     }
 
     /// The newest snapshot accepted.
     pub(crate) fn newest(&self) -> Option<SnapshotView<'_>>
         ensures { option_map snapshot_of result ≡ self.now.accepted }
     {
-        let message = &self.messages[self.newest?];
-        Some(SnapshotView {
-            head: &message.head,
-            entities: &message.entities,
-        })
-    }
-}
-
-/// Two messages with nothing in them. `Err` is want of memory.
-fn two_messages(alloc: Global) -> Result<Vec<ServerMessage>, NoMemory>
-    ensures { IfOk result (λ made. length made.items ≡ 2) }
-{
-    let mut made = Vec::with_capacity(alloc, 2)?;
-    made.push(ServerMessage::new(alloc)?)?;
-    made.push(ServerMessage::new(alloc)?)?;
-    Ok(made)
-}
-
-/// The one of two places that isn't this one.
-fn other(place: Option<usize>) -> usize
-    ensures inside { result < 2 }
-    ensures another { place ≢ Some result }
-{
-    match place {
-        Some(0) => 1,
-        _ => 0,
+        self.snapshots.newest()
     }
 }

@@ -4,6 +4,7 @@ ghost use Rattle.q3_world.specs.MessageLaws.{BuiltIsRead};
 ghost use Rattle.q3_world.specs.Schedules.{StepFollows, BytesFollowTags, AlwaysLegible, AcceptedWereBuilt, ShownWasBuilt, AppliedWasBuilt, NewerIsAccepted};
 
 use q3_bits::laws as bits;
+use q3_chan::laws as chan;
 use q3_entity::laws as entity;
 use q3_player::laws as player;
 use q3_svmsg::laws as svmsg;
@@ -25,6 +26,8 @@ pub fn step_follows()
     entity::normal_is_normal();
     player::normal_is_normal();
     player::zero_is_normal();
+    chan::sent_is_tagged();
+    bits::message_holds_bits();
 }
 
 /// In a replay what is kept, where each datagram is taken by its bytes, stands for the whole world, where each is taken
@@ -66,6 +69,8 @@ pub fn applied_was_built()
     entity::normal_is_normal();
     player::normal_is_normal();
     player::zero_is_normal();
+    chan::sent_is_tagged();
+    bits::message_holds_bits();
 }
 
 /// Whatever came before, a datagram whose number is above every number that its client has taken is accepted.
@@ -77,4 +82,6 @@ pub fn newer_is_accepted()
     entity::normal_is_normal();
     player::normal_is_normal();
     player::zero_is_normal();
+    chan::sent_is_tagged();
+    bits::message_holds_bits();
 }

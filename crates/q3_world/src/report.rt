@@ -136,6 +136,20 @@ fn print_emitted<O: Sink>(
                 out,
             );
         }
+        Emitted::Fragment { number } => {
+            return print_all(
+                &[
+                    Piece::Text(b"serve "),
+                    Piece::Number(u64::from(c)),
+                    Piece::Text(b" fragment "),
+                    Piece::Number(u64::from(*number)),
+                    Piece::Text(b" datagram "),
+                    Piece::Number(u64::from(datagram)),
+                    Piece::Text(b"\n"),
+                ],
+                out,
+            );
+        }
         Emitted::NoClient => b" noclient\n",
         Emitted::SequenceEnd => b" sequenceend\n",
         Emitted::Overlong => b" overlong\n",
@@ -162,7 +176,11 @@ fn print_took<O: Sink>(datagram: u32, c: u8, took: &ClientTook, out: &mut O) -> 
         }
         ClientTook::Illegible(cause) => return print_illegible(datagram, c, *cause, out),
         ClientTook::Runt => b" runt\n",
+        ClientTook::Connectionless => b" connectionless\n",
         ClientTook::Old => b" old\n",
+        ClientTook::OutOfOrder => b" outoforder\n",
+        ClientTook::BadFragment => b" badfragment\n",
+        ClientTook::Partial => b" partial\n",
     };
     print_all(
         &[

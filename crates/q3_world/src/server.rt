@@ -1,5 +1,6 @@
 //! The server's end: pure state, one call an event.
-//! Keeps the rules "datagram" and "end of message numbers", the second of which is this project's own.
+//! Keeps the rules "what the server sends", "fragmentation", by q3_chan, and "end of message numbers", which is this
+//! project's own.
 
 ghost use Rattle.std.specs.Prelude.{◌≡◌, ◌<◌, ◌≤◌, ◌++◌, [], IfOk, length, position, nat_le, take, true, ◌+◌, ◌^◌};
 ghost use Rattle.std.specs.Vec.{vec_capacity};
@@ -8,12 +9,14 @@ ghost use Rattle.q3_fields.specs.Kinds.{Layout, end_mark};
 ghost use Rattle.q3_entity.specs.Entities.{normal_entity, most_entities, IsList};
 ghost use Rattle.q3_entity.specs.Baselines.{no_lines};
 ghost use Rattle.q3_svmsg.specs.Values.{told_of};
-ghost use Rattle.q3_world.specs.Message.{datagram_bytes};
-ghost use Rattle.q3_world.specs.Server.{places, fragment_size, most_numbers, new_slot, new_server, with_entity, without_entity, with_player, with_area, next_message, add_client_at, set_time_at, set_entity_at, remove_entity_at, set_player_at, set_area_at, emit_slot, emit_at, HandsOut};
+ghost use Rattle.q3_chan.specs.Datagrams.{longest_message};
+ghost use Rattle.q3_chan.specs.Sending.{IsIdle, new_sending};
+ghost use Rattle.q3_world.specs.Server.{places, most_numbers, new_slot, new_server, with_entity, without_entity, with_player, with_area, next_message, add_client_at, set_time_at, set_entity_at, remove_entity_at, set_player_at, set_area_at, emit_new, emit_slot, emit_at, HandsOut};
 
 use crate::places::empty_places;
 use arrayvec::ArrayVec;
 use q3_bits::NoMemory;
+use q3_chan::{Datagram, Sender, Side};
 use q3_entity::{Baselines, EntityState, List};
 use q3_fields::Table;
 use q3_io::Address;
@@ -26,20 +29,14 @@ use std::marker::Model;
 /// Message numbers end here.
 const SEQUENCE_END: u32 = 1 << 30;
 
-/// A message of so many bytes goes in pieces, which this stage doesn't do.
-const FRAGMENT_SIZE: usize = 1_300;
+/// The longest message.
+const LONGEST_MESSAGE: usize = 16_384;
 
 /// How many entities a snapshot may have.
 const MOST_ENTITIES: usize = 256;
 
 /// How many numbers entities may have.
 const MOST_NUMBERS: usize = 1_023;
-
-/// The most bytes that a datagram may have.
-pub(crate) const DATAGRAM_ROOM: usize = 1_320;
-
-/// The bytes of one datagram.
-pub(crate) type Datagram = ArrayVec<u8, DATAGRAM_ROOM>;
 
 /// No such client was added.
 #[derive(Clone, Copy, Debug, PartialEq, Eq)]
@@ -57,11 +54,16 @@ pub enum SlotError {
 pub enum Emitted {
     /// No such client was added.
     NoClient,
+    /// A datagram with a further piece of the message of this number.
+    Fragment {
+        number: u32,
+    },
     /// Message numbers have ended.
     SequenceEnd,
-    /// The message has 1,300 bytes or more; its number is used again.
+    /// The message has more than 16,384 bytes; its number is used again.
     Overlong,
-    /// A datagram with a snapshot: its message's number, the number of the base, 0 for none, and the message's length.
+    /// A datagram with a snapshot, or its first piece: its message's number, the number of the base, 0 for none, and the
+    /// message's length.
     Snapshot {
         number: u32,
         base: u32,
@@ -95,14 +97,14 @@ struct Slot {
     challenge: u32,
     address: Address,
     qport: u16,
-    begun: u32,
+    sender: Sender,
     player: PlayerState,
     area: ArrayVec<u8, 32>,
 }
 
 impl Model for Slot {
     ghost use Rattle.std.specs.Prelude.{◌<◌};
-    ghost use Rattle.q3_world.specs.Message.{sequence_end};
+    ghost use Rattle.q3_chan.specs.Datagrams.{sequence_end};
     ghost use Rattle.q3_world.specs.Server.{SlotState};
 
     ghost Value = { SlotState };
@@ -111,12 +113,12 @@ impl Model for Slot {
       challenge = s.challenge;
       address = s.address;
       qport = s.qport;
-      begun = s.begun;
+      sending = s.sender;
       player = s.player;
       area = s.area;
     } };
 
-    ghost invariant = { λ s. s.begun < sequence_end };
+    ghost invariant = { λ s. s.sender.number < sequence_end };
 }
 
 impl Map {
@@ -196,14 +198,15 @@ fn place_from(entities: &[EntityState], number: u16) -> Option<usize>
 }
 
 impl Slot {
-    fn new(challenge: u32, qport: u16, address: Address) -> Slot
+    fn new(challenge: u32, qport: u16, address: Address, sender: Sender) -> Slot
+        requires { sender ≡ new_sending Side.Server 0 }
         ensures { result ≡ new_slot challenge qport address }
     {
         Slot {
             challenge,
             address,
             qport,
-            begun: 0,
+            sender,
             player: PlayerState::zero(),
             area: ArrayVec::new(),
         }
@@ -224,7 +227,7 @@ impl Slot {
 
     /// The message that goes to the slot next.
     fn fill(&self, map: &Map, message: &mut ServerMessage)
-        requires { self.now.begun + 1 < 2 ^ 32 }
+        requires { self.now.sending.number + 1 < 2 ^ 32 }
         ensures told { told_of message.new ≡ next_message map.now self.now }
         ensures section { message.new.section ≡ Section.Snap 0 true }
         ensures entities { message.new.entities.value.items ≡ take most_entities map.now.entities }
@@ -236,7 +239,7 @@ impl Slot {
             base: 0,
             held: true,
         };
-        message.head.number = self.begun + 1;
+        message.head.number = self.sender.number() + 1;
         message.head.time = map.time;
         message.head.flags = 0;
         copy_area(&self.area, &mut message.head.area);
@@ -244,7 +247,7 @@ impl Slot {
         copy_lowest(&map.entities, &mut message.entities);
     }
 
-    /// Begins the next message, with a whole snapshot, and hands out its datagram.
+    /// Hands out what is left of a message, or begins the next, with a whole snapshot, and hands out its first piece.
     fn emit(
         &mut self,
         profile: &Profile,
@@ -256,13 +259,41 @@ impl Slot {
     ) -> Emitted
         requires out { out.old.items ≡ [] }
         requires lines { baselines.now ≡ no_lines }
-        requires buffer { length buffer.old + 1 ≡ fragment_size }
-        ensures slot { self.new ≡ (emit_slot profile.now map.now self.old).slot }
-        ensures answer { result ≡ (emit_slot profile.now map.now self.old).answer }
-        ensures piece { HandsOut (emit_slot profile.now map.now self.old).piece out.new.items }
-        ensures buffer { length buffer.new + 1 ≡ fragment_size }
+        requires buffer { length buffer.old ≡ longest_message }
+        ensures slot { self.new ≡ (emit_slot profile.now map.now self.old self.old.sending.under_way).slot }
+        ensures answer { result ≡ (emit_slot profile.now map.now self.old self.old.sending.under_way).answer }
+        ensures piece { HandsOut (emit_slot profile.now map.now self.old self.old.sending.under_way).piece out.new.items }
+        ensures buffer { length buffer.new ≡ longest_message }
     {
-        let number = self.begun + 1;
+        if !self.sender.idle() {
+            self.sender.next(out);
+            return Emitted::Fragment {
+                number: self.sender.number(),
+            };
+        }
+        self.emit_new(profile, map, baselines, message, buffer, out)
+    }
+
+    /// Begins the next message, with a whole snapshot, and hands out its first piece.
+    fn emit_new(
+        &mut self,
+        profile: &Profile,
+        map: &Map,
+        baselines: &Baselines,
+        message: &mut ServerMessage,
+        buffer: &mut [u8],
+        out: &mut Datagram,
+    ) -> Emitted
+        requires idle { IsIdle self.old.sending }
+        requires out { out.old.items ≡ [] }
+        requires lines { baselines.now ≡ no_lines }
+        requires buffer { length buffer.old ≡ longest_message }
+        ensures slot { self.new ≡ (emit_new profile.now map.now self.old).slot }
+        ensures answer { result ≡ (emit_new profile.now map.now self.old).answer }
+        ensures piece { HandsOut (emit_new profile.now map.now self.old).piece out.new.items }
+        ensures buffer { length buffer.new ≡ longest_message }
+    {
+        let number = self.sender.number() + 1;
         if number >= SEQUENCE_END {
             return Emitted::SequenceEnd;
         }
@@ -272,8 +303,8 @@ impl Slot {
         let Ok(bytes) = write_snap(profile, message, baselines, None, buffer) else {
             return Emitted::Overlong;
         };
-        self.begun = number;
-        put_datagram(out, number, &buffer[..bytes]);
+        self.sender.start(&buffer[..bytes]);
+        self.sender.next(out);
         Emitted::Snapshot {
             number,
             base: 0,
@@ -307,16 +338,6 @@ fn copy_area(from: &ArrayVec<u8, 32>, into: &mut ArrayVec<u8, 32>)
     into.try_extend_from_slice(from).unwrap();
 }
 
-/// Makes the datagram of a message: its number, least byte first, and its bytes.
-fn put_datagram(out: &mut Datagram, number: u32, message: &[u8])
-    requires empty { out.old.items ≡ [] }
-    requires short { length message.now < fragment_size }
-    ensures { out.new.items ≡ datagram_bytes number message.now }
-{
-    out.try_extend_from_slice(&number.to_le_bytes()).unwrap();
-    out.try_extend_from_slice(message).unwrap();
-}
-
 /// The server: a copy of the profile, what the game handed in, and a slot for each client; and places where a message is
 /// put together and written.
 #[derive(Drop)]
@@ -331,16 +352,16 @@ pub(crate) struct Server {
 
 impl Model for Server {
     ghost use Rattle.std.specs.Prelude.{◌≡◌, length};
-    ghost use Rattle.std.specs.Prelude.{◌+◌};
     ghost use Rattle.q3_entity.specs.Baselines.{no_lines};
-    ghost use Rattle.q3_world.specs.Server.{ServerState, places, fragment_size};
+    ghost use Rattle.q3_chan.specs.Datagrams.{longest_message};
+    ghost use Rattle.q3_world.specs.Server.{ServerState, places};
 
     ghost Value = { ServerState };
 
     ghost view = { λ s. record { profile = s.profile; map = s.map; slots = s.slots.items } };
 
     ghost invariant = { λ s. (length s.slots.items ≡ places) × (s.baselines ≡ no_lines)
-        × (length s.buffer.items + 1 ≡ fragment_size) };
+        × (length s.buffer.items ≡ longest_message) };
 }
 
 impl Server {
@@ -354,25 +375,28 @@ impl Server {
             slots: empty_places(alloc)?,
             baselines: Baselines::new(alloc)?,
             message: ServerMessage::new(alloc)?,
-            buffer: vec![in alloc; 0; FRAGMENT_SIZE - 1]?,
+            buffer: vec![in alloc; 0; LONGEST_MESSAGE]?,
         })
     }
 
-    /// A client joins in a slot, from an address. `Taken` comes exactly where the slot has a client.
+    /// A client joins in a slot, from an address, and is sent to by this sender. `Taken` comes exactly where the slot has a
+    /// client.
     pub(crate) fn add_client(
         &mut self,
         slot: u8,
         challenge: u32,
         qport: u16,
         from: Address,
+        sender: Sender,
     ) -> Result<(), SlotError>
-        requires { slot < places }
+        requires place { slot < places }
+        requires sender { sender ≡ new_sending Side.Server 0 }
         ensures { add_client_at self.old slot challenge qport from ≡ record { server = self.new; answer = result } }
     {
         if self.slots[slot as usize].is_some() {
             return Err(SlotError::Taken);
         }
-        self.slots[slot as usize] = Some(Slot::new(challenge, qport, from));
+        self.slots[slot as usize] = Some(Slot::new(challenge, qport, from, sender));
         Ok(())
     }
 

@@ -19,9 +19,10 @@ use crate::client::{Client, SnapshotView};
 use crate::laws;
 use crate::places::empty_places;
 use crate::report::print_answer;
-use crate::server::{DATAGRAM_ROOM, Datagram, Server};
+use crate::server::Server;
 use arrayvec::ArrayVec;
 use q3_bits::NoMemory;
+use q3_chan::{Datagram, Sender, Side};
 use q3_entity::EntityState;
 use q3_io::{Address, Failed, Files, Sink};
 use q3_player::PlayerState;
@@ -29,6 +30,9 @@ use q3_profile::Profile;
 use q3_script::Event;
 use std::alloc::Global;
 use std::marker::Model;
+
+/// The most bytes of a datagram.
+const DATAGRAM_ROOM: usize = 1_320;
 
 /// Why a step failed.
 #[derive(Clone, Copy, Debug, PartialEq, Eq)]
@@ -179,7 +183,8 @@ impl World {
         ensures err { OnErr result (self.new ≡ self.old) }
     {
         let client = Client::new(self.alloc, &self.profile, challenge, qport, dup)?;
-        let outcome = self.server.add_client(c, challenge, qport, address);
+        let sender = Sender::new(self.alloc, Side::Server, 0)?;
+        let outcome = self.server.add_client(c, challenge, qport, address, sender);
         if outcome.is_ok() {
             self.clients[c as usize] = Some(client);
         }

@@ -1,7 +1,7 @@
 use Rattle.std.proofs.Common.{◌≡◌, ◌∙◌, ◌<◌, ◌≤◌, ℕ, Bool, length, sym, ap, subst}
 use Rattle.q3_chan.specs.declared.side.Side.{Side}
 use Rattle.q3_chan.specs.Datagrams.{is_fragment, number_in, header_length}
-use Rattle.q3_chan.specs.Gathering.{Gathering, Took}
+use Rattle.q3_chan.specs.Gathering.{Gathering, Took, Delivers}
 use Rattle.q3_chan.proofs.Receiving.{gathered-newer}
 use Rattle.q3_chan.proofs.gatherer.Gatherer.take.Goals as goal
 
@@ -19,4 +19,4 @@ returns-clause-message c =
     subst (λ (n : ℕ). n < number_in datagram) taken (subst (λ (n : ℕ). c.self.inside.taken < n) c.number_in.ensures c.if-number_in-self.false) in
     let is = gathered-newer g datagram c.if-datagram-lt4.false (sym c.is_connectionless.ensures ∙ c.if-is_connectionless.false)
     (subst (λ (n : ℕ). n ≤ length datagram) head c.if-datagram-header_length.false) newer in
-    λ number count whole. c.take_newer.ensures.message number count whole ∙ ap (λ (t : Took). t.message) (sym is)
+    subst (λ (t : Took). Delivers c.take_newer.result c.take_newer.new.into t.message) (sym is) c.take_newer.ensures.message

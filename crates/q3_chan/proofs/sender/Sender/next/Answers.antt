@@ -6,8 +6,8 @@ use Rattle.q3_chan.specs.Buffers.{sending_of}
 use Rattle.q3_chan.proofs.Handing.{next_of-under_way, left_of-index}
 use Rattle.q3_chan.proofs.sender.Sender.next.Goals as goal
 
-pub returns-in-Some : goal.returns-in-Some
-returns-in-Some c =
+pub returns-in-Some-clause-next : goal.returns-in-Some-clause-next
+returns-in-Some-clause-next c =
     let kept = c.self.inside in
     let s : Sending = sending_of kept in
     let index = c.in-Some.index in
@@ -17,7 +17,7 @@ returns-in-Some c =
     let next : behind ≡ cond (ltb (index + 1) (piece_count (length message))) (Some (index + 1)) None =
     c.index_behind-self-inside.ensures ∙ ap (λ (m : List ℕ). cond (ltb (index + 1) (piece_count (length m))) (Some (index + 1)) None) same in
     let sent : c.write_datagram.new.out.items ≡ datagram s.side s.qport s.number message index =
-    c.write_datagram.ensures ∙ ap (λ (m : List ℕ). datagram s.side s.qport s.number m index) same in
+    c.write_datagram.ensures.bytes ∙ ap (λ (m : List ℕ). datagram s.side s.qport s.number m index) same in
     let after : Option UnderWay = option_map (λ i. record { message = message; next = i }) behind in
     ap next_of (sym c.self.view_is)
     ∙ next_of-under_way s (record { message = message; next = index }) (ap (option_map (λ i. record { message = message; next = i })) c.in-Some.is)
