@@ -84,6 +84,7 @@ impl Gatherer {
         ensures gathering { self.new ≡ (gathered self.old datagram.now).gathering }
         ensures answer { result ≡ (gathered self.old datagram.now).answer }
         ensures message { (number count : ℕ) → result ≡ Gathered.Whole number count → take count into.new ≡ (gathered self.old datagram.now).message }
+        ensures within { (number count : ℕ) → result ≡ Gathered.Whole number count → count ≤ longest_message }
     {
         if datagram.len() < 4 {
             return Gathered::Runt;
@@ -213,12 +214,14 @@ impl Gatherer {
         ensures answer { result ≡ (arrives (emptied self.old) self.old.number self.old.bytes).answer }
         ensures message { take (length self.old.bytes) into.new ≡ self.old.bytes }
     {
-        let number = self.number;
         let length = self.count;
         into[..length].copy_from_slice(&self.buffer[..length]);
-        self.taken = number;
+        self.taken = self.number;
         self.number = 0;
         self.count = 0;
-        Gathered::Whole { number, length }
+        Gathered::Whole {
+            number: self.taken,
+            length,
+        }
     }
 }

@@ -3,6 +3,7 @@ use Rattle.q3_chan.specs.declared.side.Side.{Side}
 use Rattle.q3_chan.specs.Datagrams.{is_fragment, number_in, header_length}
 use Rattle.q3_chan.specs.Gathering.{Gathering, Took}
 use Rattle.q3_chan.proofs.Receiving.{gathered-newer}
+use Rattle.q3_chan.proofs.Outcomes.{whole-within}
 use Rattle.q3_chan.proofs.gatherer.Gatherer.take.Goals as goal
 
 pub returns-clause-message : goal.returns-clause-message
@@ -20,3 +21,6 @@ returns-clause-message c =
     let is = gathered-newer g datagram c.if-datagram-lt4.false (sym c.is_connectionless.ensures ∙ c.if-is_connectionless.false)
     (subst (λ (n : ℕ). n ≤ length datagram) head c.if-datagram-header_length.false) newer in
     λ number count whole. c.take_newer.ensures.message number count whole ∙ ap (λ (t : Took). t.message) (sym is)
+
+pub returns-clause-within : goal.returns-clause-within
+returns-clause-within c = λ number count whole. whole-within c.args.self.now c.args.datagram.now number count (sym c.take_newer.ensures.answer ∙ whole)
