@@ -1,72 +1,14 @@
 -- What comes whole of any bytes.
-use Rattle.std.proofs.Common.{◌≡◌, ◌⊎◌, ◌+◌, ◌≤◌, ◌∙◌, ℕ, true, false, ltb, leb, eqb, List, [], ◌∷◌, ◌++◌, length, take, append_assoc, refl, sym, ap, subst, inl, inr, arith}
-use Rattle.std.proofs.lemmas.Bool.{cond_both, or_parts, ltb-false, eqb-true}
+use Rattle.std.proofs.Common.{◌≡◌, ◌⊎◌, ◌+◌, ◌≤◌, ◌∙◌, ℕ, true, false, ltb, eqb, List, [], ◌∷◌, ◌++◌, length, append_assoc, refl, sym, ap, subst, inl, inr, arith}
+use Rattle.std.proofs.lemmas.Bool.{cond_both}
 use Rattle.std.proofs.lemmas.List.{append-nil, length-append, length-take-le}
 use Rattle.q3_chan.specs.declared.side.Side.{Side}
-use Rattle.q3_chan.specs.declared.gatherer.Gathered.{Gathered}
-use Rattle.q3_chan.specs.declared.gatherer.Gathered.TheVariants.{Whole, Partial, Old, OutOfOrder, BadFragment, Runt, Connectionless}
-use Rattle.q3_chan.specs.Datagrams.{fragment_size, longest_message, is_fragment, number_in, header_length, start_in, count_in, behind_header}
-use Rattle.q3_chan.specs.Gathering.{Gathering, Took, answers, arrives, emptied, gathering_of, add_piece, take_piece, take_fragment, take_whole, take_newer, is_connectionless, gathered, gathered_all, new_gathering}
+use Rattle.q3_chan.specs.declared.gatherer.Gathered.TheVariants.{Whole, Partial}
+use Rattle.q3_chan.specs.Datagrams.{fragment_size, is_fragment, number_in, start_in, count_in, behind_header}
+use Rattle.q3_chan.specs.Gathering.{Gathering, Took, answers, arrives, emptied, gathering_of, gathered, gathered_all, new_gathering}
 use Rattle.q3_chan.specs.Laws.{ArePieces, StandIn, WholeArePieces}
 use Rattle.q3_chan.proofs.Tagging.{gathering_of-number}
-
--- ---- what a datagram may do
-
--- an answer that no message comes with
-abbrev NotWhole : Gathered → Type 0
-NotWhole (Whole number count) = ⊥
-NotWhole Partial = Unit {0}
-NotWhole Old = Unit {0}
-NotWhole OutOfOrder = Unit {0}
-NotWhole BadFragment = Unit {0}
-NotWhole Runt = Unit {0}
-NotWhole Connectionless = Unit {0}
-
--- the piece of a fragment
-abbrev piece_in : Side → List ℕ → List ℕ
-piece_in side bytes = take (count_in side bytes) (behind_header side bytes)
-
--- a fragment whose piece is taken
-record IsTaken (g : Gathering) (bytes : List ℕ) : Type 0 where
-  fragment : is_fragment bytes ≡ true
-  start : start_in g.side bytes ≡ length (gathering_of g (number_in bytes)).bytes
-  count : count_in g.side bytes ≤ length (behind_header g.side bytes)
-
--- what holds of each outcome of a datagram
-record HoldsOfEach (P : Took → Type 0) (g : Gathering) (bytes : List ℕ) : Type 0 where
-  none : (a : Gathered) → NotWhole a → P (answers g a)
-  whole : is_fragment bytes ≡ false → P (arrives g (number_in bytes) (behind_header g.side bytes))
-  gathers : (a : Gathered) → NotWhole a → P (answers (gathering_of g (number_in bytes)) a)
-  adds : IsTaken g bytes → P (add_piece (gathering_of g (number_in bytes)) (piece_in g.side bytes))
-
-take_fragment-each : (P : Took → Type 0) (g : Gathering) (bytes : List ℕ) → is_fragment bytes ≡ true → HoldsOfEach P g bytes
-    → P (take_fragment (gathering_of g (number_in bytes)) (start_in g.side bytes) (count_in g.side bytes) (behind_header g.side bytes))
-take_fragment-each P g bytes fragment each =
-    let k = gathering_of g (number_in bytes) in
-    let start = start_in g.side bytes in
-    let count = count_in g.side bytes in
-    let there = behind_header g.side bytes in
-    cond_both (eqb start (length k.bytes)) (take_piece k count there) (answers k OutOfOrder) P
-    (λ starts. cond_both _ (answers k BadFragment) (add_piece k (take count there)) P
-    (λ _. each.gathers BadFragment tt)
-    (λ fits. each.adds (record {
-      fragment = fragment;
-      start = eqb-true _ _ starts;
-      count = ltb-false _ _ (or_parts _ _ (or_parts _ _ fits).0).1;
-    })))
-    (λ _. each.gathers OutOfOrder tt)
-
-gathered-each : (P : Took → Type 0) (g : Gathering) (bytes : List ℕ) → HoldsOfEach P g bytes → P (gathered g bytes)
-unfolding gathered
-gathered-each P g bytes each =
-    let behind = behind_header g.side bytes in
-    cond_both (ltb (length bytes) 4) (answers g Runt) _ P (λ _. each.none Runt tt) (λ _.
-    cond_both (is_connectionless bytes) (answers g Connectionless) _ P (λ _. each.none Connectionless tt) (λ _.
-    cond_both (ltb (length bytes) (header_length g.side (is_fragment bytes))) (answers g Runt) _ P (λ _. each.none Runt tt) (λ _.
-    cond_both (leb (number_in bytes) g.taken) (answers g Old) (take_newer g bytes) P (λ _. each.none Old tt) (λ _.
-    cond_both (is_fragment bytes) _ (take_whole g (number_in bytes) behind) P
-    (λ fragment. take_fragment-each P g bytes fragment each)
-    (λ whole. cond_both (ltb longest_message (length behind)) (answers g BadFragment) (arrives g (number_in bytes) behind) P (λ _. each.none BadFragment tt) (λ _. each.whole whole))))))
+use Rattle.q3_chan.proofs.Outcomes.{NotWhole, piece_in, IsTaken, gathered-each}
 
 -- ---- pieces that came
 
@@ -146,7 +88,7 @@ HoldsPieces-gathered side came g last h =
     let piece = piece_in g.side last in
     gathered-each P g last (record {
       none = λ a _. HoldsPieces-more side came (last ∷ []) g h;
-      whole = λ _. record { side-is = h.side-is; parts = h.parts; stand = StandIn-more h.parts came (last ∷ []) h.stand; are = h.are };
+      whole = λ _ _. record { side-is = h.side-is; parts = h.parts; stand = StandIn-more h.parts came (last ∷ []) h.stand; are = h.are };
       gathers = λ a _. HoldsPieces-more side came (last ∷ []) k kept;
       adds = λ taken. cond_both (ltb (length piece) fragment_size) (arrives (emptied k) k.number (k.bytes ++ piece)) (answers (record k { bytes = k.bytes ++ piece }) Partial) P
           (λ _. record { side-is = kept.side-is; parts = []; stand = tt; are = refl })
@@ -182,7 +124,7 @@ comes_whole side came g last number count h =
     let piece = piece_in g.side last in
     gathered-each P g last (record {
       none = λ a not e. absurd (subst NotWhole e not);
-      whole = λ whole e. inl (whole, ap (λ (s : Side). behind_header s last) h.side-is);
+      whole = λ whole _ e. inl (whole, ap (λ (s : Side). behind_header s last) h.side-is);
       gathers = λ a not e. absurd (subst NotWhole e not);
       adds = λ taken. cond_both (ltb (length piece) fragment_size) (arrives (emptied k) k.number (k.bytes ++ piece)) (answers (record k { bytes = k.bytes ++ piece }) Partial) P
           (λ _ e.

@@ -15,19 +15,17 @@ gathered-headed g d long connected head =
     ∙ cond-false (is_connectionless d) _ _ connected
     ∙ cond-false (ltb (length d) (header_length g.side (is_fragment d))) _ _ (le-ltb _ _ head)
 
-pub gathered-newer : (g : Gathering) (d : List ℕ) → 4 ≤ length d → is_connectionless d ≡ false
-    → header_length g.side (is_fragment d) ≤ length d → g.taken < number_in d → gathered g d ≡ take_newer g d
-gathered-newer g d long connected head newer =
-    gathered-headed g d long connected head ∙ cond-false (leb (number_in d) g.taken) _ _ (lt-leb _ _ newer)
-
+-- where its number isn't above the newest taken, it is old
 pub gathered-old : (g : Gathering) (d : List ℕ) (number : ℕ) → IsHeaded g.side d number → number ≤ g.taken → gathered g d ≡ answers g Old
 gathered-old g d number h old =
     gathered-headed g d h.long h.connected h.head
     ∙ cond-true (leb (number_in d) g.taken) _ _ (le-leb _ _ (subst (λ (n : ℕ). n ≤ g.taken) (sym h.number-is) old))
 
+-- and where it is, it is taken
 gathered-by_number : (g : Gathering) (d : List ℕ) (number : ℕ) → IsHeaded g.side d number → g.taken < number → gathered g d ≡ take_newer g d
 gathered-by_number g d number h newer =
-    gathered-newer g d h.long h.connected h.head (subst (λ (n : ℕ). g.taken < n) (sym h.number-is) newer)
+    gathered-headed g d h.long h.connected h.head
+    ∙ cond-false (leb (number_in d) g.taken) _ _ (lt-leb _ _ (subst (λ (n : ℕ). g.taken < n) (sym h.number-is) newer))
 
 -- a message that goes whole arrives
 pub gathered-whole : (g : Gathering) (d : List ℕ) (number : ℕ) (message : List ℕ) → IsWhole g.side d number message → length message ≤ longest_message → g.taken < number

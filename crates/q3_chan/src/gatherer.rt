@@ -1,13 +1,13 @@
 //! An end that receives. Keeps the rules "fragmentation" and "what a receiver answers", the engine's `Netchan_Process`
 //! in net_chan.c.
 
-ghost use Rattle.std.specs.Prelude.{◌≡◌, ◌+◌, ◌<◌, ◌≤◌, ℕ, true, false, ◌++◌, length, take, IfOk};
-ghost use Rattle.q3_chan.specs.Datagrams.{longest_message, fragment_size, is_fragment, header_length};
+ghost use Rattle.std.specs.Prelude.{◌≡◌, ◌+◌, ◌≤◌, ◌++◌, ℕ, nat_le, length, take, IfOk};
+ghost use Rattle.q3_chan.specs.Datagrams.{longest_message, is_fragment, header_length};
 ghost use Rattle.q3_chan.specs.Gathering.{new_gathering, gathered, gathering_of, arrives, emptied, take_newer, take_whole, take_fragment, take_piece, add_piece, Delivers};
 
 use crate::buffer::put_at;
 use crate::header::{
-    behind_header, count_in, header_length, is_connectionless, is_fragment, number_in, start_in,
+    behind_header, count_in, is_connectionless, is_fragment, lacks_header, number_in, start_in,
 };
 use crate::sender::{FRAGMENT_SIZE, LONGEST_MESSAGE, NoMemory};
 use crate::side::Side;
@@ -91,13 +91,20 @@ impl Gatherer {
         if is_connectionless(datagram) {
             return Gathered::Connectionless;
         }
-        if datagram.len() < header_length(self.side, is_fragment(datagram)) {
+        if lacks_header(self.side, datagram) {
             return Gathered::Runt;
         }
-        if number_in(datagram) <= self.taken {
+        if self.is_old(number_in(datagram)) {
             return Gathered::Old;
         }
         self.take_newer(datagram, into)
+    }
+
+    /// Whether a number isn't above that of the newest message taken.
+    fn is_old(&self, number: u32) -> bool
+        ensures { result ≡ nat_le number self.now.taken }
+    {
+        number <= self.taken
     }
 
     /// Takes a datagram of a newer message.
@@ -213,12 +220,14 @@ impl Gatherer {
         ensures answer { result ≡ (arrives (emptied self.old) self.old.number self.old.bytes).answer }
         ensures message { take (length self.old.bytes) into.new ≡ self.old.bytes }
     {
-        let number = self.number;
         let length = self.count;
         into[..length].copy_from_slice(&self.buffer[..length]);
-        self.taken = number;
+        self.taken = self.number;
         self.number = 0;
         self.count = 0;
-        Gathered::Whole { number, length }
+        Gathered::Whole {
+            number: self.taken,
+            length,
+        }
     }
 }

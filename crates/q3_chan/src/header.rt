@@ -1,9 +1,9 @@
 //! What a datagram begins with, written and read. Keeps the rule "datagram header", the engine's
 //! `Netchan_TransmitNextFragment`, `Netchan_Transmit` and `Netchan_Process` in net_chan.c.
 
-ghost use Rattle.std.specs.Prelude.{◌≡◌, ◌+◌, ◌^◌, ◌<◌, ◌≤◌, [], ◌++◌, length};
+ghost use Rattle.std.specs.Prelude.{◌≡◌, ◌<◌, ◌+◌, ◌≤◌, ◌++◌, nat_lt, length};
 ghost use Rattle.byteorder.specs.Endian.{little_bytes};
-ghost use Rattle.q3_chan.specs.Datagrams.{header, sequence_end, is_fragment, number_in, short_header, header_length, start_in, count_in, behind_header};
+ghost use Rattle.q3_chan.specs.Datagrams.{header, is_fragment, number_in, short_header, header_length, start_in, count_in, behind_header};
 ghost use Rattle.q3_chan.specs.Gathering.{is_connectionless};
 
 use crate::sender::Datagram;
@@ -89,7 +89,7 @@ fn short_header(side: Side) -> usize
 }
 
 /// How many bytes stand before the message or its piece.
-pub(crate) fn header_length(side: Side, fragment: bool) -> usize
+fn header_length(side: Side, fragment: bool) -> usize
     ensures { result ≡ header_length side fragment }
 {
     if fragment {
@@ -97,6 +97,14 @@ pub(crate) fn header_length(side: Side, fragment: bool) -> usize
     } else {
         short_header(side)
     }
+}
+
+/// Whether a datagram is shorter than its header.
+pub(crate) fn lacks_header(side: Side, datagram: &[u8]) -> bool
+    requires { 4 ≤ length datagram.now }
+    ensures { result ≡ nat_lt (length datagram.now) (header_length side (is_fragment datagram.now)) }
+{
+    datagram.len() < header_length(side, is_fragment(datagram))
 }
 
 /// The bytes behind the header.

@@ -7,6 +7,8 @@ mod header;
 pub mod laws;
 pub mod sender;
 pub mod side;
+#[cfg(test)]
+mod tests;
 
 pub use gatherer::{Gathered, Gatherer};
 pub use sender::{Datagram, NoMemory, Sender};

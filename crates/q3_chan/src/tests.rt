@@ -1,0 +1,198 @@
+//! Datagrams with bytes worked by hand.
+
+ghost use Rattle.std.specs.Prelude.{◌≡◌, ◌≤◌, length, IfOk};
+ghost use Rattle.std.specs.Vec.{vec_len};
+
+use crate::{Datagram, Gathered, Gatherer, Sender, Side};
+use std::alloc::{AllocError, Global};
+use std::process::Abort;
+use std::test::*;
+
+/// So many bytes of one value.
+fn filled(alloc: Global, byte: u8, count: usize) -> Result<Vec<u8>, AllocError>
+    ensures { IfOk result (λ bytes. vec_len bytes ≡ count) }
+{
+    vec![in alloc; byte; count]
+}
+
+/// Sends a message as so many datagrams. The last is left.
+fn send(rt: &impl Abort, sender: &mut Sender, message: &[u8], count: usize, last: &mut Datagram)
+    requires some { 1 ≤ length message.now }
+    requires most { length message.now ≤ 16384 }
+{
+    assert!(rt; sender.idle());
+    assert!(rt; sender.number() < 100);
+    sender.start(message);
+    for _ in 0..count {
+        assert!(rt; !sender.idle());
+        sender.next(last);
+    }
+    assert!(rt; sender.idle());
+}
+
+#[test]
+fn messages_are_cut(rt: HostRuntime) -> Result<(), Fail> {
+    let message = filled(rt.alloc(), 9, 16_384)?;
+    let table: [(usize, usize, [u8; 8], usize); 4] = [
+        (1_299, 1, [1, 0, 0, 0, 9, 9, 9, 9], 1_303),
+        (1_300, 2, [2, 0, 0, 0x80, 0x14, 0x05, 0, 0], 8),
+        (2_600, 3, [3, 0, 0, 0x80, 0x28, 0x0a, 0, 0], 8),
+        (16_384, 13, [4, 0, 0, 0x80, 0xf0, 0x3c, 0x10, 0x03], 792),
+    ];
+    let mut sender = Sender::new(rt.alloc(), Side::Server, 0)?;
+    let mut last = Datagram::new();
+    assert_eq!(rt; sender.number(), 0);
+    for (length, count, begins, bytes) in table {
+        assert!(rt; 1 <= length && length <= 16_384);
+        send(&rt, &mut sender, &message[..length], count, &mut last);
+        assert!(rt; last.as_slice().starts_with(&begins), "of {length}");
+        assert_eq!(rt; last.len(), bytes);
+    }
+    assert_eq!(rt; sender.number(), 4);
+    Ok(())
+}
+
+#[test]
+fn client_sends_its_qport(rt: HostRuntime) -> Result<(), Fail> {
+    let message = filled(rt.alloc(), 9, 1_500)?;
+    let mut sender = Sender::new(rt.alloc(), Side::Client, 5_000)?;
+    let mut last = Datagram::new();
+    send(&rt, &mut sender, b"hi", 1, &mut last);
+    assert_eq!(rt;
+        last.as_slice(),
+        [1, 0, 0, 0, 0x88, 0x13, b'h', b'i'].as_slice()
+    );
+    for _ in 2..7 {
+        send(&rt, &mut sender, b"hi", 1, &mut last);
+    }
+    send(&rt, &mut sender, &message, 2, &mut last);
+    let begins = [7, 0, 0, 0x80, 0x88, 0x13, 0x14, 0x05, 0xc8, 0];
+    assert!(rt; last.as_slice().starts_with(&begins));
+    assert_eq!(rt; last.len(), 210);
+    Ok(())
+}
+
+/// Bytes, and so many more.
+fn datagram(alloc: Global, begins: &[u8], more: usize) -> Result<Vec<u8>, AllocError> {
+    let mut bytes = Vec::from_slice(alloc, begins)?;
+    bytes.extend_from_slice(&filled(alloc, 5, more)?)?;
+    Ok(bytes)
+}
+
+#[test]
+fn pieces_out_of_order(rt: HostRuntime) -> Result<(), Fail> {
+    let first_of_7: &[u8] = &[7, 0, 0, 0x80, 0, 0, 0x14, 0x05];
+    let second_of_7: &[u8] = &[7, 0, 0, 0x80, 0x14, 0x05, 0xc8, 0];
+    let first_of_8: &[u8] = &[8, 0, 0, 0x80, 0, 0, 0x14, 0x05];
+    let second_of_8: &[u8] = &[8, 0, 0, 0x80, 0x14, 0x05, 0xc8, 0];
+    let whole = |number, length| Gathered::Whole { number, length };
+    let table: [(&[u8], usize, Gathered); 9] = [
+        (&[6, 0, 0, 0], 3, whole(6, 3)),
+        (first_of_7, 1_300, Gathered::Partial),
+        (first_of_8, 1_300, Gathered::Partial),
+        (second_of_7, 200, Gathered::OutOfOrder),
+        (second_of_8, 200, Gathered::OutOfOrder),
+        (first_of_8, 1_300, Gathered::Partial),
+        (second_of_8, 200, whole(8, 1_500)),
+        (second_of_8, 200, Gathered::Old),
+        (first_of_7, 1_300, Gathered::Old),
+    ];
+    let mut gatherer = Gatherer::new(rt.alloc(), Side::Server)?;
+    let mut memory = filled(rt.alloc(), 0, 16_384)?;
+    let into = memory.as_mut_slice();
+    for (begins, more, wanted) in table {
+        let bytes = datagram(rt.alloc(), begins, more)?;
+        assert_eq!(rt; gatherer.take(&bytes, into), wanted, "at {begins:?}");
+    }
+    assert_eq!(rt; gatherer.taken(), 8);
+    Ok(())
+}
+
+#[test]
+fn hostile_datagrams(rt: HostRuntime) -> Result<(), Fail> {
+    let table: [(&[u8], usize, Gathered); 14] = [
+        (&[1, 0, 0], 0, Gathered::Runt),
+        (&[255, 255, 255], 0, Gathered::Runt),
+        (&[255, 255, 255, 255], 0, Gathered::Connectionless),
+        (&[1, 0, 0, 0, 0x88], 0, Gathered::Runt),
+        (&[1, 0, 0, 0x80, 0x88, 0x13, 0, 0, 0x14], 0, Gathered::Runt),
+        (&[0, 0, 0, 0, 0x88, 0x13], 9, Gathered::Old),
+        (&[1, 0, 0, 0, 0x88, 0x13], 16_385, Gathered::BadFragment),
+        (
+            &[2, 0, 0, 0x80, 0x88, 0x13, 0, 0, 0x14, 0x05],
+            1_300,
+            Gathered::Partial,
+        ),
+        (
+            &[2, 0, 0, 0x80, 0x88, 0x13, 0x13, 0x05, 1, 0],
+            1,
+            Gathered::OutOfOrder,
+        ),
+        (
+            &[2, 0, 0, 0x80, 0x88, 0x13, 0x14, 0x05, 0x15, 0x05],
+            1_301,
+            Gathered::BadFragment,
+        ),
+        (
+            &[2, 0, 0, 0x80, 0x88, 0x13, 0x14, 0x05, 2, 0],
+            1,
+            Gathered::BadFragment,
+        ),
+        (
+            &[1, 0, 0, 0, 0x88, 0x13],
+            3,
+            Gathered::Whole {
+                number: 1,
+                length: 3,
+            },
+        ),
+        (
+            &[2, 0, 0, 0x80, 0x88, 0x13, 0x14, 0x05, 3, 0],
+            9,
+            Gathered::Whole {
+                number: 2,
+                length: 1_303,
+            },
+        ),
+        (
+            &[2, 0, 0, 0x80, 0x88, 0x13, 0x14, 0x05, 3, 0],
+            9,
+            Gathered::Old,
+        ),
+    ];
+    let mut gatherer = Gatherer::new(rt.alloc(), Side::Client)?;
+    let mut memory = filled(rt.alloc(), 0, 16_384)?;
+    let into = memory.as_mut_slice();
+    for (begins, more, wanted) in table {
+        let bytes = datagram(rt.alloc(), begins, more)?;
+        assert_eq!(rt; gatherer.take(&bytes, into), wanted, "at {begins:?}");
+    }
+    Ok(())
+}
+
+#[test]
+fn longest_message_comes_whole(rt: HostRuntime) -> Result<(), Fail> {
+    let message = filled(rt.alloc(), 9, 16_384)?;
+    let long = datagram(rt.alloc(), &[1, 0, 0, 0x80, 0xf0, 0x3c, 0x11, 0x03], 785)?;
+    let mut sender = Sender::new(rt.alloc(), Side::Server, 0)?;
+    let mut gatherer = Gatherer::new(rt.alloc(), Side::Server)?;
+    let mut out = Datagram::new();
+    let mut memory = filled(rt.alloc(), 0, 16_384)?;
+    let into = memory.as_mut_slice();
+    sender.start(&message);
+    for _ in 0..12 {
+        assert!(rt; !sender.idle());
+        sender.next(&mut out);
+        assert_eq!(rt; gatherer.take(out.as_slice(), into), Gathered::Partial);
+    }
+    assert_eq!(rt; gatherer.take(&long, into), Gathered::BadFragment);
+    assert!(rt; !sender.idle());
+    sender.next(&mut out);
+    let whole = Gathered::Whole {
+        number: 1,
+        length: 16_384,
+    };
+    assert_eq!(rt; gatherer.take(out.as_slice(), into), whole);
+    assert_eq!(rt; &*into, message.as_slice());
+    Ok(())
+}
