@@ -10,7 +10,7 @@ use Rattle.q3_entity.specs.Entities.{zero_entity, normal_entity, IsNormal, IsLis
 use Rattle.q3_entity.specs.Baselines.{Lines, AreLines}
 use Rattle.q3_entity.specs.Delta.{entity_delta, removal, entity_at}
 use Rattle.q3_entity.specs.Lists.{list_text, list_after, list_skipped}
-use Rattle.q3_entity.specs.Spelling.{SpellsList}
+use Rattle.q3_entity.specs.Spelling.{SpellsList, SpellsSkipped}
 
 -- the normal form of a state is a state, in normal form; so is the zero state
 abbrev pub NormalIsNormal : Type 0
@@ -66,3 +66,12 @@ ListWrittenIsRead = (words : List (List Bool)) (table : Layout) (lines : Lines) 
 abbrev pub ReadIsSkipped : Type 0
 ReadIsSkipped = (words : List (List Bool)) (table : Layout) (lines : Lines) (base now : List EntityState) (bits rest : List Bool) → IsTable table
     → AreLines table lines → AreStates base → list_after words table lines base bits ≡ Ok (now, rest) → list_skipped words table bits ≡ Ok (tt, rest)
+
+-- what is skipped was spelled so, and what is spelled so is skipped, with whatever follows it
+abbrev pub SkippedIsSpelled : Type 0
+SkippedIsSpelled = (words : List (List Bool)) (table : Layout) (bits rest : List Bool) → IsCode words → IsTable table
+    → list_skipped words table bits ≡ Ok (tt, rest) → (text : List Bool) × (bits ≡ text ++ rest) × SpellsSkipped words table text
+
+abbrev pub SpelledIsSkipped : Type 0
+SpelledIsSkipped = (words : List (List Bool)) (table : Layout) (text rest : List Bool) → IsCode words → IsTable table
+    → SpellsSkipped words table text → list_skipped words table (text ++ rest) ≡ Ok (tt, rest)
