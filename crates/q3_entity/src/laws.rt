@@ -1,6 +1,6 @@
 //! Laws of entity deltas and of lists, each the contract of a call that does nothing but cite the laws below it.
 
-ghost use Rattle.q3_entity.specs.Laws.{NormalIsNormal, ZeroIsNormal, EntityWrittenIsRead, RemovalIsRead, ListIsSpelled, ListReadIsSpelled, ListSpelledIsRead, ListWrittenIsRead, ReadIsSkipped};
+ghost use Rattle.q3_entity.specs.Laws.{NormalIsNormal, ZeroIsNormal, EntityWrittenIsRead, RemovalIsRead, ListIsSpelled, ListReadIsSpelled, ListSpelledIsRead, ListWrittenIsRead, ReadIsSkipped, SkippedIsSpelled, SpelledIsSkipped};
 
 use q3_bits::laws as bits;
 use q3_fields::laws as fields;
@@ -79,5 +79,23 @@ pub fn list_written_is_read()
 pub fn read_is_skipped()
     ensures { ReadIsSkipped }
 {
+    zero_is_normal();
+}
+
+/// A list that is passed over spells rising entries, each against the zero state.
+pub fn skipped_is_spelled()
+    ensures { SkippedIsSpelled }
+{
+    bits::read_was_put();
+    fields::words_read_are_spelled();
+    zero_is_normal();
+}
+
+/// What spells such entries is passed over, with whatever follows it.
+pub fn spelled_is_skipped()
+    ensures { SpelledIsSkipped }
+{
+    bits::put_is_read();
+    fields::words_spelled_are_read();
     zero_is_normal();
 }

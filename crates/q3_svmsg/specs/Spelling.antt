@@ -46,7 +46,7 @@ pub record SpellsHead (words : List (List Bool)) (number distance : ℕ) (head :
   pub area : All (λ byte. byte < 256) head.area.items
   pub short : length head.area.items ≤ 32
   pub text : bits ≡ row_bits words ((7, 8) ∷ (head.time, 32) ∷ (distance, 8) ∷ (head.flags, 8) ∷ (length head.area.items, 8) ∷ [])
-    ++ bytes_row words head.area.items
+      ++ bytes_row words head.area.items
 
 -- a snapshot without a base, or against one that is held
 pub record SpellsSnapshot (profile : Profile) (context : Context) (number base : ℕ) (snap : SnapHead) (entities : List EntityState) (bits : List Bool) : Type 0 where
