@@ -39,9 +39,9 @@ SpellsCommands words (command ∷ commands) bits =
 
 -- what a snapshot says before its player: the operation, the time, how far below the base is, the flags, and the area
 pub record SpellsHead (words : List (List Bool)) (number distance : ℕ) (head : SnapHead) (bits : List Bool) : Type 0 where
-  pub number : head.number ≡ number
+  pub under : head.number ≡ number
   pub time : head.time < 2 ^ 32
-  pub distance : distance < 256
+  pub near : distance < 256
   pub flags : head.flags < 256
   pub area : All (λ byte. byte < 256) head.area.items
   pub short : length head.area.items ≤ 32
