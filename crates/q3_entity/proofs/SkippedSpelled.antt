@@ -20,7 +20,7 @@ use Rattle.q3_entity.proofs.Skipping.{skipped_from, skip_begins, skip_turns, ski
 use Rattle.q3_entity.proofs.EntrySpelled.{words_there, SpellsMarks, marks_were_spelled, marks_are_read}
 use Rattle.q3_entity.proofs.EntriesSpelled.{first_number, SpellsBehind, entries_of_behind, behind_of_entries, first-least, behind_texts}
 use Rattle.q3_entity.proofs.ListWritten.{rise-weaker}
-use Rattle.q3_entity.proofs.NoLines.{zeros_there}
+use Rattle.q3_entity.proofs.SetLines.{zeros_there}
 
 -- the words of the zero state
 abbrev zeros : List ℕ
