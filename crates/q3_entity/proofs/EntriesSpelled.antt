@@ -1,5 +1,5 @@
 -- The spellings of entries behind the number of the first, and the end mark.
-use Rattle.std.proofs.Common.{◌≡◌, ℕ, Bool, List, [], ◌∷◌, ◌++◌, refl, sym, ap, ◌∙◌, append_assoc}
+use Rattle.std.proofs.Common.{◌≡◌, ℕ, ◌+◌, ◌≤◌, Bool, List, [], ◌∷◌, ◌++◌, refl, sym, ap, ◌∙◌, append_assoc, arith}
 use Rattle.std.proofs.lemmas.List.{append-nil}
 use Rattle.q3_bits.specs.Words.{field_bits}
 use Rattle.q3_fields.specs.Kinds.{Layout, end_mark}
@@ -7,13 +7,19 @@ use Rattle.q3_entity.specs.declared.state.EntityState.{EntityState}
 use Rattle.q3_entity.specs.Entities.{with_number}
 use Rattle.q3_entity.specs.Baselines.{Lines}
 use Rattle.q3_entity.specs.Lists.{words_from}
-use Rattle.q3_entity.specs.Spelling.{Entered, SpellsEntries}
+use Rattle.q3_entity.specs.Spelling.{Entered, SpellsEntries, EntriesRise}
 use Rattle.q3_entity.proofs.EntrySpelled.{SpellsMarks, entry_of_marks, marks_of_entry}
 
 -- the number that comes first
 abbrev pub first_number : Layout → List Entered → ℕ
 first_number table [] = end_mark table
 first_number table (entry ∷ entries) = entry.number
+
+-- it is one that may come, where the entries rise
+pub first-least : (table : Layout) (least : ℕ) (entries : List Entered) → least ≤ end_mark table → EntriesRise (end_mark table) least entries
+    → (least ≤ first_number table entries) × (first_number table entries ≤ end_mark table)
+first-least table least [] below rise = (below, omega arith)
+first-least table least (entry ∷ entries) below rise = (rise.0, omega (arith, rise.1))
 
 -- what stands behind it
 abbrev pub SpellsBehind : List (List Bool) → Layout → Lines → List EntityState → List Entered → List Bool → Type 0
@@ -50,3 +56,7 @@ behind_of_entries words table lines base (entry ∷ entries) text (first, others
       (marks.0, behind.0, refl, marks.1, behind.1),
       whole ∙ ap (λ (t : List Bool). t ++ others) marks.2 ∙ append_assoc number marks.0 others ∙ ap (λ (t : List Bool). number ++ (marks.0 ++ t)) behind.2,
     )
+
+-- an entry, the number behind it, and what is behind that number, as one text
+pub behind_texts : (bits own number others left behind rest : List Bool) → bits ≡ own ++ left → left ≡ number ++ behind → behind ≡ others ++ rest → bits ≡ (own ++ (number ++ others)) ++ rest
+behind_texts bits own number others left behind rest first second third = rw (first, second, third) (simp append_assoc)

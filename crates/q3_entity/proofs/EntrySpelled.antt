@@ -125,6 +125,35 @@ marks_were_spelled put law words table from bits found code is_table are e =
           ]
     ]
 
+-- ---- what is spelled so is read
+
+-- a removal
+gone_is_read : PutIsRead → (words : List (List Bool)) (table : Layout) (from : List ℕ) (rest : List Bool) → IsCode words
+    → entity_at words table from (field_bits words 1 1 ++ rest) ≡ Ok ((Removed, from), rest)
+unfolding entity_at
+gone_is_read put words table from rest code = rw (put words 1 1 rest code (omega arith)) refl
+
+-- an entity that is the same
+pub same_is_read : PutIsRead → (words : List (List Bool)) (table : Layout) (from : List ℕ) (rest : List Bool) → IsCode words
+    → entity_at words table from ((field_bits words 1 0 ++ field_bits words 1 0) ++ rest) ≡ Ok ((Same, from), rest)
+unfolding entity_at
+same_is_read put words table from rest code =
+    rw (append_assoc (field_bits words 1 0) (field_bits words 1 0) rest, put words 1 0 (field_bits words 1 0 ++ rest) code (omega arith), put words 1 0 rest code (omega arith)) refl
+
+-- and one that changed
+pub changed_is_read : PutIsRead → WordsSpelledAreRead → (words : List (List Bool)) (table : Layout) (from to : List ℕ) (delta rest : List Bool) → IsCode words → IsTable table → AreWords 64 from
+    → SpellsWords Entity words table.kinds from to delta
+    → entity_at words table from ((field_bits words 1 0 ++ field_bits words 1 1 ++ delta) ++ rest) ≡ Ok ((Changed, to), rest)
+unfolding entity_at
+changed_is_read put law words table from to delta rest code is_table are spelled =
+    let whole : (field_bits words 1 0 ++ field_bits words 1 1 ++ delta) ++ rest ≡ field_bits words 1 0 ++ (field_bits words 1 1 ++ (delta ++ rest)) = simp append_assoc in
+    rw (
+      whole,
+      put words 1 0 (field_bits words 1 1 ++ (delta ++ rest)) code (omega arith),
+      put words 1 1 (delta ++ rest) code (omega arith),
+      law Entity words table.kinds from to delta rest code is_table.kinds are spelled,
+    ) refl
+
 -- an entry that is spelled so
 pub record TakenMarks (words : List (List Bool)) (table : Layout) (from : List ℕ) (there : Option (List ℕ)) (text rest : List Bool) : Type 0 where
   pub kind : Entry
@@ -135,30 +164,9 @@ pub record TakenMarks (words : List (List Bool)) (table : Layout) (from : List �
 -- is read
 pub marks_are_read : PutIsRead → WordsSpelledAreRead → (words : List (List Bool)) (table : Layout) (from : List ℕ) (there : Option (List ℕ)) (text rest : List Bool) → IsCode words
     → IsTable table → AreWords 64 from → SpellsMarks words table from there text → TakenMarks words table from there text rest
-unfolding entity_at
-marks_are_read put law words table from there text rest code is_table are (inl (gone, is)) = record {
-  kind = Removed;
-  to = from;
-  is = sym gone;
-  reads = rw (is, put words 1 1 rest code (omega arith)) refl;
-}
-marks_are_read put law words table from there text rest code is_table are (inr (inl (same, is))) = record {
-  kind = Same;
-  to = from;
-  is = sym same;
-  reads = rw (is, append_assoc, put words 1 0 (field_bits words 1 0 ++ rest) code (omega arith), put words 1 0 rest code (omega arith)) refl;
-}
+marks_are_read put law words table from there text rest code is_table are (inl (gone, is)) =
+    record { kind = Removed; to = from; is = sym gone; reads = rw is (gone_is_read put words table from rest code) }
+marks_are_read put law words table from there text rest code is_table are (inr (inl (same, is))) =
+    record { kind = Same; to = from; is = sym same; reads = rw is (same_is_read put words table from rest code) }
 marks_are_read put law words table from there text rest code is_table are (inr (inr (to, delta, changed, spelled, is))) =
-    let whole : text ++ rest ≡ field_bits words 1 0 ++ (field_bits words 1 1 ++ (delta ++ rest)) = rw is (simp append_assoc) in
-    record {
-      kind = Changed;
-      to = to;
-      is = sym changed;
-      reads =
-          rw (
-            whole,
-            put words 1 0 (field_bits words 1 1 ++ (delta ++ rest)) code (omega arith),
-            put words 1 1 (delta ++ rest) code (omega arith),
-            law Entity words table.kinds from to delta rest code is_table.kinds are spelled,
-          ) refl;
-    }
+    record { kind = Changed; to = to; is = sym changed; reads = rw is (changed_is_read put law words table from to delta rest code is_table are spelled) }

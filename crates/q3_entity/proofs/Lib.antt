@@ -18,3 +18,5 @@ pub mod OneNumber
 pub mod ListSpelled
 pub mod ListRead
 pub mod ListSkipped
+pub mod SetLines
+pub mod SkippedSpelled

@@ -15,7 +15,7 @@ use Rattle.q3_entity.specs.Laws.{ZeroIsNormal, ListSpelledIsRead}
 use Rattle.q3_entity.specs.Spelling.{Entered, EntriesRise, RemoveFrom, state_after}
 use Rattle.q3_entity.proofs.Results.{number_is_read}
 use Rattle.q3_entity.proofs.EntrySpelled.{words_there, SpellsMarks, marks_are_read}
-use Rattle.q3_entity.proofs.EntriesSpelled.{first_number, SpellsBehind, behind_of_entries}
+use Rattle.q3_entity.proofs.EntriesSpelled.{first_number, first-least, SpellsBehind, behind_of_entries}
 use Rattle.q3_entity.proofs.OneNumber.{with_first, cut, entry_of, entry_of-below, entry_of-first, entry_of-others, state_there, pushed, pushed-first, stays-is, entered-is}
 use Rattle.q3_entity.proofs.ListSpelled.{from_words}
 
@@ -26,12 +26,6 @@ record ToCome (table : Layout) (base : List EntityState) (number : ℕ) (entitie
   risen : RiseFrom (end_mark table) number added
   few : length (entities ++ added) ≤ most_entities
   states : (n : ℕ) → number ≤ n → with_number n added ≡ state_after (with_number n base) n (entry_of n entries)
-
--- the first number of entries that rise
-first-least : (table : Layout) (least : ℕ) (entries : List Entered) → least ≤ end_mark table → EntriesRise (end_mark table) least entries
-    → (least ≤ first_number table entries) × (first_number table entries ≤ end_mark table)
-first-least table least [] below rise = (below, omega arith)
-first-least table least (entry ∷ entries) below rise = (rise.0, omega (arith, rise.1))
 
 -- what is to come behind a number
 record CutOff (table : Layout) (base : List EntityState) (number : ℕ) (entities added : List EntityState) (entries : List Entered) (o : Option EntityState) : Type 0 where

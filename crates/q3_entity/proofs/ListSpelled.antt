@@ -21,7 +21,7 @@ use Rattle.q3_entity.specs.Laws.{ZeroIsNormal, ListReadIsSpelled}
 use Rattle.q3_entity.specs.Spelling.{Entered, SpellsEntries, EntriesRise, RemoveFrom, state_after}
 use Rattle.q3_entity.proofs.Results.{number_was_read}
 use Rattle.q3_entity.proofs.EntrySpelled.{words_there, ReadMarks, marks_were_spelled}
-use Rattle.q3_entity.proofs.EntriesSpelled.{first_number, SpellsBehind, entries_of_behind}
+use Rattle.q3_entity.proofs.EntriesSpelled.{first_number, SpellsBehind, entries_of_behind, behind_texts}
 use Rattle.q3_entity.proofs.OneNumber.{with_first, IsNamed, first-rises, first-found, first-others, first-all, with_number-all, entry_of, entry_of-below, entry_of-first, entry_of-others, state_there, pushed, pushed-first, stays-was, entered-was}
 use Rattle.q3_entity.proofs.Listed.{list_is_listed}
 use Rattle.q3_entity.proofs.ListWritten.{found-number, found-limit, rise-weaker, line-known}
@@ -154,9 +154,7 @@ behind_number words table lines base number next entities now bits left behind k
       entries = entry ∷ read.entries;
       added = with_first o read.added;
       text = marks.text ++ (field ++ read.text);
-      parts = marks.parts
-          ∙ ap (λ (ys : List Bool). marks.text ++ ys) (number_text ∙ ap (λ (ys : List Bool). field ++ ys) read.parts ∙ sym (append_assoc field read.text found.1))
-          ∙ sym (append_assoc marks.text (field ++ read.text) found.1);
+      parts = behind_texts bits marks.text field read.text left behind found.1 marks.parts number_text read.parts;
       whole = read.whole ∙ ap (λ (xs : List EntityState). xs ++ read.added) is ∙ pushed-first entities o read.added;
       first = refl;
       rise = (omega arith, within, rise-weaker (end_mark table) next (number + 1) read.entries (omega arith) read.rise);

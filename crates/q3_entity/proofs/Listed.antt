@@ -1,15 +1,17 @@
 -- What is read of a list is one: its numbers rise, and it has at most 256 entities.
-use Rattle.std.proofs.Common.{◌≡◌, ℕ, zero, suc, ◌+◌, ◌<◌, ◌≤◌, Bool, true, false, List, [], ◌∷◌, ◌++◌, length, Option, Some, None, Result, Ok, refl, subst, inl, inr, arith, eqb, ltb, length-append}
+use Rattle.std.proofs.Common.{◌≡◌, ℕ, zero, suc, ◌+◌, ◌^◌, ◌<◌, ◌≤◌, Bool, true, false, List, [], ◌∷◌, ◌++◌, length, Option, Some, None, Result, Ok, refl, subst, inl, inr, arith, eqb, ltb, length-append}
 use Rattle.std.proofs.lemmas.Bool.{cases_Bool, ltb-true}
+use Rattle.std.proofs.Math.Pow.{pow_mono}
 use Rattle.std.specs.Option.{is_some}
 use Rattle.q3_bits.specs.ResultBind.{◌>>=◌, bind_ok}
-use Rattle.q3_fields.specs.Kinds.{Layout, end_mark}
+use Rattle.q3_fields.specs.Kinds.{Layout, IsTable, end_mark}
 use Rattle.q3_entity.specs.declared.state.EntityState.{EntityState}
 use Rattle.q3_entity.specs.declared.reading.Entry.{Entry}
 use Rattle.q3_entity.specs.declared.reading.Entry.TheVariants.{Removed, Changed, Same}
 use Rattle.q3_entity.specs.declared.error.EntityError.{EntityError}
-use Rattle.q3_entity.specs.Entities.{RiseFrom, IsList, most_entities, with_number}
+use Rattle.q3_entity.specs.Entities.{RiseFrom, IsList, Rises, most_entities, with_number}
 use Rattle.q3_entity.specs.Baselines.{Lines}
+use Rattle.q3_entity.specs.Laws.{ListRises}
 use Rattle.q3_entity.specs.Delta.{entity_at}
 use Rattle.q3_entity.proofs.ListWritten.{found-number}
 use Rattle.q3_entity.specs.Lists.{number_at, one_more, stays, entered, words_from, numbers_after, list_after}
@@ -18,6 +20,12 @@ use Rattle.q3_entity.specs.Lists.{number_at, one_more, stays, entered, words_fro
 pub rise-more : (limit more least : ℕ) (xs : List EntityState) → limit ≤ more → RiseFrom limit least xs → RiseFrom more least xs
 rise-more limit more least [] below rise = tt
 rise-more limit more least (x ∷ xs) below rise = (rise.0, omega (arith, rise.1), rise-more limit more (x.number + 1) xs below rise.2)
+
+-- a list rises
+pub list_rises : ListRises
+list_rises table entities is_table list =
+    let most : 2 ^ table.number_bits ≤ 2 ^ 16 = pow_mono is_table.number_bits.1 in
+    record { rise = rise-more (end_mark table) (2 ^ 16) 0 entities (omega (arith, most)) list.rise; few = list.few }
 
 -- one more behind them
 pub rise-push : (limit least : ℕ) (xs : List EntityState) (x : EntityState) → least ≤ limit → RiseFrom limit least xs → x.number ≡ limit → RiseFrom (limit + 1) least (xs ++ x ∷ [])

@@ -14,9 +14,11 @@ use Rattle.q3_entity.specs.Lists.{number_at, one_more, stays, entered, words_fro
 use Rattle.q3_entity.specs.Runs.{taken}
 use Rattle.q3_entity.specs.Walking.{kept_below, Reached, next_at, entry_at, turn_at}
 use Rattle.q3_entity.proofs.Binds.{bind_same, bind_assoc}
+use Rattle.q3_entity.proofs.Results.{number_was_read}
 use Rattle.q3_entity.proofs.Risen.{with_number-behind, with_number-below, is_taken}
 use Rattle.q3_entity.proofs.Numbers.{with_number-named, kept_below-none, kept_below-more, kept_below-rises}
-use Rattle.q3_bits.specs.Words.{field_at}
+use Rattle.q3_bits.specs.Words.{IsCode, field_at}
+use Rattle.q3_bits.specs.Laws.{ReadWasPut}
 use Rattle.q3_bits.specs.Streams.{holding, with_rest}
 use Rattle.q3_entity.specs.declared.reading.Entry.TheVariants.{Changed, Same}
 
@@ -43,7 +45,8 @@ behind_entry words table lines number from entities bits go =
     >>= λ now. (number_at words table (number + 1) now.1 >>= λ more. go more.0 now.0 more.1)
 
 behind_entry-same : (words : List (List Bool)) (table : Layout) (lines : Lines) (number : ℕ) (from : Option EntityState) (entities : List EntityState) (bits : List Bool)
-    (go go' : ℕ → List EntityState → List Bool → Answer) → ((next : ℕ) (now : List EntityState) (left : List Bool) → number + 1 ≤ next → go next now left ≡ go' next now left)
+    (go go' : ℕ → List EntityState → List Bool → Answer)
+    → ((left : List Bool) (now : List EntityState) (more : ℕ × List Bool) → number_at words table (number + 1) left ≡ Ok more → go more.0 now more.1 ≡ go' more.0 now more.1)
     → behind_entry words table lines number from entities bits go ≡ behind_entry words table lines number from entities bits go'
 behind_entry-same words table lines number from entities bits go go' same =
     bind_same (entry_at words table (words_from lines number from) (is_some from) number entities bits)
@@ -51,7 +54,7 @@ behind_entry-same words table lines number from entities bits go go' same =
     (λ now. number_at words table (number + 1) now.1 >>= λ more. go' more.0 now.0 more.1)
     (λ now is.
     bind_same (number_at words table (number + 1) now.1) (λ more. go more.0 now.0 more.1) (λ more. go' more.0 now.0 more.1)
-    (λ more is'. same more.0 now.0 more.1 (number_at-least words table (number + 1) now.1 more is')))
+    (λ more is'. same now.1 now.0 more is'))
 
 -- at the number of the next entry
 numbers_after-here : (words : List (List Bool)) (table : Layout) (lines : Lines) (base : List EntityState) (left number : ℕ) (entities : List EntityState) (bits : List Bool)
@@ -89,7 +92,7 @@ forget words table lines x base (suc left) number next entities bits below =
           (numbers_after-here words table lines (x ∷ base) left number entities bits
           ∙ ap (λ (from : Option EntityState). behind_entry words table lines number from entities bits (λ next now left'. numbers_after words table lines (x ∷ base) left (number + 1) next now left')) gone
           ∙ behind_entry-same words table lines number (with_number number base) entities bits _ _
-          (λ next now left' more. forget words table lines x base left (number + 1) next now left' (omega arith))
+          (λ left' now more is. forget words table lines x base left (number + 1) more.0 now more.1 (omega arith))
           ∙ sym (numbers_after-here words table lines base left number entities bits))
       | inr other ↦
           numbers_after-there words table lines (x ∷ base) left number next entities bits other
@@ -105,55 +108,55 @@ abbrev pub from_next : List (List Bool) → Layout → Lines → ℕ → List En
 from_next words table lines next base entities bits = numbers_after words table lines base (end_mark table - next) next next entities bits
 
 -- at the next entry's number no entity of the base is passed over
-jump-here : (words : List (List Bool)) (table : Layout) (lines : Lines) (base : List EntityState) (left number next : ℕ) (entities : List EntityState) (bits : List Bool)
-    → RiseFrom (end_mark table) number base → left + number ≡ end_mark table → number ≡ next
+jump-here : (words : List (List Bool)) (table : Layout) (lines : Lines) (base : List EntityState) (limit left number next : ℕ) (entities : List EntityState) (bits : List Bool)
+    → RiseFrom limit number base → left + number ≡ end_mark table → number ≡ next
     → numbers_after words table lines base left number next entities bits
     ≡ (kept_below next entities base >>= λ kept. from_next words table lines next kept.1 kept.0 bits)
-jump-here words table lines base left number next entities bits rise sum same =
+jump-here words table lines base limit left number next entities bits rise sum same =
     let all : end_mark table - number ≡ left = omega arith in
-    rw (← same, kept_below-none (end_mark table) number entities base rise, all) refl
+    rw (← same, kept_below-none limit number entities base rise, all) refl
 
 -- up to the next entry the base's entities stay
-jump : (words : List (List Bool)) (table : Layout) (lines : Lines) (base : List EntityState) (left number next : ℕ) (entities : List EntityState) (bits : List Bool)
-    → RiseFrom (end_mark table) number base → left + number ≡ end_mark table → number ≤ next
+jump : (words : List (List Bool)) (table : Layout) (lines : Lines) (base : List EntityState) (limit left number next : ℕ) (entities : List EntityState) (bits : List Bool)
+    → RiseFrom limit number base → left + number ≡ end_mark table → number ≤ next → next ≤ end_mark table
     → numbers_after words table lines base left number next entities bits
     ≡ (kept_below next entities base >>= λ kept. from_next words table lines next kept.1 kept.0 bits)
 unfolding numbers_after kept_below
-jump words table lines [] zero number next entities bits rise sum below =
+jump words table lines [] limit zero number next entities bits rise sum below within =
     let none : end_mark table - next ≡ 0 = omega arith in
     rw none refl
-jump words table lines (x ∷ xs) zero number next entities bits rise sum below = absurd (omega (arith, rise.0, rise.1))
-jump words table lines [] (suc left) number next entities bits rise sum below =
+jump words table lines (x ∷ xs) limit zero number next entities bits rise sum below within = jump-here words table lines (x ∷ xs) limit zero number next entities bits rise sum (omega arith)
+jump words table lines [] limit (suc left) number next entities bits rise sum below within =
     elim (cases_eq number next) [
-      | inl same ↦ jump-here words table lines [] (suc left) number next entities bits rise sum same
+      | inl same ↦ jump-here words table lines [] limit (suc left) number next entities bits rise sum same
       | inr other ↦
           numbers_after-there words table lines [] left number next entities bits other
-          ∙ jump words table lines [] left (number + 1) next entities bits tt (omega arith) (omega arith)
+          ∙ jump words table lines [] limit left (number + 1) next entities bits tt (omega arith) (omega arith) within
     ]
-jump words table lines (x ∷ xs) (suc left) number next entities bits rise sum below =
+jump words table lines (x ∷ xs) limit (suc left) number next entities bits rise sum below within =
     let base = x ∷ xs in
     elim (cases_eq number next) [
-      | inl same ↦ jump-here words table lines base (suc left) number next entities bits rise sum same
+      | inl same ↦ jump-here words table lines base limit (suc left) number next entities bits rise sum same
       | inr other ↦
           elim (cases_eq x.number number) [
             | inl here ↦
-                let risen : RiseFrom (end_mark table) (number + 1) xs = rw here at rise.2 in
+                let risen : RiseFrom limit (number + 1) xs = rw here at rise.2 in
                 numbers_after-there words table lines base left number next entities bits other
                 ∙ ap (λ (from : Option EntityState). stays entities from >>= λ kept. numbers_after words table lines base left (number + 1) next kept bits) (with_number-named x xs number here)
                 ∙ bind_same (one_more entities x) (λ kept. numbers_after words table lines base left (number + 1) next kept bits)
                 (λ kept. kept_below next kept xs >>= λ kept'. from_next words table lines next kept'.1 kept'.0 bits)
                 (λ kept is.
                 forget words table lines x xs left (number + 1) next kept bits (omega arith)
-                ∙ jump words table lines xs left (number + 1) next kept bits risen (omega arith) (omega arith))
+                ∙ jump words table lines xs limit left (number + 1) next kept bits risen (omega arith) (omega arith) within)
                 ∙ sym (bind_assoc (one_more entities x) (λ more. kept_below next more xs) (λ kept'. from_next words table lines next kept'.1 kept'.0 bits))
                 ∙ ap (λ (r : Result (List EntityState × List EntityState) EntityError). r >>= λ kept'. from_next words table lines next kept'.1 kept'.0 bits)
                 (sym (kept_below-more next entities x xs (omega arith)))
             | inr later ↦
-                let risen : RiseFrom (end_mark table) (number + 1) base = (omega (arith, rise.0, later), rise.1, rise.2) in
+                let risen : RiseFrom limit (number + 1) base = (omega (arith, rise.0, later), rise.1, rise.2) in
                 numbers_after-there words table lines base left number next entities bits other
                 ∙ ap (λ (from : Option EntityState). stays entities from >>= λ kept. numbers_after words table lines base left (number + 1) next kept bits)
-                (with_number-below (end_mark table) (number + 1) number base risen (omega arith))
-                ∙ jump words table lines base left (number + 1) next entities bits risen (omega arith) (omega arith)
+                (with_number-below limit (number + 1) number base risen (omega arith))
+                ∙ jump words table lines base limit left (number + 1) next entities bits risen (omega arith) (omega arith) within
           ]
     ]
 
@@ -176,13 +179,14 @@ next_goes_on words table lines least base entities bits =
     (λ number is. bind_assoc (kept number) (made number) (from_reached words table lines))
 
 -- a whole list is read from its first number on
-pub list_begins : (words : List (List Bool)) (table : Layout) (lines : Lines) (base : List EntityState) (bits : List Bool) → RiseFrom (end_mark table) 0 base
+pub list_begins : ReadWasPut → (words : List (List Bool)) (table : Layout) (lines : Lines) (base : List EntityState) (limit : ℕ) (bits : List Bool) → IsCode words → RiseFrom limit 0 base
     → list_after words table lines base bits ≡ (next_at words table 0 base [] bits >>= from_reached words table lines)
 unfolding list_after
-list_begins words table lines base bits rise =
+list_begins put words table lines base limit bits code rise =
     bind_same (number_at words table 0 bits) (λ first. numbers_after words table lines base (end_mark table) 0 first.0 [] first.1)
     (λ first. kept_below first.0 [] base >>= λ kept. from_next words table lines first.0 kept.1 kept.0 first.1)
-    (λ first is. jump words table lines base (end_mark table) 0 first.0 [] first.1 rise (omega arith) (omega arith))
+    (λ first is.
+    jump words table lines base limit (end_mark table) 0 first.0 [] first.1 rise (omega arith) (omega arith) (number_was_read put words table 0 bits first code is).1)
     ∙ sym (next_goes_on words table lines 0 base [] bits)
 
 -- those behind a number say all that comes
@@ -196,10 +200,11 @@ behind_taken words table lines (x ∷ xs) left number next entities bits =
     ]
 
 -- a turn: the next entry, and the number behind it
-pub list_turns : (words : List (List Bool)) (table : Layout) (lines : Lines) (at : Reached) (bits : List Bool) → at.next < end_mark table → RiseFrom (end_mark table) at.next at.base
+pub list_turns : ReadWasPut → (words : List (List Bool)) (table : Layout) (lines : Lines) (at : Reached) (limit : ℕ) (bits : List Bool) → IsCode words → at.next < end_mark table
+    → RiseFrom limit at.next at.base
     → from_next words table lines at.next at.base at.entities bits ≡ (turn_at words table lines at bits >>= from_reached words table lines)
 unfolding turn_at
-list_turns words table lines at bits below rise =
+list_turns put words table lines at limit bits code below rise =
     let found = taken at.next at.base in
     let rest = end_mark table - (at.next + 1) in
     let all : end_mark table - at.next ≡ suc rest = omega arith in
@@ -208,13 +213,14 @@ list_turns words table lines at bits below rise =
     ap (λ (left : ℕ). numbers_after words table lines at.base left at.next at.next at.entities bits) all
     ∙ numbers_after-here words table lines at.base rest at.next at.entities bits
     ∙ ap (λ (from : Option EntityState). behind_entry words table lines at.next from at.entities bits (λ next now left. numbers_after words table lines at.base rest (at.next + 1) next now left))
-    (sym (is_taken (end_mark table) at.next at.base rise).found)
+    (sym (is_taken limit at.next at.base rise).found)
     ∙ behind_entry-same words table lines at.next found.0 at.entities bits
     (λ next now left. numbers_after words table lines at.base rest (at.next + 1) next now left)
     (λ next now left. kept_below next now found.1 >>= λ kept. from_next words table lines next kept.1 kept.0 left)
-    (λ next now left more.
-    behind_taken words table lines at.base rest at.next next now left
-    ∙ jump words table lines found.1 rest (at.next + 1) next now left (is_taken (end_mark table) at.next at.base rise).rise (omega arith) more)
+    (λ left now more is.
+    let number = number_was_read put words table (at.next + 1) left more code is in
+    behind_taken words table lines at.base rest at.next more.0 now more.1
+    ∙ jump words table lines found.1 limit rest (at.next + 1) more.0 now more.1 (is_taken limit at.next at.base rise).rise (omega arith) number.0 number.1)
     ∙ bind_same read (λ now. number_at words table (at.next + 1) now.1 >>= λ more. (kept_below more.0 now.0 found.1 >>= λ kept. from_next words table lines more.0 kept.1 kept.0 more.1))
     (λ now. behind now >>= from_reached words table lines)
     (λ now is. sym (next_goes_on words table lines (at.next + 1) found.1 now.0 now.1))
@@ -240,24 +246,26 @@ turn_rises words table lines at bits now limit rise e =
     next_rises words table (at.next + 1) found.1 read.0.0 read.0.1 now limit (at.next + 1) (is_taken limit at.next at.base rise).rise read.2
 
 -- what the code reads, as a whole list is read: its beginning
-pub list_begun : (words : List (List Bool)) (table : Layout) (lines : Lines) (base none : List EntityState) (bits : List Bool) (at : Reached) (left : List Bool) → RiseFrom (end_mark table) 0 base → none ≡ []
+pub list_begun : ReadWasPut → (words : List (List Bool)) (table : Layout) (lines : Lines) (base none : List EntityState) (limit : ℕ) (bits : List Bool) (at : Reached) (left : List Bool) → IsCode words → RiseFrom limit 0 base
+    → none ≡ []
     → Ok (at, left) ≡ next_at words table 0 base none bits → from_reached words table lines (at, left) ≡ list_after words table lines base bits
-list_begun words table lines base none bits at left rise empty e = rw (list_begins words table lines base bits rise, ← empty, ← e) refl
+list_begun put words table lines base none limit bits at left code rise empty e = rw (list_begins put words table lines base limit bits code rise, ← empty, ← e) refl
 
-pub list_refused : (words : List (List Bool)) (table : Layout) (lines : Lines) (base none : List EntityState) (bits : List Bool) (e : EntityError) → RiseFrom (end_mark table) 0 base → none ≡ []
+pub list_refused : ReadWasPut → (words : List (List Bool)) (table : Layout) (lines : Lines) (base none : List EntityState) (limit : ℕ) (bits : List Bool) (e : EntityError) → IsCode words → RiseFrom limit 0 base
+    → none ≡ []
     → Err e ≡ next_at words table 0 base none bits → Err e ≡ list_after words table lines base bits
-list_refused words table lines base none bits e rise empty is = rw (list_begins words table lines base bits rise, ← empty, ← is) refl
+list_refused put words table lines base none limit bits e code rise empty is = rw (list_begins put words table lines base limit bits code rise, ← empty, ← is) refl
 
 -- a turn
-pub list_goes_on : (words same : List (List Bool)) (table : Layout) (lines : Lines) (at : Reached) (bits : List Bool) (now : Reached) (left : List Bool) → same ≡ words
-    → at.next < end_mark table → RiseFrom (end_mark table) at.next at.base → Ok (now, left) ≡ turn_at same table lines at bits
+pub list_goes_on : ReadWasPut → (words same : List (List Bool)) (table : Layout) (lines : Lines) (at : Reached) (limit : ℕ) (bits : List Bool) (now : Reached) (left : List Bool) → same ≡ words
+    → IsCode words → at.next < end_mark table → RiseFrom limit at.next at.base → Ok (now, left) ≡ turn_at same table lines at bits
     → from_reached words table lines (now, left) ≡ from_reached words table lines (at, bits)
-list_goes_on words same table lines at bits now left is below rise e = rw (list_turns words table lines at bits below rise, ← is, ← e) refl
+list_goes_on put words same table lines at limit bits now left is code below rise e = rw (list_turns put words table lines at limit bits code below rise, ← is, ← e) refl
 
-pub list_stops : (words same : List (List Bool)) (table : Layout) (lines : Lines) (at : Reached) (bits : List Bool) (e : EntityError) → same ≡ words
-    → at.next < end_mark table → RiseFrom (end_mark table) at.next at.base → Err e ≡ turn_at same table lines at bits
+pub list_stops : ReadWasPut → (words same : List (List Bool)) (table : Layout) (lines : Lines) (at : Reached) (limit : ℕ) (bits : List Bool) (e : EntityError) → same ≡ words
+    → IsCode words → at.next < end_mark table → RiseFrom limit at.next at.base → Err e ≡ turn_at same table lines at bits
     → Err e ≡ from_reached words table lines (at, bits)
-list_stops words same table lines at bits e is below rise stop = rw (list_turns words table lines at bits below rise, ← is, ← stop) refl
+list_stops put words same table lines at limit bits e is code below rise stop = rw (list_turns put words table lines at limit bits code below rise, ← is, ← stop) refl
 
 -- and its end
 pub list_ends : (words : List (List Bool)) (table : Layout) (lines : Lines) (at : Reached) (bits : List Bool) → end_mark table ≤ at.next

@@ -1,6 +1,6 @@
 -- What is written of an entity is a spelling of its entry, and is read back.
-use Rattle.std.proofs.Common.{◌≡◌, ◌≢◌, inl, inr, ℕ, ◌^◌, ◌<◌, Bool, true, false, List, [], ◌∷◌, ◌++◌, Some, Ok, refl, ap, ◌∙◌, append_assoc, arith}
-use Rattle.std.proofs.lemmas.Bool.{cases_eq}
+use Rattle.std.proofs.Common.{◌≡◌, ◌≢◌, inl, inr, ℕ, ◌^◌, ◌<◌, Bool, true, false, List, [], ◌∷◌, ◌++◌, Some, Ok, refl, sym, ap, ◌∙◌, append_assoc, arith}
+use Rattle.std.proofs.lemmas.Bool.{cases_eq, ne_eqb}
 use Rattle.std.proofs.lemmas.List.{append-nil}
 use Rattle.q3_bits.specs.Words.{IsCode, field_bits, field_at, row_bits}
 use Rattle.q3_bits.specs.Laws.{PutIsRead}
@@ -13,12 +13,12 @@ use Rattle.q3_entity.specs.declared.state.EntityState.{EntityState}
 use Rattle.q3_entity.specs.declared.reading.Entry.{Entry}
 use Rattle.q3_entity.specs.declared.reading.Entry.TheVariants.{Removed, Changed, Same}
 use Rattle.q3_entity.specs.Entities.{zero_entity, IsNormal}
-use Rattle.q3_entity.specs.Delta.{opening, removal, entity_delta, entity_at}
+use Rattle.q3_entity.specs.Delta.{opening, removal, entity_delta, entry_of, entity_at}
 use Rattle.q3_entity.specs.Spelling.{Entered, SpellsEntry}
 use Rattle.q3_entity.specs.Laws.{NormalIsNormal, ZeroIsNormal, EntityWrittenIsRead, RemovalIsRead}
 use Rattle.q3_fields.specs.Laws.{NormalWordsAreNormal, ZerosAreNormal}
 use Rattle.q3_entity.proofs.DeltaTexts.{entity_delta-changed, entity_delta-unchanged}
-use Rattle.q3_entity.proofs.EntrySpelled.{words_there, marks_of_entry, TakenMarks, marks_are_read}
+use Rattle.q3_entity.proofs.EntrySpelled.{same_is_read, changed_is_read}
 
 -- ---- normal forms
 
@@ -68,46 +68,62 @@ forced_is_spelled law same words table number from to code is_table are normal a
       | inr some ↦ changed_is_spelled law words table number from to true code is_table are normal are' is some
     ]
 
--- a text that isn't empty
-pub entity_is_spelled : WordsAreSpelled → UnchangedIsNormal → (words : List (List Bool)) (table : Layout) (from to : EntityState) (force : Bool) → IsCode words → IsTable table
-    → AreWords 64 from.words → IsNormal table from → AreWords 64 to.words → entity_delta words table from to force ≢ []
-    → SpellsEntry words table from.words (present table to.number to) (entity_delta words table from to force)
-entity_is_spelled law same words table from to true code is_table are normal are' some = forced_is_spelled law same words table to.number from to code is_table are normal are' refl
-entity_is_spelled law same words table from to false code is_table are normal are' some =
-    changed_is_spelled law words table to.number from to false code is_table are normal are' refl (λ none. some (entity_delta-unchanged words table from to false none))
-
 -- ---- what is written is read back
 
--- an entry that is spelled so: its number, and what stands behind it
-record ReadBack (words : List (List Bool)) (table : Layout) (from : List ℕ) (entry : Entered) (text rest : List Bool) : Type 0 where
-  own : List Bool
-  number : field_at words table.number_bits (text ++ rest) ≡ Ok (entry.number, own ++ rest)
-  marks : TakenMarks words table from entry.words own rest
+-- a text behind a number
+record IsBehind (words : List (List Bool)) (table : Layout) (from : EntityState) (number : ℕ) (text rest : List Bool) (found : Entry × List ℕ) : Type 0 where
+  left : List Bool
+  number_is : field_at words table.number_bits (text ++ rest) ≡ Ok (number, left)
+  reads : entity_at words table from.words left ≡ Ok (found, rest)
 
-read_back : PutIsRead → WordsSpelledAreRead → (words : List (List Bool)) (table : Layout) (from : List ℕ) (entry : Entered) (text rest : List Bool) → IsCode words → IsTable table
-    → AreWords 64 from → entry.number < end_mark table → SpellsEntry words table from entry text → ReadBack words table from entry text rest
-read_back put law words table from entry text rest code is_table are within spelled =
-    let marks = marks_of_entry words table from entry text spelled in
-    let fits : entry.number < 2 ^ table.number_bits = omega (arith, within) in
-    let regrouped : text ++ rest ≡ field_bits words table.number_bits entry.number ++ (marks.0 ++ rest) = ap (λ (t : List Bool). t ++ rest) marks.2 ∙ append_assoc (field_bits words table.number_bits entry.number) marks.0 rest in
-    record {
-      own = marks.0;
-      number = ap (field_at words table.number_bits) regrouped ∙ put words table.number_bits entry.number (marks.0 ++ rest) code fits;
-      marks = marks_are_read put law words table from entry.words marks.0 rest code is_table are marks.1;
-    }
+behind_number : PutIsRead → (words : List (List Bool)) (table : Layout) (from : EntityState) (number : ℕ) (text own rest : List Bool) (found : Entry × List ℕ) → IsCode words
+    → number < end_mark table → text ≡ field_bits words table.number_bits number ++ own → entity_at words table from.words (own ++ rest) ≡ Ok (found, rest)
+    → IsBehind words table from number text rest found
+behind_number put words table from number text own rest found code within is read = record {
+  left = own ++ rest;
+  number_is =
+      ap (λ (text : List Bool). field_at words table.number_bits (text ++ rest)) is
+      ∙ ap (field_at words table.number_bits) (append_assoc (field_bits words table.number_bits number) own rest)
+      ∙ put words table.number_bits number (own ++ rest) code (omega (arith, within));
+  reads = read;
+}
 
--- an entry that is there has its words
-there : (kind : Entry) (to words : List ℕ) → words_there kind to ≡ Some words → to ≡ words
-there Removed to words e = absurd cc
-there Changed to words e = cc
-there Same to words e = cc
+-- an entity that didn't change, which is written by force alone
+same_behind : PutIsRead → UnchangedIsNormal → (words : List (List Bool)) (table : Layout) (from to : EntityState) (force : Bool) (rest : List Bool) → IsCode words → IsTable table
+    → AreWords 64 from.words → IsNormal table from → AreWords 64 to.words → to.number < end_mark table → entity_delta words table from to force ≢ []
+    → changed_count table.kinds from.words to.words ≡ 0
+    → IsBehind words table from to.number (entity_delta words table from to force) rest (entry_of table from to, normal_words table.kinds to.words)
+unfolding row_bits
+same_behind put same words table from to true rest code is_table are normal are' within some none =
+    let words_are = same table.kinds from.words to.words is_table.kinds are (ap (λ (e : EntityState). e.words) normal) are' none in
+    let kind : Same ≡ entry_of table from to = rw none refl in
+    behind_number put words table from to.number _ (field_bits words 1 0 ++ field_bits words 1 0) rest (entry_of table from to, normal_words table.kinds to.words) code within
+    (entity_delta-unchanged words table from to true none ∙ simp append-nil)
+    (same_is_read put words table from.words rest code ∙ ap (λ (ws : List ℕ). Ok ((Same, ws), rest)) (sym words_are)
+    ∙ ap (λ (kind : Entry). Ok ((kind, normal_words table.kinds to.words), rest)) kind)
+same_behind put same words table from to false rest code is_table are normal are' within some none = absurd (some (entity_delta-unchanged words table from to false none))
+
+-- and one that did
+changed_behind : PutIsRead → WordsAreSpelled → WordsSpelledAreRead → (words : List (List Bool)) (table : Layout) (from to : EntityState) (force : Bool) (rest : List Bool) → IsCode words
+    → IsTable table → AreWords 64 from.words → IsNormal table from → AreWords 64 to.words → to.number < end_mark table → changed_count table.kinds from.words to.words ≢ 0
+    → IsBehind words table from to.number (entity_delta words table from to force) rest (entry_of table from to, normal_words table.kinds to.words)
+unfolding row_bits words_delta
+changed_behind put law read words table from to force rest code is_table are normal are' within some =
+    let delta = words_delta Entity words table.kinds from.words to.words in
+    let kind : Changed ≡ entry_of table from to = rw (ne_eqb (changed_count table.kinds from.words to.words) 0 some) refl in
+    behind_number put words table from to.number _ (field_bits words 1 0 ++ field_bits words 1 1 ++ delta) rest (entry_of table from to, normal_words table.kinds to.words) code within
+    (entity_delta-changed words table from to force some ∙ simp (append-nil, append_assoc))
+    (changed_is_read put read words table from.words (normal_words table.kinds to.words) delta rest code is_table are
+    (law Entity words table.kinds from.words to.words code is_table.kinds are (ap (λ (e : EntityState). e.words) normal) are')
+    ∙ ap (λ (kind : Entry). Ok ((kind, normal_words table.kinds to.words), rest)) kind)
 
 pub entity_is_read : PutIsRead → WordsAreSpelled → UnchangedIsNormal → WordsSpelledAreRead → EntityWrittenIsRead
 entity_is_read put law same read words table from to force rest code is_table are normal are' within some =
-    let entry = present table to.number to in
-    let back = read_back put read words table from.words entry (entity_delta words table from to force) rest code is_table are within
-    (entity_is_spelled law same words table from to force code is_table are normal are' some) in
-    (back.own ++ rest, back.marks.kind, back.number, back.marks.reads ∙ ap (λ (ws : List ℕ). Ok ((back.marks.kind, ws), rest)) (there back.marks.kind back.marks.to (normal_words table.kinds to.words) back.marks.is))
+    let behind = elim (cases_eq (changed_count table.kinds from.words to.words) 0) as (λ _. IsBehind words table from to.number (entity_delta words table from to force) rest (entry_of table from to, normal_words table.kinds to.words)) [
+      | inl none ↦ same_behind put same words table from to force rest code is_table are normal are' within some none
+      | inr changed ↦ changed_behind put law read words table from to force rest code is_table are normal are' within changed
+    ] in
+    (behind.left, behind.number_is, behind.reads)
 
 -- a removal
 removed_text : (words : List (List Bool)) (table : Layout) (number : ℕ) (rest : List Bool) → removal words table number ++ rest ≡ field_bits words table.number_bits number ++ (field_bits words 1 1 ++ rest)

@@ -33,6 +33,10 @@ entity_delta words table from to force =
     if changed_count table.kinds from.words to.words == 0 then unchanged words table to.number force
     else opening words table to.number ((0, 1) ∷ (1, 1) ∷ []) ++ words_delta Entity words table.kinds from.words to.words
 
+-- what a reader takes such an entity for
+abbrev pub entry_of : Layout → EntityState → EntityState → Entry
+entry_of table from to = if changed_count table.kinds from.words to.words == 0 then Same else Changed
+
 -- faults of bits and of a delta, as those of entities
 abbrev pub entity_error : DeltaError → EntityError
 entity_error (delta.Bits e) = Bits e

@@ -1,5 +1,5 @@
 -- Entities: what the program's type holds, the zero state, the normal form, and lists of them by number.
-use Rattle.std.specs.Prelude.{◌≡◌, ℕ, ◌+◌, ◌==◌, ◌<◌, ◌≤◌, List, [], ◌∷◌, ◌++◌, length, replicate, All, find, Option}
+use Rattle.std.specs.Prelude.{◌≡◌, ℕ, ◌+◌, ◌==◌, ◌^◌, ◌<◌, ◌≤◌, List, [], ◌∷◌, ◌++◌, length, replicate, All, find, Option}
 use Rattle.q3_fields.specs.Kinds.{Layout, end_mark}
 use Rattle.q3_fields.specs.States.{AreWords, normal_words}
 use Rattle.q3_entity.specs.declared.state.EntityState.{EntityState}
@@ -28,6 +28,11 @@ most_entities = 256
 -- a list of entities: the numbers rise and are below the end mark, and there are at most 256
 pub record IsList (table : Layout) (entities : List EntityState) : Type 0 where
   pub rise : RiseFrom (end_mark table) 0 entities
+  pub few : length entities ≤ most_entities
+
+-- entities that rise by number, whatever their numbers are, at most 256 of them
+pub record Rises (entities : List EntityState) : Type 0 where
+  pub rise : RiseFrom (2 ^ 16) 0 entities
   pub few : length entities ≤ most_entities
 
 -- states as the program's type holds them

@@ -4,13 +4,12 @@ use Rattle.q3_bits.specs.Words.{IsCode, field_at}
 use Rattle.q3_fields.specs.Kinds.{Layout, IsTable, end_mark}
 use Rattle.q3_fields.specs.States.{AreWords}
 use Rattle.q3_entity.specs.declared.state.EntityState.{EntityState}
-use Rattle.q3_entity.specs.declared.reading.Entry.{Entry}
 use Rattle.q3_entity.specs.declared.reading.Entry.TheVariants.{Removed}
-use Rattle.q3_entity.specs.Entities.{zero_entity, normal_entity, IsNormal, IsList, AreStates, AreNormal}
-use Rattle.q3_entity.specs.Baselines.{Lines, AreLines}
-use Rattle.q3_entity.specs.Delta.{entity_delta, removal, entity_at}
+use Rattle.q3_entity.specs.Entities.{zero_entity, normal_entity, IsNormal, IsList, Rises, AreStates, AreNormal}
+use Rattle.q3_entity.specs.Baselines.{Lines, AreLines, most_lines, no_lines, with_line}
+use Rattle.q3_entity.specs.Delta.{entity_delta, entry_of, removal, entity_at}
 use Rattle.q3_entity.specs.Lists.{list_text, list_after, list_skipped}
-use Rattle.q3_entity.specs.Spelling.{SpellsList}
+use Rattle.q3_entity.specs.Spelling.{SpellsList, SpellsSkipped}
 
 -- the normal form of a state is a state, in normal form; so is the zero state
 abbrev pub NormalIsNormal : Type 0
@@ -20,14 +19,26 @@ NormalIsNormal = (table : Layout) (entity : EntityState) → IsTable table → A
 abbrev pub ZeroIsNormal : Type 0
 ZeroIsNormal = (table : Layout) (number : ℕ) → IsTable table → AreWords 64 (zero_entity number).words × IsNormal table (zero_entity number)
 
+-- a list rises, so another may be read against it
+abbrev pub ListRises : Type 0
+ListRises = (table : Layout) (entities : List EntityState) → IsTable table → IsList table entities → Rises entities
+
+-- no baselines are lines, and lines with a state in normal form set are lines
+abbrev pub NoLinesAreLines : Type 0
+NoLinesAreLines = (table : Layout) → AreLines table no_lines
+
+abbrev pub LineIsAdded : Type 0
+LineIsAdded = (table : Layout) (lines : Lines) (state : EntityState) → AreLines table lines → state.number < most_lines
+    → AreWords 64 state.words → IsNormal table state → AreLines table (with_line lines state)
+
 -- what is written of an entity against a state in normal form is read back: its number, and behind it the words in
--- normal form
+-- normal form, as those of an entity that is the same exactly where no word changed
 abbrev pub EntityWrittenIsRead : Type 0
 EntityWrittenIsRead = (words : List (List Bool)) (table : Layout) (from to : EntityState) (force : Bool) (rest : List Bool) → IsCode words → IsTable table
     → AreWords 64 from.words → IsNormal table from → AreWords 64 to.words → to.number < end_mark table
     → entity_delta words table from to force ≢ []
-    → (left : List Bool) × (entry : Entry) × (field_at words table.number_bits (entity_delta words table from to force ++ rest) ≡ Ok (to.number, left))
-    × (entity_at words table from.words left ≡ Ok ((entry, (normal_entity table to).words), rest))
+    → (left : List Bool) × (field_at words table.number_bits (entity_delta words table from to force ++ rest) ≡ Ok (to.number, left))
+    × (entity_at words table from.words left ≡ Ok ((entry_of table from to, (normal_entity table to).words), rest))
 
 -- and so is a removal
 abbrev pub RemovalIsRead : Type 0
@@ -66,3 +77,12 @@ ListWrittenIsRead = (words : List (List Bool)) (table : Layout) (lines : Lines) 
 abbrev pub ReadIsSkipped : Type 0
 ReadIsSkipped = (words : List (List Bool)) (table : Layout) (lines : Lines) (base now : List EntityState) (bits rest : List Bool) → IsTable table
     → AreLines table lines → AreStates base → list_after words table lines base bits ≡ Ok (now, rest) → list_skipped words table bits ≡ Ok (tt, rest)
+
+-- what is skipped was spelled so, and what is spelled so is skipped, with whatever follows it
+abbrev pub SkippedIsSpelled : Type 0
+SkippedIsSpelled = (words : List (List Bool)) (table : Layout) (bits rest : List Bool) → IsCode words → IsTable table
+    → list_skipped words table bits ≡ Ok (tt, rest) → (text : List Bool) × (bits ≡ text ++ rest) × SpellsSkipped words table text
+
+abbrev pub SpelledIsSkipped : Type 0
+SpelledIsSkipped = (words : List (List Bool)) (table : Layout) (text rest : List Bool) → IsCode words → IsTable table
+    → SpellsSkipped words table text → list_skipped words table (text ++ rest) ≡ Ok (tt, rest)

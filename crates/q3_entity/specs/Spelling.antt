@@ -7,7 +7,7 @@ use Rattle.q3_fields.specs.declared.delta.StateKind.TheVariants.{Entity}
 use Rattle.q3_fields.specs.Spelling.{SpellsWords}
 use Rattle.q3_entity.specs.declared.state.EntityState.{EntityState}
 use Rattle.q3_entity.specs.Entities.{IsList, with_number}
-use Rattle.q3_entity.specs.Baselines.{Lines}
+use Rattle.q3_entity.specs.Baselines.{Lines, no_lines}
 use Rattle.q3_entity.specs.Delta.{opening, removal}
 use Rattle.q3_entity.specs.Lists.{words_from}
 
@@ -59,3 +59,9 @@ pub record SpellsList (words : List (List Bool)) (table : Layout) (lines : Lines
   pub spells : SpellsEntries words table lines base entries text
   pub list : IsList table now
   pub states : (number : ℕ) → with_number number now ≡ state_after (with_number number base) number (find (λ entry. entry.number == number) entries)
+
+-- the text spells a list whose base isn't there: any rising entries, each against the zero state
+pub record SpellsSkipped (words : List (List Bool)) (table : Layout) (text : List Bool) : Type 0 where
+  pub entries : List Entered
+  pub rise : EntriesRise (end_mark table) 0 entries
+  pub spells : SpellsEntries words table no_lines [] entries text

@@ -1,6 +1,6 @@
 //! Laws of entity deltas and of lists, each the contract of a call that does nothing but cite the laws below it.
 
-ghost use Rattle.q3_entity.specs.Laws.{NormalIsNormal, ZeroIsNormal, EntityWrittenIsRead, RemovalIsRead, ListIsSpelled, ListReadIsSpelled, ListSpelledIsRead, ListWrittenIsRead, ReadIsSkipped};
+ghost use Rattle.q3_entity.specs.Laws.{NormalIsNormal, ZeroIsNormal, ListRises, NoLinesAreLines, LineIsAdded, EntityWrittenIsRead, RemovalIsRead, ListIsSpelled, ListReadIsSpelled, ListSpelledIsRead, ListWrittenIsRead, ReadIsSkipped, SkippedIsSpelled, SpelledIsSkipped};
 
 use q3_bits::laws as bits;
 use q3_fields::laws as fields;
@@ -19,8 +19,23 @@ pub fn zero_is_normal()
     fields::zeros_are_normal();
 }
 
+/// A list rises by number, so another may be read against it.
+pub fn list_rises()
+    ensures { ListRises }
+{}
+
+/// No baselines are lines.
+pub fn no_lines_are_lines()
+    ensures { NoLinesAreLines }
+{}
+
+/// Lines with a state in normal form set are lines.
+pub fn line_is_added()
+    ensures { LineIsAdded }
+{}
+
 /// What is written of an entity against a state in normal form is read back: its number, and behind it the words in
-/// normal form, with whatever follows.
+/// normal form, as those of an entity that is the same exactly where no word changed, with whatever follows.
 pub fn entity_written_is_read()
     ensures { EntityWrittenIsRead }
 {
@@ -79,5 +94,23 @@ pub fn list_written_is_read()
 pub fn read_is_skipped()
     ensures { ReadIsSkipped }
 {
+    zero_is_normal();
+}
+
+/// A list that is passed over spells rising entries, each against the zero state.
+pub fn skipped_is_spelled()
+    ensures { SkippedIsSpelled }
+{
+    bits::read_was_put();
+    fields::words_read_are_spelled();
+    zero_is_normal();
+}
+
+/// What spells such entries is passed over, with whatever follows it.
+pub fn spelled_is_skipped()
+    ensures { SpelledIsSkipped }
+{
+    bits::put_is_read();
+    fields::words_spelled_are_read();
     zero_is_normal();
 }

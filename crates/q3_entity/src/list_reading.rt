@@ -2,9 +2,10 @@
 //! and "spellings that a reader accepts", the engine's `CL_ParsePacketEntities`. The refusals are this project's own.
 
 ghost use Rattle.std.specs.Prelude.{◌≡◌, ◌+◌, ◌^◌, ◌<◌, ◌≤◌, ◌++◌, List, Err, IfOk, IfErr, OnOk};
+ghost use Rattle.q3_bits.specs.Words.{IsCode};
 ghost use Rattle.q3_bits.specs.Streams.{Reads, holding};
 ghost use Rattle.q3_fields.specs.Kinds.{end_mark};
-ghost use Rattle.q3_entity.specs.Entities.{IsList, run_of};
+ghost use Rattle.q3_entity.specs.Entities.{IsList, Rises, run_of};
 ghost use Rattle.q3_entity.specs.Baselines.{most_lines};
 ghost use Rattle.q3_entity.specs.Lists.{one_more, number_at, list_after, list_skipped};
 ghost use Rattle.q3_entity.specs.declared.state.EntityState.{EntityState};
@@ -15,7 +16,7 @@ use crate::error::EntityError;
 use crate::reading::{Entry, read_entity};
 use crate::run::{count_below, take_number};
 use crate::state::{EntityState, List, Run};
-use q3_bits::Reader;
+use q3_bits::{Reader, laws};
 use q3_fields::Table;
 
 /// Where a list stands: the number that comes next, and the entities of the base from it on.
@@ -38,10 +39,11 @@ pub fn read_list(
     base: Run,
     into: &mut List,
 ) -> Result<(), EntityError>
-    requires { IsList table.now (run_of base) }
+    requires { Rises (run_of base) }
     ensures reads { Reads r.old r.new (list_after r.old.words table.now baselines.now (run_of base.entry) r.old.left) (holding into.new.items result) }
     ensures list { OnOk result (IsList table.now into.new.items) }
 {
+    laws::read_was_put();
     into.clear();
     let mut cursor = read_next(r, table, 0, base, into)?;
     while cursor.next < table.end() {
@@ -112,6 +114,7 @@ fn read_next<'a>(
     into: &mut List,
 ) -> Result<Cursor<'a>, EntityError>
     ensures reads { Reads r.old r.new (next_at r.old.words table.now least (run_of base.entry) into.old.items r.old.left) (reached into.new.items result) }
+    ensures code { IsCode r.old.words }
     ensures least { IfOk result (λ cursor. least ≤ cursor.next) }
     ensures most { IfOk result (λ cursor. cursor.next ≤ end_mark table.now) }
 {
@@ -145,6 +148,7 @@ fn read_entry(
 #[tactic(auto, unfolding(crate::specs::Lists::number_at))]
 fn read_number(r: &mut Reader, table: &Table, least: u16) -> Result<u16, EntityError>
     ensures reads { Reads r.old r.new (number_at r.old.words table.now least r.old.left) result }
+    ensures code { IsCode r.old.words }
     ensures least { IfOk result (λ number. least ≤ number) }
     ensures most { IfOk result (λ number. number ≤ end_mark table.now) }
 {

@@ -1,7 +1,8 @@
 //! The reading of lists. Bytes and answers are worked by hand, by the plain code.
 
 ghost use Rattle.std.specs.Prelude.{OnOk};
-ghost use Rattle.q3_entity.specs.Entities.{IsList};
+ghost use Rattle.q3_fields.specs.Kinds.{IsTable};
+ghost use Rattle.q3_entity.specs.Entities.{Rises};
 
 use super::*;
 use q3_bits::{Code, ReadError, Reader, Writer};
@@ -17,9 +18,11 @@ fn read(
     bytes: &[u8],
     into: &mut List,
 ) -> Result<(), EntityError>
-    requires { IsList table.now base.now.items }
-    ensures { OnOk result (IsList table.now into.new.items) }
+    requires table { IsTable table.now }
+    requires base { Rises base.now.items }
+    ensures { OnOk result (Rises into.new.items) }
 {
+    laws::list_rises();
     let (head, tail) = base.as_slice().split_at(base.len() / 2);
     let mut r = Reader::new(code, bytes);
     read_list(&mut r, table, baselines, Run { head, tail }, into)
@@ -33,7 +36,8 @@ fn read_256(
     least: u16,
     into: &mut List,
 ) -> Result<(), EntityError>
-    ensures { OnOk result (IsList table.now into.new.items) }
+    requires { IsTable table.now }
+    ensures { OnOk result (Rises into.new.items) }
 {
     let mut w = Writer::new(code, 512);
     for n in 0..256 {

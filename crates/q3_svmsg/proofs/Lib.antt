@@ -1,6 +1,10 @@
 pub mod Fronts
+pub mod Fields
 pub mod Turns
 pub mod Rows
-pub mod Written
-pub mod SectionRead
+pub mod Held
+pub mod CommandsSpelled
+pub mod SectionSpelled
+pub mod MessageSpelled
 pub mod MessageRead
+pub mod WrittenSpelled

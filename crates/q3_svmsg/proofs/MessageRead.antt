@@ -1,98 +1,153 @@
--- A message that is written is read back.
-use Rattle.std.proofs.Common.{◌≡◌, ◌≤◌, ℕ, Bool, List, [], ◌∷◌, ◌++◌, length, map, Option, None, Ok, refl, sym, ap, subst, ◌∙◌, append_assoc, arith}
-use Rattle.std.specs.List.{flat_map}
+-- A message that is spelled so is read.
+use Rattle.std.proofs.Common.{◌≡◌, ◌+◌, ◌<◌, ◌≤◌, ◌^◌, ℕ, zero, suc, Bool, List, [], ◌∷◌, ◌++◌, length, replicate, Ok, refl, sym, ap, ◌∙◌, append_assoc, arith}
+use Rattle.std.proofs.lemmas.List.{append-nil, length-append}
 use Rattle.q3_bits.specs.Words.{IsCode, row_bits, field_at}
 use Rattle.q3_bits.specs.Laws.{PutIsRead, ReadWasPut}
-use Rattle.q3_player.specs.declared.head.SnapHead.{SnapHead}
-use Rattle.q3_player.specs.State.{normal_player}
-use Rattle.q3_player.specs.Delta.{player_delta}
+use Rattle.q3_text.specs.declared.text.Command.{Command}
 use Rattle.q3_player.specs.Laws as player
-use Rattle.q3_entity.specs.declared.state.EntityState.{EntityState}
-use Rattle.q3_entity.specs.Entities.{normal_entity}
-use Rattle.q3_entity.specs.Lists.{list_text}
 use Rattle.q3_entity.specs.Laws as entity
 use Rattle.q3_profile.specs.declared.profile.Profile.{Profile}
 use Rattle.q3_profile.specs.Profile.{IsCodec}
-use Rattle.q3_svmsg.specs.Values.{Base, base_player, base_entities, Context, Told, Nothing, Snap, Skipped, Message, distance_to}
-use Rattle.q3_svmsg.specs.Texts.{bytes_row, command_bits, snapshot_bits, section_bits, message_text}
-use Rattle.q3_svmsg.specs.Reading.{held_base, section_after, operations_after, message_after}
-use Rattle.q3_svmsg.specs.Laws.{IsContext, IsTold, HasNumber, base_in, normal_told, WrittenIsRead}
-use Rattle.q3_svmsg.proofs.Turns.{turn, ending_done, operations_done, operations_section}
-use Rattle.q3_svmsg.proofs.Written.{row-first, row-last, commands_are_read}
-use Rattle.q3_svmsg.proofs.SectionRead.{section_is_read}
+use Rattle.q3_svmsg.specs.Values.{Context, Told, Nothing, Snap, Skipped, Message}
+use Rattle.q3_svmsg.specs.Reading.{ending_after, operations_after, message_after}
+use Rattle.q3_svmsg.specs.Spelling.{SpellsNops, SpellsCommands, SpellsSection}
+use Rattle.q3_svmsg.specs.Laws.{IsContext, SpelledIsRead}
+use Rattle.q3_svmsg.proofs.Fields.{row-behind, row-none, row-first, row-last}
+use Rattle.q3_svmsg.proofs.Turns.{turn, ending_done, ending_nop, operations_done, operations_nop, operations_command, operations_section}
+use Rattle.q3_svmsg.proofs.CommandsSpelled.{command_is_read}
+use Rattle.q3_svmsg.proofs.SectionSpelled.{TakenSection, snapshot_is_read, skipped_is_read}
+use Rattle.q3_svmsg.proofs.MessageSpelled.{nops, end}
 
--- the end of a message
-abbrev end_bits : Profile → List Bool → List Bool
-end_bits profile rest = row_bits profile.code ((8, 8) ∷ []) ++ rest
+-- ---- behind the section
 
--- the bits of a message, and what follows it, from front to back
-message_bits : (profile : Profile) (context : Context) (against : Option Base) (message : Message) (rest : List Bool)
-    → message_text profile context.lines against message ++ rest
-    ≡ row_bits profile.code ((message.ack, 32) ∷ []) ++ (flat_map (command_bits profile.code) message.commands ++ (section_bits profile context.lines against message.section ++ end_bits profile rest))
-unfolding message_text
-message_bits profile context against message rest = simp append_assoc
+-- nops, and the end
+ending_is_read : (words : List (List Bool)) → IsCode words → PutIsRead → ReadWasPut → (count turns : ℕ) (rest : List Bool) → length (nops words count ++ (end words ++ rest)) ≤ turns
+    → ending_after words turns (nops words count ++ (end words ++ rest)) ≡ Ok (tt, rest)
+ending_is_read words code put was_put zero turns rest enough =
+    let bits = end words ++ rest in
+    let same : nops words 0 ++ bits ≡ bits = sym (row-none words bits) in
+    let read = sym (row-last words code put 8 8 rest (omega arith)) in
+    let one = turn words was_put code bits rest 8 turns read (omega (arith, enough, ap length same)) in
+    ap (λ (bits : List Bool). ending_after words turns bits) same ∙ ending_done words bits rest turns one.left read one.is
+ending_is_read words code put was_put (suc count) turns rest enough =
+    let left = nops words count ++ (end words ++ rest) in
+    let bits = nops words (suc count) ++ (end words ++ rest) in
+    let read = sym (row-first words code put 1 8 (replicate count (1, 8)) (end words ++ rest) (omega arith)) in
+    let one = turn words was_put code bits left 1 turns read enough in
+    ending_nop words bits left turns one.left read one.is ∙ ending_is_read words code put was_put count one.left rest one.enough
 
--- and those of a snapshot
-section_parts : (profile : Profile) (context : Context) (against : Option Base) (base : ℕ) (head : SnapHead) (entities : List EntityState) (rest : List Bool)
-    → section_bits profile context.lines against (Snap base head entities) ++ rest
-    ≡ row_bits profile.code ((7, 8) ∷ (head.time, 32) ∷ (distance_to head.number base, 8) ∷ (head.flags, 8) ∷ (length head.area.items, 8) ∷ [])
-    ++ (bytes_row profile.code head.area.items ++ (player_delta profile.code profile.player.kinds (base_player against) head.player
-    ++ (list_text profile.code profile.entity context.lines (base_entities against) entities ++ rest)))
-unfolding section_bits snapshot_bits
-section_parts profile context against base head entities rest = simp append_assoc
+-- ---- before the section
 
-section_none : (profile : Profile) (context : Context) (against : Option Base) (rest : List Bool) → section_bits profile context.lines against Nothing ++ rest ≡ rest
-unfolding section_bits
-section_none profile context against rest = refl
+module _ (profile : Profile) (context : Context) (number : ℕ) (code : IsCode profile.code) (put : PutIsRead) (was_put : ReadWasPut) where
+  -- the operations behind a text that was read
+  record HasRest (turns : ℕ) (message after : Message) (bits rest : List Bool) : Type 0 where
+    left : ℕ
+    enough : length rest ≤ left
+    is : operations_after profile context number turns message bits ≡ operations_after profile context number left after rest
 
--- the end is read wherever a message may end
-end_is_read : (profile : Profile) → IsCode profile.code → PutIsRead → (rest : List Bool) → field_at profile.code 8 (end_bits profile rest) ≡ Ok (8, rest)
-end_is_read profile code put rest = row-last profile.code code put 8 8 rest (omega arith)
+  -- nops
+  nops_are_read : (count turns : ℕ) (message : Message) (rest : List Bool) → length (nops profile.code count ++ rest) ≤ turns → HasRest turns message message (nops profile.code count ++ rest) rest
+  nops_are_read zero turns message rest enough =
+      let same : nops profile.code 0 ++ rest ≡ rest = sym (row-none profile.code rest) in
+      record { left = turns; enough = omega (arith, enough, ap length same); is = ap (λ (bits : List Bool). operations_after profile context number turns message bits) same }
+  nops_are_read (suc count) turns message rest enough =
+      let words = profile.code in
+      let left = nops words count ++ rest in
+      let bits = nops words (suc count) ++ rest in
+      let read = sym (row-first words code put 1 8 (replicate count (1, 8)) rest (omega arith)) in
+      let one = turn words was_put code bits left 1 turns read enough in
+      let more = nops_are_read count one.left message rest one.enough in
+      record { left = more.left; enough = more.enough; is = operations_nop profile context number message bits left turns one.left read one.is ∙ more.is }
 
--- what is behind the commands: the section, under the number of its snapshot, and the end
-told_is_read : (profile : Profile) (context : Context) (number turns : ℕ) (message : Message) (told : Told) (rest : List Bool) → IsCodec profile → IsContext profile context
-    → IsTold profile context told → HasNumber number told → message.section ≡ Nothing
-    → PutIsRead → ReadWasPut → player.ZeroIsNormal → player.WrittenIsRead → entity.ListWrittenIsRead
-    → length (section_bits profile context.lines (base_in context told) told ++ end_bits profile rest) ≤ turns
-    → operations_after profile context number turns message (section_bits profile context.lines (base_in context told) told ++ end_bits profile rest)
-    ≡ Ok (record message { section = normal_told profile told }, rest)
-told_is_read profile context number turns message Nothing rest codec is_context is has_number none put was_put zero_is player_law list_law enough =
-    let same = section_none profile context None (end_bits profile rest) in
-    let read = end_is_read profile codec.code put rest in
-    let one = turn profile.code was_put codec.code (end_bits profile rest) rest 8 turns (sym read) (omega (arith, enough, ap length same)) in
-    ap (λ (bits : List Bool). operations_after profile context number turns message bits) same
-    ∙ operations_done profile context number message (end_bits profile rest) rest turns one.left (sym read) one.is
-    ∙ ap (λ (section : Told). Ok (record message { section = section }, rest)) none
-told_is_read profile context number turns message (Snap base head entities) rest codec is_context is has_number none put was_put zero_is player_law list_law enough =
-    let words = profile.code in
-    let against = held_base context base in
-    let told = Snap base (record head { player = normal_player profile.player.kinds head.player }) (map (normal_entity profile.entity) entities) in
-    let end = end_bits profile rest in
-    let same = section_parts profile context against base head entities end in
-    let fields = (head.time, 32) ∷ (distance_to head.number base, 8) ∷ (head.flags, 8) ∷ (length head.area.items, 8) ∷ [] in
-    let others = bytes_row words head.area.items ++ (player_delta words profile.player.kinds (base_player against) head.player
-    ++ (list_text words profile.entity context.lines (base_entities against) entities ++ end)) in
-    let bits = row_bits words ((7, 8) ∷ fields) ++ others in
-    let read = row-first words codec.code put 7 8 fields others (omega arith) in
-    let one = turn words was_put codec.code bits (row_bits words fields ++ others) 7 turns (sym read) (omega (arith, enough, ap length same)) in
-    let section = subst (λ (n : ℕ). section_after profile context n (row_bits words fields ++ others) ≡ Ok (told, end)) has_number
-    (section_is_read profile context base head entities end codec is_context is.0 is.1 is.2 put zero_is player_law list_law) in
-    let last = end_is_read profile codec.code put rest in
-    let two = turn words was_put codec.code end rest 8 (length end) (sym last) (omega arith) in
-    let ending = ending_done words end rest (length end) two.left (sym last) two.is in
-    ap (λ (b : List Bool). operations_after profile context number turns message b) same
-    ∙ operations_section profile context number message bits (row_bits words fields ++ others) end rest told turns one.left (sym read) one.is (sym section) (sym ending)
-told_is_read profile context number turns message (Skipped base) rest codec is_context is has_number none put was_put zero_is player_law list_law enough = absurd is
+  -- commands, with nops before each
+  commands_are_read : (commands : List Command) (turns : ℕ) (message : Message) (text rest : List Bool) → SpellsCommands profile.code commands text
+      → length message.commands + length commands ≤ 64 → length (text ++ rest) ≤ turns
+      → HasRest turns message (record message { commands = message.commands ++ commands }) (text ++ rest) rest
+  commands_are_read [] turns message text rest s few enough = record {
+    left = turns;
+    enough = omega (arith, enough, length-append text rest);
+    is =
+        ap (λ (text : List Bool). operations_after profile context number turns message (text ++ rest)) s
+        ∙ ap (λ (commands : List Command). operations_after profile context number turns (record message { commands = commands }) rest) (sym (append-nil message.commands));
+  }
+  commands_are_read (command ∷ commands) turns message text rest (before, first, others, whole, are_nops, of_command, of_others) few enough =
+      let words = profile.code in
+      let count = are_nops.0 in
+      let fields = (command.number, 32) ∷ [] in
+      let behind = of_command.0 ++ (others ++ rest) in
+      let bits = row_bits words ((5, 8) ∷ fields) ++ behind in
+      let same : text ++ rest ≡ nops words count ++ bits = rw (whole, are_nops.1, of_command.3) (simp append_assoc) in
+      let over = nops_are_read count turns message bits (omega (arith, enough, ap length same)) in
+      let read = sym (row-first words code put 5 8 fields behind (omega arith)) in
+      let one = turn words was_put code bits (row_bits words fields ++ behind) 5 over.left read over.enough in
+      let after = record message { commands = message.commands ++ command ∷ [] } in
+      let step = operations_command profile context number message bits (row_bits words fields ++ behind) (others ++ rest) (message.commands ++ command ∷ []) over.left one.left read one.is
+      (sym (command_is_read words code put message.commands command of_command.0 (others ++ rest) (omega (arith, few)) of_command.1 of_command.2)) in
+      let more = commands_are_read commands one.left after others rest of_others (omega (arith, few, length-append message.commands (command ∷ [])))
+      (omega (arith, one.enough, length-append (row_bits words fields) behind, length-append of_command.0 (others ++ rest))) in
+      record {
+        left = more.left;
+        enough = more.enough;
+        is = ap (λ (bits : List Bool). operations_after profile context number turns message bits) same ∙ over.is ∙ step ∙ more.is
+            ∙ ap (λ (all : List Command). operations_after profile context number more.left (record message { commands = all }) rest) (append_assoc message.commands (command ∷ []) commands);
+      }
 
-pub written_is_read : PutIsRead → ReadWasPut → player.ZeroIsNormal → player.WrittenIsRead → entity.ListWrittenIsRead → WrittenIsRead
+  -- a section that is there, and what is behind it
+  taken_is_read : (turns count : ℕ) (message : Message) (told : Told) (text rest : List Bool) → TakenSection profile context number told text (nops profile.code count ++ (end profile.code ++ rest))
+      → length (text ++ (nops profile.code count ++ (end profile.code ++ rest))) ≤ turns
+      → operations_after profile context number turns message (text ++ (nops profile.code count ++ (end profile.code ++ rest))) ≡ Ok (record message { section = told }, rest)
+  taken_is_read turns count message told text rest took enough =
+      let words = profile.code in
+      let behind = nops words count ++ (end words ++ rest) in
+      let left = took.bits ++ behind in
+      let bits = row_bits words ((7, 8) ∷ []) ++ left in
+      let same : text ++ behind ≡ bits = ap (λ (text : List Bool). text ++ behind) took.parts ∙ append_assoc (row_bits words ((7, 8) ∷ [])) took.bits behind in
+      let read = sym (row-last words code put 7 8 left (omega arith)) in
+      let one = turn words was_put code bits left 7 turns read (omega (arith, enough, ap length same)) in
+      ap (λ (bits : List Bool). operations_after profile context number turns message bits) same
+      ∙ operations_section profile context number message bits left behind rest told turns one.left read one.is (sym took.reads)
+      (sym (ending_is_read words code put was_put count (length behind) rest (omega arith)))
+
+  -- none, and the end
+  none_is_read : (turns count : ℕ) (message : Message) (rest : List Bool) → length (nops profile.code count ++ (end profile.code ++ rest)) ≤ turns
+      → operations_after profile context number turns message (nops profile.code count ++ (end profile.code ++ rest)) ≡ Ok (message, rest)
+  none_is_read turns count message rest enough =
+      let words = profile.code in
+      let bits = end words ++ rest in
+      let over = nops_are_read count turns message bits enough in
+      let read = sym (row-last words code put 8 8 rest (omega arith)) in
+      let one = turn words was_put code bits rest 8 over.left read over.enough in
+      over.is ∙ operations_done profile context number message bits rest over.left one.left read one.is
+
+section_is_read : PutIsRead → ReadWasPut → player.ZeroIsNormal → player.SpelledIsRead → entity.ListSpelledIsRead → entity.SpelledIsSkipped → (profile : Profile) (context : Context) (number : ℕ)
+    → IsCodec profile → IsContext profile context → (turns count : ℕ) (message : Message) (told : Told) (text rest : List Bool) → message.section ≡ Nothing
+    → SpellsSection profile context number told text → length (text ++ (nops profile.code count ++ (end profile.code ++ rest))) ≤ turns
+    → operations_after profile context number turns message (text ++ (nops profile.code count ++ (end profile.code ++ rest))) ≡ Ok (record message { section = told }, rest)
+section_is_read put was_put zero_is player_law list_law skip_law profile context number codec is turns count message Nothing text rest none s enough =
+    let left = nops profile.code count ++ (end profile.code ++ rest) in
+    ap (λ (text : List Bool). operations_after profile context number turns message (text ++ left)) s
+    ∙ none_is_read profile context number codec.code put was_put turns count message rest (omega (arith, enough, length-append text left))
+    ∙ ap (λ (told : Told). Ok (record message { section = told }, rest)) none
+section_is_read put was_put zero_is player_law list_law skip_law profile context number codec is turns count message (Snap base snap entities) text rest none s enough =
+    taken_is_read profile context number codec.code put was_put turns count message (Snap base snap entities) text rest
+    (snapshot_is_read put zero_is player_law list_law profile context number base snap entities text (nops profile.code count ++ (end profile.code ++ rest)) codec is s) enough
+section_is_read put was_put zero_is player_law list_law skip_law profile context number codec is turns count message (Skipped base) text rest none s enough =
+    taken_is_read profile context number codec.code put was_put turns count message (Skipped base) text rest
+    (skipped_is_read put zero_is player_law skip_law profile context number base text (nops profile.code count ++ (end profile.code ++ rest)) codec s) enough
+
+pub message_is_read : PutIsRead → ReadWasPut → player.ZeroIsNormal → player.SpelledIsRead → entity.ListSpelledIsRead → entity.SpelledIsSkipped → SpelledIsRead
 unfolding message_after
-written_is_read put was_put zero_is player_law list_law profile context number message rest codec is_context is =
+message_is_read put was_put zero_is player_law list_law skip_law profile context number message text rest codec is s =
     let words = profile.code in
-    let against = base_in context message.section in
-    let others = section_bits profile context.lines against message.section ++ end_bits profile rest in
-    let commands = flat_map (command_bits words) message.commands ++ others in
     let start : Message = record { ack = message.ack; commands = []; section = Nothing } in
-    let behind = commands_are_read profile context number codec.code put was_put message.commands start (length commands) others is.commands (omega (arith, is.few)) (omega arith) in
-    rw (message_bits profile context against message rest, row-last words codec.code put message.ack 32 commands is.ack)
-    (behind.is ∙ told_is_read profile context number behind.left (record start { commands = message.commands }) message.section rest codec is_context is.section is.number_is refl
-    put was_put zero_is player_law list_law behind.enough)
+    let count = s.of_behind.0 in
+    let told = s.section ++ (nops words count ++ (end words ++ rest)) in
+    let behind = nops words s.of_nops.0 ++ told in
+    let bits = s.commands ++ behind in
+    let same : text ++ rest ≡ row_bits words ((message.ack, 32) ∷ []) ++ bits = rw (s.whole, s.of_nops.1, s.of_behind.1) (simp append_assoc) in
+    let commands = commands_are_read profile context number codec.code put was_put message.commands (length bits) start s.commands behind s.of_commands (omega (arith, s.few)) (omega arith) in
+    let after : Message = record start { commands = message.commands } in
+    let over = nops_are_read profile context number codec.code put was_put s.of_nops.0 commands.left after told commands.enough in
+    rw (same, row-last words codec.code put message.ack 32 bits s.ack)
+    (commands.is ∙ over.is
+    ∙ section_is_read put was_put zero_is player_law list_law skip_law profile context number codec is over.left count after message.section s.section rest refl s.of_section over.enough)

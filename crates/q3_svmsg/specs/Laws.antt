@@ -11,6 +11,7 @@ use Rattle.q3_profile.specs.declared.profile.Profile.{Profile}
 use Rattle.q3_profile.specs.Profile.{IsCodec}
 use Rattle.q3_svmsg.specs.Values.{Base, IsNamed, Context, Told, Nothing, Snap, Skipped, Message}
 use Rattle.q3_svmsg.specs.Texts.{message_text}
+use Rattle.q3_svmsg.specs.Spelling.{SpellsMessage}
 use Rattle.q3_svmsg.specs.Reading.{held_base, message_after}
 
 -- a command as the program's type holds it
@@ -80,3 +81,22 @@ WrittenIsRead = (profile : Profile) (context : Context) (number : ℕ) (message 
     → IsContext profile context → IsMessage profile context number message
     → message_after profile context number (message_text profile context.lines (base_in context message.section) message ++ rest)
     ≡ Ok (record message { section = normal_told profile message.section }, rest)
+
+-- what is written of a message spells it, its states in normal form
+abbrev pub WrittenIsSpelled : Type 0
+WrittenIsSpelled = (profile : Profile) (context : Context) (number : ℕ) (message : Message) → IsCodec profile
+    → IsContext profile context → IsMessage profile context number message
+    → SpellsMessage profile context number (record message { section = normal_told profile message.section })
+    (message_text profile context.lines (base_in context message.section) message)
+
+-- what is read as a message was spelled so
+abbrev pub ReadIsSpelled : Type 0
+ReadIsSpelled = (profile : Profile) (context : Context) (number : ℕ) (message : Message) (bits rest : List Bool) → IsCodec profile
+    → IsContext profile context → message_after profile context number bits ≡ Ok (message, rest)
+    → (text : List Bool) × (bits ≡ text ++ rest) × SpellsMessage profile context number message text
+
+-- what is spelled so is read, with whatever follows it: so where a reader refuses, no front of the bits is spelled so
+abbrev pub SpelledIsRead : Type 0
+SpelledIsRead = (profile : Profile) (context : Context) (number : ℕ) (message : Message) (text rest : List Bool) → IsCodec profile
+    → IsContext profile context → SpellsMessage profile context number message text
+    → message_after profile context number (text ++ rest) ≡ Ok (message, rest)

@@ -1,5 +1,5 @@
 -- What a reader of a server's message answers: its value, or the first refusal in reading order.
-use Rattle.std.specs.Prelude.{ℕ, zero, suc, ◌+◌, ◌-◌, ◌==◌, nat_lt, Bool, if◌then◌else◌, List, [], ◌∷◌, ◌++◌, length, Option, Some, None, IfSome, Result, Ok, Err}
+use Rattle.std.specs.Prelude.{ℕ, zero, suc, ◌+◌, ◌-◌, ◌==◌, nat_lt, Bool, if◌then◌else◌, List, [], ◌∷◌, ◌++◌, length, Option, Some, None, Result, Ok, Err}
 use Rattle.std.specs.Result.{result_map_both}
 use Rattle.q3_bits.specs.ResultBind.{◌>>=◌}
 use Rattle.q3_bits.specs.Words.{field_at}
@@ -11,10 +11,8 @@ use Rattle.q3_fields.specs.declared.delta.DeltaError.{DeltaError}
 use Rattle.q3_player.specs.declared.head.SnapHead.{SnapHead}
 use Rattle.q3_player.specs.State.{zero_player}
 use Rattle.q3_player.specs.Delta.{player_at}
-use Rattle.q3_fields.specs.Kinds.{Layout}
 use Rattle.q3_entity.specs.declared.error.EntityError.{EntityError}
 use Rattle.q3_entity.specs.declared.state.EntityState.{EntityState}
-use Rattle.q3_entity.specs.Entities.{IsList}
 use Rattle.q3_entity.specs.Lists.{list_after, list_skipped}
 use Rattle.q3_profile.specs.declared.profile.Profile.{Profile}
 use Rattle.q3_svmsg.specs.declared.message.Section.{Section}
@@ -99,10 +97,6 @@ snapshot_skipped profile bits = do
 abbrev pub held_base : Context → ℕ → Option Base
 held_base context zero = None
 held_base context (suc base) = context.base (base + 1)
-
--- every snapshot that is held has a list of entities
-pub record HoldsLists (table : Layout) (context : Context) : Type 0 where
-  pub list : (number : ℕ) → IfSome (context.base number) (λ base. IsList table base.entities)
 
 -- the rest of a snapshot whose base is at a distance: without one, against one that is held, or skipped
 abbrev pub against_base : Profile → Context → ℕ → ℕ → Option Base → SnapHead → List Bool → Result (Told × List Bool) Illegible

@@ -5,7 +5,8 @@ use Rattle.q3_player.specs.declared.state.PlayerState.{PlayerState}
 use Rattle.q3_player.specs.declared.head.SnapHead.{SnapHead}
 use Rattle.q3_player.specs.State.{zero_player}
 use Rattle.q3_entity.specs.declared.state.EntityState.{EntityState}
-use Rattle.q3_entity.specs.Entities.{run_of}
+use Rattle.q3_fields.specs.Kinds.{Layout}
+use Rattle.q3_entity.specs.Entities.{IsList, run_of}
 use Rattle.q3_entity.specs.Baselines.{Lines}
 use Rattle.q3_svmsg.specs.declared.message.Section.{Section}
 use Rattle.q3_svmsg.specs.declared.message.Section.TheVariants as sections
@@ -56,6 +57,11 @@ told_of message = record {
   commands = message.commands.value.items;
   section = section_of message.section message.head message.entities.value.items;
 }
+
+-- the entities of a snapshot, where there is one, are a list
+abbrev pub HasList : Layout → Told → Type 0
+HasList table (Snap base head entities) = IsList table entities
+HasList table other = Unit {0}
 
 -- the message with nothing in it
 abbrev pub empty_message : Message

@@ -1,8 +1,8 @@
 //! The snapshots and baselines that a snapshot is read against.
 
-ghost use Rattle.std.specs.Prelude.{◌≡◌, option_map};
+ghost use Rattle.std.specs.Prelude.{◌≡◌, option_map, IfSome};
 ghost use Rattle.q3_player.specs.State.{zero_player};
-ghost use Rattle.q3_entity.specs.Entities.{run_of};
+ghost use Rattle.q3_entity.specs.Entities.{Rises, run_of};
 ghost use Rattle.q3_svmsg.specs.Values.{Context, base_of, base_player, base_entities};
 
 use q3_entity::{Baselines, Run};
@@ -20,9 +20,10 @@ pub trait Bases {
     /// What is held.
     ghost context: { Self → Context };
 
-    /// The snapshot of a number, if it is held.
+    /// The snapshot of a number, if it is held. Its entities rise by number, and there are at most 256.
     fn base(&self, number: u32) -> Option<BaseView<'_>>
-        ensures { option_map base_of result ≡ (context self.now).base number };
+        ensures held { option_map base_of result ≡ (context self.now).base number }
+        ensures rises { IfSome result (λ base. Rises (run_of base.entities)) };
 
     /// The baselines.
     fn baselines(&self) -> &Baselines

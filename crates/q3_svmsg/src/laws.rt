@@ -1,19 +1,49 @@
 //! Laws of server messages, each the contract of a call that does nothing but cite the laws below it.
 
-ghost use Rattle.q3_svmsg.specs.Laws.{WrittenIsRead};
+ghost use Rattle.q3_svmsg.specs.Laws.{WrittenIsSpelled, ReadIsSpelled, SpelledIsRead, WrittenIsRead};
 
 use q3_bits::laws as bits;
 use q3_entity::laws as entity;
 use q3_player::laws as player;
+
+/// What is written of a message spells it under its number, its states in normal form.
+pub fn written_is_spelled()
+    ensures { WrittenIsSpelled }
+{
+    player::zero_is_normal();
+    player::normal_is_normal();
+    player::written_is_spelled();
+    entity::list_is_spelled();
+}
+
+/// What is read as a message was spelled so.
+pub fn read_is_spelled()
+    ensures { ReadIsSpelled }
+{
+    bits::read_was_put();
+    player::zero_is_normal();
+    player::read_is_spelled();
+    entity::list_read_is_spelled();
+    entity::skipped_is_spelled();
+}
+
+/// What is spelled so is read, with whatever follows it. So where a reader refuses, no front of the bits is spelled so.
+pub fn spelled_is_read()
+    ensures { SpelledIsRead }
+{
+    bits::put_is_read();
+    bits::read_was_put();
+    player::zero_is_normal();
+    player::spelled_is_read();
+    entity::list_spelled_is_read();
+    entity::spelled_is_skipped();
+}
 
 /// What is written of a message is read back under its number, against the same snapshots and baselines, its states in
 /// normal form, with whatever follows it.
 pub fn written_is_read()
     ensures { WrittenIsRead }
 {
-    bits::put_is_read();
-    bits::read_was_put();
-    player::zero_is_normal();
-    player::written_is_read();
-    entity::list_written_is_read();
+    written_is_spelled();
+    spelled_is_read();
 }

@@ -1,15 +1,15 @@
 //! Reads a server's message. Keeps the rules "layout of a server message", "snapshot section" and "snapshot whose base
 //! is not held", the engine's `CL_ParseServerMessage` and `CL_ParseSnapshot`. The refusals are this project's own.
 
-ghost use Rattle.std.specs.Prelude.{◌≡◌, ◌<◌, ◌≤◌, ℕ, length, map, option_map, All, IfSome};
+ghost use Rattle.std.specs.Prelude.{◌≡◌, ◌<◌, ◌≤◌, ℕ, length, map, option_map, All, IfOk, OnOk};
 ghost use Rattle.q3_bits.specs.Bits.{bits_of};
 ghost use Rattle.q3_bits.specs.Words.{IsCode};
 ghost use Rattle.q3_bits.specs.Streams.{Reads, holding};
 ghost use Rattle.q3_text.specs.Texts.{most_bytes, translated};
 ghost use Rattle.q3_player.specs.State.{zero_player};
-ghost use Rattle.q3_entity.specs.Entities.{IsList, run_of};
-ghost use Rattle.q3_svmsg.specs.Values.{Base, Message, base_of, base_player, base_entities, number_of_base, told_of, section_of};
-ghost use Rattle.q3_svmsg.specs.Reading.{ack_at, bytes_after, string_after, command_after, area_after, held_base, snapshot_after, snapshot_skipped, against_base, section_after, ending_after, operations_after, commands_after, message_at, telling, HoldsLists};
+ghost use Rattle.q3_entity.specs.Entities.{Rises};
+ghost use Rattle.q3_svmsg.specs.Values.{Base, Message, base_of, base_player, base_entities, number_of_base, told_of, section_of, HasList};
+ghost use Rattle.q3_svmsg.specs.Reading.{ack_at, bytes_after, string_after, command_after, area_after, held_base, snapshot_after, snapshot_skipped, against_base, section_after, ending_after, operations_after, commands_after, message_at, telling};
 
 use crate::bases::{BaseView, Bases, base_or};
 use crate::error::Illegible;
@@ -120,7 +120,8 @@ fn base_at(number: u32, distance: u32) -> u32
 
 /// The snapshot of a number, if it is held.
 fn held<B: Bases>(bases: &B, number: u32) -> Option<BaseView<'_>>
-    ensures { option_map base_of result ≡ held_base (B.context bases.now) number }
+    ensures held { option_map base_of result ≡ held_base (B.context bases.now) number }
+    ensures rises { Rises (base_entities (option_map base_of result)) }
 {
     if number == 0 {
         return None;
@@ -139,9 +140,10 @@ fn read_snapshot(
     head: &mut SnapHead,
     entities: &mut List,
 ) -> Result<Section, Illegible>
-    requires { IsList profile.now.entity (base_entities (option_map base_of against)) }
-    ensures { Reads r.old r.new (snapshot_after (record profile.now { code = r.old.words }) baselines.now (option_map base_of against.entry) base head.old r.old.left)
+    requires { Rises (base_entities (option_map base_of against)) }
+    ensures reads { Reads r.old r.new (snapshot_after (record profile.now { code = r.old.words }) baselines.now (option_map base_of against.entry) base head.old r.old.left)
         (telling head.new entities.new.items result) }
+    ensures list { IfOk result (λ section. HasList profile.now.entity (section_of section head.new entities.new.items)) }
 {
     let zero = PlayerState::zero();
     let from = base_or(against, &zero);
@@ -172,9 +174,9 @@ fn read_against<B: Bases>(
     head: &mut SnapHead,
     entities: &mut List,
 ) -> Result<Section, Illegible>
-    requires { HoldsLists profile.now.entity (B.context bases.now) }
-    ensures { Reads r.old r.new (against_base (record profile.now { code = r.old.words }) (B.context bases.now) distance base (held_base (B.context bases.now) base) head.old r.old.left)
+    ensures reads { Reads r.old r.new (against_base (record profile.now { code = r.old.words }) (B.context bases.now) distance base (held_base (B.context bases.now) base) head.old r.old.left)
         (telling head.new entities.new.items result) }
+    ensures list { IfOk result (λ section. HasList profile.now.entity (section_of section head.new entities.new.items)) }
 {
     let against = held(bases, base);
     if against.is_none() && distance != 0 {
@@ -194,9 +196,9 @@ fn read_section<B: Bases>(
     head: &mut SnapHead,
     entities: &mut List,
 ) -> Result<Section, Illegible>
-    requires { HoldsLists profile.now.entity (B.context bases.now) }
-    ensures { Reads r.old r.new (section_after (record profile.now { code = r.old.words }) (B.context bases.now) number r.old.left)
+    ensures reads { Reads r.old r.new (section_after (record profile.now { code = r.old.words }) (B.context bases.now) number r.old.left)
         (telling head.new entities.new.items result) }
+    ensures list { IfOk result (λ section. HasList profile.now.entity (section_of section head.new entities.new.items)) }
 {
     *head = SnapHead::new();
     head.number = number;
@@ -234,10 +236,11 @@ fn read_operations<B: Bases>(
     bases: &B,
     into: &mut ServerMessage,
 ) -> Result<(), Illegible>
-    requires bases { HoldsLists profile.now.entity (B.context bases.now) }
+    requires list { HasList profile.now.entity (told_of into.old).section }
     requires code { IsCode r.old.words }
-    ensures { Reads r.old r.new (operations_after (record profile.now { code = r.old.words }) (B.context bases.now) number (length r.old.left) (told_of into.old) r.old.left)
+    ensures reads { Reads r.old r.new (operations_after (record profile.now { code = r.old.words }) (B.context bases.now) number (length r.old.left) (told_of into.old) r.old.left)
         (holding (told_of into.new) result) }
+    ensures list { OnOk result (HasList profile.now.entity (told_of into.new).section) }
 {
     laws::read_was_put();
     laws::ends_cut_short();
@@ -277,8 +280,8 @@ pub fn read_server_message<B: Bases>(
     bases: &B,
     into: &mut ServerMessage,
 ) -> Result<(), Illegible>
-    requires { HoldsLists profile.now.entity (B.context bases.now) }
-    ensures { holding (told_of into.new) result ≡ message_at profile.now (B.context bases.now) number (bits_of bytes.now) }
+    ensures reads { holding (told_of into.new) result ≡ message_at profile.now (B.context bases.now) number (bits_of bytes.now) }
+    ensures list { OnOk result (HasList profile.now.entity (told_of into.new).section) }
 {
     let mut r = Reader::new(&profile.code, bytes);
     into.commands.clear();

@@ -1,6 +1,5 @@
-use Rattle.std.proofs.Common.{sym, ◌∙◌, arith}
+use Rattle.std.proofs.Common.{◌^◌, sym, ◌∙◌, arith}
 use Rattle.std.proofs.lemmas.Result.{err_from_is_err_and}
-use Rattle.q3_fields.specs.Kinds.{end_mark}
 use Rattle.q3_entity.specs.Entities.{run_of}
 use Rattle.q3_entity.proofs.Turns.{list_begun, list_refused, list_goes_on, list_stops, list_ends, next_rises, turn_rises}
 use Rattle.q3_entity.proofs.Listed.{list_is_listed}
@@ -11,7 +10,8 @@ returns-in_err-cursor-clause-reads c =
     let p = err_from_is_err_and c.from_residual.result c.from_residual.ensures.1 in
     let reads = c.in_err-cursor.ensures.reads in
     rw (p.1, p.2) (record {
-      value = list_refused c.args.r.now.words c.args.table.now c.args.baselines.now (run_of c.args.base) c.clear.new.self.items c.args.r.now.left _ c.requires.rise c.clear.ensures reads.value;
+      value = list_refused c.read_was_put.ensures c.args.r.now.words c.args.table.now c.args.baselines.now (run_of c.args.base) c.clear.new.self.items (2 ^ 16) c.args.r.now.left _
+          c.in_err-cursor.ensures.code c.requires.rise c.clear.ensures reads.value;
       words = reads.words;
       place = reads.place;
     })
@@ -22,9 +22,10 @@ loop-cursor-init c =
     record {
       words = all.reads.words;
       place = all.reads.place;
+      code = all.code;
       most = all.most;
-      rise = next_rises c.args.r.now.words c.args.table.now 0 (run_of c.args.base) c.clear.new.self.items c.args.r.now.left _ (end_mark c.args.table.now) 0 c.requires.rise (sym all.reads.value);
-      reads = list_begun c.args.r.now.words c.args.table.now c.args.baselines.now (run_of c.args.base) c.clear.new.self.items c.args.r.now.left _ _ c.requires.rise c.clear.ensures all.reads.value;
+      rise = next_rises c.args.r.now.words c.args.table.now 0 (run_of c.args.base) c.clear.new.self.items c.args.r.now.left _ (2 ^ 16) 0 c.requires.rise (sym all.reads.value);
+      reads = list_begun c.read_was_put.ensures c.args.r.now.words c.args.table.now c.args.baselines.now (run_of c.args.base) c.clear.new.self.items (2 ^ 16) c.args.r.now.left _ _ all.code c.requires.rise c.clear.ensures all.reads.value;
     }
 
 pub returns-in_err-cursor-2-clause-reads : goal.returns-in_err-cursor-2-clause-reads
@@ -34,7 +35,7 @@ returns-in_err-cursor-2-clause-reads c =
     let before = c.loop-cursor.invariant in
     rw (p.1, p.2) (record {
       value =
-          list_stops c.args.r.now.words c.loop-cursor.r.words c.args.table.now c.args.baselines.now _ c.loop-cursor.r.left _ before.words (omega arith) before.rise reads.value
+          list_stops c.read_was_put.ensures c.args.r.now.words c.loop-cursor.r.words c.args.table.now c.args.baselines.now _ (2 ^ 16) c.loop-cursor.r.left _ before.words before.code (omega arith) before.rise reads.value
           ∙ before.reads;
       words = reads.words ∙ before.words;
       place = reads.place ∙ before.place;
@@ -47,10 +48,11 @@ loop-cursor-preserved c =
     record {
       words = all.reads.words ∙ before.words;
       place = all.reads.place ∙ before.place;
+      code = before.code;
       most = all.most;
-      rise = turn_rises c.loop-cursor.r.words c.args.table.now c.args.baselines.now _ c.loop-cursor.r.left _ (end_mark c.args.table.now) before.rise (sym all.reads.value);
+      rise = turn_rises c.loop-cursor.r.words c.args.table.now c.args.baselines.now _ c.loop-cursor.r.left _ (2 ^ 16) before.rise (sym all.reads.value);
       reads =
-          list_goes_on c.args.r.now.words c.loop-cursor.r.words c.args.table.now c.args.baselines.now _ c.loop-cursor.r.left _ _ before.words (omega arith) before.rise all.reads.value
+          list_goes_on c.read_was_put.ensures c.args.r.now.words c.loop-cursor.r.words c.args.table.now c.args.baselines.now _ (2 ^ 16) c.loop-cursor.r.left _ _ before.words before.code (omega arith) before.rise all.reads.value
           ∙ before.reads;
     }
 

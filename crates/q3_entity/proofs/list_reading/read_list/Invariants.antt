@@ -1,4 +1,5 @@
-use Rattle.std.proofs.Common.{◌≡◌, ◌+◌, ◌-◌, ◌≤◌, length}
+use Rattle.std.proofs.Common.{◌≡◌, ◌+◌, ◌-◌, ◌^◌, ◌≤◌, length}
+use Rattle.q3_bits.specs.Words.{IsCode}
 use Rattle.q3_fields.specs.Kinds.{end_mark}
 use Rattle.q3_entity.specs.Entities.{RiseFrom, run_of}
 use Rattle.q3_entity.specs.Lists.{list_after}
@@ -10,8 +11,9 @@ abbrev pub invariant-loop-cursor : goal.invariant-loop-cursor
 invariant-loop-cursor l = record {
   words : l.r.words ≡ l.fn.r.words;
   place : l.r.place + length l.r.left ≡ l.fn.r.place + length l.fn.r.left;
+  code : IsCode l.fn.r.words;
   most : l.cursor.next ≤ end_mark l.table;
-  rise : RiseFrom (end_mark l.table) l.cursor.next (run_of l.cursor.base);
+  rise : RiseFrom (2 ^ 16) l.cursor.next (run_of l.cursor.base);
   reads : from_reached l.fn.r.words l.table l.baselines (record { next = l.cursor.next; base = run_of l.cursor.base; entities = l.into.items }, l.r.left)
       ≡ list_after l.fn.r.words l.table l.baselines (run_of l.base) l.fn.r.left;
 }

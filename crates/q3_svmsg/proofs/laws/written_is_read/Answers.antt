@@ -1,6 +1,10 @@
-use Rattle.q3_svmsg.proofs.MessageRead.{written_is_read}
+use Rattle.q3_svmsg.specs.Texts.{message_text}
+use Rattle.q3_svmsg.specs.Laws.{base_in, normal_told}
 use Rattle.q3_svmsg.proofs.laws.written_is_read.Goals as goal
 
 pub returns : goal.returns
 returns c =
-    written_is_read c.put_is_read.ensures c.read_was_put.ensures c.zero_is_normal.ensures c.written_is_read.ensures c.list_written_is_read.ensures
+    λ profile context number message rest codec is_context is.
+    c.spelled_is_read.ensures profile context number (record message { section = normal_told profile message.section })
+    (message_text profile context.lines (base_in context message.section) message) rest codec is_context
+    (c.written_is_spelled.ensures profile context number message codec is_context is)

@@ -5,10 +5,10 @@ use Rattle.q3_svmsg.specs.Values.{told_of}
 use Rattle.q3_svmsg.proofs.Turns.{byte_shorter, turn, shrinks_commands, operations_fault, operations_done, operations_nop, operations_command, operations_command_fault, section_ends, operations_section_fault, operations_bad}
 use Rattle.q3_svmsg.proofs.reading.read_operations.Goals as goal
 
-pub returns-in_err-operation : goal.returns-in_err-operation
-returns-in_err-operation g c =
+pub returns-in_err-operation-clause-reads : goal.returns-in_err-operation-clause-reads
+returns-in_err-operation-clause-reads g c =
     let p = err_from_is_err_and c.from_residual.result c.from_residual.ensures.1 in
-    let h = c.loop-r.invariant in
+    let h = c.loop-r.invariant.turned in
     let profile = record c.args.profile.now { code = c.args.r.now.words } in
     let read = rw h.words at c.in_err-operation.ensures.reads.value in
     rw (p.1, p.2) (record {
@@ -19,27 +19,30 @@ returns-in_err-operation g c =
 
 pub loop-r-smaller-in-1 : goal.loop-r-smaller-in-1
 loop-r-smaller-in-1 g c =
-    let h = c.loop-r.invariant in
+    let h = c.loop-r.invariant.turned in
     let read = rw h.words at c.in_ok-operation.ensures.reads.value in
     byte_shorter c.args.r.now.words c.read_was_put.ensures c.requires.code c.loop-r.r.left c.get.new.self.left c.in_ok-operation.operation (sym read)
 
 pub loop-r-preserved-in-1 : goal.loop-r-preserved-in-1
 loop-r-preserved-in-1 g c =
-    let h = c.loop-r.invariant in
+    let h = c.loop-r.invariant.turned in
     let profile = record c.args.profile.now { code = c.args.r.now.words } in
     let read = rw (h.words, c.in-1.is) at c.in_ok-operation.ensures.reads.value in
     let one = turn profile.code c.read_was_put.ensures c.requires.code c.loop-r.r.left c.get.new.self.left 1 h.turns read h.enough in
     record {
-      words = c.in_ok-operation.ensures.reads.words ∙ h.words;
-      place = c.in_ok-operation.ensures.reads.place ∙ h.place;
-      turns = one.left;
-      enough = one.enough;
-      reads = sym (operations_nop profile _ c.args.number _ c.loop-r.r.left c.get.new.self.left h.turns one.left read one.is) ∙ h.reads;
+      turned = record {
+        words = c.in_ok-operation.ensures.reads.words ∙ h.words;
+        place = c.in_ok-operation.ensures.reads.place ∙ h.place;
+        turns = one.left;
+        enough = one.enough;
+        reads = sym (operations_nop profile _ c.args.number _ c.loop-r.r.left c.get.new.self.left h.turns one.left read one.is) ∙ h.reads;
+      };
+      list = c.loop-r.invariant.list;
     }
 
 pub loop-r-smaller : goal.loop-r-smaller
 loop-r-smaller g c =
-    let h = c.loop-r.invariant in
+    let h = c.loop-r.invariant.turned in
     let words = c.args.r.now.words in
     let read = rw h.words at c.in_ok-operation.ensures.reads.value in
     let one = byte_shorter words c.read_was_put.ensures c.requires.code c.loop-r.r.left c.get.new.self.left c.in_ok-operation.operation (sym read) in
@@ -51,7 +54,7 @@ loop-r-smaller g c =
 
 pub loop-r-preserved : goal.loop-r-preserved
 loop-r-preserved g c =
-    let h = c.loop-r.invariant in
+    let h = c.loop-r.invariant.turned in
     let profile = record c.args.profile.now { code = c.args.r.now.words } in
     let read = rw (h.words, c.in-5.is) at c.in_ok-operation.ensures.reads.value in
     let one = turn profile.code c.read_was_put.ensures c.requires.code c.loop-r.r.left c.get.new.self.left 5 h.turns read h.enough in
@@ -60,17 +63,20 @@ loop-r-preserved g c =
     let behind = (shrinks_commands profile.code c.read_was_put.ensures c.requires.code c.loop-r.into.commands.value.items c.get.new.self.left).by
     c.read_next_command.new.commands.items c.read_next_command.new.r.left (sym command) in
     record {
-      words = c.in_ok-read_next_command-in-5.ensures.words ∙ same;
-      place = c.in_ok-read_next_command-in-5.ensures.place ∙ c.in_ok-operation.ensures.reads.place ∙ h.place;
-      turns = one.left;
-      enough = omega (arith, one.enough, behind);
-      reads = sym (operations_command profile _ c.args.number (told_of c.loop-r.into) c.loop-r.r.left c.get.new.self.left c.read_next_command.new.r.left c.read_next_command.new.commands.items h.turns one.left read one.is command) ∙ h.reads;
+      turned = record {
+        words = c.in_ok-read_next_command-in-5.ensures.words ∙ same;
+        place = c.in_ok-read_next_command-in-5.ensures.place ∙ c.in_ok-operation.ensures.reads.place ∙ h.place;
+        turns = one.left;
+        enough = omega (arith, one.enough, behind);
+        reads = sym (operations_command profile _ c.args.number (told_of c.loop-r.into) c.loop-r.r.left c.get.new.self.left c.read_next_command.new.r.left c.read_next_command.new.commands.items h.turns one.left read one.is command) ∙ h.reads;
+      };
+      list = c.loop-r.invariant.list;
     }
 
-pub returns-in_err-read_next_command-in-5 : goal.returns-in_err-read_next_command-in-5
-returns-in_err-read_next_command-in-5 g c =
+pub returns-in_err-read_next_command-in-5-clause-reads : goal.returns-in_err-read_next_command-in-5-clause-reads
+returns-in_err-read_next_command-in-5-clause-reads g c =
     let p = err_from_is_err_and c.from_residual-in_err-read_next_command-in-5.result c.from_residual-in_err-read_next_command-in-5.ensures.1 in
-    let h = c.loop-r.invariant in
+    let h = c.loop-r.invariant.turned in
     let profile = record c.args.profile.now { code = c.args.r.now.words } in
     let read = rw (h.words, c.in-5.is) at c.in_ok-operation.ensures.reads.value in
     let one = turn profile.code c.read_was_put.ensures c.requires.code c.loop-r.r.left c.get.new.self.left 5 h.turns read h.enough in
@@ -82,40 +88,40 @@ returns-in_err-read_next_command-in-5 g c =
       place = c.in_err-read_next_command-in-5.ensures.place ∙ c.in_ok-operation.ensures.reads.place ∙ h.place;
     })
 
-pub returns-in_err-into-in-7 : goal.returns-in_err-into-in-7
-returns-in_err-into-in-7 g c =
+pub returns-in_err-into-in-7-clause-reads : goal.returns-in_err-into-in-7-clause-reads
+returns-in_err-into-in-7-clause-reads g c =
     let p = err_from_is_err_and c.from_residual-in_err-into-in-7.result c.from_residual-in_err-into-in-7.ensures.1 in
-    let h = c.loop-r.invariant in
+    let h = c.loop-r.invariant.turned in
     let profile = record c.args.profile.now { code = c.args.r.now.words } in
     let read = rw (h.words, c.in-7.is) at c.in_ok-operation.ensures.reads.value in
     let one = turn profile.code c.read_was_put.ensures c.requires.code c.loop-r.r.left c.get.new.self.left 7 h.turns read h.enough in
     let same : c.get.new.self.words ≡ profile.code = c.in_ok-operation.ensures.reads.words ∙ h.words in
-    let fault = rw same at c.in_err-into-in-7.ensures.value in
+    let fault = rw same at c.in_err-into-in-7.ensures.reads.value in
     rw (p.1, p.2) (record {
       value = sym (operations_section_fault profile _ c.args.number (told_of c.loop-r.into) c.loop-r.r.left c.get.new.self.left _ h.turns one.left read one.is fault) ∙ h.reads;
-      words = c.in_err-into-in-7.ensures.words ∙ same;
-      place = c.in_err-into-in-7.ensures.place ∙ c.in_ok-operation.ensures.reads.place ∙ h.place;
+      words = c.in_err-into-in-7.ensures.reads.words ∙ same;
+      place = c.in_err-into-in-7.ensures.reads.place ∙ c.in_ok-operation.ensures.reads.place ∙ h.place;
     })
 
-pub returns-in-7 : goal.returns-in-7
-returns-in-7 g c =
-    let h = c.loop-r.invariant in
+pub returns-in-7-clause-reads : goal.returns-in-7-clause-reads
+returns-in-7-clause-reads g c =
+    let h = c.loop-r.invariant.turned in
     let profile = record c.args.profile.now { code = c.args.r.now.words } in
     let read = rw (h.words, c.in-7.is) at c.in_ok-operation.ensures.reads.value in
     let one = turn profile.code c.read_was_put.ensures c.requires.code c.loop-r.r.left c.get.new.self.left 7 h.turns read h.enough in
     let same : c.get.new.self.words ≡ profile.code = c.in_ok-operation.ensures.reads.words ∙ h.words in
-    let told = rw same at c.in_ok-into-in-7.ensures.value in
-    let words : c.read_section.new.r.words ≡ profile.code = c.in_ok-into-in-7.ensures.words ∙ same in
+    let told = rw same at c.in_ok-into-in-7.ensures.reads.value in
+    let words : c.read_section.new.r.words ≡ profile.code = c.in_ok-into-in-7.ensures.reads.words ∙ same in
     let ending = rw words at c.read_ending.ensures.value in
     record {
       value = section_ends profile _ c.args.number (told_of c.loop-r.into) c.loop-r.r.left c.get.new.self.left c.read_section.new.r.left c.read_ending.new.r.left _ h.turns one.left read one.is told c.read_ending.result ending ∙ h.reads;
       words = c.read_ending.ensures.words ∙ words;
-      place = c.read_ending.ensures.place ∙ c.in_ok-into-in-7.ensures.place ∙ c.in_ok-operation.ensures.reads.place ∙ h.place;
+      place = c.read_ending.ensures.place ∙ c.in_ok-into-in-7.ensures.reads.place ∙ c.in_ok-operation.ensures.reads.place ∙ h.place;
     }
 
-pub returns-in-8 : goal.returns-in-8
-returns-in-8 g c =
-    let h = c.loop-r.invariant in
+pub returns-in-8-clause-reads : goal.returns-in-8-clause-reads
+returns-in-8-clause-reads g c =
+    let h = c.loop-r.invariant.turned in
     let profile = record c.args.profile.now { code = c.args.r.now.words } in
     let read = rw (h.words, c.in-8.is) at c.in_ok-operation.ensures.reads.value in
     let one = turn profile.code c.read_was_put.ensures c.requires.code c.loop-r.r.left c.get.new.self.left 8 h.turns read h.enough in
@@ -125,9 +131,9 @@ returns-in-8 g c =
       place = c.in_ok-operation.ensures.reads.place ∙ h.place;
     }
 
-pub returns-in_default : goal.returns-in_default
-returns-in_default g c =
-    let h = c.loop-r.invariant in
+pub returns-in_default-clause-reads : goal.returns-in_default-clause-reads
+returns-in_default-clause-reads g c =
+    let h = c.loop-r.invariant.turned in
     let profile = record c.args.profile.now { code = c.args.r.now.words } in
     let byte = c.in_ok-operation.operation in
     let read = rw h.words at c.in_ok-operation.ensures.reads.value in

@@ -1,0 +1,53 @@
+-- Baselines of which none is set, and those with one more.
+use Rattle.std.proofs.Common.{◌≡◌, ℕ, ◌<◌, ◌≤◌, List, length, replicate, Option, Some, None, IfSome, unwrap_or, refl, sym, ap, subst, ◌∙◌, arith, inl, inr}
+use Rattle.std.proofs.lemmas.Bool.{cases_lt, cases_eq}
+use Rattle.std.proofs.lemmas.List.{length-replicate, get_or-replicate, get_or_past, length-set, get_or-set_same, get_or-set_other}
+use Rattle.q3_entity.specs.declared.state.EntityState.{EntityState}
+use Rattle.q3_entity.specs.Entities.{zero_entity, IsNormal}
+use Rattle.q3_entity.specs.Baselines.{Lines, most_lines, no_lines, set_at, with_line}
+use Rattle.q3_fields.specs.States.{AreWords}
+use Rattle.q3_entity.specs.Laws.{NoLinesAreLines, LineIsAdded}
+use Rattle.q3_entity.specs.Lists.{words_from}
+
+-- no number has a state
+pub none_set : (number : ℕ) → set_at no_lines number ≡ None
+none_set number =
+    elim (cases_lt number most_lines) [
+      | inl within ↦ get_or-replicate most_lines number None None within
+      | inr past ↦ get_or_past no_lines number None (omega (arith, past))
+    ]
+
+-- so an entity of which nothing is known changed from zeros
+pub zeros_there : (number : ℕ) → words_from no_lines number None ≡ replicate 64 0
+unfolding zero_entity
+zeros_there number = ap (λ (set : Option EntityState). (unwrap_or set (zero_entity number)).words) (none_set number)
+
+-- they are lines
+pub no_lines_are_lines : NoLinesAreLines
+no_lines_are_lines table = record {
+  places = length-replicate {A = Option EntityState} most_lines None;
+  numbers = λ number. rw (none_set number) tt;
+  states = λ number. rw (none_set number) tt;
+  normal = λ number. rw (none_set number) tt;
+}
+
+-- what is true of each line and of a state is true of each with that state set
+added : (P : ℕ → EntityState → Type 0) (lines : Lines) (state : EntityState) → state.number < length lines → ((number : ℕ) → IfSome (set_at lines number) (P number)) → P state.number state
+    → (number : ℕ) → IfSome (set_at (with_line lines state) number) (P number)
+added P lines state within each one number =
+    elim (cases_eq number state.number) [
+      | inl here ↦
+          let at : set_at (with_line lines state) number ≡ Some state = rw here (get_or-set_same lines state.number (Some state) None within) in
+          rw at (subst (λ (n : ℕ). P n state) (sym here) one)
+      | inr other ↦ rw (get_or-set_other lines state.number number (Some state) None other) (each number)
+    ]
+
+pub line_is_added : LineIsAdded
+line_is_added table lines state are below words normal =
+    let within : state.number < length lines = omega (arith, below, are.places) in
+    record {
+      places = length-set lines state.number (Some state) ∙ are.places;
+      numbers = added (λ number state. state.number ≡ number) lines state within are.numbers refl;
+      states = added (λ number state. AreWords 64 state.words) lines state within are.states words;
+      normal = added (λ number. IsNormal table) lines state within are.normal normal;
+    }
