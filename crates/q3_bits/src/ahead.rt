@@ -17,7 +17,7 @@ pub(crate) struct Ahead<'a> {
 }
 
 impl<'a> Ahead<'a> {
-    ghost use Rattle.std.specs.Prelude.{◌+◌, ◌^◌, min};
+    ghost use Rattle.std.specs.Prelude.{◌+◌, ◌^◌, ◌↔◌, IsTrue, min};
     ghost use Rattle.q3_bits.specs.Unread.{rest_bits, bits_ahead};
 
     /// Gathers the next bits.
@@ -54,6 +54,18 @@ impl<'a> Ahead<'a> {
             return self;
         }
         Ahead::of(self.rest())
+    }
+
+    /// Whether so many bits are left.
+    pub(crate) fn has(self, count: u32) -> bool
+        requires ready { self.taken ≤ 39 }
+        requires few { count ≤ 24 }
+        ensures { IsTrue result ↔ (count ≤ length (bits_ahead self.entry)) }
+    {
+        if self.bytes.len() >= 8 {
+            return true;
+        }
+        self.taken + count <= 8 * self.bytes.len() as u32
     }
 
     /// How many bits are left, and 25 where more are.

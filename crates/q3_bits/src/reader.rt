@@ -91,7 +91,7 @@ fn raw_from(ahead: Ahead, count: u32) -> Result<(u32, Ahead), ReadError>
     ensures near { IfOk result (λ found. length (bits_ahead ahead.entry) ≤ length (bits_ahead found.1) + count) }
     ensures fits { IfOk result (λ found. found.0 < 2 ^ count) }
 {
-    if ahead.count() < count {
+    if !ahead.has(count) {
         return Err(ReadError::End);
     }
     Ok((ahead.window() % (1 << count), ahead.skip(count)))
@@ -107,12 +107,12 @@ fn byte_from<'a>(code: &Code, ahead: Ahead<'a>) -> Result<(u8, Ahead<'a>), ReadE
 {
     let ready = ahead.ready();
     let window = ready.window();
-    let count = ready.count();
     let entry = code.entry(window);
     let short = u32::from(entry.length);
-    if short > 0 && short <= count {
+    if short > 0 && ready.has(short) {
         return Ok((entry.byte, ready.skip(short)));
     }
+    let count = ready.count();
     match code.search(window, count) {
         Some((byte, length)) => Ok((byte, ready.skip(u32::from(length)))),
         None if code.begins_with(window, count) => Err(ReadError::End),

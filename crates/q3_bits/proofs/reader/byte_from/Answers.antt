@@ -3,12 +3,12 @@ use Rattle.q3_bits.specs.Unread.{bits_ahead}
 use Rattle.q3_bits.proofs.CodeText.{byte_at-is}
 use Rattle.q3_bits.proofs.reader.byte_from.Goals as goal
 
-pub returns-then-short-count-clause-byte : goal.returns-then-short-count-clause-byte
-returns-then-short-count-clause-byte c =
+pub returns-then-has-clause-byte : goal.returns-then-has-clause-byte
+returns-then-has-clause-byte c =
     let left = bits_ahead c.ready-ready.result in
     let long = c.entry-entry.result.length in
     let some : 0 < long = omega (arith, c.if-short-gt0.true, c.from-short.ensures) in
-    let enough : long ≤ length left = omega (arith, c.if-short-count.true, c.from-short.ensures, c.count-count.ensures) in
+    let enough : long ≤ length left = omega (arith, c.if-has.ensures.0 refl, c.from-short.ensures) in
     let found = c.entry-entry.ensures.found left c.window-window.ensures.bits some enough in
     rw (← c.ready-ready.ensures.bits, byte_at-is, found, c.skip.ensures.bits, c.from-short.ensures) refl
 
