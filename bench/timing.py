@@ -1,4 +1,4 @@
-"""What the scripts beside this file share: profiles, and the time and the instructions of the built program on a schedule."""
+"""What the scripts beside this file share: profiles, and the time and the instructions of built programs."""
 import os
 import pathlib
 import re
@@ -11,6 +11,8 @@ RUNS = 5
 TOP = pathlib.Path(__file__).resolve().parent.parent
 PROGRAM = TOP / 'crates/q3net/out/q3net'
 REAL = (TOP / 'profiles/quake3.toml').read_text()
+# instructions that clear or copy a run of bytes count once for each byte: none are used while they are counted
+NO_REPEATS = 'glibc.cpu.x86_rep_stosb_threshold=1000000000:glibc.cpu.x86_rep_movsb_threshold=1000000000'
 
 
 def program():
@@ -33,33 +35,31 @@ def profile(words, player):
             f'entity = [0, 8, -16]\nplayer = {player}\ncode = [{code}]\n')
 
 
-def write(folder, profile, lines):
+def replay(program, folder, profile, lines):
+    """Writes a profile and a script into the folder: the command that replays these lines."""
     (folder / 'profile').write_text(profile)
     (folder / 'script').write_text('\n'.join(lines) + '\n')
+    return [program, 'replay', folder / 'profile', folder / 'script']
 
 
-def run(before, program, folder):
-    """Replays the script of the folder, under the words `before`: the seconds, the peak memory in KB, and what
-    standard error took."""
+def run(command, folder):
+    """Runs a command in the folder: the seconds, the peak memory in KB, and what standard error took."""
     with open(folder / 'report', 'wb') as out, open(folder / 'told', 'w+b') as told:
         start = time.perf_counter()
-        process = subprocess.Popen([*before, program, 'replay', folder / 'profile', folder / 'script'],
-                                   stdin=subprocess.DEVNULL, stdout=out, stderr=told)
+        process = subprocess.Popen(command, cwd=folder, stdin=subprocess.DEVNULL, stdout=out, stderr=told)
         _, status, usage = os.wait4(process.pid, 0)
         seconds = time.perf_counter() - start
         told.seek(0)
         text = told.read().decode()
     process.returncode = os.waitstatus_to_exitcode(status)
     if process.returncode != 0:
-        sys.exit(f'{program}: status {process.returncode}\n{text}')
+        sys.exit(f'{command}: status {process.returncode}\n{text}')
     return seconds, usage.ru_maxrss, text
 
 
-def best(program, folder, profile, lines):
-    """Replays these lines by a profile: the least time of the runs in seconds, the report's bytes, and the
-    peak memory in KB."""
-    write(folder, profile, lines)
-    runs = [run([], program, folder) for _ in range(RUNS)]
+def best(command, folder):
+    """Runs a command several times: the least time in seconds, the report's bytes, and the peak memory in KB."""
+    runs = [run(command, folder) for _ in range(RUNS)]
     return min(seconds for seconds, _, _ in runs), (folder / 'report').stat().st_size, max(peak for _, peak, _ in runs)
 
 
@@ -68,8 +68,8 @@ def counts_instructions():
     return shutil.which('valgrind') is not None
 
 
-def instructions(program, folder, profile, lines):
-    """How many instructions the replay of these lines takes."""
-    write(folder, profile, lines)
-    _, _, told = run(['valgrind', '--tool=callgrind', '--callgrind-out-file=/dev/null'], program, folder)
+def instructions(command, folder):
+    """How many instructions a command takes."""
+    counting = ['env', f'GLIBC_TUNABLES={NO_REPEATS}', 'valgrind', '--tool=callgrind', '--callgrind-out-file=/dev/null']
+    _, _, told = run([*counting, *command], folder)
     return int(re.search(r'Collected : (\d+)', told).group(1))

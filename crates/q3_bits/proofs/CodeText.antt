@@ -183,14 +183,14 @@ pub word_only : (words : List (List Bool)) (code : IsCode words) (byte : ℕ) (b
 word_only words code byte bits rest lt begins = ap (byte_from 0 words) begins ∙ byte_again words code byte rest lt
 
 -- an entry that says which word begins the bits says which byte is read
-pub entry_found : (words : List Word) (entry : Entry) (count window : ℕ) (left : List Bool) → IsCode (words_of words) → Leads words entry (window % 4096) → entry.length ≤ 12 → entry.length ≤ count
-    → count ≡ min 25 (length left) → window ≡ number_of (take 24 left) → byte_from 0 (words_of words) left ≡ Some (entry.byte, drop entry.length left)
-entry_found words entry count window left code leads short enough within spells =
+pub entry_found : (words : List Word) (entry : Entry) (window : ℕ) (left : List Bool) → IsCode (words_of words) → Leads words entry (window % 4096) → entry.length ≤ 12 → entry.length ≤ length left
+    → window ≡ number_of (take 24 left) → byte_from 0 (words_of words) left ≡ Some (entry.byte, drop entry.length left)
+entry_found words entry window left code leads short enough spells =
     let word = get_or words entry.byte no_word in
     let few : length words ≡ 256 = sym (length-map words bits_of_word) ∙ code.count in
     let front : number_of (take entry.length left) ≡ window % 4096 % 2 ^ entry.length =
     sym (rw (window_of_word window left 12 spells (omega arith), number_of-mod, take-take) refl) in
-    let spelt : behind (low_bits entry.length word.bits) left ≡ Some (drop entry.length left) = behind-low_bits entry.length word.bits left (omega arith) (front ∙ leads.begins) in
+    let spelt : behind (low_bits entry.length word.bits) left ≡ Some (drop entry.length left) = behind-low_bits entry.length word.bits left enough (front ∙ leads.begins) in
     let is : word_of (words_of words) entry.byte ≡ low_bits entry.length word.bits = get_or-map bits_of_word words entry.byte no_word [] leads.byte ∙ ap (λ (n : ℕ). low_bits n word.bits) leads.length in
     let lt = leads.byte in
     word_only (words_of words) code entry.byte left (drop entry.length left) (omega arith)

@@ -1,6 +1,7 @@
 -- What a reader has left of its bytes.
 use Rattle.std.specs.Prelude.{ℕ, ◌*◌, ◌-◌, ◌≤◌, Bool, List, length, drop, Result, Ok, Err}
 use Rattle.q3_bits.specs.declared.rest.Rest.{Rest}
+use Rattle.q3_bits.specs.declared.ahead.Ahead.{Ahead}
 use Rattle.q3_bits.specs.declared.reader.ReadError.{ReadError}
 use Rattle.q3_bits.specs.declared.reader.Reader.TheInside.{Inside}
 use Rattle.q3_bits.specs.Bits.{bits_of}
@@ -11,10 +12,14 @@ use Rattle.q3_bits.specs.Streams.{Reading}
 abbrev pub rest_bits : Rest → List Bool
 rest_bits rest = drop rest.bit (bits_of rest.bytes.now)
 
+-- the bits behind those that were taken
+abbrev pub bits_ahead : Ahead → List Bool
+bits_ahead ahead = drop ahead.taken (bits_of ahead.bytes.now)
+
 -- a value and what is behind it, by its bits
-abbrev pub rested : Result (ℕ × Rest) ReadError → Result (ℕ × List Bool) ReadError
-rested (Ok found) = Ok (found.0, rest_bits found.1)
-rested (Err e) = Err e
+abbrev pub found_ahead : Result (ℕ × Ahead) ReadError → Result (ℕ × List Bool) ReadError
+found_ahead (Ok found) = Ok (found.0, bits_ahead found.1)
+found_ahead (Err e) = Err e
 
 abbrev pub reading_of : Inside → Reading
 reading_of r = record { words = r.code.now; left = rest_bits r.rest; place = 8 * r.total - length (rest_bits r.rest) }

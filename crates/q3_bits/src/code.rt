@@ -1,6 +1,6 @@
 //! Code words: the bits that stand for each byte of a message. Keeps the rule "code words".
 
-ghost use Rattle.std.specs.Prelude.{◌≡◌, ◌⊎◌, ◌<◌, ◌≤◌, ◌^◌, Bool, List, All, IfOk, IfErr, IfSome, MatchResult, Some, None, length, map, min, take};
+ghost use Rattle.std.specs.Prelude.{◌≡◌, ◌⊎◌, ◌<◌, ◌≤◌, ◌^◌, Bool, List, All, IfOk, IfErr, IfSome, MatchResult, Some, None, length, map, min, take, drop};
 ghost use Rattle.std.specs.Option.{is_some};
 ghost use Rattle.q3_bits.specs.declared.words.CodeError.TheVariants as errors;
 ghost use Rattle.q3_bits.specs.Bits.{number_of};
@@ -128,6 +128,8 @@ impl Code {
 
     /// Whether these bits begin a word: `count` of them, 25 for more, of which `front` is the number that the first 24
     /// spell.
+    #[cold]
+    #[inline(never)]
     pub(crate) fn begins_with(&self, front: u32, count: u32) -> bool
         ensures { (bits : List Bool) → count ≡ min 25 (length bits) → front ≡ number_of (take 24 bits)
             → result ≡ begins_word self.now bits }
@@ -140,22 +142,21 @@ impl Code {
         false
     }
 
-    /// The byte whose word begins the bits to be read, and the word's length: `count` bits are left, 25 for more, and
-    /// `window` is the number that the first 24 spell. Short words are found by the next 12 bits, others one by one.
-    pub(crate) fn find(&self, window: u32, count: u32) -> Option<(u8, u8)>
-        ensures found { (left : List Bool) → count ≡ min 25 (length left) → window ≡ number_of (take 24 left)
-            → found_in left result ≡ byte_from 0 self.now left }
-        ensures short { IfSome result (λ found. (found.1 ≤ 24) × (found.1 ≤ count)) }
+    /// The byte whose word, of at most 12 bits, begins the bits to be read, and the word's length, by the number that
+    /// the next 24 bits spell; 0 where that isn't said.
+    pub(crate) fn entry(&self, window: u32) -> Entry
+        ensures found { (left : List Bool) → window ≡ number_of (take 24 left) → 0 < result.length → result.length ≤ length left
+            → byte_from 0 self.now left ≡ Some (result.byte, drop result.length left) }
+        ensures short { result.length ≤ 12 }
     {
-        let entry = self.index[(window % (1 << INDEXED)) as usize];
-        if entry.length > 0 && u32::from(entry.length) <= count {
-            return Some((entry.byte, entry.length));
-        }
-        self.search(window, count)
+        self.index[(window % (1 << INDEXED)) as usize]
     }
 
-    /// The same, one word after the other.
-    fn search(&self, window: u32, count: u32) -> Option<(u8, u8)>
+    /// The byte whose word begins the bits to be read, and the word's length, one word after the other: `count` bits are
+    /// left, 25 for more, and `window` is the number that the first 24 spell.
+    #[cold]
+    #[inline(never)]
+    pub(crate) fn search(&self, window: u32, count: u32) -> Option<(u8, u8)>
         ensures found { (left : List Bool) → count ≡ min 25 (length left) → window ≡ number_of (take 24 left)
             → found_in left result ≡ byte_from 0 self.now left }
         ensures short { IfSome result (λ found. (found.1 ≤ 24) × (found.1 ≤ count)) }

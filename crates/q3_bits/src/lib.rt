@@ -1,6 +1,7 @@
 //! Bit messages: fields of 1 to 32 bits, written as raw bits and code words, and read back.
 #![tactic(auto)]
 
+mod ahead;
 pub mod code;
 pub mod laws;
 pub mod reader;

@@ -4,8 +4,9 @@ ghost use Rattle.std.specs.Prelude.{◌≡◌, ◌+◌, ◌*◌, ◌^◌, ◌<�
 ghost use Rattle.q3_bits.specs.Bits.{bits_of};
 ghost use Rattle.q3_bits.specs.Words.{IsCode, raw_at, byte_at, bytes_at, field_at};
 ghost use Rattle.q3_bits.specs.Streams.{Reads};
-ghost use Rattle.q3_bits.specs.Unread.{rest_bits, rested};
+ghost use Rattle.q3_bits.specs.Unread.{bits_ahead, found_ahead};
 
+use crate::ahead::Ahead;
 use crate::code::Code;
 use crate::rest::Rest;
 use std::marker::Model;
@@ -66,9 +67,9 @@ impl<'a> Reader<'a> {
         ensures code { IsCode self.old.words }
     {
         let raw = width % 8;
-        let (low, rest) = raw_from(self.rest, raw)?;
-        let (high, rest) = bytes_from(self.code, rest, width / 8)?;
-        self.rest = rest;
+        let (low, ahead) = raw_from(Ahead::of(self.rest), raw)?;
+        let (high, ahead) = bytes_from(self.code, ahead, width / 8)?;
+        self.rest = ahead.rest();
         Ok(low + (high << raw))
     }
 
@@ -82,45 +83,53 @@ impl<'a> Reader<'a> {
 }
 
 /// So many raw bits as a number, and what is behind them.
-fn raw_from(rest: Rest, count: u32) -> Result<(u32, Rest), ReadError>
-    requires { count ≤ 24 }
-    ensures bits { rested result ≡ raw_at count (rest_bits rest.entry) }
-    ensures bytes { IfOk result (λ found. length found.1.bytes.now ≤ length rest.entry.bytes.now) }
-    ensures near { IfOk result (λ found. length (rest_bits rest.entry) ≤ length (rest_bits found.1) + count) }
+fn raw_from(ahead: Ahead, count: u32) -> Result<(u32, Ahead), ReadError>
+    requires few { count ≤ 24 }
+    requires ready { ahead.taken ≤ 39 }
+    ensures bits { found_ahead result ≡ raw_at count (bits_ahead ahead.entry) }
+    ensures bytes { IfOk result (λ found. length found.1.bytes.now ≤ length ahead.entry.bytes.now) }
+    ensures near { IfOk result (λ found. length (bits_ahead ahead.entry) ≤ length (bits_ahead found.1) + count) }
     ensures fits { IfOk result (λ found. found.0 < 2 ^ count) }
 {
-    if rest.count() < count {
+    if !ahead.has(count) {
         return Err(ReadError::End);
     }
-    Ok((rest.window() % (1 << count), rest.skip(count)))
+    Ok((ahead.window() % (1 << count), ahead.skip(count)))
 }
 
-/// The byte whose word comes next, and what is behind the word.
-fn byte_from<'a>(code: &Code, rest: Rest<'a>) -> Result<(u8, Rest<'a>), ReadError>
-    ensures byte { rested result ≡ byte_at code.now (rest_bits rest.entry) }
-    ensures bytes { IfOk result (λ found. length found.1.bytes.now ≤ length rest.entry.bytes.now) }
-    ensures near { IfOk result (λ found. length (rest_bits rest.entry) ≤ length (rest_bits found.1) + 24) }
+/// The byte whose word comes next, and what is behind the word. Short words are found by the next 12 bits, others one by
+/// one.
+fn byte_from<'a>(code: &Code, ahead: Ahead<'a>) -> Result<(u8, Ahead<'a>), ReadError>
+    ensures byte { found_ahead result ≡ byte_at code.now (bits_ahead ahead.entry) }
+    ensures bytes { IfOk result (λ found. length found.1.bytes.now ≤ length ahead.entry.bytes.now) }
+    ensures near { IfOk result (λ found. length (bits_ahead ahead.entry) ≤ length (bits_ahead found.1) + 24) }
     ensures small { IfOk result (λ found. found.0 < 256) }
 {
-    let window = rest.window();
-    let count = rest.count();
-    match code.find(window, count) {
-        Some((byte, length)) => Ok((byte, rest.skip(u32::from(length)))),
+    let ready = ahead.ready();
+    let window = ready.window();
+    let entry = code.entry(window);
+    let short = u32::from(entry.length);
+    if short > 0 && ready.has(short) {
+        return Ok((entry.byte, ready.skip(short)));
+    }
+    let count = ready.count();
+    match code.search(window, count) {
+        Some((byte, length)) => Ok((byte, ready.skip(u32::from(length)))),
         None if code.begins_with(window, count) => Err(ReadError::End),
         None => Err(ReadError::NoWord),
     }
 }
 
 /// So many bytes by their words, least byte first, and what is behind them.
-fn bytes_from<'a>(code: &Code, rest: Rest<'a>, count: u32) -> Result<(u32, Rest<'a>), ReadError>
+fn bytes_from<'a>(code: &Code, ahead: Ahead<'a>, count: u32) -> Result<(u32, Ahead<'a>), ReadError>
     requires few { count ≤ 4 }
-    ensures bytes_at { rested result ≡ bytes_at code.now count (rest_bits rest.entry) }
-    ensures bytes { IfOk result (λ found. length found.1.bytes.now ≤ length rest.entry.bytes.now) }
-    ensures near { IfOk result (λ found. length (rest_bits rest.entry) ≤ length (rest_bits found.1) + 24 * count) }
+    ensures bytes_at { found_ahead result ≡ bytes_at code.now count (bits_ahead ahead.entry) }
+    ensures bytes { IfOk result (λ found. length found.1.bytes.now ≤ length ahead.entry.bytes.now) }
+    ensures near { IfOk result (λ found. length (bits_ahead ahead.entry) ≤ length (bits_ahead found.1) + 24 * count) }
     ensures fits { IfOk result (λ found. found.0 < 256 ^ count) }
 {
     let mut number = 0;
-    let mut left = rest;
+    let mut left = ahead;
     for k in 0..count {
         let (byte, behind) = byte_from(code, left)?;
         number += u32::from(byte) << (8 * k);

@@ -1,6 +1,5 @@
-use Rattle.std.proofs.Common.{◌≡◌, ◌≤◌, ◌∙◌, length, ap, sym, arith}
+use Rattle.std.proofs.Common.{◌∙◌, length, ap, arith}
 use Rattle.std.proofs.lemmas.List.{length-take}
-use Rattle.q3_bits.specs.Bits.{message_length}
 use Rattle.q3_bits.proofs.MessageBytes.{message_is_bytes}
 use Rattle.q3_bits.proofs.writer.Writer.copy_to.Goals as goal
 
