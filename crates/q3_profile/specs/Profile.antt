@@ -1,5 +1,5 @@
 -- The profile that a file's bytes spell, or the first rule that they break.
-use Rattle.std.specs.Prelude.{◌≡◌, ℕ, ◌==◌, ◌&&◌, if◌then◌else◌, Bool, true, List, length, map, nat_lt, nat_le, ℤ, pos, negsuc, Result, Ok, Err}
+use Rattle.std.specs.Prelude.{◌≤◌, ◌≡◌, ℕ, ◌==◌, ◌&&◌, if◌then◌else◌, Bool, true, List, length, map, nat_lt, nat_le, ℤ, pos, negsuc, Result, Ok, Err}
 use Rattle.std.specs.Int.{is_power_of_two}
 use Rattle.std.specs.Option.{ok_or, option_map_or}
 use Rattle.std.specs.Result.{result_map_both}
@@ -77,12 +77,12 @@ checked bytes = do
   profile_at (mark_of bytes) document
 
 -- what every profile of the program's type is, as its code and its tables tell: a code, and tables; the numbers of
--- entities have 10 bits
+-- entities have at least 10 bits
 pub record IsCodec (profile : Profile) : Type 0 where
   pub code : IsCode profile.code
   pub entity : IsTable profile.entity
   pub player : IsTable profile.player
-  pub numbers : profile.entity.number_bits ≡ 10
+  pub numbers : 10 ≤ profile.entity.number_bits
 
 -- a profile whose rings and protocol passed their checks
 pub record IsProfile (profile : Profile) : Type 0 where

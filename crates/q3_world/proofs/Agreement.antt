@@ -52,7 +52,7 @@ abbrev pub ReadsBack : Profile → Type 0
 ReadsBack profile = (number : ℕ) (message : Message) → IsBuilt profile number message
     → message_at profile no_bases number (bits_of (message_bytes (built_bits profile message))) ≡ Ok message
 
--- what is read back, which players and entities are in normal form, which numbers entities have, what a datagram does that was
+-- what is read back, which players and entities are in normal form, which numbers entities may have, what a datagram does that was
 -- sent, and how many bytes a message has
 pub record Cited (profile : Profile) : Type 0 where
   pub reads : ReadsBack profile
@@ -60,7 +60,7 @@ pub record Cited (profile : Profile) : Type 0 where
   pub normal : (player : PlayerState) → IsState player → IsHeld profile (normal_player profile.player.kinds player)
   pub normal_entity : (entity : EntityState) → AreWords 64 entity.words
       → AreWords 64 (normal_entity profile.entity entity).words × IsNormal profile.entity (normal_entity profile.entity entity)
-  pub end : end_mark profile.entity ≡ 1023
+  pub end : 1023 ≤ end_mark profile.entity
   pub tags : SentIsTagged
   pub bytes : MessageIsBytes
 
