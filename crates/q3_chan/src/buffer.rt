@@ -1,6 +1,23 @@
 //! The memory of an end.
 
-ghost use Rattle.std.specs.Prelude.{◌≡◌, ◌+◌, ◌≤◌, ◌++◌, length, take};
+ghost use Rattle.std.specs.Prelude.{◌≡◌, ◌+◌, ◌≤◌, ◌++◌, length, take, IfOk};
+ghost use Rattle.std.specs.Vec.{vec_len};
+ghost use Rattle.q3_chan.specs.Datagrams.{longest_message};
+
+use std::alloc::{AllocError, Global};
+
+/// Want of memory, and nothing else.
+pub type NoMemory = AllocError;
+
+/// The longest message in bytes, the engine's `MAX_MSGLEN`.
+pub(crate) const LONGEST_MESSAGE: usize = 16_384;
+
+/// Room for the longest message.
+pub(crate) fn new_buffer(alloc: Global) -> Result<Vec<u8>, NoMemory>
+    ensures { IfOk result (λ buffer. vec_len buffer ≡ longest_message) }
+{
+    vec![in alloc; 0; LONGEST_MESSAGE]
+}
 
 /// Puts bytes at a place of a buffer.
 pub(crate) fn put_at(buffer: &mut Vec<u8>, place: usize, bytes: &[u8])

@@ -5,11 +5,11 @@ ghost use Rattle.std.specs.Prelude.{◌≡◌, ◌+◌, ◌≤◌, ◌++◌, ℕ
 ghost use Rattle.q3_chan.specs.Datagrams.{longest_message, is_fragment, header_length};
 ghost use Rattle.q3_chan.specs.Gathering.{new_gathering, gathered, gathering_of, arrives, emptied, take_newer, take_whole, take_fragment, take_piece, add_piece, Delivers};
 
-use crate::buffer::put_at;
+use crate::buffer::{LONGEST_MESSAGE, NoMemory, new_buffer, put_at};
 use crate::header::{
     behind_header, count_in, is_connectionless, is_fragment, lacks_header, number_in, start_in,
 };
-use crate::sender::{FRAGMENT_SIZE, LONGEST_MESSAGE, NoMemory};
+use crate::sender::FRAGMENT_SIZE;
 use crate::side::Side;
 use std::alloc::Global;
 use std::marker::Model;
@@ -64,7 +64,7 @@ impl Gatherer {
             side,
             taken: 0,
             number: 0,
-            buffer: vec![in alloc; 0; LONGEST_MESSAGE]?,
+            buffer: new_buffer(alloc)?,
             count: 0,
         })
     }

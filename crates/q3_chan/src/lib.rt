@@ -10,6 +10,7 @@ pub mod side;
 #[cfg(test)]
 mod tests;
 
+pub use buffer::NoMemory;
 pub use gatherer::{Gathered, Gatherer};
-pub use sender::{Datagram, NoMemory, Sender};
+pub use sender::{Datagram, Sender};
 pub use side::Side;

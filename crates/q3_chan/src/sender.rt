@@ -6,24 +6,18 @@ ghost use Rattle.byteorder.specs.Endian.{little_bytes};
 ghost use Rattle.q3_chan.specs.Datagrams.{fragment_size, longest_message, sequence_end, piece_count, datagram, piece};
 ghost use Rattle.q3_chan.specs.Sending.{IsIdle, new_sending, started, next_of};
 
-use crate::buffer::put_at;
+use crate::buffer::{NoMemory, new_buffer, put_at};
 use crate::header::{FRAGMENT_MARK, put_bytes, put_header, put_short};
 use crate::side::Side;
 use arrayvec::ArrayVec;
-use std::alloc::{AllocError, Global};
+use std::alloc::Global;
 use std::marker::Model;
-
-/// Want of memory, and nothing else.
-pub type NoMemory = AllocError;
 
 /// The bytes of one datagram.
 pub type Datagram = ArrayVec<u8, 1320>;
 
 /// A message below this length goes whole, and no piece is longer. The engine's `FRAGMENT_SIZE`.
 pub(crate) const FRAGMENT_SIZE: usize = 1_300;
-
-/// The longest message in bytes, the engine's `MAX_MSGLEN`.
-pub(crate) const LONGEST_MESSAGE: usize = 16_384;
 
 /// Cuts messages into datagrams, one a call. It has memory of its own, which `new` takes and no other call does.
 #[derive(Drop)]
@@ -58,7 +52,7 @@ impl Sender {
             side,
             qport,
             number: 0,
-            buffer: vec![in alloc; 0; LONGEST_MESSAGE]?,
+            buffer: new_buffer(alloc)?,
             count: 0,
             index: None,
         })
