@@ -20,7 +20,7 @@ use Rattle.q3_fields.specs.Kinds.{end_mark}
 use Rattle.q3_entity.specs.declared.state.EntityState.{EntityState}
 use Rattle.q3_entity.specs.Entities.{normal_entity, IsNormal}
 use Rattle.q3_svmsg.specs.declared.error.Illegible.{Illegible}
-use Rattle.q3_svmsg.specs.Values.{Told, Message}
+use Rattle.q3_svmsg.specs.Values.{Message}
 use Rattle.q3_svmsg.specs.Reading.{message_at}
 use Rattle.q3_chan.specs.declared.side.Side.{Side}
 use Rattle.q3_chan.specs.declared.gatherer.Gathered.{Gathered}
@@ -37,7 +37,7 @@ use Rattle.q3_world.specs.Server.{SlotState, ServerState, Built, Emission, place
 use Rattle.q3_world.specs.Client.{ClientState, Taken, read_by, take_answer, take_gathered, take_at}
 use Rattle.q3_world.specs.Ends.{Ends, EndsStep, client_at, join, set_entity, remove_entity, set_player, set_area}
 use Rattle.q3_world.specs.Kept.{SentBytes, Kept, KeptStep, kept_ends, kept_serve, kept_taken, kept_arrive, kept_deliver, kept_step}
-use Rattle.q3_world.specs.World.{Tag, Step, Whole, no_message, history_at, built_at, with_ends, serve, named, heard_in, arrive_piece, arrive, deliver, step}
+use Rattle.q3_world.specs.World.{Tag, Step, Whole, no_message, history_at, built_at, with_ends, serve, named, arrive_taken, arrive, deliver, step}
 use Rattle.q3_world.specs.StandsFor.{AreEnds, IsSent, WasBuilt, messages_of, StandsFor, bytes_of}
 use Rattle.q3_world.proofs.Growth.{history_after}
 use Rattle.q3_world.proofs.Clients.{slot_begun, AreEnds-begun, AreJoined-gathered, AreJoined-accepted}
@@ -237,16 +237,16 @@ quiet_same client gathered.BadFragment read other is = absurd is
 quiet_same client gathered.Runt read other is = absurd is
 quiet_same client gathered.Connectionless read other is = absurd is
 
--- and the client is as it was
-quiet_client : (client : ClientState) (answer : Gathered) (read : ℕ → Read) (told : Told) → IsQuiet answer
-    → ((take_answer client answer read).client ≡ client) × (heard_in answer told ≡ None)
-quiet_client client (gathered.Whole number count) read told is = absurd is
-quiet_client client gathered.Partial read told is = (refl, refl)
-quiet_client client gathered.Old read told is = (refl, refl)
-quiet_client client gathered.OutOfOrder read told is = (refl, refl)
-quiet_client client gathered.BadFragment read told is = absurd is
-quiet_client client gathered.Runt read told is = absurd is
-quiet_client client gathered.Connectionless read told is = absurd is
+-- the client is as it was, and accepts nothing
+quiet_client : (client : ClientState) (answer : Gathered) (read : ℕ → Read) → IsQuiet answer
+    → ((take_answer client answer read).client ≡ client) × ((take_answer client answer read).heard ≡ None)
+quiet_client client (gathered.Whole number count) read is = absurd is
+quiet_client client gathered.Partial read is = (refl, refl)
+quiet_client client gathered.Old read is = (refl, refl)
+quiet_client client gathered.OutOfOrder read is = (refl, refl)
+quiet_client client gathered.BadFragment read is = absurd is
+quiet_client client gathered.Runt read is = absurd is
+quiet_client client gathered.Connectionless read is = absurd is
 
 -- what comes whole is read as the message that was built
 taken_alike : (profile : Profile) (client : ClientState) (took : Took) (number : ℕ) (built : Built) → ReadsBack profile → IsBuilt profile number built → client.profile ≡ profile
@@ -294,14 +294,14 @@ tag_is profile whole tag client cited is found holds =
 holds_piece : (profile : Profile) (whole : Whole) (c number n : ℕ) (client : ClientState) (took : Took) (built : Built) → c < places → client_at whole.ends c ≡ Some client
     → Does client.gathering n (built_bytes profile built) took → HoldsFront (messages_of profile (history_at whole.histories c).built) took.gathering
     → (is : IsBuilt profile n built) → n ≤ length (history_at whole.histories c).built → WasBuilt (history_at whole.histories c).built is.snapshot
-    → Holds profile whole → Holds profile (arrive_piece whole number c client took built).whole
+    → Holds profile whole → Holds profile (arrive_taken whole number c (take_gathered client took (λ n. Ok built))).whole
 holds_piece profile whole c number n client took built lt found does front is few was holds =
     let g = took.gathering in
     let joined = client_joined profile whole c client lt found holds in
     let gathers = does.below (length (history_at whole.histories c).built) joined.3.gathers few in
     elim does.either [
       | inl waits ↦
-          let same = quiet_client (record client { gathering = g }) took.answer (λ n. Ok built) built.section waits.quiet in
+          let same = quiet_client (record client { gathering = g }) took.answer (λ n. Ok built) waits.quiet in
           rw (same.0, same.1) (Holds-taken profile whole c client (record client { gathering = g }) None lt found refl does.side
           (λ slot joins. AreJoined-gathered profile whole.ends.server.map slot client (history_at whole.histories c) g waits.taken gathers front joins) holds)
       | inr came ↦

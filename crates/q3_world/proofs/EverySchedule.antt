@@ -13,7 +13,8 @@ use Rattle.q3_script.specs.declared.event.Event.{Event}
 use Rattle.q3_script.specs.declared.event.Event.TheVariants as events
 use Rattle.q3_script.specs.Grammar.{IsReplayEvent}
 use Rattle.q3_entity.specs.Laws.{NormalIsNormal as EntityNormalIsNormal}
-use Rattle.q3_svmsg.specs.Values.{Message}
+use Rattle.q3_svmsg.specs.Values as told
+use Rattle.q3_svmsg.specs.Values.{Told, Message}
 use Rattle.q3_chan.specs.declared.gatherer.Gathered.{Gathered}
 use Rattle.q3_chan.specs.declared.gatherer.Gathered.TheVariants as gathered
 use Rattle.q3_chan.specs.declared.gatherer.Gathered.TheVariants.{Whole as CameWhole}
@@ -29,7 +30,7 @@ use Rattle.q3_world.specs.declared.answer.Answer.TheVariants.{Unknown, Deliver}
 use Rattle.q3_world.specs.Message.{Snapshot}
 use Rattle.q3_world.specs.MessageLaws.{BuiltIsRead}
 use Rattle.q3_world.specs.Server.{MapState, SlotState, Built, places, slot_at, add_client_at, built_bytes}
-use Rattle.q3_world.specs.Client.{ClientState, Taken, new_client, outcome_of, apply_message, take_answer, take_gathered}
+use Rattle.q3_world.specs.Client.{ClientState, Taken, new_client, apply_section, apply_message, take_answer, take_gathered}
 use Rattle.q3_world.specs.Ends.{Ends, Answered, unknown, delivered, client_at, with_client, newest, joined}
 use Rattle.q3_world.specs.Kept.{SentBytes, Kept, KeptStep, opening_kept, kept_step, kept_after, kept_answers}
 use Rattle.q3_world.specs.World.{Tag, Step, Whole, History, history_at, opening, step, after, answers, deliver, arrive, named}
@@ -102,6 +103,12 @@ legible_joined : (ends : Ends) (c : ℕ) (client : ClientState) (added : Result 
 legible_joined ends c client (Ok x) = tt
 legible_joined ends c client (Err e) = tt
 
+-- what a message does to a client
+legible_section : (datagram c number : ℕ) (client : ClientState) (section : Told) → IsLegible (delivered datagram c (apply_section client number section).answer).answer
+legible_section datagram c number client told.Nothing = tt
+legible_section datagram c number client (told.Snap base head entities) = tt
+legible_section datagram c number client (told.Skipped base) = tt
+
 -- what a client makes of a piece: nothing came whole, or its message did, and was read
 legible_took : (datagram c n : ℕ) (client : ClientState) (answer : Gathered) (built : Built) → IsQuiet answer ⊎ ((count : ℕ) × (answer ≡ CameWhole n count))
     → IsLegible (delivered datagram c (take_answer client answer (λ k. Ok built)).answer).answer
@@ -115,7 +122,7 @@ legible_took datagram c n client answer built (inl quiet) = waits answer quiet
     waits gathered.BadFragment is = absurd is
     waits gathered.Runt is = absurd is
     waits gathered.Connectionless is = absurd is
-legible_took datagram c n client answer built (inr came) = rw came.1 tt
+legible_took datagram c n client answer built (inr came) = rw came.1 (legible_section datagram c n client built.section)
 
 legible_arrive : (profile : Profile) (whole : Whole) (number : ℕ) (tag : Tag) (found : Option ClientState) → IsLegible (arrive profile whole number tag found).answer.answer
 legible_arrive profile whole number tag None = tt
@@ -269,7 +276,7 @@ newer_is_accepted law below profile all number n count sent client is are at fou
     by_bytes
     ∙ (answers_tag profile whole number tag.0 client tag.1 client_is
     ∙ (ap (λ (a : Gathered). delivered number tag.0.client (take_answer (record client { gathering = took.gathering }) a (λ k. Ok (named whole.histories tag.0))).answer) answer
-    ∙ (ap (λ (m : Message). delivered number tag.0.client (Applied n (outcome_of m.section))) built.is
+    ∙ (ap (λ (m : Message). delivered number tag.0.client (apply_message (record client { gathering = took.gathering }) n m).answer) built.is
     ∙ ap (λ (s : SentBytes). delivered number s.client (Applied n (Accepted 0))) tag.2)))
 
 -- ---- what is applied
@@ -343,7 +350,7 @@ applied_arrive profile whole number c n snap tag (Some client) at is holds =
           (same_delivered number tag.client c (take_answer now took.answer (λ k. Ok named_is)).answer (Applied n snap) e).1)
       | inr came ↦
           let next = record now { accepted = Some built.snapshot } in
-          let does_so : take_answer now took.answer (λ k. Ok named_is) ≡ record { client = next; answer = Applied tag.number (Accepted 0) } =
+          let does_so : take_answer now took.answer (λ k. Ok named_is) ≡ record { client = next; answer = Applied tag.number (Accepted 0); heard = Some built.snapshot } =
           ap (λ (a : Gathered). take_answer now a (λ k. Ok named_is)) came.answer
           ∙ ap (λ (m : Message). apply_message now tag.number m) built.is in
           λ e. subst (λ (t : Taken). Applies whole.ends (with_client whole.ends tag.client t.client) c n snap (history_at whole.histories c).built) (sym does_so)

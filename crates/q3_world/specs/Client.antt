@@ -12,7 +12,6 @@ use Rattle.q3_svmsg.specs.Values.{Told, Message}
 use Rattle.q3_svmsg.specs.Reading.{message_at}
 use Rattle.q3_world.specs.declared.client.ClientTook.{ClientTook}
 use Rattle.q3_world.specs.declared.client.ClientTook.TheVariants.{Runt, Connectionless, Old, OutOfOrder, BadFragment, Partial, Illegible, Applied}
-use Rattle.q3_world.specs.declared.client.SnapOutcome.{SnapOutcome}
 use Rattle.q3_world.specs.declared.client.SnapOutcome.TheVariants.{NoSnap, Accepted, Skipped}
 use Rattle.q3_world.specs.declared.client.NoBase.TheVariants.{NeverHeld}
 use Rattle.q3_world.specs.Message.{Snapshot, no_bases}
@@ -32,53 +31,48 @@ abbrev pub new_client : Profile → ℕ → ℕ → ℕ → ClientState
 new_client profile challenge qport dup =
     record { profile = profile; challenge = challenge; qport = qport; dup = dup; gathering = new_gathering Server; accepted = None }
 
--- what a take gives
+-- what a take gives: the client after it, its answer, and the snapshot that it accepted, if it did
 pub record Taken : Type 0 where
   pub client : ClientState
   pub answer : ClientTook
+  pub heard : Option Snapshot
 
--- the newest snapshot behind the section of a message: its own, unless it was skipped or there is none
-abbrev pub newest_after : Option Snapshot → Told → Option Snapshot
-newest_after newest told.Nothing = newest
-newest_after newest (told.Snap base head entities) = Some (record { head = head; entities = entities })
-newest_after newest (told.Skipped base) = newest
+-- a client that accepted nothing
+abbrev pub answers : ClientState → ClientTook → Taken
+answers client answer = record { client = client; answer = answer; heard = None }
 
--- what became of it
-abbrev pub outcome_of : Told → SnapOutcome
-outcome_of told.Nothing = NoSnap
-outcome_of (told.Snap base head entities) = Accepted base
-outcome_of (told.Skipped base) = Skipped base NeverHeld
+-- a snapshot is accepted, and replaces the one before
+abbrev pub accepts : ClientState → ℕ → ℕ → Snapshot → Taken
+accepts client number base snapshot = record {
+  client = record client { accepted = Some snapshot };
+  answer = Applied number (Accepted base);
+  heard = Some snapshot;
+}
+
+-- what the section of a message does to a client
+abbrev pub apply_section : ClientState → ℕ → Told → Taken
+apply_section client number told.Nothing = answers client (Applied number NoSnap)
+apply_section client number (told.Snap base head entities) = accepts client number base (record { head = head; entities = entities })
+apply_section client number (told.Skipped base) = answers client (Applied number (Skipped base NeverHeld))
 
 -- what a message does to a client
 abbrev pub apply_message : ClientState → ℕ → Message → Taken
-apply_message client number message = record {
-  client = record client { accepted = newest_after client.accepted message.section };
-  answer = Applied number (outcome_of message.section);
-}
+apply_message client number message = apply_section client number message.section
 
--- the newest snapshot behind a message, and the answer; one that isn't legible changes nothing
-abbrev pub newest_read : Option Snapshot → Result Message cause.Illegible → Option Snapshot
-newest_read newest (Ok message) = newest_after newest message.section
-newest_read newest (Err e) = newest
-
-abbrev pub answer_read : ℕ → Result Message cause.Illegible → ClientTook
-answer_read number (Ok message) = Applied number (outcome_of message.section)
-answer_read number (Err e) = Illegible e
-
--- what a client does with what was read under a number
+-- what a client does with what was read under a number; what isn't legible changes nothing
 abbrev pub apply_read : ClientState → ℕ → Result Message cause.Illegible → Taken
-apply_read client number read =
-    record { client = record client { accepted = newest_read client.accepted read }; answer = answer_read number read }
+apply_read client number (Ok message) = apply_message client number message
+apply_read client number (Err e) = answers client (Illegible e)
 
 -- a message that came whole is read under its number, and every other answer is handed on
 abbrev pub take_answer : ClientState → Gathered → (ℕ → Result Message cause.Illegible) → Taken
 take_answer client (gathered.Whole number count) read = apply_read client number (read number)
-take_answer client gathered.Partial read = record { client = client; answer = Partial }
-take_answer client gathered.Old read = record { client = client; answer = Old }
-take_answer client gathered.OutOfOrder read = record { client = client; answer = OutOfOrder }
-take_answer client gathered.BadFragment read = record { client = client; answer = BadFragment }
-take_answer client gathered.Runt read = record { client = client; answer = Runt }
-take_answer client gathered.Connectionless read = record { client = client; answer = Connectionless }
+take_answer client gathered.Partial read = answers client Partial
+take_answer client gathered.Old read = answers client Old
+take_answer client gathered.OutOfOrder read = answers client OutOfOrder
+take_answer client gathered.BadFragment read = answers client BadFragment
+take_answer client gathered.Runt read = answers client Runt
+take_answer client gathered.Connectionless read = answers client Connectionless
 
 -- a client with what was gathered, and what it does with a message that came whole
 abbrev pub take_gathered : ClientState → Took → (ℕ → Result Message cause.Illegible) → Taken

@@ -5,11 +5,7 @@ use Rattle.q3_profile.specs.declared.profile.Profile.{Profile}
 use Rattle.q3_player.specs.Heads.{empty_head}
 use Rattle.q3_script.specs.declared.event.Event.{Event}
 use Rattle.q3_script.specs.declared.event.Event.TheVariants as events
-use Rattle.q3_chan.specs.declared.gatherer.Gathered.{Gathered}
-use Rattle.q3_chan.specs.declared.gatherer.Gathered.TheVariants.{Whole as CameWhole}
-use Rattle.q3_chan.specs.Gathering.{Took}
 use Rattle.q3_chan.specs.Tags.{tagged}
-use Rattle.q3_svmsg.specs.Values.{Told, Nothing, Snap, Skipped}
 use Rattle.q3_world.specs.Message.{Snapshot, message_of}
 use Rattle.q3_world.specs.Server.{Built, Emission, Piece, places, emit_at, built_bytes}
 use Rattle.q3_world.specs.Client.{ClientState, Taken, take_gathered}
@@ -63,12 +59,6 @@ abbrev pub with_accepted : List History → ℕ → Snapshot → List History
 with_accepted histories c snapshot =
     slice_set histories c (record (history_at histories c) { accepted = (history_at histories c).accepted ++ snapshot ∷ [] })
 
--- the snapshot that a section carries for a client to accept, if it does
-abbrev pub snapshot_in : Told → Option Snapshot
-snapshot_in Nothing = None
-snapshot_in (Snap base head entities) = Some (record { head = head; entities = entities })
-snapshot_in (Skipped base) = None
-
 -- the snapshot that a client accepted, if it did, is noted
 abbrev pub accepted_after : List History → ℕ → Option Snapshot → List History
 accepted_after histories c None = histories
@@ -108,30 +98,22 @@ serve whole c emission =
 abbrev pub named : List History → Tag → Built
 named histories tag = built_at (history_at histories tag.client).built tag.number
 
--- the snapshot that a message carries, where it came whole
-abbrev pub heard_in : Gathered → Told → Option Snapshot
-heard_in (CameWhole number count) told = snapshot_in told
-heard_in other told = None
-
--- a client took a datagram, and with it this snapshot, if it took one
-abbrev pub arrive_taken : Whole → ℕ → ℕ → Taken → Option Snapshot → Step
-arrive_taken whole number c taken snapshot =
+-- a client took a datagram, and what it accepted is noted
+abbrev pub arrive_taken : Whole → ℕ → ℕ → Taken → Step
+arrive_taken whole number c taken =
     record {
-      whole = record whole { ends = with_client whole.ends c taken.client; histories = accepted_after whole.histories c snapshot };
+      whole = record whole { ends = with_client whole.ends c taken.client; histories = accepted_after whole.histories c taken.heard };
       answer = delivered number c taken.answer;
     }
 
--- what a client makes of a piece of a message: of one that comes whole it takes the value that was built
-abbrev pub arrive_piece : Whole → ℕ → ℕ → ClientState → Took → Built → Step
-arrive_piece whole number c client took built =
-    arrive_taken whole number c (take_gathered client took (λ n. Ok built)) (heard_in took.answer built.section)
-
--- a datagram arrives, by its tag: the number and the piece decide what it does
+-- a datagram arrives, by its tag: the number and the piece decide what it does, and of a message that comes whole the client
+-- takes the value that was built
 abbrev pub arrive : Profile → Whole → ℕ → Tag → Option ClientState → Step
 arrive profile whole number tag None = record { whole = whole; answer = unknown number }
 arrive profile whole number tag (Some client) =
-    arrive_piece whole number tag.client client
-    (tagged client.gathering tag.number (built_bytes profile (named whole.histories tag)) tag.index) (named whole.histories tag)
+    arrive_taken whole number tag.client
+    (take_gathered client (tagged client.gathering tag.number (built_bytes profile (named whole.histories tag)) tag.index)
+    (λ n. Ok (named whole.histories tag)))
 
 -- the datagram of a number, if it was made, arrives
 abbrev pub deliver : Profile → Whole → ℕ → Option Tag → Step

@@ -3,8 +3,8 @@
 
 ghost use Rattle.std.specs.Prelude.{◌≡◌, ◌≢◌, ◌<◌, Some, None, IfOk, option_map};
 ghost use Rattle.q3_entity.specs.Baselines.{no_lines};
-ghost use Rattle.q3_world.specs.Client.{new_client, newest_read, answer_read, read_by, take_at};
-ghost use Rattle.q3_world.specs.Views.{snapshot_of};
+ghost use Rattle.q3_world.specs.Client.{new_client, read_by, take_at};
+ghost use Rattle.q3_world.specs.Views.{snapshot_of, newest_read, answer_read};
 
 use crate::bases::NoBases;
 use q3_bits::NoMemory;
@@ -210,9 +210,10 @@ impl Client {
     }
 
     /// Takes a datagram, any bytes. A message that came whole is read; one that isn't legible changes nothing else.
-    #[tactic(auto, unfolding(crate::specs::Client::take_at))]
+    #[tactic(auto, using(crate::proofs::Heard::read_is), unfolding(crate::specs::Client::take_at))]
     pub(crate) fn take(&mut self, datagram: &[u8]) -> ClientTook
-        ensures { take_at self.old datagram.now ≡ record { client = self.new; answer = result } }
+        ensures client { self.new ≡ (take_at self.old datagram.now).client }
+        ensures answer { result ≡ (take_at self.old datagram.now).answer }
     {
         let (number, length) = match self.gatherer.take(datagram, &mut self.whole) {
             Gathered::Whole { number, length } => (number, length),

@@ -20,5 +20,6 @@ returns c =
     let sent : SentBytes = record { client = c.sent.inside.client; bytes = c.sent.inside.bytes.items } in
     let found = rw (c.deref.ensures.value, ← c.sent.view_is) at c.in-Some.ensures.lookup in
     let within : sent.client < length w.clients.items = omega (arith, c.sent.invariant, c.self.invariant) in
-    let took = rw c.deref-2.ensures.value at c.take.ensures in
-    rw (← c.self.view_is, delivers kept c.args.number sent c.index_mut.result.now (Some c.in-Some-index_mut.client) found.3.0 found.1 within c.index_mut.ensures.value c.in-Some-index_mut.is, took) refl
+    let client = rw c.deref-2.ensures.value at c.take.ensures.client in
+    let answer = rw c.deref-2.ensures.value at c.take.ensures.answer in
+    rw (← c.self.view_is, delivers kept c.args.number sent c.index_mut.result.now (Some c.in-Some-index_mut.client) found.3.0 found.1 within c.index_mut.ensures.value c.in-Some-index_mut.is, ← client, ← answer) refl
