@@ -14,7 +14,7 @@ use Rattle.q3_profile.specs.declared.profile.Profile.{Profile}
 use Rattle.q3_svmsg.specs.declared.error.Illegible.{Illegible}
 use Rattle.q3_svmsg.specs.declared.error.Illegible.TheVariants.{Bits, BadOp, TextLong, Commands}
 use Rattle.q3_svmsg.specs.Values.{Context, Told, Message}
-use Rattle.q3_svmsg.specs.Reading.{bits_read, field_read, string_after, command_after, commands_after, section_after, ending_after, operations_after}
+use Rattle.q3_svmsg.specs.Reading.{field_read, string_after, command_after, commands_after, section_after, ending_after, operations_after}
 
 -- a word has a bit at least
 some_bits : (words : List (List Bool)) → IsCode words → (byte : ℕ) → byte < 256 → (word : List Bool) → word_of words byte ≡ word → 0 < length word
