@@ -2,7 +2,7 @@
 use Rattle.std.proofs.Common.{◌≡◌, ◌⊎◌, ℕ, ◌^◌, ◌<◌, Bool, false, cond, eqb, List, ◌++◌, Option, Some, None, Ok, refl, sym, subst, append_assoc, arith, inl, inr}
 use Rattle.std.proofs.lemmas.Bool.{cases_Bool, eqb-true, eqb-false}
 use Rattle.std.proofs.lemmas.List.{append-nil}
-use Rattle.q3_bits.specs.ResultBind.{bind_ok}
+use Rattle.q3_bits.specs.ResultBind.{bind_ok, map_err_ok}
 use Rattle.q3_bits.specs.Words.{IsCode, field_bits, field_at, row_bits}
 use Rattle.q3_bits.specs.Laws.{ReadWasPut, PutIsRead}
 use Rattle.q3_fields.specs.Kinds.{Layout, IsTable}
@@ -13,9 +13,9 @@ use Rattle.q3_fields.specs.Spelling.{SpellsWords}
 use Rattle.q3_fields.specs.Laws.{WordsReadAreSpelled, WordsSpelledAreRead}
 use Rattle.q3_entity.specs.declared.reading.Entry.{Entry}
 use Rattle.q3_entity.specs.declared.reading.Entry.TheVariants.{Removed, Changed, Same}
-use Rattle.q3_entity.specs.Delta.{removal, bits_read, words_read, delta_at, present_at, entity_at}
+use Rattle.q3_entity.specs.Delta.{removal, entity_error, bits_read, words_read, delta_at, present_at, entity_at}
+use Rattle.q3_entity.specs.declared.error.EntityError.TheVariants.{Bits}
 use Rattle.q3_entity.specs.Spelling.{Entered, SpellsEntry}
-use Rattle.q3_entity.proofs.Results.{bits_ok, words_ok}
 
 -- the words of an entity that is there
 abbrev pub words_there : Entry → List ℕ → Option (List ℕ)
@@ -81,7 +81,7 @@ pub marks_were_spelled : ReadWasPut → WordsReadAreSpelled → (words : List (L
 unfolding entity_at
 marks_were_spelled put law words table from bits found code is_table are e =
     let mark = bind_ok (bits_read (field_at words 1 bits)) (λ removed. cond (eqb removed.0 0) (present_at words table from removed.1) (Ok ((Removed, from), removed.1))) found e in
-    let reads = bits_ok (field_at words 1 bits) mark.0 mark.1 in
+    let reads = map_err_ok Bits (field_at words 1 bits) mark.0 mark.1 in
     elim (cases_Bool (eqb mark.0.0 0)) [
       | inr gone ↦
           let made = rw gone at mark.2 in
@@ -96,7 +96,7 @@ marks_were_spelled put law words table from bits found code is_table are e =
       | inl there ↦
           let first = bit_was put words bits mark.0 0 code reads (eqb-true mark.0.0 0 there) in
           let change = bind_ok (bits_read (field_at words 1 mark.0.1)) (λ changed. cond (eqb changed.0 0) (Ok ((Same, from), changed.1)) (delta_at words table from changed.1)) found (rw there at mark.2) in
-          let reads' = bits_ok (field_at words 1 mark.0.1) change.0 change.1 in
+          let reads' = map_err_ok Bits (field_at words 1 mark.0.1) change.0 change.1 in
           elim (cases_Bool (eqb change.0.0 0)) [
             | inl none ↦
                 let made = rw none at change.2 in
@@ -112,7 +112,7 @@ marks_were_spelled put law words table from bits found code is_table are e =
             | inr some ↦
                 let second = bit_was put words mark.0.1 change.0 1 code reads' (bit_one put words mark.0.1 change.0 code reads' some) in
                 let delta = bind_ok (words_read (words_after Entity words table.kinds from change.0.1)) (λ read. Ok ((Changed, read.0), read.1)) found (rw some at change.2) in
-                let spelled = law Entity words table.kinds from delta.0.0 change.0.1 delta.0.1 code is_table.kinds are (words_ok (words_after Entity words table.kinds from change.0.1) delta.0 delta.1) in
+                let spelled = law Entity words table.kinds from delta.0.0 change.0.1 delta.0.1 code is_table.kinds are (map_err_ok entity_error (words_after Entity words table.kinds from change.0.1) delta.0 delta.1) in
                 let made = delta.2 in
                 let same : ((Changed, delta.0.0), delta.0.1) ≡ found = cc in
                 subst (ReadMarks words table from bits) {x = ((Changed, delta.0.0), delta.0.1)} same (record {

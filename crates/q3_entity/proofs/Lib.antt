@@ -4,9 +4,9 @@ pub mod Gone
 pub mod Risen
 pub mod ListTexts
 pub mod Shared
-pub mod Binds
 pub mod Numbers
 pub mod Turns
+pub mod Steps
 pub mod Listed
 pub mod Skipping
 pub mod Results

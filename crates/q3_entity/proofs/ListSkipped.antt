@@ -1,15 +1,13 @@
 -- A list that is read is skipped to the same place.
 use Rattle.std.proofs.Common.{◌≡◌, ℕ, zero, suc, ◌+◌, Bool, cond, eqb, ltb, List, [], ◌∷◌, length, take, replicate, Result, Ok, Err, ap, ◌∙◌, inl, inr, arith}
 use Rattle.std.proofs.lemmas.Bool.{cases_Bool, cond-true, cond-false}
-use Rattle.std.specs.Option.{is_some}
-use Rattle.q3_bits.specs.ResultBind.{◌>>=◌, bind_ok}
+use Rattle.q3_bits.specs.ResultBind.{◌>>=◌, bind_ok, bind_is, map_err_ok}
 use Rattle.q3_bits.specs.Words.{field_at}
-use Rattle.q3_bits.specs.declared.reader.ReadError.{ReadError}
 use Rattle.q3_fields.specs.declared.kind.Kind.{Kind}
 use Rattle.q3_fields.specs.declared.delta.StateKind.{StateKind}
 use Rattle.q3_fields.specs.declared.delta.StateKind.TheVariants.{Entity}
 use Rattle.q3_fields.specs.declared.delta.DeltaError.{DeltaError}
-use Rattle.q3_fields.specs.declared.delta.DeltaError.TheVariants.{Count}
+use Rattle.q3_fields.specs.declared.delta.DeltaError.TheVariants.{Bits, Count}
 use Rattle.q3_fields.specs.Kinds.{Layout, IsTable, end_mark}
 use Rattle.q3_fields.specs.Deltas as fields
 use Rattle.q3_fields.specs.Deltas.{changed_at, field_after, fields_after, words_after}
@@ -18,21 +16,15 @@ use Rattle.q3_entity.specs.declared.reading.Entry.{Entry}
 use Rattle.q3_entity.specs.declared.reading.Entry.TheVariants.{Removed, Changed, Same}
 use Rattle.q3_entity.specs.Entities.{AreStates, with_number}
 use Rattle.q3_entity.specs.Baselines.{Lines, AreLines}
-use Rattle.q3_entity.specs.Delta.{bits_read, words_read, delta_at, present_at, entity_at}
-use Rattle.q3_entity.specs.Lists.{number_at, stays, entered, words_from, numbers_after, list_after, numbers_skipped, list_skipped}
+use Rattle.q3_entity.specs.Delta.{entity_error, bits_read, words_read, delta_at, present_at, entity_at}
+use Rattle.q3_entity.specs.Lists.{number_at, words_from, numbers_after, list_after, numbers_skipped, list_skipped}
 use Rattle.q3_entity.specs.Laws.{ZeroIsNormal, ReadIsSkipped}
-use Rattle.q3_entity.proofs.Binds.{bind_is}
-use Rattle.q3_entity.proofs.Results.{words_ok}
 use Rattle.q3_entity.proofs.ListSpelled.{from_words}
+use Rattle.q3_entity.proofs.Steps.{number_step}
 
 -- an answer with some value, and these bits behind it
 abbrev Ends : {A E : Type 0} → Result (A × List Bool) E → List Bool → Type 0
 Ends {A = A} r rest = (x : A) × (r ≡ Ok (x, rest))
-
--- a read of bits that did not fail
-fields_ok : {A : Type 0} (r : Result A ReadError) (x : A) → fields.bits_read r ≡ Ok x → r ≡ Ok x
-fields_ok (Ok y) x e = cc
-fields_ok (Err d) x e = absurd cc
 
 -- a field over another value ends at the same place
 field_ends : (state : StateKind) (words : List (List Bool)) (kind : Kind) (from other : ℕ) (bits : List Bool) (x : ℕ × List Bool) → field_after state words kind from bits ≡ Ok x
@@ -80,7 +72,7 @@ words_end words table from other bits x long e =
     elim (cases_Bool (ltb (length table.kinds) count.0.0)) [
       | inl many ↦ absurd (let wrong = rw many at count.2 in cc)
       | inr few ↦
-          let read = fields_ok (fields_after Entity words (take count.0.0 table.kinds) from count.0.1) x (rw few at count.2) in
+          let read = map_err_ok Bits (fields_after Entity words (take count.0.0 table.kinds) from count.0.1) x (rw few at count.2) in
           let end = fields_end Entity words (take count.0.0 table.kinds) from other count.0.1 x long read in (
             end.0,
             bind_is (fields.bits_read (field_at words 8 bits)) (some other) count.0 _ count.1
@@ -109,7 +101,7 @@ entity_ends words table from other bits x long e =
                 ((Same, other), rw (mark.1, there, change.1, none) (ap (λ (y : (Entry × List ℕ) × List Bool). Ok ((Same, other), y.1)) same))
             | inr some ↦
                 let delta = bind_ok (words_read (words_after Entity words table.kinds from change.0.1)) (λ read. Ok ((Changed, read.0), read.1)) x (rw some at change.2) in
-                let end = words_end words table from other change.0.1 delta.0 long (words_ok (words_after Entity words table.kinds from change.0.1) delta.0 delta.1) in
+                let end = words_end words table from other change.0.1 delta.0 long (map_err_ok entity_error (words_after Entity words table.kinds from change.0.1) delta.0 delta.1) in
                 let made = delta.2 in
                 let same : ((Changed, delta.0.0), delta.0.1) ≡ x = cc in (
                   (Changed, end.0),
@@ -132,20 +124,12 @@ numbers_end law words table lines base is_table are states zero number next enti
     let same : (entities, bits) ≡ found = cc in
     ap (λ (y : List EntityState × List Bool). Ok (tt, y.1)) same
 numbers_end law words table lines base is_table are states (suc left) number next entities bits found e =
-    let from = with_number number base in
-    elim (cases_Bool (eqb number next)) [
-      | inl here ↦
-          let entry = bind_ok (entity_at words table (words_from lines number from) bits)
-          (λ entry. entered entities (is_some from) number entry.0.0 entry.0.1 >>= λ now. (number_at words table (number + 1) entry.1 >>= λ more. numbers_after words table lines base left (number + 1) more.0 now more.1))
-          found (rw here at e) in
-          let now = bind_ok (entered entities (is_some from) number entry.0.0.0 entry.0.0.1)
-          (λ now. number_at words table (number + 1) entry.0.1 >>= λ more. numbers_after words table lines base left (number + 1) more.0 now more.1) found entry.2 in
-          let more = bind_ok (number_at words table (number + 1) entry.0.1) (λ more. numbers_after words table lines base left (number + 1) more.0 now.0 more.1) found now.2 in
-          let end = entity_ends words table (words_from lines number from) (replicate 64 0) bits entry.0 (from_words table lines base number law is_table are states).are.count entry.1 in
-          rw (here, end.1, more.1) (numbers_end law words table lines base is_table are states left (number + 1) more.0.0 now.0 more.0.1 found more.2)
-      | inr there ↦
-          let kept = bind_ok (stays entities from) (λ kept. numbers_after words table lines base left (number + 1) next kept bits) found (rw there at e) in
-          rw there (numbers_end law words table lines base is_table are states left (number + 1) next kept.0 bits found kept.2)
+    elim (number_step words table lines base left number next entities bits found e) [
+      | inl r ↦
+          let from = words_from lines number (with_number number base) in
+          let end = entity_ends words table from (replicate 64 0) bits r.entry (from_words table lines base number law is_table are states).are.count r.entry_is in
+          rw (r.here, end.1, r.more_is) (numbers_end law words table lines base is_table are states left (number + 1) r.more.0 r.now r.more.1 found r.others)
+      | inr r ↦ rw r.there (numbers_end law words table lines base is_table are states left (number + 1) next r.kept bits found r.others)
     ]
 
 -- a list that is read is skipped to the same place

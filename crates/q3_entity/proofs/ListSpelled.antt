@@ -1,6 +1,6 @@
 -- What is read of a list was spelled so.
-use Rattle.std.proofs.Common.{◌≡◌, ℕ, zero, suc, ◌+◌, ◌<◌, ◌≤◌, Bool, true, eqb, List, [], ◌∷◌, ◌++◌, Option, Some, None, Ok, refl, sym, ap, subst, ◌∙◌, append_assoc, arith, inl, inr}
-use Rattle.std.proofs.lemmas.Bool.{cases_eq, cases_Bool, eqb-true, eqb-false}
+use Rattle.std.proofs.Common.{◌≡◌, ℕ, zero, suc, ◌+◌, ◌<◌, ◌≤◌, Bool, true, List, [], ◌∷◌, ◌++◌, Option, Some, None, Ok, refl, sym, ap, subst, ◌∙◌, append_assoc, arith, inl, inr}
+use Rattle.std.proofs.lemmas.Bool.{cases_eq, eqb-true, eqb-false}
 use Rattle.std.proofs.lemmas.List.{append-nil}
 use Rattle.std.proofs.lemmas.List.Elements.{All-nil}
 use Rattle.std.specs.Option.{is_some}
@@ -15,14 +15,14 @@ use Rattle.q3_entity.specs.declared.reading.Entry.{Entry}
 use Rattle.q3_entity.specs.declared.reading.Entry.TheVariants.{Removed, Changed, Same}
 use Rattle.q3_entity.specs.Entities.{IsNormal, RiseFrom, IsList, AreStates, AreNormal, with_number}
 use Rattle.q3_entity.specs.Baselines.{Lines, AreLines}
-use Rattle.q3_entity.specs.Delta.{entity_at}
-use Rattle.q3_entity.specs.Lists.{number_at, stays, entered, words_from, numbers_after, list_after}
+use Rattle.q3_entity.specs.Lists.{number_at, words_from, numbers_after, list_after}
 use Rattle.q3_entity.specs.Laws.{ZeroIsNormal, ListReadIsSpelled}
 use Rattle.q3_entity.specs.Spelling.{Entered, SpellsEntries, EntriesRise, RemoveFrom, state_after}
 use Rattle.q3_entity.proofs.Results.{number_was_read}
 use Rattle.q3_entity.proofs.EntrySpelled.{words_there, ReadMarks, marks_were_spelled}
 use Rattle.q3_entity.proofs.EntriesSpelled.{first_number, SpellsBehind, entries_of_behind, behind_texts}
 use Rattle.q3_entity.proofs.OneNumber.{with_first, IsNamed, first-rises, first-found, first-others, first-all, with_number-all, entry_of, entry_of-below, entry_of-first, entry_of-others, state_there, pushed, pushed-first, stays-was, entered-was}
+use Rattle.q3_entity.proofs.Steps.{number_step}
 use Rattle.q3_entity.proofs.Listed.{list_is_listed}
 use Rattle.q3_entity.proofs.ListWritten.{found-number, found-limit, rise-weaker, line-known}
 
@@ -194,26 +194,19 @@ numbers_were_spelled put law law' words table lines base code is_table are list 
 numbers_were_spelled put law law' words table lines base code is_table are list states (suc left) number next entities bits found sum low high e =
     let from = with_number number base in
     let within : number < end_mark table = omega arith in
-    elim (cases_Bool (eqb number next)) [
-      | inl here ↦
-          let entry = bind_ok (entity_at words table (words_from lines number from) bits)
-          (λ entry. entered entities (is_some from) number entry.0.0 entry.0.1 >>= λ now. (number_at words table (number + 1) entry.1 >>= λ more. numbers_after words table lines base left (number + 1) more.0 now more.1))
-          found (rw here at e) in
-          let now = bind_ok (entered entities (is_some from) number entry.0.0.0 entry.0.0.1)
-          (λ now. number_at words table (number + 1) entry.0.1 >>= λ more. numbers_after words table lines base left (number + 1) more.0 now more.1) found entry.2 in
-          let more = bind_ok (number_at words table (number + 1) entry.0.1) (λ more. numbers_after words table lines base left (number + 1) more.0 now.0 more.1) found now.2 in
+    elim (number_step words table lines base left number next entities bits found e) [
+      | inl r ↦
           let fw = from_words table lines base number law' is_table are states in
-          let marks = marks_were_spelled put law words table (words_from lines number from) bits entry.0 code is_table fw.are entry.1 in
-          let was = entered-was entities (is_some from) number entry.0.0.0 entry.0.0.1 now.0 now.1 in
-          let read = number_was_read put words table (number + 1) entry.0.1 more.0 code more.1 in
-          let others = numbers_were_spelled put law law' words table lines base code is_table are list states left (number + 1) more.0.0 now.0 more.0.1 found (omega arith) read.0 read.1 more.2 in
-          let all = behind_number words table lines base number more.0.0 entities now.0 bits entry.0.1 more.0.1 entry.0.0.0 entry.0.0.1 found within marks fw.normal was.0 was.1 (omega (arith, read.0)) read.2 others in
-          subst (λ (n : ℕ). ReadNumbers words table lines base number n entities bits found) (eqb-true number next here) all
-      | inr there ↦
-          let kept = bind_ok (stays entities from) (λ kept. numbers_after words table lines base left (number + 1) next kept bits) found (rw there at e) in
-          let below : number < next = omega (arith, low, eqb-false number next there) in
-          let others = numbers_were_spelled put law law' words table lines base code is_table are list states left (number + 1) next kept.0 bits found (omega arith) (omega arith) high kept.2 in
-          over_number words table lines base number next entities kept.0 bits found states below within (stays-was entities from kept.0 kept.1) others
+          let marks = marks_were_spelled put law words table (words_from lines number from) bits r.entry code is_table fw.are r.entry_is in
+          let was = entered-was entities (is_some from) number r.entry.0.0 r.entry.0.1 r.now r.now_is in
+          let read = number_was_read put words table (number + 1) r.entry.1 r.more code r.more_is in
+          let others = numbers_were_spelled put law law' words table lines base code is_table are list states left (number + 1) r.more.0 r.now r.more.1 found (omega arith) read.0 read.1 r.others in
+          let all = behind_number words table lines base number r.more.0 entities r.now bits r.entry.1 r.more.1 r.entry.0.0 r.entry.0.1 found within marks fw.normal was.0 was.1 (omega (arith, read.0)) read.2 others in
+          subst (λ (n : ℕ). ReadNumbers words table lines base number n entities bits found) (eqb-true number next r.here) all
+      | inr r ↦
+          let below : number < next = omega (arith, low, eqb-false number next r.there) in
+          let others = numbers_were_spelled put law law' words table lines base code is_table are list states left (number + 1) next r.kept bits found (omega arith) (omega arith) high r.others in
+          over_number words table lines base number next entities r.kept bits found states below within (stays-was entities from r.kept r.kept_is) others
     ]
 
 -- the same, folded

@@ -1,20 +1,20 @@
 -- What is read of a list is one: its numbers rise, and it has at most 256 entities.
-use Rattle.std.proofs.Common.{◌≡◌, ℕ, zero, suc, ◌+◌, ◌^◌, ◌<◌, ◌≤◌, Bool, true, false, List, [], ◌∷◌, ◌++◌, length, Option, Some, None, Result, Ok, refl, subst, inl, inr, arith, eqb, ltb, length-append}
+use Rattle.std.proofs.Common.{◌≡◌, ℕ, zero, suc, ◌+◌, ◌^◌, ◌<◌, ◌≤◌, Bool, true, false, List, [], ◌∷◌, ◌++◌, length, Option, Some, None, Result, Ok, refl, subst, inl, inr, arith, ltb, length-append}
 use Rattle.std.proofs.lemmas.Bool.{cases_Bool, ltb-true}
 use Rattle.std.proofs.Math.Pow.{pow_mono}
 use Rattle.std.specs.Option.{is_some}
-use Rattle.q3_bits.specs.ResultBind.{◌>>=◌, bind_ok}
-use Rattle.q3_fields.specs.Kinds.{Layout, IsTable, end_mark}
+use Rattle.q3_bits.specs.ResultBind.{bind_ok}
+use Rattle.q3_fields.specs.Kinds.{Layout, end_mark}
 use Rattle.q3_entity.specs.declared.state.EntityState.{EntityState}
 use Rattle.q3_entity.specs.declared.reading.Entry.{Entry}
 use Rattle.q3_entity.specs.declared.reading.Entry.TheVariants.{Removed, Changed, Same}
 use Rattle.q3_entity.specs.declared.error.EntityError.{EntityError}
-use Rattle.q3_entity.specs.Entities.{RiseFrom, IsList, Rises, most_entities, with_number}
+use Rattle.q3_entity.specs.Entities.{RiseFrom, IsList, most_entities, with_number}
 use Rattle.q3_entity.specs.Baselines.{Lines}
 use Rattle.q3_entity.specs.Laws.{ListRises}
-use Rattle.q3_entity.specs.Delta.{entity_at}
 use Rattle.q3_entity.proofs.ListWritten.{found-number}
-use Rattle.q3_entity.specs.Lists.{number_at, one_more, stays, entered, words_from, numbers_after, list_after}
+use Rattle.q3_entity.proofs.Steps.{number_step}
+use Rattle.q3_entity.specs.Lists.{number_at, one_more, stays, entered, numbers_after, list_after}
 
 -- numbers below a limit are below a larger one
 pub rise-more : (limit more least : ℕ) (xs : List EntityState) → limit ≤ more → RiseFrom limit least xs → RiseFrom more least xs
@@ -75,21 +75,13 @@ numbers_below words table lines base zero number next entities bits found below 
     let all : number + 0 ≡ number = omega arith in
     rw all (subst (λ (f : List EntityState × List Bool). IsBelow number f.0) same below)
 numbers_below words table lines base (suc left) number next entities bits found below e =
-    let from = with_number number base in
     let sum : number + 1 + left ≡ number + suc left = omega arith in
     subst (λ (n : ℕ). IsBelow n found.0) sum
-    (elim (cases_Bool (eqb number next)) [
-      | inl here ↦
-          let entry = bind_ok (entity_at words table (words_from lines number from) bits)
-          (λ entry. entered entities (is_some from) number entry.0.0 entry.0.1 >>= λ now. (number_at words table (number + 1) entry.1 >>= λ more. numbers_after words table lines base left (number + 1) more.0 now more.1))
-          found (rw here at e) in
-          let now = bind_ok (entered entities (is_some from) number entry.0.0.0 entry.0.0.1)
-          (λ now. number_at words table (number + 1) entry.0.1 >>= λ more. numbers_after words table lines base left (number + 1) more.0 now more.1) found entry.2 in
-          let more = bind_ok (number_at words table (number + 1) entry.0.1) (λ more. numbers_after words table lines base left (number + 1) more.0 now.0 more.1) found now.2 in
-          numbers_below words table lines base left (number + 1) more.0.0 now.0 more.0.1 found (entered-below number entities (is_some from) entry.0.0.0 entry.0.0.1 now.0 below now.1) more.2
-      | inr there ↦
-          let kept = bind_ok (stays entities from) (λ kept. numbers_after words table lines base left (number + 1) next kept bits) found (rw there at e) in
-          numbers_below words table lines base left (number + 1) next kept.0 bits found (stays-below number entities from kept.0 below (found-number number base) kept.1) kept.2
+    (elim (number_step words table lines base left number next entities bits found e) [
+      | inl r ↦
+          numbers_below words table lines base left (number + 1) r.more.0 r.now r.more.1 found (entered-below number entities (is_some (with_number number base)) r.entry.0.0 r.entry.0.1 r.now below r.now_is) r.others
+      | inr r ↦
+          numbers_below words table lines base left (number + 1) next r.kept bits found (stays-below number entities (with_number number base) r.kept below (found-number number base) r.kept_is) r.others
     ])
 
 pub list_is_listed : (words : List (List Bool)) (table : Layout) (lines : Lines) (base : List EntityState) (bits : List Bool) (now : List EntityState) (rest : List Bool)

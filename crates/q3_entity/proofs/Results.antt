@@ -2,26 +2,14 @@
 use Rattle.std.proofs.Common.{◌≡◌, ℕ, ◌^◌, ◌<◌, ◌≤◌, Bool, true, false, cond, ltb, List, ◌++◌, Result, Ok, Err, refl, subst, arith}
 use Rattle.std.proofs.lemmas.Bool.{ltb-false, le-ltb}
 use Rattle.std.proofs.lemmas.Nat.{pow_pos}
-use Rattle.q3_bits.specs.ResultBind.{bind_ok}
+use Rattle.q3_bits.specs.ResultBind.{bind_ok, map_err_ok}
 use Rattle.q3_bits.specs.Words.{IsCode, field_bits, field_at}
 use Rattle.q3_bits.specs.Laws.{ReadWasPut, PutIsRead}
-use Rattle.q3_bits.specs.declared.reader.ReadError.{ReadError}
 use Rattle.q3_fields.specs.Kinds.{Layout, end_mark}
-use Rattle.q3_fields.specs.declared.delta.DeltaError.{DeltaError}
 use Rattle.q3_entity.specs.declared.error.EntityError.{EntityError}
-use Rattle.q3_entity.specs.declared.error.EntityError.TheVariants.{Order}
-use Rattle.q3_entity.specs.Delta.{bits_read, words_read}
+use Rattle.q3_entity.specs.declared.error.EntityError.TheVariants.{Bits, Order}
+use Rattle.q3_entity.specs.Delta.{bits_read}
 use Rattle.q3_entity.specs.Lists.{number_at}
-
--- a read of bits that did not fail
-pub bits_ok : {A : Type 0} (r : Result A ReadError) (x : A) → bits_read r ≡ Ok x → r ≡ Ok x
-bits_ok (Ok y) x e = cc
-bits_ok (Err d) x e = absurd cc
-
--- a read of words that did not fail
-pub words_ok : {A : Type 0} (r : Result A DeltaError) (x : A) → words_read r ≡ Ok x → r ≡ Ok x
-words_ok (Ok y) x e = cc
-words_ok (Err d) x e = absurd cc
 
 -- a test that let pass
 pub guard_ok : {A : Type 0} (b : Bool) (d : EntityError) (x y : A) → (let r : Result A EntityError = cond b (Err d) (Ok x) in r) ≡ Ok y → (b ≡ false) × (x ≡ y)
@@ -35,7 +23,7 @@ unfolding number_at
 number_was_read law words table least bits found code e =
     let read = bind_ok (bits_read (field_at words table.number_bits bits)) (λ number. cond (ltb number.0 least) (Err (Order number.0)) (Ok number)) found e in
     let high = guard_ok (ltb read.0.0 least) (Order read.0.0) read.0 found read.2 in
-    let put = law words table.number_bits read.0.0 bits read.0.1 code (bits_ok (field_at words table.number_bits bits) read.0 read.1) in
+    let put = law words table.number_bits read.0.0 bits read.0.1 code (map_err_ok Bits (field_at words table.number_bits bits) read.0 read.1) in
     subst (λ (x : ℕ × List Bool). (least ≤ x.0) × (x.0 ≤ end_mark table) × (bits ≡ field_bits words table.number_bits x.0 ++ x.1)) high.1
     (ltb-false read.0.0 least high.0, omega (arith, put.0), put.1)
 

@@ -1,7 +1,7 @@
 -- A list that is passed over spells rising entries, each against the zero state, and what spells such entries is passed over.
 use Rattle.std.proofs.Common.{◌≡◌, ℕ, zero, suc, ◌+◌, ◌≤◌, Bool, List, [], ◌∷◌, ◌++◌, replicate, Ok, refl, sym, ap, subst, ◌∙◌, append_assoc, arith, inl, inr}
 use Rattle.std.proofs.lemmas.Bool.{cases_eq}
-use Rattle.q3_bits.specs.ResultBind.{◌>>=◌, bind_ok}
+use Rattle.q3_bits.specs.ResultBind.{◌>>=◌, bind_ok, bind_is}
 use Rattle.q3_bits.specs.Words.{IsCode, field_bits}
 use Rattle.q3_bits.specs.Laws.{ReadWasPut, PutIsRead}
 use Rattle.q3_fields.specs.Kinds.{Layout, IsTable, end_mark}
@@ -14,7 +14,6 @@ use Rattle.q3_entity.specs.Lists.{number_at}
 use Rattle.q3_entity.specs.Walking.{skipped_at}
 use Rattle.q3_entity.specs.Laws.{ZeroIsNormal, SkippedIsSpelled, SpelledIsSkipped}
 use Rattle.q3_entity.specs.Spelling.{Entered, SpellsEntries, EntriesRise}
-use Rattle.q3_entity.proofs.Binds.{bind_is}
 use Rattle.q3_entity.proofs.Results.{number_was_read, number_is_read}
 use Rattle.q3_entity.proofs.Skipping.{skipped_from, skip_begins, skip_turns, skip_ends}
 use Rattle.q3_entity.proofs.EntrySpelled.{words_there, SpellsMarks, marks_were_spelled, marks_are_read}

@@ -2,7 +2,7 @@
 use Rattle.std.proofs.Common.{◌≡◌, ◌≢◌, ℕ, zero, suc, ◌+◌, ◌-◌, ◌<◌, ◌≤◌, Bool, List, [], ◌∷◌, Option, Result, Ok, Err, refl, sym, ap, subst, ◌∙◌, arith, ltb, cond, inl, inr}
 use Rattle.std.proofs.lemmas.Bool.{cases_eq, eq-eqb, ne_eqb, cases_Bool, ltb-false}
 use Rattle.std.specs.Option.{is_some}
-use Rattle.q3_bits.specs.ResultBind.{◌>>=◌, bind_ok}
+use Rattle.q3_bits.specs.ResultBind.{◌>>=◌, bind_ok, bind_same, bind_assoc}
 use Rattle.q3_fields.specs.Kinds.{Layout, end_mark}
 use Rattle.q3_entity.specs.declared.state.EntityState.{EntityState}
 use Rattle.q3_entity.specs.declared.error.EntityError.{EntityError}
@@ -13,7 +13,6 @@ use Rattle.q3_entity.specs.Delta.{bits_read, entity_at}
 use Rattle.q3_entity.specs.Lists.{number_at, one_more, stays, entered, words_from, numbers_after, list_after}
 use Rattle.q3_entity.specs.Runs.{taken}
 use Rattle.q3_entity.specs.Walking.{kept_below, Reached, next_at, entry_at, turn_at}
-use Rattle.q3_entity.proofs.Binds.{bind_same, bind_assoc}
 use Rattle.q3_entity.proofs.Results.{number_was_read}
 use Rattle.q3_entity.proofs.Risen.{with_number-behind, with_number-below, is_taken}
 use Rattle.q3_entity.proofs.Numbers.{with_number-named, kept_below-none, kept_below-more, kept_below-rises}

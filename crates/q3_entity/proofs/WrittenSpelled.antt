@@ -11,7 +11,7 @@ use Rattle.q3_fields.specs.declared.delta.StateKind.TheVariants.{Entity}
 use Rattle.q3_fields.specs.Laws.{WordsAreSpelled, UnchangedIsNormal, WordsSpelledAreRead}
 use Rattle.q3_entity.specs.declared.state.EntityState.{EntityState}
 use Rattle.q3_entity.specs.declared.reading.Entry.{Entry}
-use Rattle.q3_entity.specs.declared.reading.Entry.TheVariants.{Removed, Changed, Same}
+use Rattle.q3_entity.specs.declared.reading.Entry.TheVariants.{Changed, Same}
 use Rattle.q3_entity.specs.Entities.{zero_entity, IsNormal}
 use Rattle.q3_entity.specs.Delta.{opening, removal, entity_delta, entry_of, entity_at}
 use Rattle.q3_entity.specs.Spelling.{Entered, SpellsEntry}

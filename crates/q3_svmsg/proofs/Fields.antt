@@ -1,14 +1,10 @@
 -- Fields of a row, one behind the other: what is read was put, and what is put is read.
-use Rattle.std.proofs.Common.{◌≡◌, ℕ, ◌^◌, ◌<◌, Bool, List, [], ◌∷◌, ◌++◌, Result, Ok, Err, refl, ap, ◌∙◌, sym, append_assoc}
+use Rattle.std.proofs.Common.{◌≡◌, ℕ, ◌^◌, ◌<◌, Bool, List, [], ◌∷◌, ◌++◌, Ok, refl, ap, ◌∙◌, sym, append_assoc}
+use Rattle.q3_bits.specs.ResultBind.{map_err_ok}
 use Rattle.q3_bits.specs.Words.{IsCode, field_bits, field_at, row_bits}
 use Rattle.q3_bits.specs.Laws.{ReadWasPut, PutIsRead}
-use Rattle.q3_bits.specs.declared.reader.ReadError.{ReadError}
-use Rattle.q3_svmsg.specs.Reading.{bits_read, field_read}
-
--- a read of bits that did not fail
-pub bits_ok : {A : Type 0} (r : Result A ReadError) (x : A) → bits_read r ≡ Ok x → r ≡ Ok x
-bits_ok (Ok y) x e = cc
-bits_ok (Err d) x e = absurd cc
+use Rattle.q3_svmsg.specs.declared.error.Illegible.TheVariants.{Bits}
+use Rattle.q3_svmsg.specs.Reading.{field_read}
 
 -- of no fields there is no text
 pub row-none : (words : List (List Bool)) (bits : List Bool) → bits ≡ row_bits words [] ++ bits
@@ -30,7 +26,7 @@ pub field_was_put : ReadWasPut → (words : List (List Bool)) (width : ℕ) (bit
     → WasField words width bits found
 unfolding row_bits
 field_was_put put words width bits found code e =
-    let was = put words width found.0 bits found.1 code (bits_ok (field_at words width bits) found e) in
+    let was = put words width found.0 bits found.1 code (map_err_ok Bits (field_at words width bits) found e) in
     record {
       fits = was.0;
       row = λ fields rest is.

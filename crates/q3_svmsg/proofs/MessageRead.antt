@@ -1,7 +1,7 @@
 -- A message that is spelled so is read.
-use Rattle.std.proofs.Common.{◌≡◌, ◌+◌, ◌<◌, ◌≤◌, ◌^◌, ℕ, zero, suc, Bool, List, [], ◌∷◌, ◌++◌, length, replicate, Ok, refl, sym, ap, ◌∙◌, append_assoc, arith}
+use Rattle.std.proofs.Common.{◌≡◌, ◌+◌, ◌≤◌, ℕ, zero, suc, Bool, List, [], ◌∷◌, ◌++◌, length, replicate, Ok, refl, sym, ap, ◌∙◌, append_assoc, arith}
 use Rattle.std.proofs.lemmas.List.{append-nil, length-append}
-use Rattle.q3_bits.specs.Words.{IsCode, row_bits, field_at}
+use Rattle.q3_bits.specs.Words.{IsCode, row_bits}
 use Rattle.q3_bits.specs.Laws.{PutIsRead, ReadWasPut}
 use Rattle.q3_text.specs.declared.text.Command.{Command}
 use Rattle.q3_player.specs.Laws as player
@@ -10,9 +10,9 @@ use Rattle.q3_profile.specs.declared.profile.Profile.{Profile}
 use Rattle.q3_profile.specs.Profile.{IsCodec}
 use Rattle.q3_svmsg.specs.Values.{Context, Told, Nothing, Snap, Skipped, Message}
 use Rattle.q3_svmsg.specs.Reading.{ending_after, operations_after, message_after}
-use Rattle.q3_svmsg.specs.Spelling.{SpellsNops, SpellsCommands, SpellsSection}
+use Rattle.q3_svmsg.specs.Spelling.{SpellsCommands, SpellsSection}
 use Rattle.q3_svmsg.specs.Laws.{IsContext, SpelledIsRead}
-use Rattle.q3_svmsg.proofs.Fields.{row-behind, row-none, row-first, row-last}
+use Rattle.q3_svmsg.proofs.Fields.{row-none, row-first, row-last}
 use Rattle.q3_svmsg.proofs.Turns.{turn, ending_done, ending_nop, operations_done, operations_nop, operations_command, operations_section}
 use Rattle.q3_svmsg.proofs.CommandsSpelled.{command_is_read}
 use Rattle.q3_svmsg.proofs.SectionSpelled.{TakenSection, snapshot_is_read, skipped_is_read}

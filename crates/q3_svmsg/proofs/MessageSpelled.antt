@@ -1,5 +1,5 @@
 -- What is read as a message was spelled so.
-use Rattle.std.proofs.Common.{◌≡◌, ◌+◌, ◌<◌, ◌≤◌, ◌==◌, ◌^◌, ℕ, zero, suc, Bool, true, eqb, cond, List, [], ◌∷◌, ◌++◌, length, replicate, Ok, Err, refl, sym, ap, subst, ◌∙◌, append_assoc, arith, inl, inr}
+use Rattle.std.proofs.Common.{◌≡◌, ◌<◌, ◌≤◌, ◌^◌, ℕ, zero, suc, Bool, true, eqb, cond, List, [], ◌∷◌, ◌++◌, length, replicate, Ok, Err, refl, sym, ap, subst, ◌∙◌, append_assoc, arith, inl, inr}
 use Rattle.std.proofs.lemmas.Bool.{cases_Bool, eqb-true}
 use Rattle.std.proofs.lemmas.List.{length-append, append-nil}
 use Rattle.q3_bits.specs.ResultBind.{◌>>=◌, bind_ok}
@@ -15,7 +15,7 @@ use Rattle.q3_svmsg.specs.Values.{Context, Told, Nothing, Message}
 use Rattle.q3_svmsg.specs.Reading.{field_read, commands_after, section_after, ending_after, operations_after, message_after}
 use Rattle.q3_svmsg.specs.Spelling.{SpellsCommands, SpellsSection}
 use Rattle.q3_svmsg.specs.Laws.{IsContext, ReadIsSpelled}
-use Rattle.q3_svmsg.proofs.Fields.{row-none, row-behind, WasField, field_was_put}
+use Rattle.q3_svmsg.proofs.Fields.{row-none, row-behind, field_was_put}
 use Rattle.q3_svmsg.proofs.CommandsSpelled.{ReadCommand, command_was_spelled}
 use Rattle.q3_svmsg.proofs.SectionSpelled.{ReadSection, section_was_spelled}
 

@@ -1,9 +1,8 @@
 -- A snapshot: what is read was spelled so, and what is spelled so is read.
-use Rattle.std.proofs.Common.{◌≡◌, ◌⊎◌, ◌^◌, ◌<◌, ℕ, zero, suc, Bool, List, [], ◌∷◌, ◌++◌, length, Option, Some, None, IsSome, Result, Ok, Err, refl, sym, ap, subst, ◌∙◌, append_assoc, arith, inl, inr}
-use Rattle.q3_bits.specs.ResultBind.{◌>>=◌, bind_ok}
+use Rattle.std.proofs.Common.{◌≡◌, ◌⊎◌, ◌<◌, ℕ, zero, suc, Bool, List, [], ◌∷◌, ◌++◌, length, Option, Some, None, IsSome, Ok, refl, sym, ap, subst, ◌∙◌, append_assoc, arith, inl, inr}
+use Rattle.q3_bits.specs.ResultBind.{◌>>=◌, bind_ok, map_err_ok}
 use Rattle.q3_bits.specs.Words.{row_bits}
 use Rattle.q3_bits.specs.Laws.{PutIsRead, ReadWasPut}
-use Rattle.q3_fields.specs.declared.delta.DeltaError.{DeltaError}
 use Rattle.q3_player.specs.declared.state.PlayerState.{PlayerState}
 use Rattle.q3_player.specs.declared.head.SnapHead.{SnapHead}
 use Rattle.q3_player.specs.State.{IsState, zero_player}
@@ -11,14 +10,13 @@ use Rattle.q3_player.specs.Delta.{player_at}
 use Rattle.q3_player.specs.Spelling.{SpellsPlayer}
 use Rattle.q3_player.specs.Laws as player
 use Rattle.q3_entity.specs.declared.state.EntityState.{EntityState}
-use Rattle.q3_entity.specs.declared.error.EntityError.{EntityError}
 use Rattle.q3_entity.specs.Baselines.{Lines, AreLines}
 use Rattle.q3_entity.specs.Lists.{list_after, list_skipped}
 use Rattle.q3_entity.specs.Spelling.{SpellsList, SpellsSkipped}
 use Rattle.q3_entity.specs.Laws as entity
 use Rattle.q3_profile.specs.declared.profile.Profile.{Profile}
 use Rattle.q3_profile.specs.Profile.{IsCodec}
-use Rattle.q3_svmsg.specs.declared.error.Illegible.{Illegible}
+use Rattle.q3_svmsg.specs.declared.error.Illegible.TheVariants.{Player, Entity}
 use Rattle.q3_svmsg.specs.Values.{Base, base_player, base_entities, number_of_base, Context, Told, Snap, Skipped}
 use Rattle.q3_svmsg.specs.Texts.{bytes_row}
 use Rattle.q3_svmsg.specs.Reading.{player_read, entities_read, field_read, held_base, snapshot_after, snapshot_skipped, against_base, area_after, section_after}
@@ -27,15 +25,6 @@ use Rattle.q3_svmsg.specs.Laws.{IsContext}
 use Rattle.q3_svmsg.proofs.Fields.{row-behind, field_was_put, row-first}
 use Rattle.q3_svmsg.proofs.CommandsSpelled.{area_was_spelled, area_is_read}
 use Rattle.q3_svmsg.proofs.Held.{IsFrom, held_is_normal}
-
--- a read of a player, and of a list, that did not fail
-player_ok : {A : Type 0} (r : Result A DeltaError) (x : A) → player_read r ≡ Ok x → r ≡ Ok x
-player_ok (Ok y) x e = cc
-player_ok (Err d) x e = absurd cc
-
-entities_ok : {A : Type 0} (r : Result A EntityError) (x : A) → entities_read r ≡ Ok x → r ≡ Ok x
-entities_ok (Ok y) x e = cc
-entities_ok (Err d) x e = absurd cc
 
 -- ---- the player and the entities against a base
 
@@ -75,9 +64,9 @@ states_were_spelled player_law list_law profile lines against base head bits fou
     let told : Told = Snap base (record head { player = player.0.0 }) entities.0.0 in
     let same : (told, entities.0.1) ≡ found = cc in
     let to = player_law words profile.player.kinds (base_player against) player.0.0 bits player.0.1 codec.code codec.player.kinds from.state
-    (player_ok (player_at words profile.player.kinds (base_player against) bits) player.0 player.1) in
+    (map_err_ok Player (player_at words profile.player.kinds (base_player against) bits) player.0 player.1) in
     let list = list_law words profile.entity lines (base_entities against) entities.0.0 player.0.1 entities.0.1 codec.code codec.entity are_lines from.list from.states
-    (entities_ok (list_after words profile.entity lines (base_entities against) player.0.1) entities.0 entities.1) in
+    (map_err_ok Entity (list_after words profile.entity lines (base_entities against) player.0.1) entities.0 entities.1) in
     subst (ReadStates profile lines against base head bits) {x = (told, entities.0.1)} same (record {
       to = player.0.0;
       entities = entities.0.0;
@@ -120,8 +109,8 @@ over_was_spelled zero_is player_law list_law profile bits found codec e =
     let words = profile.code in
     let player = bind_ok (player_read (player_at words profile.player.kinds zero_player bits)) (λ player. entities_read (list_skipped words profile.entity player.1)) found e in
     let to = player_law words profile.player.kinds zero_player player.0.0 bits player.0.1 codec.code codec.player.kinds (zero_is profile.player.kinds codec.player.kinds).0
-    (player_ok (player_at words profile.player.kinds zero_player bits) player.0 player.1) in
-    let list = list_law words profile.entity player.0.1 found.1 codec.code codec.entity (entities_ok (list_skipped words profile.entity player.0.1) (tt, found.1) player.2) in
+    (map_err_ok Player (player_at words profile.player.kinds zero_player bits) player.0 player.1) in
+    let list = list_law words profile.entity player.0.1 found.1 codec.code codec.entity (map_err_ok Entity (list_skipped words profile.entity player.0.1) (tt, found.1) player.2) in
     record {
       to = player.0.0;
       player = to.2;

@@ -3,7 +3,7 @@ use Rattle.std.proofs.Common.{◌≡◌, ◌+◌, ◌<◌, ◌≤◌, ◌==◌, 
 use Rattle.std.proofs.lemmas.List.{length-append}
 use Rattle.q3_bits.specs.Words.{word_of, IsCode, field_bits, bytes_bits, field_at}
 use Rattle.q3_bits.specs.Bits.{low_bits}
-use Rattle.q3_bits.specs.ResultBind.{◌>>=◌, bind_ok}
+use Rattle.q3_bits.specs.ResultBind.{◌>>=◌, bind_ok, map_err_ok}
 use Rattle.q3_text.specs.Texts.{most_bytes, translated}
 use Rattle.q3_bits.specs.Laws.{ReadWasPut, FieldsEndCutShort}
 use Rattle.q3_bits.specs.Streams.{Reading, with_rest, holding}
@@ -14,7 +14,7 @@ use Rattle.q3_profile.specs.declared.profile.Profile.{Profile}
 use Rattle.q3_svmsg.specs.declared.error.Illegible.{Illegible}
 use Rattle.q3_svmsg.specs.declared.error.Illegible.TheVariants.{Bits, BadOp, TextLong, Commands}
 use Rattle.q3_svmsg.specs.Values.{Context, Told, Message}
-use Rattle.q3_svmsg.specs.Reading.{bits_read, field_read, string_after, command_after, commands_after, section_after, ending_after, operations_after}
+use Rattle.q3_svmsg.specs.Reading.{field_read, string_after, command_after, commands_after, section_after, ending_after, operations_after}
 
 -- a word has a bit at least
 some_bits : (words : List (List Bool)) → IsCode words → (byte : ℕ) → byte < 256 → (word : List Bool) → word_of words byte ≡ word → 0 < length word
@@ -185,14 +185,10 @@ shrinks_bind bits read f first others = record {
       omega (arith, first.by steps.0.0 steps.0.1 steps.1, (others steps.0).by y rest steps.2);
 }
 
-bits_of_read : (read : Result (ℕ × List Bool) ReadError) (x : ℕ × List Bool) → bits_read read ≡ Ok x → read ≡ Ok x
-bits_of_read (Ok y) x is = cc
-bits_of_read (Err e) x is = absurd cc
-
 shrinks_field : (words : List (List Bool)) → ReadWasPut → IsCode words → (width : ℕ) (bits : List Bool) → Shrinks bits (field_read words width bits)
 shrinks_field words was_put code width bits = record {
   by = λ value rest is.
-      let put = was_put words width value bits rest code (bits_of_read (field_at words width bits) (value, rest) is) in
+      let put = was_put words width value bits rest code (map_err_ok Bits (field_at words width bits) (value, rest) is) in
       omega (arith, ap length put.1, length-append (field_bits words width value) rest);
 }
 

@@ -1,5 +1,5 @@
 -- What is written of a message spells it.
-use Rattle.std.proofs.Common.{◌≡◌, ◌⊎◌, ◌+◌, ◌-◌, ◌<◌, ◌≤◌, ◌==◌, ◌&&◌, ◌^◌, ℕ, zero, suc, Bool, true, false, nat_lt, if◌then◌else◌, List, [], ◌∷◌, ◌++◌, length, map, Option, Some, None, IsSome, refl, sym, ap, subst, ◌∙◌, append_assoc, arith, inl, inr}
+use Rattle.std.proofs.Common.{◌≡◌, ◌⊎◌, ◌+◌, ◌-◌, ◌<◌, ◌≤◌, ◌==◌, ◌&&◌, ℕ, zero, suc, Bool, true, false, nat_lt, if◌then◌else◌, List, [], ◌∷◌, length, map, Option, Some, None, IsSome, refl, sym, ap, ◌∙◌, arith, inl, inr}
 use Rattle.std.specs.List.{All, flat_map}
 use Rattle.std.proofs.lemmas.Bool.Decides.{nat_tests}
 use Rattle.std.proofs.lemmas.List.{append-nil}
@@ -7,24 +7,19 @@ use Rattle.std.proofs.lemmas.List.Elements.{All-head, All-tail}
 use Rattle.q3_bits.specs.Words.{row_bits}
 use Rattle.q3_text.specs.declared.text.Command.{Command}
 use Rattle.q3_text.specs.Texts.{most_bytes, translated, IsTextByte}
-use Rattle.q3_player.specs.declared.head.SnapHead.{SnapHead}
-use Rattle.q3_player.specs.State.{IsState, normal_player}
 use Rattle.q3_player.specs.Delta.{player_delta}
 use Rattle.q3_player.specs.Laws as player
-use Rattle.q3_entity.specs.declared.state.EntityState.{EntityState}
-use Rattle.q3_entity.specs.Entities.{normal_entity}
 use Rattle.q3_entity.specs.Lists.{list_text}
 use Rattle.q3_entity.specs.Laws as entity
 use Rattle.q3_profile.specs.declared.profile.Profile.{Profile}
 use Rattle.q3_profile.specs.Profile.{IsCodec}
-use Rattle.q3_svmsg.specs.Values.{Base, base_player, base_entities, Context, Told, Nothing, Snap, Skipped, Message, IsNamed, distance_to, number_of_base}
-use Rattle.q3_svmsg.specs.Texts.{bytes_row, string_bits, command_bits, head_bits, snapshot_bits, section_bits, message_text}
+use Rattle.q3_svmsg.specs.Values.{Base, base_player, base_entities, Context, Told, Nothing, Snap, Skipped, IsNamed, distance_to, number_of_base}
+use Rattle.q3_svmsg.specs.Texts.{string_bits, command_bits, head_bits, snapshot_bits, section_bits, message_text}
 use Rattle.q3_svmsg.specs.Reading.{held_base}
 use Rattle.q3_svmsg.specs.Spelling.{SpellsString, SpellsCommands, SpellsSection}
-use Rattle.q3_svmsg.specs.Laws.{IsCommand, IsHead, IsContext, AreEntities, IsTold, HasNumber, base_in, normal_told, WrittenIsSpelled}
+use Rattle.q3_svmsg.specs.Laws.{IsCommand, IsContext, IsTold, HasNumber, base_in, normal_told, WrittenIsSpelled}
 use Rattle.q3_svmsg.proofs.Fields.{row-none}
 use Rattle.q3_svmsg.proofs.Held.{held_is_normal}
-use Rattle.q3_svmsg.proofs.MessageSpelled.{end}
 
 -- ---- commands
 

@@ -3,38 +3,42 @@
 ghost use Rattle.std.specs.Prelude.{◌≡◌, ◌≤◌, All, IfOk, slice_index_or};
 
 use super::*;
-use q3_bits::{Code, NoMemory, Overflow, ReadError, Writer};
+use q3_bits::{Code, CodeError, NoMemory, Overflow, ReadError, Writer};
 use q3_entity::{Baselines, EntityError, EntityState, Run};
 use q3_fields::Table;
 use q3_player::{PlayerError, PlayerState};
 use q3_profile::Profile;
 use q3_text::{Command, Text};
-use std::alloc::Global;
+use std::alloc::{AllocError, Global};
+use std::slice::from_ref;
 use std::test::*;
 
 /// The number of the message that is read.
 const NUMBER: u32 = 6;
 
-/// Snapshot 5 is held, with a player and no entities.
+/// Snapshot 5 is held, with a player and an entity.
 #[derive(Drop)]
 struct Held {
     player: PlayerState,
+    entity: EntityState,
     baselines: Baselines,
 }
 
 impl Bases for Held {
-    ghost use Rattle.std.specs.Prelude.{◌==◌, [], Some, None, if◌then◌else◌};
+    ghost use Rattle.std.specs.Prelude.{◌==◌, [], ◌∷◌, Some, None, if◌then◌else◌};
 
-    ghost context = { λ h. record { base = λ n. if n == 5 then Some (record { player = h.player; entities = [] }) else None; lines = h.baselines } };
+    ghost context = { λ h. record { base = λ n. if n == 5 then Some (record { player = h.player; entities = h.entity ∷ [] }) else None; lines = h.baselines } };
 
     fn base(&self, number: u32) -> Option<BaseView<'_>> {
         if number != 5 {
             return None;
         }
+        // a number that is read is within its type
+        let _number = self.entity.number;
         Some(BaseView {
             player: &self.player,
             entities: Run {
-                head: &[],
+                head: from_ref(&self.entity),
                 tail: &[],
             },
         })
@@ -126,6 +130,7 @@ fn messages_are_read(rt: HostRuntime) -> Result<(), Fail> {
     )?;
     let mut held = Held {
         player: PlayerState::zero(),
+        entity: entity(5, 7),
         baselines: Baselines::new(rt.alloc())?,
     };
     held.player.words[1] = 9;
@@ -159,14 +164,14 @@ fn messages_are_read(rt: HostRuntime) -> Result<(), Fail> {
     assert_eq!(rt; message.section, Section::Nothing);
     let cases = [
         (0, 0, true, 0),
-        (1, 5, true, 9),
         (2, 4, false, 0),
         (6, 0, false, 0),
+        (1, 5, true, 9),
     ];
     for (distance, base, there, word) in cases {
         let bytes = [
-            0x00, 0x00, 0x00, 0x00, 0x07, 0xe8, 0x03, 0x00, 0x00, distance, 0x02, 0x00, 0x00, 0xfe,
-            0x47, 0x00,
+            0x00, 0x00, 0x00, 0x00, 0x07, 0xe8, 0x03, 0x00, 0x00, distance, 0x02, 0x02, 0xaa, 0xbb,
+            0x00, 0xfe, 0x47, 0x00,
         ];
         assert_eq!(rt; read(&profile, &held, &bytes, &mut message), Ok(()));
         assert_eq!(rt; message.ack, 0);
@@ -176,8 +181,10 @@ fn messages_are_read(rt: HostRuntime) -> Result<(), Fail> {
         assert_eq!(rt; message.head.time, 1000);
         assert_eq!(rt; message.head.flags, 2);
         assert_eq!(rt; message.head.player.words[1], word);
-        assert!(rt; message.head.area.is_empty());
+        assert_eq!(rt; message.head.area.as_slice(), [0xaa, 0xbb].as_slice());
+        assert!(rt; !there || message.entities.is_empty() == (base == 0));
     }
+    assert_eq!(rt; message.entities.as_slice(), [entity(5, 7)].as_slice());
     assert_eq!(rt;
         read(
             &profile,
@@ -200,6 +207,7 @@ fn first_fault_in_reading_order(rt: HostRuntime) -> Result<(), Fail> {
     )?;
     let held = Held {
         player: PlayerState::zero(),
+        entity: entity(5, 7),
         baselines: Baselines::new(rt.alloc())?,
     };
     let mut message = ServerMessage::new(rt.alloc())?;
@@ -279,6 +287,54 @@ fn first_fault_in_reading_order(rt: HostRuntime) -> Result<(), Fail> {
     Ok(())
 }
 
+/// Words of nine bits, the first of which is 1.
+fn texts(alloc: Global) -> Result<Vec<String>, AllocError> {
+    let mut texts = Vec::new(alloc);
+    for byte in 0..256u32 {
+        let mut text = String::new(alloc);
+        text.push('1')?;
+        for place in [1, 2, 4, 8, 16, 32, 64, 128] {
+            text.push(if byte & place == 0 { '0' } else { '1' })?;
+        }
+        texts.push(text)?;
+    }
+    Ok(texts)
+}
+
+fn code_of(alloc: Global, texts: &[String]) -> Result<Code, CodeError> {
+    let mut words = Vec::new(alloc);
+    for text in texts {
+        words.push(text.as_str())?;
+    }
+    Code::from_words(alloc, &words)
+}
+
+#[test]
+fn bits_that_begin_no_word_are_refused(rt: HostRuntime) -> Result<(), Fail> {
+    let mut profile = profile(
+        rt.alloc(),
+        Table::of(&[0, 8, -16]).expect(&rt, "a table"),
+        Table::of(&[0, 16]).expect(&rt, "a table"),
+    )?;
+    profile.code = code_of(rt.alloc(), &texts(rt.alloc())?).expect(&rt, "a code");
+    let held = Held {
+        player: PlayerState::zero(),
+        entity: entity(5, 7),
+        baselines: Baselines::new(rt.alloc())?,
+    };
+    let mut message = ServerMessage::new(rt.alloc())?;
+    assert_eq!(rt;
+        read_ack(&profile.code, &[0x00, 0x00]),
+        Err(ReadError::NoWord)
+    );
+    assert_eq!(rt; read_ack(&profile.code, &[0x01]), Err(ReadError::End));
+    assert_eq!(rt;
+        read(&profile, &held, &[0x00, 0x00], &mut message),
+        Err(Illegible::Bits(ReadError::NoWord))
+    );
+    Ok(())
+}
+
 /// A message that begins with these fields, and goes on with others, so many times; `rises` is added to the first of them
 /// from one time to the next.
 fn repeated<'a>(
@@ -312,6 +368,7 @@ fn what_is_too_long_is_refused(rt: HostRuntime) -> Result<(), Fail> {
     )?;
     let held = Held {
         player: PlayerState::zero(),
+        entity: entity(5, 7),
         baselines: Baselines::new(rt.alloc())?,
     };
     let mut message = ServerMessage::new(rt.alloc())?;
@@ -327,6 +384,15 @@ fn what_is_too_long_is_refused(rt: HostRuntime) -> Result<(), Fail> {
         read(&profile, &held, text.bytes(), &mut message),
         Err(Illegible::TextLong)
     );
+    let mut commands = repeated(&profile.code, &[(0, 32)], [(5, 8), (1, 32), (0, 8)], 64, 0).expect(
+        &rt, "room",
+    );
+    assert_eq!(rt; commands.put(8, 8), Ok(()));
+    assert_eq!(rt;
+        read(&profile, &held, commands.bytes(), &mut message),
+        Ok(())
+    );
+    assert_eq!(rt; message.commands.len(), 64);
     let commands = repeated(&profile.code, &[(0, 32)], [(5, 8), (1, 32), (0, 8)], 65, 0).expect(
         &rt, "room",
     );
