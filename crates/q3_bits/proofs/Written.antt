@@ -194,11 +194,17 @@ field_bits-gathered words width value low size high more is is' =
     field_bits-is words width value ∙ ap (λ (x : List Bool). low_bits raw value ++ x) (sym (words-split words (width / 8) (value / 2 ^ raw)))
     ∙ rw (front, is, is') (sym (append_assoc (low_bits raw value) (bytes_bits words (min (width / 8) 2) (value / 2 ^ raw)) (bytes_bits words (width / 8 - min (width / 8) 2) (value / 2 ^ raw / 65536))))
 
+-- bits, and others above them, as one number
+pub joined-fits : (count more bits others : ℕ) → count + more ≤ 64 → bits < 2 ^ count → others < 2 ^ more
+    → (others * 2 ^ count % 2 ^ 64 ≡ others * 2 ^ count) × (bits + others * 2 ^ count < 2 ^ (count + more)) × (2 ^ (count + more) ≤ 2 ^ 64)
+joined-fits count more bits others few fits above = (
+  shl_whole others more count 64 above (omega arith),
+  rw (pow-add 2 count more) (omega (arith, mul-add-lt others (2 ^ count) bits (2 ^ more) above fits)),
+  pow-le-pow_right {n = 2} (omega arith) {i = count + more} {j = 64} few,
+)
+
 -- the first of them fit
 pub gathered-front : (raw size low value : ℕ) → raw < 8 → size ≤ 48 → low < 2 ^ size
     → (low * 2 ^ raw % 2 ^ 64 ≡ low * 2 ^ raw) × (value % 2 ^ raw + low * 2 ^ raw < 2 ^ (raw + size)) × (2 ^ (raw + size) ≤ 2 ^ 64)
-gathered-front raw size low value few most fits = (
-  shl_whole low size raw 64 fits (omega arith),
-  rw (pow-add 2 raw size) (omega (arith, mul-add-lt low (2 ^ raw) (value % 2 ^ raw) (2 ^ size) fits (mod_below value (2 ^ raw) (pow_pos raw)))),
-  pow-le-pow_right {n = 2} (omega arith) {i = raw + size} {j = 64} (omega arith),
-)
+gathered-front raw size low value few most fits =
+    joined-fits raw size (value % 2 ^ raw) low (omega arith) (mod_below value (2 ^ raw) (pow_pos raw)) fits

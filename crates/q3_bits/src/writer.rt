@@ -83,11 +83,8 @@ impl<'a> Writer<'a> {
         if !self.has_room(raw + low.count + high.count) {
             return Err(Overflow);
         }
-        self.push(
-            u64::from(value % (1 << raw)) + (low.bits << raw),
-            raw + low.count,
-        );
-        self.push(high.bits, high.count);
+        let front = u64::from(value % (1 << raw)) + (low.bits << raw);
+        self.push_both(front, raw + low.count, high);
         Ok(())
     }
 
@@ -137,6 +134,37 @@ impl<'a> Writer<'a> {
         ensures { IsTrue result ↔ (message_length (length self.now.bits + count) ≤ self.now.room) }
     {
         (self.count + count as usize) / 8 < self.room
+    }
+
+    /// Writes bits, so many, given as the number that they spell, and others behind them: at once where 56 are enough.
+    fn push_both(&mut self, bits: u64, count: u32, others: Gathered)
+        requires few { count ≤ 55 }
+        requires fits { bits < 2 ^ count }
+        requires few_others { others.count ≤ 48 }
+        requires others_fit { others.bits < 2 ^ others.count }
+        requires room { message_length (length self.old.bits + (count + others.count)) ≤ self.old.room }
+        ensures { self.new ≡ record self.old { bits = self.old.bits ++ low_bits count bits ++ low_bits others.count others.bits } }
+    {
+        if count + others.count <= 56 {
+            self.push(bits + (others.bits << count), count + others.count);
+            return;
+        }
+        self.push_each(bits, count, others);
+    }
+
+    /// The same, one behind the other.
+    #[cold]
+    #[inline(never)]
+    fn push_each(&mut self, bits: u64, count: u32, others: Gathered)
+        requires few { count ≤ 55 }
+        requires fits { bits < 2 ^ count }
+        requires few_others { others.count ≤ 48 }
+        requires others_fit { others.bits < 2 ^ others.count }
+        requires room { message_length (length self.old.bits + (count + others.count)) ≤ self.old.room }
+        ensures { self.new ≡ record self.old { bits = self.old.bits ++ low_bits count bits ++ low_bits others.count others.bits } }
+    {
+        self.push(bits, count);
+        self.push(others.bits, others.count);
     }
 
     /// Writes bits, so many, given as the number that they spell.

@@ -47,27 +47,24 @@ returns-then-not-has_room-clause-writes c =
       front = ([], field_bits s.words c.args.width c.args.value, refl, rw append-nil refl);
     }
 
-pub overflow_add-from : goal.overflow_add-from
-overflow_add-from c =
+pub overflow_add-front : goal.overflow_add-front
+overflow_add-front c =
     let low = c.gather-low.result in
     let shift = one_shl (c.args.width % 8) 32 (omega arith) in
     let is = rw shift at c.from.ensures in
     let fits = gathered-front (c.args.width % 8) low.count low.bits c.args.value (omega arith) (omega (arith, c.gather-low.ensures.few, c.min-first.ensures)) c.gather-low.ensures.fits in
     omega (arith, is, fits.0, fits.1, fits.2)
 
-pub push-requires-clause-fits : goal.push-requires-clause-fits
-push-requires-clause-fits c =
+pub push_both-requires-clause-fits : goal.push_both-requires-clause-fits
+push_both-requires-clause-fits c =
     let low = c.gather-low.result in
     let shift = one_shl (c.args.width % 8) 32 (omega arith) in
     let is = rw shift at c.from.ensures in
     let fits = gathered-front (c.args.width % 8) low.count low.bits c.args.value (omega arith) (omega (arith, c.gather-low.ensures.few, c.min-first.ensures)) c.gather-low.ensures.fits in
     omega (arith, is, fits.0, fits.1)
 
-pub push-requires-2-clause-room : goal.push-requires-2-clause-room
-push-requires-2-clause-room c =
-    let s = c.args.self.now in
-    let low = c.gather-low.result in
-    rw c.push.ensures (omega (arith, c.if-not-has_room.ensures.0 refl, length-append s.bits (low_bits (c.args.width % 8 + low.count) (c.from.result + low.bits * 2 ^ (c.args.width % 8) % 18446744073709551616)), length-low_bits (c.args.width % 8 + low.count) (c.from.result + low.bits * 2 ^ (c.args.width % 8) % 18446744073709551616)))
+pub push_both-requires-clause-room : goal.push_both-requires-clause-room
+push_both-requires-clause-room c = omega (arith, c.if-not-has_room.ensures.0 refl)
 
 pub returns-clause-writes : goal.returns-clause-writes
 returns-clause-writes c =
@@ -86,6 +83,6 @@ returns-clause-writes c =
     append_assoc s.bits (low_bits (c.args.width % 8 + low.count) (front_of c.args.width c.args.value low)) (low_bits high.count high.bits) ∙ ap (λ (x : List Bool). s.bits ++ x) (sym (rw same at text)) in
     record {
       refused = (λ e. absurd (false≢true e), λ over. absurd (omega (arith, c.if-not-has_room.ensures.0 refl, long)));
-      ok = rw (c.push-2.ensures, c.push.ensures, number, whole) refl;
-      front = (field_bits s.words c.args.width c.args.value, [], append-nil (field_bits s.words c.args.width c.args.value), rw (c.push-2.ensures, c.push.ensures, number, whole) refl);
+      ok = rw (c.push_both.ensures, number, whole) refl;
+      front = (field_bits s.words c.args.width c.args.value, [], append-nil (field_bits s.words c.args.width c.args.value), rw (c.push_both.ensures, number, whole) refl);
     }
