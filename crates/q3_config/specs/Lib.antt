@@ -1,0 +1,4 @@
+pub mod Strings
+pub mod Commands
+pub mod Changes
+pub mod Laws
