@@ -2,3 +2,4 @@ pub mod Strings
 pub mod Commands
 pub mod Changes
 pub mod Laws
+pub mod Table

@@ -1,12 +1,7 @@
 //! Config strings: 1,024 strings of bounded size, and the commands that change them.
 #![tactic(auto)]
 
-pub mod configs;
 pub mod error;
-pub mod laws;
-mod shapes;
-#[cfg(test)]
-mod tests;
+mod table;
 
-pub use configs::Configs;
 pub use error::ConfigError;
