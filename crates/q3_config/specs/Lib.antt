@@ -3,3 +3,4 @@ pub mod Commands
 pub mod Changes
 pub mod Laws
 pub mod Table
+pub mod Parts

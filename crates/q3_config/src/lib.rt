@@ -2,6 +2,7 @@
 #![tactic(auto)]
 
 pub mod error;
+mod pending;
 mod table;
 
 pub use error::ConfigError;

@@ -1,11 +1,16 @@
 //! The strings themselves, one behind the other in one piece of memory, as the engine's `gameState_t` has them (q_shared.h).
 
-ghost use Rattle.std.specs.Prelude.{◌≡◌, ℕ, ◌+◌, ◌-◌, ◌≤◌, ◌<◌, ◌^◌, [], ◌++◌, length, map, take, drop, replicate, nat_le, slice_index, slice_index_or, slice_set, slice_range, vec_capacity, IfOk};
+ghost use Rattle.std.specs.Prelude.{◌≡◌, ℕ, ◌+◌, ◌-◌, ◌≤◌, ◌<◌, ◌^◌, [], ◌++◌, length, map, take, drop, replicate, nat_le, slice_index, slice_index_or, slice_set, slice_range, vec_capacity, IfOk, Option};
 ghost use Rattle.std.specs.List.{concat};
+ghost use Rattle.std.specs.Str.{bytes_eq};
 ghost use Rattle.q3_text.specs.Texts.{translated};
-ghost use Rattle.q3_config.specs.Strings.{places, most_size, size_of, config_size};
+ghost use Rattle.q3_config.specs.Strings.{Pending, places, most_size, size_of, config_size, room_fault, set_fault, refused, after_set};
+ghost use Rattle.q3_config.specs.Changes.{make_change};
+ghost use Rattle.q3_config.specs.Parts.{strings_with, attempted};
 ghost use Rattle.q3_config.specs.Table.{strings_of, start_at, LieBehind};
 
+use crate::error::ConfigError;
+use crate::pending::LONGEST;
 use q3_bits::NoMemory;
 use q3_text::translate;
 use std::alloc::Global;
@@ -93,6 +98,77 @@ impl Table {
         self.size + size_of(text) - size_of(self.get(index))
     }
 
+    /// Sets the string at an index, or leaves the strings as they are and says why.
+    pub fn set(&mut self, index: u32, text: &[u8]) -> Result<(), ConfigError>
+        requires { length self.old ≡ places }
+        ensures answer { (pending : Option Pending) → result ≡ refused (set_fault (strings_with pending self.old) index text.now) }
+        ensures texts { (pending : Option Pending) → strings_with pending self.new
+            ≡ after_set (strings_with pending self.old) index text.now (set_fault (strings_with pending self.old) index text.now) }
+    {
+        self.check(index, text)?;
+        self.put(index as usize, text);
+        Ok(())
+    }
+
+    /// Sets the string at an index where it is another, and says whether it was. `Err` is what is wrong with it.
+    pub fn change(&mut self, index: u32, text: &[u8]) -> Result<bool, ConfigError>
+        requires { length self.old ≡ places }
+        ensures { (pending : Option Pending) → attempted pending self.new result ≡ make_change (strings_with pending self.old) index text.now }
+    {
+        if self.has(index, text) {
+            return Ok(false);
+        }
+        self.set(index, text)?;
+        Ok(true)
+    }
+
+    /// What is wrong with a text for an index.
+    #[tactic(auto, unfolding(crate::specs::Strings::set_fault))]
+    fn check(&self, index: u32, text: &[u8]) -> Result<(), ConfigError>
+        requires { length self.now ≡ places }
+        ensures { (pending : Option Pending) → result ≡ refused (set_fault (strings_with pending self.now) index text.now) }
+    {
+        if index as usize >= PLACES {
+            return Err(ConfigError::Index);
+        }
+        self.check_room(index as usize, text)
+    }
+
+    /// What is wrong with a text as such: it is too long, or the strings with it would be too large.
+    pub fn check_room(&self, index: usize, text: &[u8]) -> Result<(), ConfigError>
+        requires { index < length self.now }
+        ensures { (pending : Option Pending) → result ≡ refused (room_fault (strings_with pending self.now) index text.now) }
+    {
+        if text.len() > LONGEST {
+            return Err(ConfigError::Long);
+        }
+        if self.fits(index, text) {
+            Ok(())
+        } else {
+            Err(ConfigError::Full)
+        }
+    }
+
+    /// Whether the string at an index is this text, each byte translated.
+    fn has(&self, index: u32, text: &[u8]) -> bool
+        requires { length self.now ≡ places }
+        ensures { result ≡ bytes_eq (slice_index_or self.now index []) (map translated text.now) }
+    {
+        is_translated(self.string(index), text)
+    }
+
+    /// The string at an index, and none past the last index.
+    pub fn string(&self, index: u32) -> &[u8]
+        requires { length self.now ≡ places }
+        ensures { result.now ≡ slice_index_or self.now index [] }
+    {
+        if (index as usize) < PLACES {
+            self.get(index as usize)
+        } else {
+            &[]
+        }
+    }
+
     /// Takes the bytes of all strings away.
     pub fn clear(&mut self)
         ensures { self.new ≡ replicate (length self.old) [] }
@@ -101,6 +177,21 @@ impl Table {
         self.ends.fill(0);
         self.size = 1;
     }
+}
+
+/// Whether bytes are these others, each translated.
+fn is_translated(bytes: &[u8], text: &[u8]) -> bool
+    ensures { result ≡ bytes_eq bytes.now (map translated text.now) }
+{
+    if bytes.len() != text.len() {
+        return false;
+    }
+    for (place, byte) in text.iter().enumerate() {
+        if bytes[place] != translate(*byte) {
+            return false;
+        }
+    }
+    true
 }
 
 /// What a string adds to the size.
