@@ -1,12 +1,13 @@
 -- What is known where nothing is wrong with a text, and that strings stay within their limits then.
 use Rattle.std.proofs.Common.{◌≡◌, ℕ, ◌<◌, ◌≤◌, Bool, true, false, ltb, leb, List, length, set, map, Option, Some, None, inl, inr, refl, sym, ap, ◌∙◌, arith, Ok}
+use Rattle.std.specs.Prelude.{not, find}
 use Rattle.std.proofs.lemmas.Bool.{cases_Bool, ltb-true, ltb-false, leb-true, lt-ltb, le-ltb}
 use Rattle.std.proofs.lemmas.List.{length-set, length-map}
 use Rattle.std.proofs.lemmas.List.Elements.{All-set}
 use Rattle.q3_text.specs.Texts.{translated}
 use Rattle.q3_config.specs.declared.error.ConfigError.{ConfigError}
 use Rattle.q3_config.specs.declared.error.ConfigError.TheVariants.{Index, Long, Full}
-use Rattle.q3_config.specs.Strings.{Strings, AreStrings, places, longest_string, most_size, config_size, with_string, fits, room_fault, set_fault, refused, after_set}
+use Rattle.q3_config.specs.Strings.{Strings, AreStrings, places, longest_string, most_size, config_size, with_string, is_config_byte, fits, room_fault, set_fault, admit_fault, refused, after_set}
 
 abbrev pub no_fault : Option ConfigError
 no_fault = None
@@ -23,6 +24,11 @@ set_fault-within strings index text lt = rw (lt-ltb index places lt) refl
 pub set_fault-past : (strings : Strings) (index : ℕ) (text : List ℕ) → places ≤ index → set_fault strings index text ≡ Some Index
 unfolding set_fault
 set_fault-past strings index text le = rw (le-ltb index places le) refl
+
+-- where all bytes may be carried, only the room can be wrong
+pub admit_fault-carried : (strings : Strings) (index : ℕ) (text : List ℕ) → index < places → find (λ byte. not (is_config_byte byte)) text ≡ None → admit_fault strings index text ≡ room_fault strings index text
+unfolding admit_fault
+admit_fault-carried strings index text lt none = rw (lt-ltb index places lt, none) refl
 
 -- a text that is neither too long nor too large with the others
 pub record Fits (strings : Strings) (index : ℕ) (text : List ℕ) : Type 0 where

@@ -1,8 +1,11 @@
--- What the parts of kept strings do: the strings themselves, and the text that is pending.
+-- What the parts of kept strings do: the strings themselves, the text that is pending, and the change that a text is read as.
 use Rattle.std.specs.Prelude.{ℕ, Bool, List, Option, Some, None, Result, Ok, Err}
 use Rattle.q3_config.specs.declared.error.ConfigError.{ConfigError}
 use Rattle.q3_config.specs.Strings.{Strings, Pending}
-use Rattle.q3_config.specs.Commands.{Word}
+use Rattle.q3_config.specs.declared.shapes.Word as code
+use Rattle.q3_config.specs.declared.shapes.Word.TheVariants as read
+use Rattle.q3_config.specs.declared.shapes.Change as changes
+use Rattle.q3_config.specs.Commands.{Word, Whole, First, Middle, Last, Change}
 use Rattle.q3_config.specs.Changes.{Applied, unchanged, finish}
 
 -- strings, with this pending text or none
@@ -18,3 +21,14 @@ attempted pending texts (Err fault) = unchanged (strings_with None texts)
 abbrev pub finished : Strings → Word → Option Pending → Applied
 finished strings word None = unchanged strings
 finished strings word (Some pending) = finish strings word pending.index pending.text
+
+-- the word that the code's stands for
+abbrev pub meant : code.Word → Word
+meant read.Whole = Whole
+meant read.First = First
+meant read.Middle = Middle
+meant read.Last = Last
+
+-- the change that the code's stands for
+abbrev pub told : changes.Change → Change
+told change = record { word = meant change.word; index = change.index; text = change.text.now }
