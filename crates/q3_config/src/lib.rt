@@ -6,7 +6,9 @@ pub mod error;
 mod pending;
 mod shapes;
 mod table;
+mod writing;
 
 pub use configs::Configs;
 pub use error::ConfigError;
 pub use shapes::shape;
+pub use writing::{piece, pieces};

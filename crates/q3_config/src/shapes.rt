@@ -4,7 +4,7 @@
 ghost use Rattle.std.specs.Prelude.{◌≡◌, ◌==◌, ◌<◌, ◌≤◌, length, position, option_map, IfSome};
 ghost use Rattle.std.specs.Str.{bytes_eq};
 ghost use Rattle.q3_config.specs.Strings.{places};
-ghost use Rattle.q3_config.specs.Commands.{cut_at, word_in, quoted_in, change_in};
+ghost use Rattle.q3_config.specs.Commands.{spelled, cut_at, word_in, quoted_in, change_in};
 ghost use Rattle.q3_config.specs.Parts.{meant, told};
 
 use q3_text::{Text, decimal_within};
@@ -16,6 +16,20 @@ pub(crate) enum Word {
     First,
     Middle,
     Last,
+}
+
+impl Word {
+    /// How it is spelled.
+    pub fn spelled(self) -> &'static [u8]
+        ensures { result.now ≡ spelled (meant self) }
+    {
+        match self {
+            Word::Whole => b"cs",
+            Word::First => b"bcs0",
+            Word::Middle => b"bcs1",
+            Word::Last => b"bcs2",
+        }
+    }
 }
 
 /// A change of the string at an index, or a piece of one: what stands between the quotes.
