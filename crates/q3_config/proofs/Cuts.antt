@@ -1,8 +1,8 @@
 -- Texts that are cut at a byte: what is read was spelled so, and what is spelled so is read.
-use Rattle.std.proofs.Common.{◌≡◌, ◌≢◌, ℕ, suc, ◌<◌, ◌≤◌, ◌+◌, Bool, true, false, ltb, eqb, List, [], ◌∷◌, ◌++◌, length, get_or, take, drop, Option, Some, None, inl, inr, refl, sym, ap, subst, ◌∙◌, arith, one-add, add-one}
+use Rattle.std.proofs.Common.{◌≡◌, ◌≢◌, ℕ, suc, ◌<◌, ◌+◌, Bool, true, false, ltb, eqb, List, [], ◌∷◌, ◌++◌, length, get_or, take, drop, Option, Some, None, inl, inr, refl, ap, subst, ◌∙◌, arith, one-add, add-one}
 use Rattle.std.specs.Prelude.{not}
 use Rattle.std.specs.List.{All, list_all, position_or_len}
-use Rattle.std.proofs.Math.Seq.{take-append_seam, drop-append_seam}
+use Rattle.std.proofs.Math.Seq.{take-append_seam}
 use Rattle.std.proofs.lemmas.Bool.{cases_Bool, ltb-true, lt-ltb, eqb-true, eqb-false, eq-eqb, and_parts, not-true}
 use Rattle.std.proofs.lemmas.Option.{same_Some}
 use Rattle.std.proofs.lemmas.List.Sums.{split_at_first, passes_at_first, fails_before_first}
@@ -50,9 +50,9 @@ cut-lacks byte text parts e =
           let same = same_Some (take place text, drop (place + 1) text) parts whole in
           let front : take place text ≡ parts.0 = ap (λ (p : List ℕ × List ℕ). p.0) same in
           let count = length-take-le place text (omega arith) in
-          let each : All (λ x. x ≢ byte) (take place text) = All-from_get_or (λ x. x ≢ byte) (take place text) 0 (λ i lt. 
-              let below : i < place = omega arith in
-              rw (get_or-take place text i 0 below) (eqb-false _ _ (fails_before_first (is_byte byte) text i 0 below))) in
+          let each : All (λ x. x ≢ byte) (take place text) = All-from_get_or (λ x. x ≢ byte) (take place text) 0 (λ i lt.
+          let below : i < place = omega arith in
+          rw (get_or-take place text i 0 below) (eqb-false _ _ (fails_before_first (is_byte byte) text i 0 below))) in
           subst (λ (front : List ℕ). All (λ x. x ≢ byte) front) front each
       | inr outside ↦ let nothing : no_parts ≡ some_parts parts = rw outside at e in absurd cc
     ]
@@ -78,4 +78,3 @@ cut-again byte front rest none =
     let before : take (length front) (front ++ byte ∷ rest) ≡ front = take-append_seam front (byte ∷ rest) in
     let after : drop (length front + 1) (front ++ byte ∷ rest) ≡ rest = rw add-one (drop_past byte front rest) in
     rw (place, inside, before, after) refl
-

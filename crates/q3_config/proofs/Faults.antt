@@ -1,19 +1,26 @@
 -- What is known where nothing is wrong with a text, and that strings stay within their limits then.
-use Rattle.std.proofs.Common.{◌≡◌, ℕ, ◌<◌, ◌≤◌, Bool, true, false, ltb, leb, List, length, set, map, Option, Some, None, inl, inr, refl, sym, ap, ◌∙◌, arith, Ok}
-use Rattle.std.specs.Prelude.{not, find}
-use Rattle.std.proofs.lemmas.Bool.{cases_Bool, ltb-true, ltb-false, leb-true, lt-ltb, le-ltb}
+use Rattle.std.proofs.Common.{◌≡◌, ℕ, ◌<◌, ◌≤◌, Bool, false, ltb, List, [], ◌∷◌, length, map, Option, Some, None, inl, inr, refl, sym, ◌∙◌, arith, Ok}
+use Rattle.std.specs.List.{All}
+use Rattle.std.specs.Prelude.{not, find, IsTrue}
+use Rattle.std.proofs.lemmas.Bool.{cases_Bool, ltb-true, ltb-false, leb-true, lt-ltb, le-ltb, not-false}
 use Rattle.std.proofs.lemmas.List.{length-set, length-map}
-use Rattle.std.proofs.lemmas.List.Elements.{All-set}
+use Rattle.std.proofs.lemmas.List.Elements.{All-set, All-nil, All-cons, All-weaker}
 use Rattle.q3_text.specs.Texts.{translated}
 use Rattle.q3_config.specs.declared.error.ConfigError.{ConfigError}
 use Rattle.q3_config.specs.declared.error.ConfigError.TheVariants.{Index, Long, Full}
-use Rattle.q3_config.specs.Strings.{Strings, AreStrings, places, longest_string, most_size, config_size, with_string, is_config_byte, fits, room_fault, set_fault, admit_fault, refused, after_set}
+use Rattle.q3_config.specs.Strings.{Strings, AreStrings, places, longest_string, most_size, config_size, with_string, is_config_byte, chars_fault, fits, room_fault, set_fault, admit_fault, refused, after_set}
 
 abbrev pub no_fault : Option ConfigError
 no_fault = None
 
 abbrev some_fault : ConfigError → Option ConfigError
 some_fault fault = Some fault
+
+abbrev some_byte : ℕ → Option ℕ
+some_byte byte = Some byte
+
+abbrev no_byte : Option ℕ
+no_byte = None
 
 -- an index among the places leaves what is wrong with the room
 pub set_fault-within : (strings : Strings) (index : ℕ) (text : List ℕ) → index < places → set_fault strings index text ≡ room_fault strings index text
@@ -56,6 +63,35 @@ settable strings index text none =
       | inl within ↦ let lt = ltb-true _ _ within in record { within = lt; fits = fits_room strings index text (sym (set_fault-within strings index text lt) ∙ none) }
       | inr past ↦ let e : some_fault Index ≡ no_fault = sym (set_fault-past strings index text (ltb-false _ _ past)) ∙ none in absurd cc
     ]
+
+-- where no byte is found, each of them fails the test
+find-none : (p : ℕ → Bool) (text : List ℕ) → find p text ≡ None → All (λ x. p x ≡ false) text
+find-none p [] none = All-nil (λ x. p x ≡ false)
+find-none p (x ∷ text) none = elim (cases_Bool (p x)) [
+  | inl passes ↦ let e : some_byte x ≡ no_byte = rw passes at none in absurd cc
+  | inr fails ↦ All-cons (λ x. p x ≡ false) x text fails (find-none p text (rw fails at none))
+]
+
+-- a text that may go out as commands
+pub record Admitted (strings : Strings) (index : ℕ) (text : List ℕ) : Type 0 where
+  pub within : index < places
+  pub carried : All (λ byte. IsTrue (is_config_byte byte)) text
+  pub fits : Fits strings index text
+
+admitted-chars : (strings : Strings) (index : ℕ) (text : List ℕ) (byte : Option ℕ) → index < places → find (λ byte. not (is_config_byte byte)) text ≡ byte → chars_fault strings index text byte ≡ None → Admitted strings index text
+admitted-chars strings index text None within found none = record {
+  within = within;
+  carried = All-weaker (λ x. not (is_config_byte x) ≡ false) (λ x. IsTrue (is_config_byte x)) (λ x e. not-false (is_config_byte x) e) text (find-none (λ x. not (is_config_byte x)) text found);
+  fits = fits_room strings index text none;
+}
+admitted-chars strings index text (Some byte) within found none = absurd cc
+
+pub admitted : (strings : Strings) (index : ℕ) (text : List ℕ) → admit_fault strings index text ≡ None → Admitted strings index text
+unfolding admit_fault
+admitted strings index text none = elim (cases_Bool (ltb index places)) [
+  | inl within ↦ admitted-chars strings index text (find (λ byte. not (is_config_byte byte)) text) (ltb-true _ _ within) refl (rw within at none)
+  | inr past ↦ let e : some_fault Index ≡ no_fault = rw past at none in absurd cc
+]
 
 -- nothing is refused
 pub none_refused : (fault : Option ConfigError) → Ok tt ≡ refused fault → fault ≡ None

@@ -5,3 +5,7 @@ pub mod Kept
 pub mod Cuts
 pub mod Numerals
 pub mod Texts
+pub mod ReadTexts
+pub mod Stays
+pub mod InPieces
+pub mod Makes

@@ -155,9 +155,10 @@ stands ends bytes i lie inside =
 -- what is known of bytes with a string somewhere: what stands before it, and behind it
 around : (bytes before text behind : List ℕ) (start : ℕ) → bytes ≡ before ++ (text ++ behind) → length before ≡ start
     → (take start bytes ≡ before) × (drop (start + length text) bytes ≡ behind)
-around bytes before text behind start whole is =
-    (rw whole (take_at before (text ++ behind) start is),
-    rw (whole, ← append_assoc before text behind) (drop_at (before ++ text) behind (start + length text) (omega (arith, length-append before text))))
+around bytes before text behind start whole is = (
+  rw whole (take_at before (text ++ behind) start is),
+  rw (whole, ← append_assoc before text behind) (drop_at (before ++ text) behind (start + length text) (omega (arith, length-append before text))),
+)
 
 -- bytes taken out and others put there
 swapped : (bytes out new before old behind text : List ℕ) (start : ℕ) → bytes ≡ before ++ (old ++ behind) → length before ≡ start

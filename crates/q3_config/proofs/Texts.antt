@@ -1,20 +1,20 @@
 -- A change of a config string is the text of a command.
-use Rattle.std.proofs.Common.{◌≡◌, ◌≢◌, ℕ, ◌+◌, ◌-◌, ◌*◌, ◌/◌, ◌^◌, ◌<◌, ◌≤◌, Bool, true, false, cond, eqb, ltb, leb, List, [], ◌∷◌, ◌++◌, length, take, drop, map, min, Option, Some, None, Ok, inl, inr, refl, sym, ap, subst, ◌∙◌, arith, append_assoc, length-append, length-take, length-drop}
-use Rattle.std.specs.Prelude.{not, codes, IsTrue, ◌&&◌}
+use Rattle.std.proofs.Common.{◌≡◌, ℕ, ◌+◌, ◌*◌, ◌/◌, ◌^◌, ◌<◌, ◌≤◌, true, false, cond, eqb, ltb, leb, List, [], ◌∷◌, ◌++◌, length, take, drop, map, Ok, inl, inr, refl, sym, ap, ◌∙◌, arith, append_assoc, length-append, length-take}
+use Rattle.std.specs.Prelude.{not, codes, IsTrue}
 use Rattle.std.specs.Fmt.{decimal}
-use Rattle.std.specs.List.{All, list_all, concat, position}
-use Rattle.std.proofs.lemmas.Bool.{cases_Bool, ltb-true, ltb-false, le-ltb, ne_eqb, eqb-true, not-true, and_from, false≢true, leb-true, and_parts}
+use Rattle.std.specs.List.{All, concat}
+use Rattle.std.proofs.lemmas.Bool.{cases_Bool, ltb-true, le-ltb, ne_eqb, not-true, false≢true, leb-true, and_parts}
 use Rattle.std.proofs.lemmas.Fmt.{length-decimal-le}
 use Rattle.std.proofs.lemmas.List.{map-append, append-nil}
 use Rattle.std.proofs.lemmas.List.Folds.{list_all-append, map_fixed}
-use Rattle.std.proofs.lemmas.List.Elements.{All-head, All-tail, All-take, All-drop, All-from_get_or, All-get_or, All-weaker}
+use Rattle.std.proofs.lemmas.List.Elements.{All-head, All-tail, All-take, All-drop, All-weaker}
 use Rattle.std.proofs.lemmas.List.Sums.{AllPass-from_list_all}
 use Rattle.std.proofs.lemmas.Fmt.{digits_decimal}
 use Rattle.q3_text.specs.Texts.{most_bytes, translated, text_of, text_fault}
 use Rattle.q3_text.specs.Decimals.{is_digit}
 use Rattle.q3_text.proofs.Places.{none_passes}
 use Rattle.q3_config.specs.Strings.{places, is_config_byte}
-use Rattle.q3_config.specs.Commands.{Word, Whole, First, Middle, Last, Change, spelled, piece_count, piece_size, change_text, config_piece}
+use Rattle.q3_config.specs.Commands.{Word, Whole, First, Middle, Last, spelled, piece_count, piece_size, change_text}
 use Rattle.q3_config.proofs.Cuts.{lacks}
 use Rattle.q3_config.proofs.Numerals.{own, lacks-decimal}
 

@@ -1,11 +1,10 @@
 -- Changes of config strings as texts of commands: `cs INDEX "TEXT"` and a newline, or the same in pieces.
-use Rattle.std.specs.Prelude.{◌≡◌, ℕ, ◌+◌, ◌*◌, ◌/◌, ◌==◌, ◌<◌, nat_lt, ◌||◌, if◌then◌else◌, Bool, List, [], ◌∷◌, ◌++◌, length, take, drop, map, position, codes, decimal, Option, Some, None, option_map}
+use Rattle.std.specs.Prelude.{ℕ, ◌+◌, ◌*◌, ◌/◌, ◌==◌, nat_lt, ◌||◌, if◌then◌else◌, List, [], ◌∷◌, length, take, drop, map, position, codes, decimal, Option, Some, None, option_map}
 use Rattle.std.specs.List.{concat}
 use Rattle.std.specs.Str.{bytes_eq}
 use Rattle.q3_bits.specs.OptionBind.{◌>>=◌}
 use Rattle.q3_text.specs.Texts.{translated}
 use Rattle.q3_text.specs.Decimals.{number_at}
-use Rattle.q3_config.specs.Strings.{places}
 
 -- the four words: a whole change, and the first, a middle and the last piece of one
 pub data Word : Type 0 where
@@ -70,14 +69,15 @@ word_in text =
     if bytes_eq text (codes "bcs1") then Some Middle else
     if bytes_eq text (codes "bcs2") then Some Last else None
 
+-- what stands before a quote, where nothing or a newline stands behind it
+abbrev pub closed_in : Option (List ℕ × List ℕ) → Option (List ℕ)
+closed_in None = None
+closed_in (Some cut) = if bytes_eq cut.1 [] || bytes_eq cut.1 (codes "\n") then Some cut.0 else None
+
 -- what stands between the quotes, where the text begins with one, and nothing or a newline stands behind the next
 unfoldable pub quoted_in : List ℕ → Option (List ℕ)
 quoted_in [] = None
 quoted_in (first ∷ text) = if first == 34 then closed_in (cut_at 34 text) else None
-  where
-    closed_in : Option (List ℕ × List ℕ) → Option (List ℕ)
-    closed_in None = None
-    closed_in (Some cut) = if bytes_eq cut.1 [] || bytes_eq cut.1 (codes "\n") then Some cut.0 else None
 
 -- the change that a text is, if it has the shape: one of the four words, an index from 0 to 1023 in decimal, and a text in
 -- quotes with no quote in it, with one space between them

@@ -1,10 +1,10 @@
 -- Laws of config strings and of the commands that change them.
-use Rattle.std.specs.Prelude.{◌≡◌, ◌≢◌, ◌⊎◌, ℕ, ◌<◌, ◌==◌, if◌then◌else◌, List, [], ◌∷◌, ◌++◌, length, map, codes, All, None, Some}
+use Rattle.std.specs.Prelude.{◌≡◌, ◌≢◌, ◌⊎◌, ℕ, ◌<◌, ◌==◌, if◌then◌else◌, List, ◌++◌, length, map, codes, All, None, Some}
 use Rattle.std.specs.List.{range_with_len}
 use Rattle.q3_text.specs.Texts.{IsText}
 use Rattle.q3_config.specs.Strings.{Strings, AreStrings, places, with_string, admit_fault}
 use Rattle.q3_config.specs.Commands.{Change, change_text, change_in, config_piece, piece_count}
-use Rattle.q3_config.specs.Changes.{Applied, after_command, after_commands}
+use Rattle.q3_config.specs.Changes.{after_command, after_commands}
 
 -- a change as a text may carry it
 pub record IsChange (change : Change) : Type 0 where

@@ -1,5 +1,5 @@
 -- How strings are kept: one behind the other in one piece of memory, with the place where each ends.
-use Rattle.std.specs.Prelude.{◌≡◌, ◌≤◌, ℕ, ◌+◌, ◌-◌, ◌==◌, if◌then◌else◌, List, [], ◌∷◌, length, slice_index, slice_range}
+use Rattle.std.specs.Prelude.{◌≡◌, ℕ, ◌+◌, ◌-◌, ◌==◌, if◌then◌else◌, List, [], ◌∷◌, length, slice_index, slice_range}
 use Rattle.std.specs.List.{concat}
 
 -- strings that are cut from bytes: the first starts here, and each ends where the next starts

@@ -3,6 +3,7 @@
 
 pub mod configs;
 pub mod error;
+pub mod laws;
 mod pending;
 mod shapes;
 mod table;

@@ -1,6 +1,5 @@
-use Rattle.std.proofs.Common.{◌≤◌, get_or, length, arith, rules, ap}
-use Rattle.q3_config.specs.Table.{start_at}
-use Rattle.q3_config.proofs.Places.{Stands, stands}
+use Rattle.std.proofs.Common.{◌≤◌, get_or, arith, rules}
+use Rattle.q3_config.proofs.Places.{stands}
 use Rattle.q3_config.proofs.table.text_at.Goals as goal
 
 pub slice_bounds-result-count : goal.slice_bounds-result-count

@@ -1,7 +1,7 @@
 use Rattle.std.proofs.Common.{List, ℕ, length, map, ap, ◌∙◌}
 use Rattle.q3_text.specs.Texts.{translated}
 use Rattle.q3_config.specs.Commands.{Word, change_text, config_piece, piece_count, word_of}
-use Rattle.q3_config.proofs.Texts.{part, length-part, carried-part}
+use Rattle.q3_config.proofs.Texts.{length-part, carried-part}
 use Rattle.q3_config.proofs.writing.piece.Goals as goal
 
 pub spell-requires-clause-chars : goal.spell-requires-clause-chars

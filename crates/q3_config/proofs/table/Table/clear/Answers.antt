@@ -1,5 +1,5 @@
 use Rattle.std.proofs.Common.{ℕ, List, [], length, replicate, ap, sym, ◌∙◌, arith, rules}
-use Rattle.q3_config.proofs.Places.{Keeps, emptied, counted}
+use Rattle.q3_config.proofs.Places.{emptied, counted}
 use Rattle.q3_config.proofs.Sizes.{config_size-empty}
 use Rattle.q3_config.specs.Strings.{config_size}
 use Rattle.q3_config.proofs.table.Table.clear.Goals as goal

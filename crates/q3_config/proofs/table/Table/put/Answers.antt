@@ -1,4 +1,4 @@
-use Rattle.std.proofs.Common.{ℕ, List, length, map, set, ap, ◌∙◌, sym, arith}
+use Rattle.std.proofs.Common.{ℕ, List, length, map, set, ap, arith}
 use Rattle.q3_text.specs.Texts.{translated}
 use Rattle.q3_config.specs.Table.{strings_of}
 use Rattle.q3_config.proofs.Places.{counted}

@@ -1,6 +1,6 @@
 use Rattle.std.proofs.Common.{None, sym, ◌∙◌, arith}
 use Rattle.q3_config.specs.Parts.{strings_with}
-use Rattle.q3_config.proofs.Faults.{Settable, settable, none_refused}
+use Rattle.q3_config.proofs.Faults.{settable, none_refused}
 use Rattle.q3_config.proofs.table.Table.set.Goals as goal
 
 pub put-requires-clause-index : goal.put-requires-clause-index
