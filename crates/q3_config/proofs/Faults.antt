@@ -1,6 +1,7 @@
 -- What is known where nothing is wrong with a text, and that strings stay within their limits then.
-use Rattle.std.proofs.Common.{◌≡◌, ℕ, ◌<◌, ◌≤◌, Bool, false, ltb, List, [], ◌∷◌, length, map, Option, Some, None, inl, inr, refl, sym, ◌∙◌, arith, Ok}
+use Rattle.std.proofs.Common.{◌≡◌, ℕ, ◌<◌, ◌≤◌, Bool, false, ltb, List, [], ◌∷◌, length, map, Option, Some, None, inl, inr, refl, sym, ◌∙◌, arith, Ok, Result, Err}
 use Rattle.std.specs.List.{All}
+use Rattle.std.specs.Result.{OnOk}
 use Rattle.std.specs.Prelude.{not, find, IsTrue}
 use Rattle.std.proofs.lemmas.Bool.{cases_Bool, ltb-true, ltb-false, leb-true, lt-ltb, le-ltb, not-false}
 use Rattle.std.proofs.lemmas.List.{length-set, length-map}
@@ -72,6 +73,15 @@ find-none p (x ∷ text) none = elim (cases_Bool (p x)) [
   | inr fails ↦ All-cons (λ x. p x ≡ false) x text fails (find-none p text (rw fails at none))
 ]
 
+-- and each of them may be carried
+pub all-carried : (text : List ℕ) → find (λ byte. not (is_config_byte byte)) text ≡ None → All (λ byte. IsTrue (is_config_byte byte)) text
+all-carried text none = All-weaker (λ x. not (is_config_byte x) ≡ false) (λ x. IsTrue (is_config_byte x)) (λ x e. not-false (is_config_byte x) e) text (find-none (λ x. not (is_config_byte x)) text none)
+
+-- what holds in any case holds where nothing is refused
+pub on_ok : (result : Result (Unit {0}) ConfigError) (P : Type 0) → P → OnOk result P
+on_ok (Ok x) P p = p
+on_ok (Err fault) P p = tt
+
 -- a text that may go out as commands
 pub record Admitted (strings : Strings) (index : ℕ) (text : List ℕ) : Type 0 where
   pub within : index < places
@@ -81,7 +91,7 @@ pub record Admitted (strings : Strings) (index : ℕ) (text : List ℕ) : Type 0
 admitted-chars : (strings : Strings) (index : ℕ) (text : List ℕ) (byte : Option ℕ) → index < places → find (λ byte. not (is_config_byte byte)) text ≡ byte → chars_fault strings index text byte ≡ None → Admitted strings index text
 admitted-chars strings index text None within found none = record {
   within = within;
-  carried = All-weaker (λ x. not (is_config_byte x) ≡ false) (λ x. IsTrue (is_config_byte x)) (λ x e. not-false (is_config_byte x) e) text (find-none (λ x. not (is_config_byte x)) text found);
+  carried = all-carried text found;
   fits = fits_room strings index text none;
 }
 admitted-chars strings index text (Some byte) within found none = absurd cc

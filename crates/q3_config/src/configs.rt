@@ -3,7 +3,7 @@
 //! `SV_SetConfigstring` (sv_init.c), and `apply_command` is `CL_GetServerCommand` with `CL_ConfigstringModified`
 //! (cl_cgame.c).
 
-ghost use Rattle.std.specs.Prelude.{◌≡◌, ◌<◌, ◌≤◌, ◌==◌, not, if◌then◌else◌, length, find, option_map, IfOk};
+ghost use Rattle.std.specs.Prelude.{◌≡◌, ◌<◌, ◌≤◌, ◌==◌, not, if◌then◌else◌, length, find, option_map, All, IsTrue, IfOk, OnOk};
 ghost use Rattle.q3_config.specs.Strings.{AreStrings, places, longest_string, no_strings, string_at, config_size, is_config_byte, set_fault, admit_fault, refused, after_set};
 ghost use Rattle.q3_config.specs.Commands as commands;
 ghost use Rattle.q3_config.specs.Changes.{unchanged, make_change, go_on, after_change, after_command};
@@ -87,7 +87,9 @@ impl Configs {
     /// stops: they are this project's own.
     #[tactic(auto, unfolding(crate::specs::Strings::admit_fault))]
     pub fn admit(&self, index: u32, text: &[u8]) -> Result<(), ConfigError>
-        ensures { result ≡ refused (admit_fault self.now index text.now) }
+        ensures answer { result ≡ refused (admit_fault self.now index text.now) }
+        ensures index { OnOk result (index < places) }
+        ensures chars { OnOk result (All (λ byte. IsTrue (is_config_byte byte)) text.now) }
     {
         if index as usize >= PLACES {
             return Err(ConfigError::Index);

@@ -13,3 +13,6 @@ pub use configs::Configs;
 pub use error::ConfigError;
 pub use shapes::shape;
 pub use writing::{piece, pieces};
+
+#[cfg(test)]
+mod tests;
