@@ -1,0 +1,11 @@
+pub mod Places
+pub mod Sizes
+pub mod Faults
+pub mod Kept
+pub mod Cuts
+pub mod Numerals
+pub mod Texts
+pub mod ReadTexts
+pub mod Stays
+pub mod InPieces
+pub mod Makes

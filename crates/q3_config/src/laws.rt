@@ -1,0 +1,28 @@
+//! Laws of config strings and their commands, each the contract of a call that does nothing.
+
+ghost use Rattle.q3_config.specs.Laws.{SpelledIsRead, ReadIsSpelled, PiecesAreTexts, PiecesMakeChange, StringsStay};
+
+/// What is spelled as a change is read as it.
+pub fn spelled_is_read()
+    ensures { SpelledIsRead }
+{}
+
+/// What is read as a change was spelled so.
+pub fn read_is_spelled()
+    ensures { ReadIsSpelled }
+{}
+
+/// The pieces of a text that may go out are texts of commands.
+pub fn pieces_are_texts()
+    ensures { PiecesAreTexts }
+{}
+
+/// The pieces of a text, in their order, make that one change.
+pub fn pieces_make_change()
+    ensures { PiecesMakeChange }
+{}
+
+/// Strings stay within their limits, whatever a command does.
+pub fn strings_stay()
+    ensures { StringsStay }
+{}

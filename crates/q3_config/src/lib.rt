@@ -1,0 +1,18 @@
+//! Config strings: 1,024 strings of bounded size, and the commands that change them.
+#![tactic(auto)]
+
+pub mod configs;
+pub mod error;
+pub mod laws;
+mod pending;
+mod shapes;
+mod table;
+mod writing;
+
+pub use configs::Configs;
+pub use error::ConfigError;
+pub use shapes::shape;
+pub use writing::{piece, pieces};
+
+#[cfg(test)]
+mod tests;
