@@ -1,5 +1,5 @@
 -- Laws over every list of events.
-use Rattle.std.specs.Prelude.{◌≡◌, ℕ, ◌-◌, ◌<◌, List, length, Some, slice_get, slice_index_or}
+use Rattle.std.specs.Prelude.{◌≡◌, ℕ, ◌+◌, ◌-◌, ◌<◌, List, [], ◌∷◌, ◌++◌, length, map, Some, slice_get, slice_index_or}
 use Rattle.std.specs.List.{AllByRecursion}
 use Rattle.q3_profile.specs.declared.profile.Profile.{Profile}
 use Rattle.q3_profile.specs.Profile.{IsCodec}
@@ -11,14 +11,15 @@ use Rattle.q3_world.specs.declared.client.SnapOutcome.{SnapOutcome}
 use Rattle.q3_world.specs.declared.client.SnapOutcome.TheVariants.{Accepted}
 use Rattle.q3_world.specs.declared.client.ClientTook.TheVariants.{Runt, Connectionless, BadFragment, Illegible, Applied}
 use Rattle.q3_chan.specs.declared.gatherer.Gathered.TheVariants.{Whole as CameWhole}
+use Rattle.q3_chan.specs.Datagrams.{last_index}
 use Rattle.q3_chan.specs.Gathering.{gathered}
 use Rattle.q3_world.specs.declared.answer.Answer.{Answer}
 use Rattle.q3_world.specs.declared.answer.Answer.TheVariants.{Deliver}
-use Rattle.q3_world.specs.Server.{Built, places}
+use Rattle.q3_world.specs.Server.{Built, places, built_bytes}
 use Rattle.q3_world.specs.Client.{ClientState}
 use Rattle.q3_world.specs.Ends.{Ends, client_at, newest, delivered}
 use Rattle.q3_world.specs.Kept.{SentBytes, Kept, opening_kept, kept_step, kept_after, kept_answers}
-use Rattle.q3_world.specs.World.{Whole, History, history_at, opening, step, after, answers}
+use Rattle.q3_world.specs.World.{Tag, Whole, History, history_at, built_at, opening, step, after, answers}
 use Rattle.q3_world.specs.StandsFor.{StandsFor, WasBuilt, Rise}
 
 -- a step by bytes of what stands for a whole world gives what stands for its step by tags, and answers the same
@@ -90,8 +91,7 @@ AppliedWasBuilt = (profile : Profile) (all : List Event) (number c n : ℕ) (sna
     → (snap ≡ Accepted 0) × WasApplied (kept_then profile all).ends (kept_step (kept_then profile all) (events.Deliver number)).kept.ends c n
     (history_then profile all c).built
 
--- where the bytes of a datagram bring a message whole, it is accepted; so where its number is above every number that its
--- client took and it has the last piece of what was gathered, or the message goes whole
+-- where the bytes of a datagram bring a message whole, it is accepted
 abbrev pub NewerIsAccepted : Type 0
 NewerIsAccepted = (profile : Profile) (all : List Event) (number n count : ℕ) (sent : SentBytes) (client : ClientState) → IsCodec profile
     → AllByRecursion IsReplayEvent all
@@ -99,3 +99,24 @@ NewerIsAccepted = (profile : Profile) (all : List Event) (number n count : ℕ) 
     → client_at (kept_then profile all).ends sent.client ≡ Some client
     → (gathered client.gathering sent.bytes).answer ≡ CameWhole n count
     → (kept_step (kept_then profile all) (events.Deliver number)).answer ≡ delivered number sent.client (Applied n (Accepted 0))
+
+-- the datagrams of these numbers have the pieces of the message under a number for a client, from an index on
+abbrev pub ArePieces : List Tag → ℕ → ℕ → ℕ → List ℕ → Type 0
+ArePieces sent c n index [] = Unit {0}
+ArePieces sent c n index (number ∷ numbers) =
+    (tag : Tag) × (slice_get sent (number - 1) ≡ Some tag) × (tag.client ≡ c) × (tag.number ≡ n) × (tag.index ≡ index)
+    × ArePieces sent c n (index + 1) numbers
+
+-- datagrams are delivered, one after the other
+abbrev pub deliveries : List ℕ → List Event
+deliveries numbers = map (λ number. events.Deliver number) numbers
+
+-- whatever came before, where all pieces of a message arrive in order, whose number is above every number that its client
+-- has taken, with the last it is accepted
+abbrev pub InOrderIsAccepted : Type 0
+InOrderIsAccepted = (profile : Profile) (all : List Event) (c n last : ℕ) (numbers : List ℕ) (client : ClientState) → IsCodec profile
+    → AllByRecursion IsReplayEvent all → AllByRecursion IsReplayEvent (deliveries numbers)
+    → client_at (whole_then profile all).ends c ≡ Some client → client.gathering.taken < n
+    → ArePieces (whole_then profile all).sent c n 0 (numbers ++ last ∷ [])
+    → length numbers ≡ last_index (built_bytes profile (built_at (history_then profile all c).built n))
+    → (kept_step (kept_then profile (all ++ deliveries numbers)) (events.Deliver last)).answer ≡ delivered last c (Applied n (Accepted 0))

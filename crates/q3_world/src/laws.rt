@@ -1,7 +1,7 @@
 //! Laws of what is built and of every schedule, each the contract of a call that does nothing but cite the laws below it.
 
 ghost use Rattle.q3_world.specs.MessageLaws.{BuiltIsRead};
-ghost use Rattle.q3_world.specs.Schedules.{StepFollows, BytesFollowTags, AlwaysLegible, AcceptedWereBuilt, ShownWasBuilt, AppliedWasBuilt, NewerIsAccepted};
+ghost use Rattle.q3_world.specs.Schedules.{StepFollows, BytesFollowTags, AlwaysLegible, AcceptedWereBuilt, ShownWasBuilt, AppliedWasBuilt, NewerIsAccepted, InOrderIsAccepted};
 
 use q3_bits::laws as bits;
 use q3_chan::laws as chan;
@@ -73,7 +73,7 @@ pub fn applied_was_built()
     bits::message_holds_bits();
 }
 
-/// Whatever came before, a datagram whose number is above every number that its client has taken is accepted.
+/// Whatever came before, where the bytes of a datagram bring a message whole, its snapshot is accepted.
 pub fn newer_is_accepted()
     ensures { NewerIsAccepted }
 {
@@ -83,5 +83,20 @@ pub fn newer_is_accepted()
     player::normal_is_normal();
     player::zero_is_normal();
     chan::sent_is_tagged();
+    bits::message_holds_bits();
+}
+
+/// Whatever came before, where all pieces of a message arrive in order, whose number is above every number that its client
+/// has taken, its snapshot is accepted with the last.
+pub fn in_order_is_accepted()
+    ensures { InOrderIsAccepted }
+{
+    bytes_follow_tags();
+    built_is_read();
+    entity::normal_is_normal();
+    player::normal_is_normal();
+    player::zero_is_normal();
+    chan::sent_is_tagged();
+    chan::pieces_are_tagged();
     bits::message_holds_bits();
 }
