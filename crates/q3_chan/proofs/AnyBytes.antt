@@ -7,7 +7,7 @@ use Rattle.q3_chan.specs.declared.gatherer.Gathered.TheVariants.{Whole, Partial}
 use Rattle.q3_chan.specs.Datagrams.{fragment_size, is_fragment, number_in, start_in, count_in, behind_header}
 use Rattle.q3_chan.specs.Gathering.{Gathering, Took, answers, arrives, emptied, gathering_of, gathered, gathered_all, new_gathering}
 use Rattle.q3_chan.specs.Laws.{ArePieces, StandIn, WholeArePieces}
-use Rattle.q3_chan.proofs.Tagging.{gathering_of-number}
+use Rattle.q3_chan.proofs.Tags.{gathering_of-number}
 use Rattle.q3_chan.proofs.Outcomes.{NotWhole, piece_in, IsTaken, gathered-each}
 
 -- ---- pieces that came

@@ -1,6 +1,9 @@
 pub mod Headers
 pub mod Receiving
+pub mod Tags
 pub mod Tagging
+pub mod Whole
+pub mod Ends
 pub mod OneSender
 pub mod Outcomes
 pub mod AnyBytes

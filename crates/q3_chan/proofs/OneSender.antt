@@ -1,48 +1,27 @@
 -- What comes whole of the datagrams of one sender.
-use Rattle.std.proofs.Common.{◌≡◌, ◌+◌, ◌*◌, ◌<◌, ◌∙◌, ℕ, ltb, leb, eqb, List, [], ◌∷◌, length, take, refl, sym, ap, subst, arith}
+use Rattle.std.proofs.Common.{◌≡◌, ◌<◌, ◌∙◌, ℕ, List, [], ◌∷◌, length, refl, sym, ap, subst, inl, inr, arith}
 use Rattle.std.specs.List.{All}
-use Rattle.std.proofs.lemmas.Bool.{cond_both}
 use Rattle.std.proofs.lemmas.List.Elements.{All-head, All-tail}
 use Rattle.q3_chan.specs.declared.side.Side.{Side}
-use Rattle.q3_chan.specs.declared.gatherer.Gathered.TheVariants.{Whole, Partial, Old, OutOfOrder}
-use Rattle.q3_chan.specs.Datagrams.{fragment_size, piece_count, datagram}
-use Rattle.q3_chan.specs.Gathering.{Gathering, Took, answers, arrives, emptied, gathering_of, gathered, gathered_all, new_gathering}
-use Rattle.q3_chan.specs.Tags.{tag_piece, tag_fragment, tagged}
+use Rattle.q3_chan.specs.declared.gatherer.Gathered.TheVariants.{Whole}
+use Rattle.q3_chan.specs.Datagrams.{datagram}
+use Rattle.q3_chan.specs.Gathering.{Gathering, Took, gathered, gathered_all, new_gathering}
+use Rattle.q3_chan.specs.Tags.{IsQuiet, tagged}
 use Rattle.q3_chan.specs.Laws.{HoldsFront, IsOneOf, GatheredIsOne}
+use Rattle.q3_chan.proofs.Tags.{tagged_does}
 use Rattle.q3_chan.proofs.Tagging.{sent_is_tagged}
-
--- what a tag may do
-tagged-any : (P : Took → Type 0) (g : Gathering) (number : ℕ) (message : List ℕ) (index : ℕ)
-    → P (answers g Old) → P (arrives g number message) → P (answers (gathering_of g number) OutOfOrder)
-    → P (answers (record (gathering_of g number) { bytes = take (fragment_size * (index + 1)) message }) Partial)
-    → P (arrives (emptied (gathering_of g number)) number message) → P (tagged g number message index)
-unfolding tagged
-tagged-any P g number message index old whole order partial last =
-    let k = gathering_of g number in
-    let more = answers (record k { bytes = take (fragment_size * (index + 1)) message }) Partial in
-    let end = arrives (emptied k) number message in
-    cond_both (leb number g.taken) (answers g Old) _ P (λ _. old) (λ _.
-    cond_both (ltb (length message) fragment_size) (arrives g number message) (tag_fragment k number message index) P (λ _. whole) (λ _.
-    cond_both (eqb (fragment_size * index) (length k.bytes)) (tag_piece k number message index) (answers k OutOfOrder) P
-    (λ _. cond_both (ltb (index + 1) (piece_count (length message))) more end P (λ _. partial) (λ _. last)) (λ _. order)))
-
--- the side stays
-pub gathering_of-side : (g : Gathering) (number : ℕ) → (gathering_of g number).side ≡ g.side
-gathering_of-side g number = cond_both (eqb number g.number) g (record g { number = number; bytes = [] }) (λ k. k.side ≡ g.side) (λ _. refl) (λ _. refl)
-
-tagged-side : (g : Gathering) (number : ℕ) (message : List ℕ) (index : ℕ) → (tagged g number message index).gathering.side ≡ g.side
-tagged-side g number message index =
-    let side = gathering_of-side g number in
-    tagged-any (λ t. t.gathering.side ≡ g.side) g number message index refl refl side side side
 
 -- what comes whole is the message
 tagged-whole : (messages : ℕ → List ℕ) (g : Gathering) (number index n count : ℕ) → (tagged g number (messages number) index).answer ≡ Whole n count
     → (tagged g number (messages number) index).message ≡ messages n
-tagged-whole messages g number index n count =
-    let message = messages number in
-    let P : Took → Type 0 = λ t. t.answer ≡ Whole n count → t.message ≡ messages n in
-    let comes : Whole number (length message) ≡ Whole n count → message ≡ messages n = λ e. let same : number ≡ n = cc in ap messages same in
-    tagged-any P g number message index (λ e. absurd cc) comes (λ e. absurd cc) (λ e. absurd cc) comes
+tagged-whole messages g number index n count e =
+    elim (tagged_does g number (messages number) index).either [
+      | inl waits ↦ absurd (subst IsQuiet e waits.quiet)
+      | inr came ↦
+          let both : Whole number (length (messages number)) ≡ Whole n count = sym came.answer ∙ e in
+          let same : number ≡ n = cc in
+          came.message_is ∙ ap messages same
+    ]
 
 -- an end that took these datagrams alone
 record HasTaken (side : Side) (messages : ℕ → List ℕ) (g : Gathering) : Type 0 where
@@ -63,7 +42,7 @@ HasTaken-more side qport messages g bytes port h one =
     let is : gathered g bytes ≡ tagged g number (messages number) index =
     ap (gathered g) (one.6 ∙ ap (λ (s : Side). datagram s qport number (messages number) index) (sym h.side-is)) ∙ law.0 in
     subst (HasTook side messages) (sym is) (record {
-      taken = record { side-is = tagged-side g number (messages number) index ∙ h.side-is; front = law.1 };
+      taken = record { side-is = (tagged_does g number (messages number) index).side ∙ h.side-is; front = law.1 };
       whole = tagged-whole messages g number index;
     })
 

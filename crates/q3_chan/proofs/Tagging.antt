@@ -1,14 +1,15 @@
 -- What a datagram that an end sent does to an end that receives.
-use Rattle.std.proofs.Common.{◌≡◌, ◌+◌, ◌-◌, ◌*◌, ◌<◌, ◌≤◌, ◌∙◌, ℕ, ltb, leb, eqb, List, [], ◌++◌, length, take, drop, min, refl, sym, ap, subst, inl, inr, arith}
+use Rattle.std.proofs.Common.{◌≡◌, ◌+◌, ◌-◌, ◌*◌, ◌<◌, ◌≤◌, ◌∙◌, ℕ, ltb, leb, eqb, List, ◌++◌, length, take, drop, min, sym, ap, subst, inl, inr, arith}
 use Rattle.std.proofs.Math.Seq.{take-add, take-length}
-use Rattle.std.proofs.lemmas.Bool.{cases_Bool, cases_lt, cond-true, cond-false, cond_both, or_from, eqb-true, ltb-true, lt-ltb, le-ltb, le-leb, lt-leb}
+use Rattle.std.proofs.lemmas.Bool.{cases_Bool, cases_lt, cond-true, cond-false, or_from, eqb-true, lt-ltb, le-ltb, le-leb, lt-leb}
 use Rattle.std.proofs.lemmas.List.{length-take, length-drop, length-take-le, take_all}
 use Rattle.q3_chan.specs.declared.gatherer.Gathered.TheVariants.{Partial, BadFragment}
-use Rattle.q3_chan.specs.Datagrams.{fragment_size, longest_message, piece_count, piece, header, fragment, datagram}
-use Rattle.q3_chan.specs.Gathering.{Gathering, Took, answers, arrives, emptied, gathering_of, add_piece, take_piece, take_fragment, gathered}
+use Rattle.q3_chan.specs.Datagrams.{fragment_size, longest_message, sequence_end, piece_count, piece, header, fragment, datagram}
+use Rattle.q3_chan.specs.Gathering.{Gathering, answers, arrives, emptied, gathering_of, add_piece, take_piece, take_fragment, gathered}
 use Rattle.q3_chan.specs.Tags.{tag_piece, tag_fragment, tagged}
-use Rattle.q3_chan.specs.Laws.{HoldsFront, SentIsTagged}
+use Rattle.q3_chan.specs.Laws.{IsSendable, HoldsFront, SentIsTagged}
 use Rattle.q3_chan.proofs.Headers.{IsHeaded, IsWhole, IsFragment, whole_is, fragment_is}
+use Rattle.q3_chan.proofs.Tags.{gathering_of-number, gathering_of-front, tagged-front}
 use Rattle.q3_chan.proofs.Receiving.{gathered-old, gathered-whole, gathered-fragment}
 
 -- ---- pieces
@@ -22,21 +23,8 @@ pub front-more : (message : List ℕ) (index : ℕ) → take (fragment_size * in
 front-more message index =
     sym (take-add (fragment_size * index) fragment_size message) ∙ ap (λ (n : ℕ). take n message) (omega arith)
 
-length-front : (message : List ℕ) (index : ℕ) → index < piece_count (length message) → length (take (fragment_size * index) message) ≡ fragment_size * index
+pub length-front : (message : List ℕ) (index : ℕ) → index < piece_count (length message) → length (take (fragment_size * index) message) ≡ fragment_size * index
 length-front message index below = length-take-le (fragment_size * index) message (omega arith)
-
--- ---- what is gathered
-
-nothing-front : (messages : ℕ → List ℕ) (g : Gathering) (number : ℕ) → HoldsFront messages (record g { number = number; bytes = [] })
-nothing-front messages g number = record { count = 0; not_all = omega arith; front = refl }
-
-gathering_of-front : (messages : ℕ → List ℕ) (g : Gathering) (number : ℕ) → HoldsFront messages g → HoldsFront messages (gathering_of g number)
-gathering_of-front messages g number h =
-    cond_both (eqb number g.number) g (record g { number = number; bytes = [] }) (HoldsFront messages) (λ _. h) (λ _. nothing-front messages g number)
-
-pub gathering_of-number : (g : Gathering) (number : ℕ) → (gathering_of g number).number ≡ number
-gathering_of-number g number =
-    cond_both (eqb number g.number) g (record g { number = number; bytes = [] }) (λ k. k.number ≡ number) (λ e. sym (eqb-true _ _ e)) (λ _. refl)
 
 -- ---- a fragment
 
@@ -67,94 +55,82 @@ take_piece-tagged g message index front below most =
     ∙ ap (add_piece g) (take-length (piece message index))
     ∙ add_piece-tagged g message index front below
 
-tag_piece-front : (messages : ℕ → List ℕ) (g : Gathering) (index : ℕ) → HoldsFront messages (tag_piece g g.number (messages g.number) index).gathering
-tag_piece-front messages g index =
-    let message = messages g.number in
-    cond_both (ltb (index + 1) (piece_count (length message))) (answers (record g { bytes = take (fragment_size * (index + 1)) message }) Partial) (arrives (emptied g) g.number message)
-    (λ (t : Took). HoldsFront messages t.gathering)
-    (λ more. record { count = index + 1; not_all = ltb-true _ _ more; front = refl })
-    (λ _. record { count = 0; not_all = omega arith; front = refl })
-
--- what a datagram does as what its tag does, and what is gathered then is a front again
-abbrev IsTagged : (ℕ → List ℕ) → Took → Took → Type 0
-IsTagged messages took tag = (took ≡ tag) × HoldsFront messages tag.gathering
-
 take_fragment-tagged : (messages : ℕ → List ℕ) (g : Gathering) (index : ℕ) → HoldsFront messages g → index < piece_count (length (messages g.number)) → length (messages g.number) ≤ longest_message
-    → IsTagged messages (take_fragment g (fragment_size * index) (length (piece (messages g.number) index)) (piece (messages g.number) index)) (tag_fragment g g.number (messages g.number) index)
+    → take_fragment g (fragment_size * index) (length (piece (messages g.number) index)) (piece (messages g.number) index) ≡ tag_fragment g g.number (messages g.number) index
 take_fragment-tagged messages g index h below most =
     let message = messages g.number in
     let ends : length g.bytes ≡ fragment_size * h.count = ap length h.front ∙ length-front message h.count h.not_all in
     let test = eqb (fragment_size * index) (length g.bytes) in
-    let P : Took → Type 0 = λ t. HoldsFront messages t.gathering in
     elim (cases_Bool test) [
       | inl e ↦
           let here : index ≡ h.count = omega (arith, eqb-true _ _ e) in
-          let front : g.bytes ≡ take (fragment_size * index) message = h.front ∙ ap (λ (n : ℕ). take (fragment_size * n) message) (sym here) in (
-            cond-true test _ _ e ∙ take_piece-tagged g message index front below most ∙ sym (cond-true test _ _ e),
-            subst P (sym (cond-true test _ _ e)) (tag_piece-front messages g index),
-          )
-      | inr e ↦ (cond-false test _ _ e ∙ sym (cond-false test _ _ e), subst P (sym (cond-false test _ _ e)) h)
+          let front : g.bytes ≡ take (fragment_size * index) message = h.front ∙ ap (λ (n : ℕ). take (fragment_size * n) message) (sym here) in
+          cond-true test _ _ e ∙ take_piece-tagged g message index front below most ∙ sym (cond-true test _ _ e)
+      | inr e ↦ cond-false test _ _ e ∙ sym (cond-false test _ _ e)
     ]
 
 -- ---- a datagram
 
-old_is_tagged : (messages : ℕ → List ℕ) (g : Gathering) (bytes : List ℕ) (number index : ℕ) → HoldsFront messages g → IsHeaded g.side bytes number → number ≤ g.taken
-    → IsTagged messages (gathered g bytes) (tagged g number (messages number) index)
+old_is_tagged : (g : Gathering) (bytes : List ℕ) (number : ℕ) (message : List ℕ) (index : ℕ) → IsHeaded g.side bytes number → number ≤ g.taken → gathered g bytes ≡ tagged g number message index
 unfolding tagged
-old_is_tagged messages g bytes number index h headed old =
-    let is = cond-true (leb number g.taken) _ _ (le-leb _ _ old) in
-    let P : Took → Type 0 = λ t. HoldsFront messages t.gathering in
-    (gathered-old g bytes number headed old ∙ sym is, subst P (sym is) h)
+old_is_tagged g bytes number message index headed old = gathered-old g bytes number headed old ∙ sym (cond-true (leb number g.taken) _ _ (le-leb _ _ old))
 
-whole_is_tagged : (messages : ℕ → List ℕ) (g : Gathering) (bytes : List ℕ) (number index : ℕ) → HoldsFront messages g → IsWhole g.side bytes number (messages number) → length (messages number) < fragment_size
-    → IsTagged messages (gathered g bytes) (tagged g number (messages number) index)
+whole_is_tagged : (g : Gathering) (bytes : List ℕ) (number : ℕ) (message : List ℕ) (index : ℕ) → IsWhole g.side bytes number message → length message < fragment_size
+    → gathered g bytes ≡ tagged g number message index
 unfolding tagged
-whole_is_tagged messages g bytes number index h whole short =
-    let message = messages number in
-    let P : Took → Type 0 = λ t. HoldsFront messages t.gathering in
+whole_is_tagged g bytes number message index whole short =
     elim (cases_lt g.taken number) [
-      | inr old ↦ old_is_tagged messages g bytes number index h whole.headed old
+      | inr old ↦ old_is_tagged g bytes number message index whole.headed old
       | inl newer ↦
-          let is = cond-false (leb number g.taken) _ _ (lt-leb _ _ newer) ∙ cond-true (ltb (length message) fragment_size) _ _ (lt-ltb _ _ short) in (
-            gathered-whole g bytes number message whole (omega arith) newer ∙ sym is,
-            subst P (sym is) (record { count = h.count; not_all = h.not_all; front = h.front }),
-          )
+          gathered-whole g bytes number message whole (omega arith) newer
+          ∙ sym (cond-false (leb number g.taken) _ _ (lt-leb _ _ newer) ∙ cond-true (ltb (length message) fragment_size) _ _ (lt-ltb _ _ short))
     ]
+
+-- of a newer message that was cut, a piece goes to what was gathered
+pub tagged-cut : (g : Gathering) (number : ℕ) (message : List ℕ) (index : ℕ) → g.taken < number → fragment_size ≤ length message
+    → tagged g number message index ≡ tag_fragment (gathering_of g number) number message index
+unfolding tagged
+tagged-cut g number message index newer long =
+    cond-false (leb number g.taken) _ _ (lt-leb _ _ newer) ∙ cond-false (ltb (length message) fragment_size) _ _ (le-ltb _ _ long)
 
 fragment_is_tagged : (messages : ℕ → List ℕ) (g : Gathering) (bytes : List ℕ) (number index : ℕ) → HoldsFront messages g
     → IsFragment g.side bytes number (fragment_size * index) (piece (messages number) index)
     → fragment_size ≤ length (messages number) → length (messages number) ≤ longest_message → index < piece_count (length (messages number))
-    → IsTagged messages (gathered g bytes) (tagged g number (messages number) index)
-unfolding tagged
+    → gathered g bytes ≡ tagged g number (messages number) index
 fragment_is_tagged messages g bytes number index h fragment long most below =
     let message = messages number in
     let k = gathering_of g number in
     let same : k.number ≡ number = gathering_of-number g number in
-    let P : Took → Type 0 = λ t. HoldsFront messages t.gathering in
-    let Q : ℕ → Type 0 = λ n. IsTagged messages (take_fragment k (fragment_size * index) (length (piece (messages n) index)) (piece (messages n) index)) (tag_fragment k n (messages n) index) in
+    let Q : ℕ → Type 0 = λ n. take_fragment k (fragment_size * index) (length (piece (messages n) index)) (piece (messages n) index) ≡ tag_fragment k n (messages n) index in
     let below-k : index < piece_count (length (messages k.number)) = subst (λ (n : ℕ). index < piece_count (length (messages n))) (sym same) below in
     let most-k : length (messages k.number) ≤ longest_message = subst (λ (n : ℕ). length (messages n) ≤ longest_message) (sym same) most in
     elim (cases_lt g.taken number) [
-      | inr old ↦ old_is_tagged messages g bytes number index h fragment.headed old
+      | inr old ↦ old_is_tagged g bytes number message index fragment.headed old
       | inl newer ↦
-          let is = cond-false (leb number g.taken) _ _ (lt-leb _ _ newer) ∙ cond-false (ltb (length message) fragment_size) _ _ (le-ltb _ _ long) in
-          let there = subst Q same (take_fragment-tagged messages k index (gathering_of-front messages g number h) below-k most-k) in
-          (gathered-fragment g bytes number (fragment_size * index) (piece message index) fragment newer ∙ there.0 ∙ sym is, subst P (sym is) there.1)
+          gathered-fragment g bytes number (fragment_size * index) (piece message index) fragment newer
+          ∙ subst Q same (take_fragment-tagged messages k index (gathering_of-front messages g number h) below-k most-k)
+          ∙ sym (tagged-cut g number message index newer long)
     ]
 
-pub sent_is_tagged : SentIsTagged
+-- a datagram that an end sent does what its tag does
+pub datagram_is_tagged : (messages : ℕ → List ℕ) (g : Gathering) (qport number index : ℕ) → HoldsFront messages g → number < sequence_end → IsSendable (messages number)
+    → index < piece_count (length (messages number)) → gathered g (datagram g.side qport number (messages number) index) ≡ tagged g number (messages number) index
 unfolding datagram
-sent_is_tagged messages g qport number index h port first end sendable below =
+datagram_is_tagged messages g qport number index h end sendable below =
     let message = messages number in
-    let Q : List ℕ → Type 0 = λ bytes. IsTagged messages (gathered g bytes) (tagged g number message index) in
+    let Q : List ℕ → Type 0 = λ bytes. gathered g bytes ≡ tagged g number message index in
     let short = length-piece message index in
     elim (cases_lt (length message) fragment_size) [
       | inl small ↦
           subst Q (sym (cond-true (ltb (length message) fragment_size) _ _ (lt-ltb _ _ small)))
-          (whole_is_tagged messages g (header g.side qport number ++ message) number index h (whole_is g.side qport number message end) small)
+          (whole_is_tagged g (header g.side qport number ++ message) number message index (whole_is g.side qport number message end) small)
       | inr long ↦
           let most = sendable.most in
           subst Q (sym (cond-false (ltb (length message) fragment_size) _ _ (le-ltb _ _ long)))
           (fragment_is_tagged messages g (fragment g.side qport number (fragment_size * index) (piece message index)) number index h
           (fragment_is g.side qport number (fragment_size * index) (piece message index) end (omega arith) (omega arith)) long most below)
     ]
+
+pub sent_is_tagged : SentIsTagged
+sent_is_tagged messages g qport number index h port some end sendable below =
+    (datagram_is_tagged messages g qport number index h end sendable below, tagged-front messages g number index h)

@@ -1,5 +1,5 @@
 -- Datagrams: the number of a message, from a client its qport, and a piece of the message; a short one goes whole.
-use Rattle.std.specs.Prelude.{ℕ, ◌+◌, ◌*◌, ◌/◌, ◌%◌, ◌^◌, nat_lt, nat_le, if◌then◌else◌, Bool, List, ◌++◌, length, map, take, drop}
+use Rattle.std.specs.Prelude.{ℕ, ◌+◌, ◌-◌, ◌*◌, ◌/◌, ◌%◌, ◌^◌, nat_lt, nat_le, if◌then◌else◌, Bool, List, ◌++◌, length, map, take, drop}
 use Rattle.std.specs.List.{range_with_len}
 use Rattle.byteorder.specs.Endian.{little_bytes, little_number}
 use Rattle.q3_chan.specs.declared.side.Side.{Side}
@@ -26,6 +26,10 @@ fragment_mark = 2 ^ 31
 -- how many pieces a message of so many bytes has
 abbrev pub piece_count : ℕ → ℕ
 piece_count bytes = bytes / fragment_size + 1
+
+-- the index of the last
+abbrev pub last_index : List ℕ → ℕ
+last_index message = piece_count (length message) - 1
 
 -- the piece of a message at an index: as many bytes as go into one, and in the last piece those that are left, which may
 -- be none

@@ -1,12 +1,12 @@
 -- Laws of messages that are cut and gathered.
-use Rattle.std.specs.Prelude.{◌≡◌, ◌⊎◌, ℕ, ◌+◌, ◌*◌, ◌^◌, ◌<◌, ◌≤◌, true, false, List, [], ◌∷◌, ◌++◌, length, take, All}
-use Rattle.std.specs.List.{concat}
+use Rattle.std.specs.Prelude.{◌≡◌, ◌⊎◌, ℕ, ◌+◌, ◌*◌, ◌^◌, ◌<◌, ◌≤◌, true, false, List, [], ◌∷◌, ◌++◌, length, map, take, Some, IfSome, All}
+use Rattle.std.specs.List.{concat, range_with_len}
 use Rattle.q3_chan.specs.declared.side.Side.{Side}
 use Rattle.q3_chan.specs.declared.gatherer.Gathered.TheVariants.{Whole}
-use Rattle.q3_chan.specs.Datagrams.{fragment_size, longest_message, sequence_end, piece_count, pieces, datagram, datagrams, is_fragment, number_in, start_in, count_in, behind_header}
-use Rattle.q3_chan.specs.Sending.{Sending, IsIdle, started, handed_out, behind}
+use Rattle.q3_chan.specs.Datagrams.{fragment_size, longest_message, sequence_end, piece_count, last_index, pieces, datagram, datagrams, is_fragment, number_in, start_in, count_in, behind_header}
+use Rattle.q3_chan.specs.Sending.{Sending, UnderWay, IsIdle, new_sending, started, next_of, handed_out, behind}
 use Rattle.q3_chan.specs.Gathering.{Gathering, gathered, gathered_all, new_gathering}
-use Rattle.q3_chan.specs.Tags.{tagged}
+use Rattle.q3_chan.specs.Tags.{tagged, tagged_all, Came, PieceDoes}
 
 -- the pieces of a message, one behind the other, are the message
 abbrev pub PiecesAreWhole : Type 0
@@ -43,6 +43,28 @@ IsOneOf side qport messages bytes =
     (number : ℕ) × (index : ℕ) × (1 ≤ number) × (number < sequence_end) × IsSendable (messages number)
     × (index < piece_count (length (messages number))) × (bytes ≡ datagram side qport number (messages number) index)
 
+-- what a piece does, whatever was gathered
+abbrev pub TaggedDoes : Type 0
+TaggedDoes = (g : Gathering) (number : ℕ) (message : List ℕ) (index : ℕ) → PieceDoes g number message (tagged g number message index)
+
+-- ---- what comes whole
+
+-- where all pieces of a newer message but the last arrived in order, whatever was gathered before, with the last it comes whole
+abbrev pub PiecesAreTagged : Type 0
+PiecesAreTagged = (messages : ℕ → List ℕ) (g : Gathering) (number : ℕ) → HoldsFront messages g → g.taken < number
+    → Came (tagged_all g number (messages number) (last_index (messages number))) number (messages number)
+    (tagged (tagged_all g number (messages number) (last_index (messages number))) number (messages number) (last_index (messages number)))
+
+-- an end after so many first datagrams of a message
+abbrev pub gathered_first : Gathering → ℕ → ℕ → List ℕ → ℕ → Gathering
+gathered_first g qport number message count = gathered_all g (map (datagram g.side qport number message) (range_with_len 0 count))
+
+-- the same by bytes: where all datagrams of a newer message but the last came in order, with the last it comes whole
+abbrev pub PiecesComeWhole : Type 0
+PiecesComeWhole = (messages : ℕ → List ℕ) (g : Gathering) (qport number : ℕ) → HoldsFront messages g → g.taken < number → number < sequence_end → IsSendable (messages number)
+    → Came (gathered_first g qport number (messages number) (last_index (messages number))) number (messages number)
+    (gathered (gathered_first g qport number (messages number) (last_index (messages number))) (datagram g.side qport number (messages number) (last_index (messages number))))
+
 -- whatever of one sender's datagrams came, in whatever order: a message that comes whole is the one under its number
 abbrev pub GatheredIsOne : Type 0
 GatheredIsOne = (side : Side) (qport : ℕ) (messages : ℕ → List ℕ) (came : List (List ℕ)) (last : List ℕ) (number count : ℕ) → qport < 2 ^ 16
@@ -71,3 +93,54 @@ WholeArePieces = (side : Side) (came : List (List ℕ)) (last : List ℕ) (numbe
     → ((is_fragment last ≡ false) × ((gathered (gathered_all (new_gathering side) came) last).message ≡ behind_header side last))
     ⊎ ((parts : List (List ℕ)) × StandIn parts came
     × ArePieces side number 0 (parts ++ last ∷ []) (gathered (gathered_all (new_gathering side) came) last).message)
+
+-- ---- the two ends
+
+-- an end that receives has taken and gathers numbers up to the last that was begun, and what it gathered is a front
+pub record Gathers (messages : ℕ → List ℕ) (last : ℕ) (g : Gathering) : Type 0 where
+  pub taken : g.taken ≤ last
+  pub number : g.number ≤ last
+  pub front : HoldsFront messages g
+
+-- where an end that receives is so
+pub record EndsGather : Type 0 where
+  -- an end that has taken nothing
+  pub begin : (messages : ℕ → List ℕ) (last : ℕ) (side : Side) → Gathers messages last (new_gathering side)
+  -- a piece of a message that was begun
+  pub piece : (messages : ℕ → List ℕ) (last : ℕ) (g : Gathering) (number index : ℕ) → Gathers messages last g → number ≤ last
+      → Gathers messages last (tagged g number (messages number) index).gathering
+  -- and where more messages are begun
+  pub more : (messages messages' : ℕ → List ℕ) (last last' : ℕ) (g : Gathering) → Gathers messages last g → last ≤ last'
+      → ((number : ℕ) → number ≤ last → messages' number ≡ messages number) → Gathers messages' last' g
+
+-- what is under way is the message under a number, which isn't 0, and a piece of it is left
+pub record IsUnderWay (messages : ℕ → List ℕ) (number : ℕ) (way : UnderWay) : Type 0 where
+  pub some : 1 ≤ number
+  pub message : way.message ≡ messages number
+  pub left : way.next < piece_count (length (messages number))
+
+-- an end that sends has nothing under way, or the message under its number
+pub record Sends (messages : ℕ → List ℕ) (s : Sending) : Type 0 where
+  pub under_way : IfSome s.under_way (IsUnderWay messages s.number)
+
+-- what an end hands out next is the datagram with the piece at an index of the message under its number
+pub record HandsOut (messages : ℕ → List ℕ) (s : Sending) (index : ℕ) : Type 0 where
+  pub some : 1 ≤ s.number
+  pub left : index < piece_count (length (messages s.number))
+  pub bytes : (next_of s).datagram ≡ datagram s.side s.qport s.number (messages s.number) index
+
+-- where an end that sends is so, and what it hands out
+pub record EndsSend : Type 0 where
+  -- an end that has sent nothing
+  pub begin : (messages : ℕ → List ℕ) (side : Side) (qport : ℕ) → Sends messages (new_sending side qport)
+  -- a message is begun
+  pub start : (messages : ℕ → List ℕ) (s : Sending) (message : List ℕ) → messages (s.number + 1) ≡ message → Sends messages (started s message)
+  -- a piece is handed out
+  pub next : (messages : ℕ → List ℕ) (s : Sending) → Sends messages s → Sends messages (next_of s).sending
+  -- and then side, qport and number are as they were
+  pub stays : (s : Sending) → ((next_of s).sending.side ≡ s.side) × ((next_of s).sending.qport ≡ s.qport) × ((next_of s).sending.number ≡ s.number)
+  -- of a message under way it is the piece that is left
+  pub piece : (messages : ℕ → List ℕ) (s : Sending) (way : UnderWay) → Sends messages s → s.under_way ≡ Some way → HandsOut messages s way.next
+  -- and it is one of the messages' datagrams
+  pub one : (messages : ℕ → List ℕ) (s : Sending) (index : ℕ) → HandsOut messages s index → s.number < sequence_end → IsSendable (messages s.number)
+      → IsOneOf s.side s.qport messages (next_of s).datagram

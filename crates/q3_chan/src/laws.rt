@@ -1,7 +1,7 @@
 //! Laws of messages that are cut and gathered, each the contract of a call that does nothing. A proof above cites a law by
 //! calling it.
 
-ghost use Rattle.q3_chan.specs.Laws.{PiecesAreWhole, HandsOutAll, SentIsTagged, GatheredIsOne, WholeArePieces};
+ghost use Rattle.q3_chan.specs.Laws.{PiecesAreWhole, HandsOutAll, SentIsTagged, TaggedDoes, PiecesAreTagged, PiecesComeWhole, GatheredIsOne, WholeArePieces, EndsGather, EndsSend};
 
 /// The pieces of a message, one behind the other, are the message.
 pub fn pieces_are_whole()
@@ -18,6 +18,21 @@ pub fn sent_is_tagged()
     ensures { SentIsTagged }
 {}
 
+/// What a piece does, whatever was gathered: no message comes whole, or the piece's does.
+pub fn tagged_does()
+    ensures { TaggedDoes }
+{}
+
+/// Where all pieces of a newer message but the last arrived in order, with the last it comes whole.
+pub fn pieces_are_tagged()
+    ensures { PiecesAreTagged }
+{}
+
+/// The same by bytes: where all datagrams of a newer message but the last came in order, with the last it comes whole.
+pub fn pieces_come_whole()
+    ensures { PiecesComeWhole }
+{}
+
 /// Whatever of one sender's datagrams came, in whatever order: a message that comes whole is the one under its number.
 pub fn gathered_is_one()
     ensures { GatheredIsOne }
@@ -27,4 +42,16 @@ pub fn gathered_is_one()
 /// their order.
 pub fn whole_are_pieces()
     ensures { WholeArePieces }
+{}
+
+/// What an end that receives has taken and gathers was begun: so at first, behind each piece of a message that was begun, and
+/// where more are begun.
+pub fn ends_gather()
+    ensures { EndsGather }
+{}
+
+/// What an end that sends has under way is the message under its number: so at first, behind each that is begun, and behind
+/// each piece that is handed out.
+pub fn ends_send()
+    ensures { EndsSend }
 {}
