@@ -1,5 +1,5 @@
 -- A step by bytes is a step by tags.
-use Rattle.std.proofs.Common.{◌≡◌, ℕ, zero, suc, ◌+◌, ◌-◌, ◌<◌, ◌≤◌, Bool, false, List, length, map, Option, Some, None, Result, Ok, refl, sym, ap, subst, ◌∙◌, inl, inr, arith, lit<}
+use Rattle.std.proofs.Common.{◌≡◌, ℕ, ◌+◌, ◌-◌, ◌<◌, ◌≤◌, Bool, false, List, length, map, Option, Some, None, Result, Ok, refl, sym, ap, subst, ◌∙◌, inl, inr, arith, lit<}
 use Rattle.std.specs.Prelude.{◌⊎◌, nat_le, nat_lt, slice_get, slice_set}
 use Rattle.std.specs.Option.{option_map}
 use Rattle.std.proofs.lemmas.List.{length-map, map_push, set-get_or}
@@ -28,8 +28,8 @@ use Rattle.q3_chan.specs.declared.gatherer.Gathered.TheVariants as gathered
 use Rattle.q3_chan.specs.Datagrams.{sequence_end, longest_message, piece_count, datagram}
 use Rattle.q3_chan.specs.Sending.{UnderWay}
 use Rattle.q3_chan.specs.Gathering.{Took, gathered as gathered_of}
-use Rattle.q3_chan.specs.Tags.{tagged}
-use Rattle.q3_chan.specs.Laws.{IsSendable, HoldsFront, SentIsTagged}
+use Rattle.q3_chan.specs.Tags.{tagged, IsQuiet, PieceDoes}
+use Rattle.q3_chan.specs.Laws.{IsSendable, SentIsTagged, TaggedDoes, Gathers, EndsGather, EndsSend}
 use Rattle.q3_world.specs.declared.server.Emitted.{Emitted}
 use Rattle.q3_world.specs.declared.server.Emitted.TheVariants as emitted
 use Rattle.q3_world.specs.Message.{no_bases, IsHeld, IsArea, IsBuilt}
@@ -40,10 +40,9 @@ use Rattle.q3_world.specs.Kept.{SentBytes, Kept, KeptStep, kept_ends, kept_serve
 use Rattle.q3_world.specs.World.{Tag, Step, Whole, no_message, history_at, built_at, with_ends, serve, named, arrive_taken, arrive, deliver, step}
 use Rattle.q3_world.specs.StandsFor.{AreEnds, IsSent, WasBuilt, messages_of, StandsFor, bytes_of}
 use Rattle.q3_world.proofs.Growth.{history_after}
-use Rattle.q3_world.proofs.Clients.{slot_begun, AreEnds-begun, AreJoined-gathered, AreJoined-accepted}
+use Rattle.q3_world.proofs.Clients.{at_number, slot_begun, AreEnds-begun, AreJoined-gathered, AreJoined-accepted}
 use Rattle.q3_world.proofs.Events.{Holds, with_new_slot, Holds-new, Holds-player, Holds-area, Holds-map, Holds-handed, handed_tag, Holds-taken, client_from, client_joined, tag_was_built, names_built, client_by}
 use Rattle.q3_world.proofs.Held.{AreHeld-put, AreHeld-without}
-use Rattle.q3_world.proofs.Tagged.{IsQuiet, Does, tagged_does}
 
 -- ---- what is cited of the layers below
 
@@ -62,6 +61,9 @@ pub record Cited (profile : Profile) : Type 0 where
       → AreWords 64 (normal_entity profile.entity entity).words × IsNormal profile.entity (normal_entity profile.entity entity)
   pub end : 1023 ≤ end_mark profile.entity
   pub tags : SentIsTagged
+  pub does : TaggedDoes
+  pub gathers : EndsGather
+  pub sends : EndsSend
   pub bytes : MessageIsBytes
 
 -- ---- what is kept of a whole world
@@ -89,11 +91,11 @@ found_or : {X : Type 0} (o : Option X) → (o ≡ None) ⊎ ((x : X) × (o ≡ S
 found_or None = inl refl
 found_or (Some x) = inr (x, refl)
 
-holds_join : (profile : Profile) (whole : Whole) (c challenge qport dup : ℕ) (address : Address) → IsHeld profile zero_player → c < places → Holds profile whole
+holds_join : (profile : Profile) (whole : Whole) (c challenge qport dup : ℕ) (address : Address) → Cited profile → c < places → Holds profile whole
     → Holds profile (record whole { ends = (join profile whole.ends c challenge qport dup address).ends })
-holds_join profile whole c challenge qport dup address first lt holds =
+holds_join profile whole c challenge qport dup address cited lt holds =
     elim (found_or (slot_at whole.ends.server c)) [
-      | inl none ↦ rw none (Holds-new profile whole c challenge qport dup address first lt none holds)
+      | inl none ↦ rw none (Holds-new profile whole c challenge qport dup address cited.sends cited.gathers cited.zero lt none holds)
       | inr found ↦ rw found.1 holds
     ]
 
@@ -160,14 +162,14 @@ same_server server c slot found =
     (ap (λ (s : Option SlotState). slice_set server.slots c s) (sym found) ∙ set-get_or server.slots c None)
 
 -- a piece is handed out, of a message that was begun now or before
-handed_out : (profile : Profile) (whole : Whole) (c : ℕ) (old slot : SlotState) (left : UnderWay) (answer : Emitted) (began : Option Built) → c < places
+handed_out : (profile : Profile) (whole : Whole) (c : ℕ) (old slot : SlotState) (left : UnderWay) (answer : Emitted) (began : Option Built) → Cited profile → c < places
     → slot_at whole.ends.server c ≡ Some old → slot.sending.under_way ≡ Some left
     → ((client : ClientState) → AreEnds profile old client (history_at whole.histories c) → AreEnds profile slot client (history_after (history_at whole.histories c) began))
     → Holds profile whole → Served profile whole c (emission_at whole.ends.server c (hand_out slot left.next answer began))
-handed_out profile whole c old slot left answer began lt found way begins holds =
+handed_out profile whole c old slot left answer began cited lt found way begins holds =
     let count = length-map whole.sent bytes_of in
     let pushed = map_push bytes_of whole.sent (handed_tag c slot left) in
-    record { same = rw (count, pushed) refl; holds = Holds-handed profile whole c old slot left began lt found way begins holds }
+    record { same = rw (count, pushed) refl; holds = Holds-handed profile whole c old slot left began cited.sends cited.gathers lt found way begins holds }
 
 -- a message of a length that fits is one that may be sent
 sendable : (bits : List Bool) → MessageIsBytes → nat_lt longest_message (message_length (length bits)) ≡ false → IsSendable (message_bytes bits)
@@ -190,8 +192,8 @@ served_bits profile whole c slot cited lt is fits holds =
     elim (cases_Bool (nat_lt longest_message (message_length (length bits)))) [
       | inl long ↦ rw long (quiet profile whole c (with_slot server c slot) emitted.Overlong (same_server server c slot is) holds)
       | inr short ↦ rw short (handed_out profile whole c slot (slot_begun profile map slot) first
-          (emitted.Snapshot (slot.sending.number + 1) 0 (message_length (length bits))) (Some next) lt is refl
-          (λ client ends. AreEnds-begun profile map slot client (history_at whole.histories c) holds.facts.time holds.facts.entities fits (sendable bits cited.bytes short) ends) holds)
+          (emitted.Snapshot (slot.sending.number + 1) 0 (message_length (length bits))) (Some next) cited lt is refl
+          (λ client ends. AreEnds-begun profile map slot client (history_at whole.histories c) cited.sends holds.facts.time holds.facts.entities fits (sendable bits cited.bytes short) ends) holds)
     ]
 
 -- the next message, unless message numbers have ended
@@ -210,7 +212,7 @@ served_from : (profile : Profile) (whole : Whole) (c : ℕ) (slot : SlotState) (
     → Served profile whole c (emission_at whole.ends.server c (emit_slot profile whole.ends.server.map slot left))
 served_from profile whole c slot None cited lt is none holds = served_new profile whole c slot cited lt is holds
 served_from profile whole c slot (Some left) cited lt is some holds =
-    handed_out profile whole c slot slot left (emitted.Fragment slot.sending.number) None lt is some (λ client ends. ends) holds
+    handed_out profile whole c slot slot left (emitted.Fragment slot.sending.number) None cited lt is some (λ client ends. ends) holds
 
 served : (profile : Profile) (whole : Whole) (c : ℕ) → Cited profile → c < places → Holds profile whole
     → Served profile whole c (emit_from whole.ends.server c (slot_at whole.ends.server c))
@@ -250,7 +252,7 @@ quiet_client client gathered.Connectionless read is = absurd is
 
 -- what comes whole is read as the message that was built
 taken_alike : (profile : Profile) (client : ClientState) (took : Took) (number : ℕ) (built : Built) → ReadsBack profile → IsBuilt profile number built → client.profile ≡ profile
-    → Does client.gathering number (built_bytes profile built) took
+    → PieceDoes client.gathering number (built_bytes profile built) took
     → take_gathered client took (read_by client.profile took.message) ≡ take_gathered client took (λ n. Ok built)
 taken_alike profile client took number built reads is by does =
     elim does.either [
@@ -258,17 +260,10 @@ taken_alike profile client took number built reads is by does =
       | inr came ↦ rw (came.answer, came.message_is, by, reads number built is) refl
     ]
 
--- the bytes of the message under a number
-at_number : (profile : Profile) (built : List Built) (number : ℕ) → 1 ≤ number → messages_of profile built number ≡ built_bytes profile (built_at built number)
-at_number profile built zero some = absurd (omega (arith, some))
-at_number profile built (suc number) some = refl
-
--- what a datagram that was made does by its bytes it does by its tag, and what is gathered then is a front of a message
+-- what a datagram that was made does by its bytes it does by its tag
 pub tag_is : (profile : Profile) (whole : Whole) (tag : Tag) (client : ClientState) → Cited profile → IsSent profile whole.histories tag
     → client_at whole.ends tag.client ≡ Some client → Holds profile whole
-    → (gathered_of client.gathering tag.bytes ≡ tagged client.gathering tag.number (built_bytes profile (named whole.histories tag)) tag.index)
-    × HoldsFront (messages_of profile (history_at whole.histories tag.client).built)
-    (tagged client.gathering tag.number (built_bytes profile (named whole.histories tag)) tag.index).gathering
+    → gathered_of client.gathering tag.bytes ≡ tagged client.gathering tag.number (built_bytes profile (named whole.histories tag)) tag.index
 tag_is profile whole tag client cited is found holds =
     let g = client.gathering in
     let built = (history_at whole.histories tag.client).built in
@@ -281,34 +276,43 @@ tag_is profile whole tag client cited is found holds =
     let was_built = tag_was_built profile whole tag client is found holds in
     let some = is.some in
     let begun = is.begun in
-    let law = cited.tags messages g 0 n tag.index joined.3.front (lit< tt) some was_built.fits
+    let law = cited.tags messages g 0 n tag.index joined.3.gathers.front (lit< tt) some was_built.fits
     (subst IsSendable (sym at) (from.1 (n - 1) no_message (omega arith)))
-    (subst (λ (m : List ℕ). tag.index < piece_count (length m)) (sym at) is.piece) in (
-      ap (gathered_of g) (is.bytes ∙ (ap (λ (side : Side). datagram side 0 n message tag.index) (sym from.0)
-          ∙ ap (λ (m : List ℕ). datagram g.side 0 n m tag.index) (sym at)))
-          ∙ (law.0 ∙ ap (λ (m : List ℕ). tagged g n m tag.index) at),
-      subst (λ (m : List ℕ). HoldsFront messages (tagged g n m tag.index).gathering) at law.1,
-    )
+    (subst (λ (m : List ℕ). tag.index < piece_count (length m)) (sym at) is.piece) in
+    ap (gathered_of g) (is.bytes ∙ (ap (λ (side : Side). datagram side 0 n message tag.index) (sym from.0)
+        ∙ ap (λ (m : List ℕ). datagram g.side 0 n m tag.index) (sym at)))
+        ∙ (law.0 ∙ ap (λ (m : List ℕ). tagged g n m tag.index) at)
+
+-- and what is gathered then was begun
+tag_gathers : (profile : Profile) (whole : Whole) (tag : Tag) (client : ClientState) → Cited profile → IsSent profile whole.histories tag
+    → client_at whole.ends tag.client ≡ Some client → Holds profile whole
+    → Gathers (messages_of profile (history_at whole.histories tag.client).built) (length (history_at whole.histories tag.client).built)
+    (tagged client.gathering tag.number (built_bytes profile (named whole.histories tag)) tag.index).gathering
+tag_gathers profile whole tag client cited is found holds =
+    let built = (history_at whole.histories tag.client).built in
+    let messages = messages_of profile built in
+    let joined = client_joined profile whole tag.client client is.client found holds in
+    subst (λ (m : List ℕ). Gathers messages (length built) (tagged client.gathering tag.number m tag.index).gathering) (at_number profile built tag.number is.some)
+    (cited.gathers.piece messages (length built) client.gathering tag.number tag.index joined.3.gathers is.begun)
 
 -- what arrives of a piece: what holds stays
 holds_piece : (profile : Profile) (whole : Whole) (c number n : ℕ) (client : ClientState) (took : Took) (built : Built) → c < places → client_at whole.ends c ≡ Some client
-    → Does client.gathering n (built_bytes profile built) took → HoldsFront (messages_of profile (history_at whole.histories c).built) took.gathering
-    → (is : IsBuilt profile n built) → n ≤ length (history_at whole.histories c).built → WasBuilt (history_at whole.histories c).built is.snapshot
+    → PieceDoes client.gathering n (built_bytes profile built) took
+    → Gathers (messages_of profile (history_at whole.histories c).built) (length (history_at whole.histories c).built) took.gathering
+    → (is : IsBuilt profile n built) → WasBuilt (history_at whole.histories c).built is.snapshot
     → Holds profile whole → Holds profile (arrive_taken whole number c (take_gathered client took (λ n. Ok built))).whole
-holds_piece profile whole c number n client took built lt found does front is few was holds =
+holds_piece profile whole c number n client took built lt found does gathers is was holds =
     let g = took.gathering in
-    let joined = client_joined profile whole c client lt found holds in
-    let gathers = does.below (length (history_at whole.histories c).built) joined.3.gathers few in
     elim does.either [
       | inl waits ↦
           let same = quiet_client (record client { gathering = g }) took.answer (λ n. Ok built) waits.quiet in
           rw (same.0, same.1) (Holds-taken profile whole c client (record client { gathering = g }) None lt found refl does.side
-          (λ slot joins. AreJoined-gathered profile whole.ends.server.map slot client (history_at whole.histories c) g waits.taken gathers front joins) holds)
+          (λ slot joins. AreJoined-gathered profile whole.ends.server.map slot client (history_at whole.histories c) g waits.taken gathers joins) holds)
       | inr came ↦
           let newer = came.newer in
           let number_is = is.number in
           rw (came.answer, is.is) (Holds-taken profile whole c client (record client { gathering = g; accepted = Some is.snapshot }) (Some is.snapshot) lt found refl does.side
-          (λ slot joins. AreJoined-accepted profile whole.ends.server.map slot client (history_at whole.histories c) g is.snapshot (came.taken ∙ sym number_is) gathers front was
+          (λ slot joins. AreJoined-accepted profile whole.ends.server.map slot client (history_at whole.histories c) g is.snapshot (came.taken ∙ sym number_is) gathers was
           (omega (arith, newer, number_is)) joins) holds)
     ]
 
@@ -333,12 +337,11 @@ delivered_to profile whole number tag (Some client) cited is at holds =
     let was_built = tag_was_built profile whole tag client is at holds in
     let by = client_by profile whole tag.client client is.client at holds in
     let took = tagged client.gathering tag.number (built_bytes profile built) tag.index in
-    let does = tagged_does client.gathering tag.number (built_bytes profile built) tag.index in
-    let tags = tag_is profile whole tag client cited is at holds in
+    let does = cited.does client.gathering tag.number (built_bytes profile built) tag.index in
     record {
       same = ap (λ (t : Taken). kept_taken (kept_of profile whole) number tag.client t)
-          (taken_by_bytes client tag.bytes took tags.0 ∙ taken_alike profile client took tag.number built cited.reads was_built by does);
-      holds = holds_piece profile whole tag.client number tag.number client took built is.client at does tags.1 was_built is.begun (names_built profile whole tag is was_built) holds;
+          (taken_by_bytes client tag.bytes took (tag_is profile whole tag client cited is at holds) ∙ taken_alike profile client took tag.number built cited.reads was_built by does);
+      holds = holds_piece profile whole tag.client number tag.number client took built is.client at does (tag_gathers profile whole tag client cited is at holds) was_built (names_built profile whole tag is was_built) holds;
     }
 
 sent_at : (profile : Profile) (whole : Whole) (number : ℕ) (found : Option Tag) → Cited profile
@@ -360,7 +363,7 @@ pub steps_agree : (profile : Profile) (whole : Whole) (event : Event) → Cited 
     → IsReplayEvent event → Holds profile whole → Agree profile (kept_step (kept_of profile whole) event) (step profile whole event)
 unfolding kept_step step emit_at
 steps_agree profile whole (events.Client c challenge qport dup address) cited is holds =
-    handed profile whole (join profile whole.ends c challenge qport dup address) (holds_join profile whole c challenge qport dup address cited.zero (omega (arith, is)) holds)
+    handed profile whole (join profile whole.ends c challenge qport dup address) (holds_join profile whole c challenge qport dup address cited (omega (arith, is)) holds)
 steps_agree profile whole (events.Entity state) cited is holds =
     handed profile whole (set_entity whole.ends state) (holds_entity profile whole state cited is.0 is.1 holds)
 steps_agree profile whole (events.Remove number) cited is holds =

@@ -1,10 +1,9 @@
 -- What holds of one client, and stays so.
-use Rattle.std.proofs.Common.{◌≡◌, ℕ, suc, ◌+◌, ◌-◌, ◌^◌, ◌<◌, ◌≤◌, List, [], ◌∷◌, ◌++◌, length, get_or, Option, Some, None, refl, sym, ap, subst, ◌∙◌, inl, inr, arith, lit<}
-use Rattle.std.specs.Prelude.{nat_lt, IfSome}
+use Rattle.std.proofs.Common.{◌≡◌, ℕ, zero, suc, ◌+◌, ◌-◌, ◌^◌, ◌<◌, ◌≤◌, List, [], ◌∷◌, ◌++◌, length, get_or, Option, Some, None, refl, sym, ap, subst, ◌∙◌, inl, inr, arith}
 use Rattle.std.specs.List.{last_or}
 use Rattle.std.proofs.lemmas.List.{length_push, get_or_append_left, get_or_push}
 use Rattle.std.proofs.lemmas.List.Elements.{All-nil}
-use Rattle.std.proofs.lemmas.Bool.{cases_Bool, cases_lt, ltb-true}
+use Rattle.std.proofs.lemmas.Bool.{cases_lt}
 use Rattle.arrayvec.specs.ArrayVec.{ArrayVec}
 use Rattle.q3_profile.specs.declared.profile.Profile.{Profile}
 use Rattle.q3_player.specs.State.{zero_player}
@@ -14,15 +13,15 @@ use Rattle.q3_entity.specs.Entities.{most_entities}
 use Rattle.q3_chan.specs.declared.side.Side.{Side}
 use Rattle.q3_chan.specs.declared.side.Side.TheVariants.{Server}
 use Rattle.q3_chan.specs.Datagrams.{sequence_end, piece_count, datagram}
-use Rattle.q3_chan.specs.Sending.{Sending, UnderWay, Handed, started, left_of, hand_out, next_of}
+use Rattle.q3_chan.specs.Sending.{UnderWay, started, next_of}
 use Rattle.q3_chan.specs.Gathering.{Gathering}
-use Rattle.q3_chan.specs.Laws.{IsSendable, HoldsFront}
+use Rattle.q3_chan.specs.Laws.{IsSendable, Gathers, EndsGather, EndsSend}
 use Rattle.q3_world.specs.Message.{Snapshot, IsHeld, IsArea, AreHeld, IsBuilt}
 use Rattle.q3_world.specs.Server.{MapState, SlotState, Built, new_slot, next_snapshot, next_message, built_bytes}
 use Rattle.q3_world.specs.Client.{ClientState, new_client}
 use Rattle.q3_world.specs.World.{History, no_history, no_message, built_at}
-use Rattle.q3_world.specs.StandsFor.{IsUnderWay, AreEnds, IsClient, WasBuilt, number_of_newest, Rise, messages_of, AreJoined}
-use Rattle.q3_world.proofs.Growth.{was_built_more, each_more, history_after, history_heard, front_stays}
+use Rattle.q3_world.specs.StandsFor.{messages_of, AreEnds, IsClient, WasBuilt, number_of_newest, Rise, AreJoined}
+use Rattle.q3_world.proofs.Growth.{was_built_more, each_more, history_after, history_heard, messages_stay}
 use Rattle.q3_world.proofs.Held.{AreHeld-take, few_taken}
 
 -- ---- presence
@@ -51,18 +50,18 @@ no_area : IsArea []
 no_area = record { bytes = All-nil (λ (byte : ℕ). byte < 256); short = omega arith }
 
 -- a client that just joined
-pub AreEnds-new : (profile : Profile) (challenge qport dup : ℕ) (address : Address) → IsHeld profile zero_player
+pub AreEnds-new : (profile : Profile) (challenge qport dup : ℕ) (address : Address) → EndsSend → IsHeld profile zero_player
     → AreEnds profile (new_slot challenge qport address) (new_client profile challenge qport dup) no_history
-AreEnds-new profile challenge qport dup address zero =
+AreEnds-new profile challenge qport dup address chan first =
     record {
       begun = refl;
       side = refl;
       qport = refl;
-      under_way = tt;
-      player = zero;
+      sends = chan.begin (messages_of profile []) Server 0;
+      player = first;
       area = no_area;
       built = λ k d lt. absurd (omega (arith, lt));
-      short = λ k d lt. absurd (omega (arith, lt));
+      sendable = λ k d lt. absurd (omega (arith, lt));
       by = refl;
       from = refl;
     }
@@ -75,11 +74,11 @@ AreEnds-given profile slot client history player area held is ends =
       begun = ends.begun;
       side = ends.side;
       qport = ends.qport;
-      under_way = ends.under_way;
+      sends = ends.sends;
       player = held;
       area = is;
       built = ends.built;
-      short = ends.short;
+      sendable = ends.sendable;
       by = ends.by;
       from = ends.from;
     }
@@ -105,83 +104,73 @@ next_is_built profile map slot time entities fits player area =
 abbrev pub slot_begun : Profile → MapState → SlotState → SlotState
 slot_begun profile map slot = record slot { sending = started slot.sending (built_bytes profile (next_message map slot)) }
 
-pub AreEnds-begun : (profile : Profile) (map : MapState) (slot : SlotState) (client : ClientState) (history : History)
+pub AreEnds-begun : (profile : Profile) (map : MapState) (slot : SlotState) (client : ClientState) (history : History) → EndsSend
     → map.time < 2 ^ 32 → AreHeld profile map.entities → slot.sending.number + 1 < sequence_end → IsSendable (built_bytes profile (next_message map slot))
     → AreEnds profile slot client history
     → AreEnds profile (slot_begun profile map slot) client (record history { built = history.built ++ next_message map slot ∷ [] })
-AreEnds-begun profile map slot client history time entities fits sendable ends =
+AreEnds-begun profile map slot client history chan time entities fits sendable ends =
     let next = next_message map slot in
     let begun = ends.begun in
     let longer = length_push history.built next in
-    let last : built_at (history.built ++ next ∷ []) (length (history.built ++ next ∷ [])) ≡ next =
-    get_or_push history.built next no_message (length (history.built ++ next ∷ []) - 1) (omega (arith, longer)) in
+    let last : messages_of profile (history.built ++ next ∷ []) (suc (length history.built)) ≡ built_bytes profile next =
+    let place : length history.built ≡ suc (length history.built) - 1 = omega arith in
+    ap (built_bytes profile) (get_or_push history.built next no_message (suc (length history.built) - 1) place) in
+    let number : suc (length history.built) ≡ slot.sending.number + 1 = omega (arith, begun) in
     record {
       begun = omega (arith, longer);
       side = ends.side;
       qport = ends.qport;
-      under_way = record { some = omega (arith, longer); message = ap (built_bytes profile) (sym last); left = omega arith };
+      sends = chan.start (messages_of profile (history.built ++ next ∷ [])) slot.sending (built_bytes profile next)
+          (subst (λ (n : ℕ). messages_of profile (history.built ++ next ∷ []) n ≡ built_bytes profile next) number last);
       player = ends.player;
       area = ends.area;
       built = each_more (λ (k : ℕ) (b : Built). IsBuilt profile (k + 1) b) history.built next ends.built
           (subst (λ (n : ℕ). IsBuilt profile (n + 1) next) begun (next_is_built profile map slot time entities fits ends.player ends.area));
-      short = each_more (λ (k : ℕ) (b : Built). IsSendable (built_bytes profile b)) history.built next ends.short sendable;
+      sendable = each_more (λ (k : ℕ) (b : Built). IsSendable (built_bytes profile b)) history.built next ends.sendable sendable;
       by = ends.by;
       from = ends.from;
     }
 
 -- ---- a piece is handed out
 
--- of a message under way its next piece is handed out
-pub next_is : (s : Sending) (left : UnderWay) → s.under_way ≡ Some left
-    → next_of s ≡ record { sending = record s { under_way = left_of left }; datagram = datagram s.side s.qport s.number left.message left.next }
-unfolding next_of
-next_is s left e = ap (hand_out s) e
-
--- what is left behind it is a piece of the same message
-left_is : (profile : Profile) (built : List Built) (left : UnderWay) → IsUnderWay profile built left → IfSome (left_of left) (IsUnderWay profile built)
-left_is profile built left is =
-    elim (cases_Bool (nat_lt (left.next + 1) (piece_count (length left.message)))) [
-      | inl more ↦ rw more (record { some = is.some; message = is.message; left = ltb-true (left.next + 1) (piece_count (length left.message)) more })
-      | inr last ↦ rw last tt
-    ]
-
 abbrev pub slot_handed : SlotState → SlotState
 slot_handed slot = record slot { sending = (next_of slot.sending).sending }
 
-pub AreEnds-handed : (profile : Profile) (slot : SlotState) (left : UnderWay) (client : ClientState) (history : History) → slot.sending.under_way ≡ Some left
+pub AreEnds-handed : (profile : Profile) (slot : SlotState) (client : ClientState) (history : History) → EndsSend
     → AreEnds profile slot client history → AreEnds profile (slot_handed slot) client history
-AreEnds-handed profile slot left client history e ends =
-    let way : IsUnderWay profile history.built left = subst (λ (o : Option UnderWay). IfSome o (IsUnderWay profile history.built)) e ends.under_way in
-    subst (λ (s : Sending). AreEnds profile (record slot { sending = s }) client history) (sym (ap (λ (h : Handed). h.sending) (next_is slot.sending left e)))
-    (record {
-      begun = ends.begun;
-      side = ends.side;
-      qport = ends.qport;
-      under_way = left_is profile history.built left way;
+AreEnds-handed profile slot client history chan ends =
+    let same = chan.stays slot.sending in
+    record {
+      begun = same.2 ∙ ends.begun;
+      side = same.0 ∙ ends.side;
+      qport = same.1 ∙ ends.qport;
+      sends = chan.next (messages_of profile history.built) slot.sending ends.sends;
       player = ends.player;
       area = ends.area;
       built = ends.built;
-      short = ends.short;
+      sendable = ends.sendable;
       by = ends.by;
       from = ends.from;
-    })
+    }
+
+-- the bytes of the message under a number
+pub at_number : (profile : Profile) (built : List Built) (number : ℕ) → 1 ≤ number → messages_of profile built number ≡ built_bytes profile (built_at built number)
+at_number profile built zero some = absurd (omega (arith, some))
+at_number profile built (suc number) some = refl
 
 -- its datagram is one of the message that is under way
-pub handed_bytes : (profile : Profile) (slot : SlotState) (left : UnderWay) (client : ClientState) (history : History) → slot.sending.under_way ≡ Some left
+pub handed_bytes : (profile : Profile) (slot : SlotState) (left : UnderWay) (client : ClientState) (history : History) → EndsSend → slot.sending.under_way ≡ Some left
     → AreEnds profile slot client history
     → (1 ≤ slot.sending.number) × (left.next < piece_count (length (built_bytes profile (built_at history.built slot.sending.number))))
     × ((next_of slot.sending).datagram ≡ datagram Server 0 slot.sending.number (built_bytes profile (built_at history.built slot.sending.number)) left.next)
-handed_bytes profile slot left client history e ends =
-    let way : IsUnderWay profile history.built left = subst (λ (o : Option UnderWay). IfSome o (IsUnderWay profile history.built)) e ends.under_way in
-    let some = way.some in
-    let begun = ends.begun in
-    let message : left.message ≡ built_bytes profile (built_at history.built slot.sending.number) =
-    way.message ∙ ap (λ (n : ℕ). built_bytes profile (built_at history.built n)) (sym begun) in (
-      omega (arith, some, begun),
-      subst (λ (m : List ℕ). left.next < piece_count (length m)) message way.left,
-      ap (λ (h : Handed). h.datagram) (next_is slot.sending left e)
-          ∙ (ap (λ (side : Side). datagram side slot.sending.qport slot.sending.number left.message left.next) ends.side
-          ∙ (ap (λ (qport : ℕ). datagram Server qport slot.sending.number left.message left.next) ends.qport
+handed_bytes profile slot left client history chan e ends =
+    let out = chan.piece (messages_of profile history.built) slot.sending left ends.sends e in
+    let message = at_number profile history.built slot.sending.number out.some in (
+      out.some,
+      subst (λ (m : List ℕ). left.next < piece_count (length m)) message out.left,
+      out.bytes
+          ∙ (ap (λ (side : Side). datagram side slot.sending.qport slot.sending.number (messages_of profile history.built slot.sending.number) left.next) ends.side
+          ∙ (ap (λ (qport : ℕ). datagram Server qport slot.sending.number (messages_of profile history.built slot.sending.number) left.next) ends.qport
           ∙ ap (λ (m : List ℕ). datagram Server 0 slot.sending.number m left.next) message)),
     )
 
@@ -194,11 +183,11 @@ AreEnds-client profile slot client next history None by from ends =
       begun = ends.begun;
       side = ends.side;
       qport = ends.qport;
-      under_way = ends.under_way;
+      sends = ends.sends;
       player = ends.player;
       area = ends.area;
       built = ends.built;
-      short = ends.short;
+      sendable = ends.sendable;
       by = by;
       from = from;
     }
@@ -207,48 +196,46 @@ AreEnds-client profile slot client next history (Some snapshot) by from ends =
       begun = ends.begun;
       side = ends.side;
       qport = ends.qport;
-      under_way = ends.under_way;
+      sends = ends.sends;
       player = ends.player;
       area = ends.area;
       built = ends.built;
-      short = ends.short;
+      sendable = ends.sendable;
       by = by;
       from = from;
     }
 
 -- ---- what joins the ends
 
-pub AreJoined-new : (map : MapState) (profile : Profile) (challenge qport dup : ℕ) (address : Address)
+pub AreJoined-new : (map : MapState) (profile : Profile) (challenge qport dup : ℕ) (address : Address) → EndsGather
     → AreJoined profile map (new_slot challenge qport address) (new_client profile challenge qport dup) no_history
-AreJoined-new map profile challenge qport dup address =
+AreJoined-new map profile challenge qport dup address chan =
     record {
       accepted = λ k d lt. absurd (omega (arith, lt));
       rise = λ j k d lt within. absurd (omega (arith, within));
       newest = refl;
-      taken = refl;
-      gathers = omega arith;
-      front = record { count = 0; not_all = lit< tt; front = refl };
+      below = omega arith;
+      gathers = chan.begin (messages_of profile []) 0 Server;
     }
 
 -- another map and another slot
 pub AreJoined-slot : (profile : Profile) (map map' : MapState) (slot slot' : SlotState) (client : ClientState) (history : History)
     → AreJoined profile map slot client history → AreJoined profile map' slot' client history
 AreJoined-slot profile map map' slot slot' client history joined =
-    record { accepted = joined.accepted; rise = joined.rise; newest = joined.newest; taken = joined.taken; gathers = joined.gathers; front = joined.front }
+    record { accepted = joined.accepted; rise = joined.rise; newest = joined.newest; below = joined.below; gathers = joined.gathers }
 
 -- and a message more built, if one was begun
-pub AreJoined-after : (profile : Profile) (map : MapState) (slot slot' : SlotState) (client : ClientState) (history : History) (began : Option Built)
+pub AreJoined-after : (profile : Profile) (map : MapState) (slot slot' : SlotState) (client : ClientState) (history : History) (began : Option Built) → EndsGather
     → AreJoined profile map slot client history → AreJoined profile map slot' client (history_after history began)
-AreJoined-after profile map slot slot' client history None joined = AreJoined-slot profile map map slot slot' client history joined
-AreJoined-after profile map slot slot' client history (Some next) joined =
-    let gathers = joined.gathers in
+AreJoined-after profile map slot slot' client history None chan joined = AreJoined-slot profile map map slot slot' client history joined
+AreJoined-after profile map slot slot' client history (Some next) chan joined =
     record {
       accepted = λ k d lt. was_built_more history.built (next ∷ []) (get_or history.accepted k d) (joined.accepted k d lt);
       rise = joined.rise;
       newest = joined.newest;
-      taken = joined.taken;
-      gathers = omega (arith, gathers, length_push history.built next);
-      front = front_stays profile history.built (next ∷ []) client.gathering gathers joined.front;
+      below = joined.below;
+      gathers = chan.more (messages_of profile history.built) (messages_of profile (history.built ++ next ∷ [])) (length history.built) (length (history.built ++ next ∷ []))
+          client.gathering joined.gathers (omega (arith, length_push history.built next)) (messages_stay profile history.built (next ∷ []));
     }
 
 -- the last of a list, and of one more
@@ -287,23 +274,24 @@ rise_more accepted next rise above j k d lt within =
 
 -- more was gathered, or gathered anew, and no message came whole
 pub AreJoined-gathered : (profile : Profile) (map : MapState) (slot : SlotState) (client : ClientState) (history : History) (g : Gathering)
-    → g.taken ≡ client.gathering.taken → g.number ≤ length history.built → HoldsFront (messages_of profile history.built) g
+    → g.taken ≡ client.gathering.taken → Gathers (messages_of profile history.built) (length history.built) g
     → AreJoined profile map slot client history → AreJoined profile map slot (record client { gathering = g }) history
-AreJoined-gathered profile map slot client history g taken gathers front joined =
-    record { accepted = joined.accepted; rise = joined.rise; newest = joined.newest; taken = taken ∙ joined.taken; gathers = gathers; front = front }
+AreJoined-gathered profile map slot client history g taken gathers joined =
+    let below = joined.below in
+    record { accepted = joined.accepted; rise = joined.rise; newest = joined.newest; below = omega (arith, taken, below); gathers = gathers }
 
 -- a newer snapshot that was built came whole and is accepted
 pub AreJoined-accepted : (profile : Profile) (map : MapState) (slot : SlotState) (client : ClientState) (history : History) (g : Gathering) (snapshot : Snapshot)
-    → g.taken ≡ snapshot.head.number → g.number ≤ length history.built → HoldsFront (messages_of profile history.built) g
+    → g.taken ≡ snapshot.head.number → Gathers (messages_of profile history.built) (length history.built) g
     → WasBuilt history.built snapshot → client.gathering.taken < snapshot.head.number → AreJoined profile map slot client history
     → AreJoined profile map slot (record client { gathering = g; accepted = Some snapshot }) (record history { accepted = history.accepted ++ snapshot ∷ [] })
-AreJoined-accepted profile map slot client history g snapshot taken gathers front was newer joined =
-    let newest = joined.taken ∙ ap number_of_newest joined.newest in
+AreJoined-accepted profile map slot client history g snapshot taken gathers was newer joined =
+    let newest = ap number_of_newest joined.newest in
+    let below = joined.below in
     record {
       accepted = each_more (λ (k : ℕ) (s : Snapshot). WasBuilt history.built s) history.accepted snapshot joined.accepted was;
-      rise = rise_more history.accepted snapshot joined.rise (λ k d lt. omega (arith, at_most history.accepted k d joined.rise lt, newest));
+      rise = rise_more history.accepted snapshot joined.rise (λ k d lt. omega (arith, at_most history.accepted k d joined.rise lt, newest, below));
       newest = sym (last_push None history.accepted snapshot);
-      taken = taken;
+      below = omega (arith, taken);
       gathers = gathers;
-      front = front;
     }

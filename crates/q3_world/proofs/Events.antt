@@ -11,7 +11,7 @@ use Rattle.arrayvec.specs.ArrayVec.{ArrayVec}
 use Rattle.q3_chan.specs.declared.side.Side.TheVariants.{Server}
 use Rattle.q3_chan.specs.Datagrams.{piece_count, datagram}
 use Rattle.q3_chan.specs.Sending.{UnderWay, next_of}
-use Rattle.q3_chan.specs.Laws.{IsSendable}
+use Rattle.q3_chan.specs.Laws.{IsSendable, EndsGather, EndsSend}
 use Rattle.q3_world.specs.Message.{Snapshot, IsHeld, IsArea, AreHeld, IsBuilt}
 use Rattle.q3_world.specs.Server.{MapState, SlotState, Built, places, slot_at, with_slot, new_slot, with_player, with_area, built_bytes}
 use Rattle.q3_world.specs.Client.{ClientState, new_client}
@@ -93,10 +93,10 @@ abbrev pub with_new : Whole → ℕ → SlotState → ClientState → Whole
 with_new whole c slot client =
     record whole { ends = record { server = with_slot whole.ends.server c slot; clients = slice_set whole.ends.clients c (Some client) } }
 
-pub Holds-new : (profile : Profile) (whole : Whole) (c challenge qport dup : ℕ) (address : Address) → IsHeld profile zero_player → c < places
+pub Holds-new : (profile : Profile) (whole : Whole) (c challenge qport dup : ℕ) (address : Address) → EndsSend → EndsGather → IsHeld profile zero_player → c < places
     → slot_at whole.ends.server c ≡ None → Holds profile whole
     → Holds profile (with_new whole c (new_slot challenge qport address) (new_client profile challenge qport dup))
-Holds-new profile whole c challenge qport dup address zero lt none holds =
+Holds-new profile whole c challenge qport dup address sends gathers zero lt none holds =
     let facts = holds.facts in
     let slots = whole.ends.server.slots in
     let clients = whole.ends.clients in
@@ -116,8 +116,8 @@ Holds-new profile whole c challenge qport dup address zero lt none holds =
       histories = OnlyAt-same no_history c whole.histories;
       grows = Grows-same whole.histories;
     })
-    (rw (slot_is, client_is, history_is) (AreEnds-new profile challenge qport dup address zero))
-    (rw (slot_is, client_is, history_is) (AreJoined-new whole.ends.server.map profile challenge qport dup address))
+    (rw (slot_is, client_is, history_is) (AreEnds-new profile challenge qport dup address sends zero))
+    (rw (slot_is, client_is, history_is) (AreJoined-new whole.ends.server.map profile challenge qport dup address gathers))
     facts.sent holds
 
 -- a player is handed in
@@ -190,10 +190,10 @@ with_handed whole c slot left began =
       sent = whole.sent ++ handed_tag c slot left ∷ [];
     }
 
-handed_is_sent : (profile : Profile) (histories : List History) (c : ℕ) (slot : SlotState) (left : UnderWay) (client : ClientState) (history : History) → c < places
+handed_is_sent : (profile : Profile) (histories : List History) (c : ℕ) (slot : SlotState) (left : UnderWay) (client : ClientState) (history : History) → EndsSend → c < places
     → history_at histories c ≡ history → slot.sending.under_way ≡ Some left → AreEnds profile slot client history → IsSent profile histories (handed_tag c slot left)
-handed_is_sent profile histories c slot left client history lt there e ends =
-    let bytes = handed_bytes profile slot left client history e ends in
+handed_is_sent profile histories c slot left client history chan lt there e ends =
+    let bytes = handed_bytes profile slot left client history chan e ends in
     let begun = ends.begun in
     record {
       client = lt;
@@ -204,11 +204,11 @@ handed_is_sent profile histories c slot left client history lt there e ends =
     }
 
 -- a slot that has a piece left, of a message that was begun now or before, hands it out
-pub Holds-handed : (profile : Profile) (whole : Whole) (c : ℕ) (old slot : SlotState) (left : UnderWay) (began : Option Built) → c < places
+pub Holds-handed : (profile : Profile) (whole : Whole) (c : ℕ) (old slot : SlotState) (left : UnderWay) (began : Option Built) → EndsSend → EndsGather → c < places
     → slot_at whole.ends.server c ≡ Some old → slot.sending.under_way ≡ Some left
     → ((client : ClientState) → AreEnds profile old client (history_at whole.histories c) → AreEnds profile slot client (history_after (history_at whole.histories c) began))
     → Holds profile whole → Holds profile (with_handed whole c slot left began)
-Holds-handed profile whole c old slot left began lt found way begins holds =
+Holds-handed profile whole c old slot left began sends gathers lt found way begins holds =
     let facts = holds.facts in
     let slots = whole.ends.server.slots in
     let map = whole.ends.server.map in
@@ -230,11 +230,11 @@ Holds-handed profile whole c old slot left began lt found way begins holds =
       histories = OnlyAt-after histories c began;
       grows = grows;
     })
-    (rw (slot_is, had.1, history_is) (AreEnds-handed profile slot left had.0 grown way ends))
-    (rw (slot_is, had.1, history_is) (AreJoined-after profile map old next had.0 history began had.3))
+    (rw (slot_is, had.1, history_is) (AreEnds-handed profile slot had.0 grown sends ends))
+    (rw (slot_is, had.1, history_is) (AreJoined-after profile map old next had.0 history began gathers had.3))
     (each_more (λ (k : ℕ) (tag : Tag). IsSent profile (histories_after histories c began) tag) whole.sent (handed_tag c slot left)
     (all_sent_grow profile histories (histories_after histories c began) whole.sent grows facts.sent)
-    (handed_is_sent profile (histories_after histories c began) c slot left had.0 grown lt history_is way ends))
+    (handed_is_sent profile (histories_after histories c began) c slot left had.0 grown sends lt history_is way ends))
     holds
 
 -- ---- a message arrived
@@ -278,7 +278,7 @@ client_from profile whole c client lt found holds =
     let history = history_at whole.histories c in
     let had = a_slot profile (slot_at whole.ends.server c) client history
     (subst (λ (e : Option ClientState). IsClient profile (slot_at whole.ends.server c) e history) found (holds.facts.each c lt)) in
-    (had.2.from, had.2.short)
+    (had.2.from, had.2.sendable)
 
 -- and what joins it to its slot
 pub client_joined : (profile : Profile) (whole : Whole) (c : ℕ) (client : ClientState) → c < places → client_at whole.ends c ≡ Some client → Holds profile whole

@@ -19,8 +19,8 @@ use Rattle.q3_chan.specs.declared.gatherer.Gathered.{Gathered}
 use Rattle.q3_chan.specs.declared.gatherer.Gathered.TheVariants as gathered
 use Rattle.q3_chan.specs.declared.gatherer.Gathered.TheVariants.{Whole as CameWhole}
 use Rattle.q3_chan.specs.Gathering.{Took, gathered as gathered_of}
-use Rattle.q3_chan.specs.Tags.{tagged}
-use Rattle.q3_chan.specs.Laws.{SentIsTagged}
+use Rattle.q3_chan.specs.Tags.{tagged, IsQuiet}
+use Rattle.q3_chan.specs.Laws.{SentIsTagged, TaggedDoes, EndsGather, EndsSend}
 use Rattle.q3_world.specs.declared.client.SnapOutcome.{SnapOutcome}
 use Rattle.q3_world.specs.declared.client.SnapOutcome.TheVariants.{Accepted}
 use Rattle.q3_world.specs.declared.server.SlotError.{SlotError}
@@ -40,7 +40,6 @@ use Rattle.q3_world.proofs.Events.{Holds, Holds-opening, tag_was_built, names_bu
 use Rattle.q3_world.proofs.Agreement.{Cited, seen, stands_of, stands_next, kept_is, is_sent, tag_is, delivers_agree}
 use Rattle.q3_world.proofs.Clients.{last_is}
 use Rattle.q3_world.proofs.OnePlace.{set_there}
-use Rattle.q3_world.proofs.Tagged.{IsQuiet, tagged_does}
 
 -- the laws of the layers below, and what is cited of them, of a profile that passed its check
 pub record Below : Type 0 where
@@ -49,6 +48,9 @@ pub record Below : Type 0 where
   pub normal : NormalIsNormal
   pub zero : ZeroIsNormal
   pub tags : SentIsTagged
+  pub does : TaggedDoes
+  pub gathers : EndsGather
+  pub sends : EndsSend
   pub bytes : MessageIsBytes
 
 pub cited_of : Below → (profile : Profile) → IsCodec profile → Cited profile
@@ -61,6 +63,9 @@ cited_of below profile is =
       normal_entity = λ state words. below.entity profile.entity state is.entity words;
       end = let wide : 2 ^ 10 ≤ 2 ^ profile.entity.number_bits = pow_mono is.numbers in omega arith;
       tags = below.tags;
+      does = below.does;
+      gathers = below.gathers;
+      sends = below.sends;
       bytes = below.bytes;
     }
 
@@ -124,46 +129,46 @@ legible_took datagram c n client answer built (inl quiet) = waits answer quiet
     waits gathered.Connectionless is = absurd is
 legible_took datagram c n client answer built (inr came) = rw came.1 (legible_section datagram c n client built.section)
 
-legible_arrive : (profile : Profile) (whole : Whole) (number : ℕ) (tag : Tag) (found : Option ClientState) → IsLegible (arrive profile whole number tag found).answer.answer
-legible_arrive profile whole number tag None = tt
-legible_arrive profile whole number tag (Some client) =
+legible_arrive : TaggedDoes → (profile : Profile) (whole : Whole) (number : ℕ) (tag : Tag) (found : Option ClientState) → IsLegible (arrive profile whole number tag found).answer.answer
+legible_arrive does_so profile whole number tag None = tt
+legible_arrive does_so profile whole number tag (Some client) =
     let built = named whole.histories tag in
     let took = tagged client.gathering tag.number (built_bytes profile built) tag.index in
-    let does = tagged_does client.gathering tag.number (built_bytes profile built) tag.index in
+    let does = does_so client.gathering tag.number (built_bytes profile built) tag.index in
     legible_took number tag.client tag.number (record client { gathering = took.gathering }) took.answer built
     (elim does.either [ inl waits ↦ inl waits.quiet | inr came ↦ inr (length (built_bytes profile built), came.answer) ])
 
-legible_deliver : (profile : Profile) (whole : Whole) (number : ℕ) (found : Option Tag) → IsLegible (deliver profile whole number found).answer.answer
-legible_deliver profile whole number None = tt
-legible_deliver profile whole number (Some tag) = legible_arrive profile whole number tag (client_at whole.ends tag.client)
+legible_deliver : TaggedDoes → (profile : Profile) (whole : Whole) (number : ℕ) (found : Option Tag) → IsLegible (deliver profile whole number found).answer.answer
+legible_deliver does_so profile whole number None = tt
+legible_deliver does_so profile whole number (Some tag) = legible_arrive does_so profile whole number tag (client_at whole.ends tag.client)
 
 -- each step by tags answers legibly
-legible_step : (profile : Profile) (whole : Whole) (event : Event) → IsLegible (step profile whole event).answer.answer
+legible_step : TaggedDoes → (profile : Profile) (whole : Whole) (event : Event) → IsLegible (step profile whole event).answer.answer
 unfolding step
-legible_step profile whole (events.Client c challenge qport dup address) =
+legible_step does_so profile whole (events.Client c challenge qport dup address) =
     let added = add_client_at whole.ends.server c challenge qport address in
     legible_joined (record whole.ends { server = added.server }) c (new_client profile challenge qport dup) added.answer
-legible_step profile whole (events.Entity state) = tt
-legible_step profile whole (events.Remove number) = tt
-legible_step profile whole (events.Player c player) = tt
-legible_step profile whole (events.Area c area) = tt
-legible_step profile whole (events.Time time) = tt
-legible_step profile whole (events.Serve c) = tt
-legible_step profile whole (events.Deliver number) = legible_deliver profile whole number (slice_get whole.sent (number - 1))
-legible_step profile whole (events.Show c) = tt
+legible_step does_so profile whole (events.Entity state) = tt
+legible_step does_so profile whole (events.Remove number) = tt
+legible_step does_so profile whole (events.Player c player) = tt
+legible_step does_so profile whole (events.Area c area) = tt
+legible_step does_so profile whole (events.Time time) = tt
+legible_step does_so profile whole (events.Serve c) = tt
+legible_step does_so profile whole (events.Deliver number) = legible_deliver does_so profile whole number (slice_get whole.sent (number - 1))
+legible_step does_so profile whole (events.Show c) = tt
 
 abbrev AreLegible : List Answered → Type 0
 AreLegible all = AllByRecursion (λ (given : Answered). IsLegible given.answer) all
 
 -- and so does every list of events
-legible_answers : (profile : Profile) (all : List Event) (whole : Whole) → AreLegible (answers profile whole all)
+legible_answers : TaggedDoes → (profile : Profile) (all : List Event) (whole : Whole) → AreLegible (answers profile whole all)
 unfolding answers
-legible_answers profile [] whole = tt
-legible_answers profile (event ∷ events) whole = (legible_step profile whole event, legible_answers profile events (step profile whole event).whole)
+legible_answers does_so profile [] whole = tt
+legible_answers does_so profile (event ∷ events) whole = (legible_step does_so profile whole event, legible_answers does_so profile events (step profile whole event).whole)
 
 -- by bytes too
-pub always_legible : BytesFollowTags → AlwaysLegible
-always_legible law profile all is are = subst AreLegible (sym (law profile all is are).1) (legible_answers profile all (opening profile))
+pub always_legible : BytesFollowTags → TaggedDoes → AlwaysLegible
+always_legible law does_so profile all is are = subst AreLegible (sym (law profile all is are).1) (legible_answers does_so profile all (opening profile))
 
 -- ---- what was accepted
 
@@ -233,11 +238,11 @@ tag_of None sent e = absurd cc
 tag_of (Some tag) sent e = (tag, refl, cc)
 
 -- what a client makes of a piece that brings its message whole, by its tag
-came_whole : (profile : Profile) (whole : Whole) (tag : Tag) (client : ClientState) (n count : ℕ)
+came_whole : TaggedDoes → (profile : Profile) (whole : Whole) (tag : Tag) (client : ClientState) (n count : ℕ)
     → (tagged client.gathering tag.number (built_bytes profile (named whole.histories tag)) tag.index).answer ≡ CameWhole n count
     → (n ≡ tag.number) × (client.gathering.taken < tag.number)
-came_whole profile whole tag client n count e =
-    let does = tagged_does client.gathering tag.number (built_bytes profile (named whole.histories tag)) tag.index in
+came_whole does_so profile whole tag client n count e =
+    let does = does_so client.gathering tag.number (built_bytes profile (named whole.histories tag)) tag.index in
     elim does.either [
       | inl waits ↦ absurd (subst IsQuiet e waits.quiet)
       | inr came ↦ (whole_is (sym e ∙ came.answer), came.newer)
@@ -246,7 +251,7 @@ came_whole profile whole tag client n count e =
     whole_is : {count' number' : ℕ} → CameWhole n count ≡ CameWhole number' count' → n ≡ number'
     whole_is same = cc
 
-answers_tag : (profile : Profile) (whole : Whole) (number : ℕ) (tag : Tag) (client : ClientState) → slice_get whole.sent (number - 1) ≡ Some tag
+pub answers_tag : (profile : Profile) (whole : Whole) (number : ℕ) (tag : Tag) (client : ClientState) → slice_get whole.sent (number - 1) ≡ Some tag
     → client_at whole.ends tag.client ≡ Some client
     → (step profile whole (events.Deliver number)).answer
     ≡ delivered number tag.client (take_gathered client (tagged client.gathering tag.number (built_bytes profile (named whole.histories tag)) tag.index)
@@ -269,7 +274,7 @@ newer_is_accepted law below profile all number n count sent client is are at fou
     let built = tag_was_built profile whole tag.0 client sent_is client_is holds in
     let took = tagged client.gathering tag.0.number (built_bytes profile (named whole.histories tag.0)) tag.0.index in
     let answer : took.answer ≡ CameWhole n count =
-    ap (λ (t : Took). t.answer) (sym (tag_is profile whole tag.0 client cited sent_is client_is holds).0)
+    ap (λ (t : Took). t.answer) (sym (tag_is profile whole tag.0 client cited sent_is client_is holds))
     ∙ (ap (λ (s : SentBytes). (gathered_of client.gathering s.bytes).answer) tag.2 ∙ came) in
     let by_bytes = ap (λ (k : Kept). (kept_step k (events.Deliver number)).answer) (kept_is profile kept whole stands)
     ∙ ap (λ (s : KeptStep). s.answer) (delivers_agree profile whole number cited holds).same in
@@ -336,13 +341,13 @@ abbrev AppliedSo : Whole → ℕ → ℕ → ℕ → SnapOutcome → Step → Ty
 AppliedSo whole number c n snap next =
     next.answer ≡ delivered number c (Applied n snap) → Applies whole.ends next.whole.ends c n snap (history_at whole.histories c).built
 
-applied_arrive : (profile : Profile) (whole : Whole) (number c n : ℕ) (snap : SnapOutcome) (tag : Tag) (found : Option ClientState) → client_at whole.ends tag.client ≡ found
+applied_arrive : TaggedDoes → (profile : Profile) (whole : Whole) (number c n : ℕ) (snap : SnapOutcome) (tag : Tag) (found : Option ClientState) → client_at whole.ends tag.client ≡ found
     → IsSent profile whole.histories tag → Holds profile whole → AppliedSo whole number c n snap (arrive profile whole number tag found)
-applied_arrive profile whole number c n snap tag None at is holds = λ e. absurd (not_delivered number c (Applied n snap) e)
-applied_arrive profile whole number c n snap tag (Some client) at is holds =
+applied_arrive does_so profile whole number c n snap tag None at is holds = λ e. absurd (not_delivered number c (Applied n snap) e)
+applied_arrive does_so profile whole number c n snap tag (Some client) at is holds =
     let named_is = named whole.histories tag in
     let took = tagged client.gathering tag.number (built_bytes profile named_is) tag.index in
-    let does = tagged_does client.gathering tag.number (built_bytes profile named_is) tag.index in
+    let does = does_so client.gathering tag.number (built_bytes profile named_is) tag.index in
     let built = tag_was_built profile whole tag client is at holds in
     let now = record client { gathering = took.gathering } in
     elim does.either [
@@ -358,18 +363,18 @@ applied_arrive profile whole number c n snap tag (Some client) at is holds =
           (ap (λ (t : Taken). delivered number tag.client t.answer) (sym does_so) ∙ e))
     ]
 
-applied_deliver : (profile : Profile) (whole : Whole) (number c n : ℕ) (snap : SnapOutcome) (found : Option Tag) → slice_get whole.sent (number - 1) ≡ found → Holds profile whole
+applied_deliver : TaggedDoes → (profile : Profile) (whole : Whole) (number c n : ℕ) (snap : SnapOutcome) (found : Option Tag) → slice_get whole.sent (number - 1) ≡ found → Holds profile whole
     → AppliedSo whole number c n snap (deliver profile whole number found)
-applied_deliver profile whole number c n snap None at holds = λ e. absurd (not_delivered number c (Applied n snap) e)
-applied_deliver profile whole number c n snap (Some tag) at holds =
-    applied_arrive profile whole number c n snap tag (client_at whole.ends tag.client) refl (is_sent profile whole (number - 1) tag at holds) holds
+applied_deliver does_so profile whole number c n snap None at holds = λ e. absurd (not_delivered number c (Applied n snap) e)
+applied_deliver does_so profile whole number c n snap (Some tag) at holds =
+    applied_arrive does_so profile whole number c n snap tag (client_at whole.ends tag.client) refl (is_sent profile whole (number - 1) tag at holds) holds
 
 -- by tags
-applied_step : (profile : Profile) (whole : Whole) (number c n : ℕ) (snap : SnapOutcome) → Holds profile whole
+applied_step : TaggedDoes → (profile : Profile) (whole : Whole) (number c n : ℕ) (snap : SnapOutcome) → Holds profile whole
     → AppliedSo whole number c n snap (step profile whole (events.Deliver number))
 unfolding step
-applied_step profile whole number c n snap holds =
-    applied_deliver profile whole number c n snap (slice_get whole.sent (number - 1)) refl holds
+applied_step does_so profile whole number c n snap holds =
+    applied_deliver does_so profile whole number c n snap (slice_get whole.sent (number - 1)) refl holds
 
 -- and by bytes
 pub applied_was_built : BytesFollowTags → Below → AppliedWasBuilt
@@ -384,4 +389,4 @@ applied_was_built law below profile all number c n snap is are e =
     ∙ (delivers_agree profile whole number (cited_of below profile is) holds).same in
     subst (λ (before : Ends). Applies before (kept_step kept (events.Deliver number)).kept.ends c n snap built) (sym stands.ends)
     (subst (λ (s : KeptStep). Applies whole.ends s.kept.ends c n snap built) (sym same)
-    (applied_step profile whole number c n snap holds (sym (ap (λ (s : KeptStep). s.answer) same) ∙ e)))
+    (applied_step below.does profile whole number c n snap holds (sym (ap (λ (s : KeptStep). s.answer) same) ∙ e)))

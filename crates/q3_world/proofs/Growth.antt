@@ -1,12 +1,10 @@
 -- What was built only grows.
-use Rattle.std.proofs.Common.{◌≡◌, ℕ, zero, suc, ◌-◌, ◌*◌, ◌<◌, ◌≤◌, List, [], ◌∷◌, ◌++◌, length, get_or, take, Option, Some, None, refl, sym, ap, subst, ◌∙◌, inl, inr, arith}
+use Rattle.std.proofs.Common.{◌≡◌, ℕ, zero, suc, ◌-◌, ◌<◌, ◌≤◌, List, [], ◌∷◌, ◌++◌, length, get_or, Option, Some, None, refl, sym, ap, subst, ◌∙◌, inl, inr, arith}
 use Rattle.std.proofs.lemmas.List.{append-nil, length-append, length_push, get_or_append_left, get_or_push}
 use Rattle.std.proofs.lemmas.Bool.{cases_eq, cases_lt}
 use Rattle.q3_profile.specs.declared.profile.Profile.{Profile}
 use Rattle.q3_chan.specs.declared.side.Side.TheVariants.{Server}
-use Rattle.q3_chan.specs.Datagrams.{fragment_size, piece_count, datagram}
-use Rattle.q3_chan.specs.Gathering.{Gathering}
-use Rattle.q3_chan.specs.Laws.{HoldsFront}
+use Rattle.q3_chan.specs.Datagrams.{piece_count, datagram}
 use Rattle.q3_world.specs.Message.{Snapshot}
 use Rattle.q3_world.specs.Server.{Built, places, built_bytes}
 use Rattle.q3_world.specs.World.{Tag, History, no_history, no_message, history_at, built_at, with_built, with_accepted, histories_after, accepted_after}
@@ -94,17 +92,6 @@ pub messages_stay : (profile : Profile) (built more : List Built) (number : ℕ)
     → messages_of profile (built ++ more) number ≡ messages_of profile built number
 messages_stay profile built more zero few = refl
 messages_stay profile built more (suc number) few = ap (built_bytes profile) (built_stays built more (suc number) (omega arith) few)
-
--- and so does what was gathered of one
-pub front_stays : (profile : Profile) (built more : List Built) (g : Gathering) → g.number ≤ length built
-    → HoldsFront (messages_of profile built) g → HoldsFront (messages_of profile (built ++ more)) g
-front_stays profile built more g few holds =
-    let same = sym (messages_stay profile built more g.number few) in
-    record {
-      count = holds.count;
-      not_all = subst (λ (message : List ℕ). holds.count < piece_count (length message)) same holds.not_all;
-      front = holds.front ∙ ap (take (fragment_size * holds.count)) same;
-    }
 
 -- a tag names the same message
 sent_grows : (profile : Profile) (old new : List History) (tag : Tag) → Grows old new → IsSent profile old tag → IsSent profile new tag

@@ -1,7 +1,8 @@
 -- The pieces of a message that arrive in order.
-use Rattle.std.proofs.Common.{◌≡◌, ℕ, suc, ◌+◌, ◌-◌, ◌<◌, List, [], ◌∷◌, ◌++◌, length, Option, Some, None, Result, Ok, Err, refl, sym, ap, subst, ◌∙◌, arith}
+use Rattle.std.proofs.Common.{◌≡◌, ℕ, suc, ◌+◌, ◌-◌, ◌<◌, ◌≤◌, List, [], ◌∷◌, ◌++◌, length, Option, Some, None, Result, Ok, Err, refl, sym, ap, subst, ◌∙◌, arith}
 use Rattle.std.specs.Prelude.{slice_get}
 use Rattle.std.specs.List.{AllByRecursion}
+use Rattle.std.proofs.Math.ListN.{length-set}
 use Rattle.q3_profile.specs.declared.profile.Profile.{Profile}
 use Rattle.q3_script.specs.declared.event.Event.{Event}
 use Rattle.q3_script.specs.declared.event.Event.TheVariants as events
@@ -18,17 +19,19 @@ use Rattle.q3_chan.specs.Tags.{tagged, tagged_all}
 use Rattle.q3_chan.specs.Laws.{PiecesAreTagged}
 use Rattle.q3_world.specs.declared.client.SnapOutcome.TheVariants.{Accepted}
 use Rattle.q3_world.specs.declared.client.ClientTook.TheVariants.{Applied}
-use Rattle.q3_world.specs.Message.{Snapshot}
+use Rattle.q3_world.specs.declared.client.ClientTook.{ClientTook}
+use Rattle.q3_world.specs.Message.{Snapshot, message_of}
 use Rattle.q3_world.specs.Server.{Built, places, built_bytes}
 use Rattle.q3_world.specs.Client.{ClientState, Taken, apply_section, apply_message, take_answer, take_gathered}
 use Rattle.q3_world.specs.Ends.{Ends, client_at, with_client, delivered}
 use Rattle.q3_world.specs.Kept.{Kept, KeptStep, kept_step}
 use Rattle.q3_world.specs.World.{Tag, Step, Whole, History, history_at, built_at, no_history, accepted_after, named, arrive_taken, step, after, opening}
-use Rattle.q3_world.specs.StandsFor.{IsSent, StandsFor}
+use Rattle.q3_world.specs.StandsFor.{StandsFor, messages_of}
 use Rattle.q3_world.specs.Schedules.{kept_then, whole_then, history_then, BytesFollowTags, ArePieces, deliveries, InOrderIsAccepted}
-use Rattle.q3_world.proofs.Growth.{there_heard, history_heard}
+use Rattle.q3_world.proofs.Growth.{there_heard, OnlyAt-heard, history_heard}
+use Rattle.q3_world.proofs.Clients.{at_number}
 use Rattle.q3_world.proofs.Events.{Holds, client_joined, tag_was_built}
-use Rattle.q3_world.proofs.Agreement.{seen, kept_is, is_sent, at_number, delivers_agree}
+use Rattle.q3_world.proofs.Agreement.{kept_is, is_sent, delivers_agree}
 use Rattle.q3_world.proofs.EverySchedule.{Below, cited_of, answers_tag}
 use Rattle.q3_world.proofs.OnePlace.{set_there}
 
@@ -68,3 +71,157 @@ record Reached (profile : Profile) (start now : Whole) (c n count : ℕ) (g : Ga
 abbrev arrived : Profile → Whole → ℕ → Tag → ClientState → Taken
 arrived profile whole number tag client =
     take_gathered client (tagged client.gathering tag.number (built_bytes profile (named whole.histories tag)) tag.index) (λ n. Ok (named whole.histories tag))
+
+abbrev arrives_at : Profile → Whole → ℕ → Tag → ClientState → Whole
+arrives_at profile whole number tag client = (arrive_taken whole number tag.client (arrived profile whole number tag client)).whole
+
+reached_more : (profile : Profile) (start now : Whole) (c n count number : ℕ) (g : Gathering) (tag : Tag) → c < places → tag.client ≡ c → tag.number ≡ n → tag.index ≡ count
+    → (reached : Reached profile start now c n count g) → Reached profile start (arrives_at profile now number tag reached.client) c n (count + 1) g
+unfolding tagged_all
+reached_more profile start now c n count number g tag lt is_c is_n is_index reached =
+    let client = reached.client in
+    let message = built_bytes profile (built_at (history_at start.histories c).built n) in
+    let built = named now.histories tag in
+    let built_is : built ≡ built_at (history_at start.histories c).built n =
+    ap (λ (k : ℕ). built_at (history_at now.histories k).built tag.number) is_c
+    ∙ (ap (λ (b : List Built). built_at b tag.number) reached.built ∙ ap (λ (k : ℕ). built_at (history_at start.histories c).built k) is_n) in
+    let took = tagged client.gathering tag.number (built_bytes profile built) tag.index in
+    let taken = arrived profile now number tag client in
+    let next_is : took ≡ tagged (tagged_all g n message count) n message count =
+    ap (λ (x : Gathering). tagged x tag.number (built_bytes profile built) tag.index) reached.gathers
+    ∙ (ap (λ (k : ℕ). tagged (tagged_all g n message count) k (built_bytes profile built) tag.index) is_n
+    ∙ (ap (λ (b : Built). tagged (tagged_all g n message count) n (built_bytes profile b) tag.index) built_is
+    ∙ ap (λ (k : ℕ). tagged (tagged_all g n message count) n message k) is_index)) in
+    let one : suc count ≡ count + 1 = omega arith in
+    let there = there_heard now.histories tag.client taken.heard reached.histories (subst (λ (k : ℕ). k < places) (sym is_c) lt) in
+    record {
+      sent = reached.sent;
+      clients = length-set now.ends.clients tag.client (Some taken.client) ∙ reached.clients;
+      histories = (OnlyAt-heard now.histories tag.client taken.heard).count ∙ reached.histories;
+      built = ap (λ (k : ℕ). (history_at (accepted_after now.histories tag.client taken.heard) k).built) (sym is_c)
+          ∙ (ap (λ (h : History). h.built) there ∙ (heard_built (history_at now.histories tag.client) taken.heard
+          ∙ (ap (λ (k : ℕ). (history_at now.histories k).built) is_c ∙ reached.built)));
+      client = taken.client;
+      found = ap (λ (k : ℕ). client_at (with_client now.ends tag.client taken.client) k) (sym is_c)
+          ∙ set_there now.ends.clients tag.client None (Some taken.client) reached.clients (subst (λ (k : ℕ). k < places) (sym is_c) lt);
+      gathers = answer_gathers (record client { gathering = took.gathering }) took.answer built
+          ∙ (ap (λ (t : Took). t.gathering) next_is ∙ ap (λ (k : ℕ). tagged_all g n message k) one);
+    }
+
+-- a delivery of a piece, by its tag
+delivers_piece : (profile : Profile) (whole : Whole) (number : ℕ) (tag : Tag) (client : ClientState) → slice_get whole.sent (number - 1) ≡ Some tag
+    → client_at whole.ends tag.client ≡ Some client → (step profile whole (events.Deliver number)).whole ≡ arrives_at profile whole number tag client
+unfolding step
+delivers_piece profile whole number tag client at found = rw (at, found) refl
+
+-- ---- pieces, one after the other
+
+reached_all : (profile : Profile) (start now : Whole) (c n count : ℕ) (g : Gathering) (numbers : List ℕ) (last : ℕ) → c < places
+    → ArePieces start.sent c n count (numbers ++ last ∷ []) → Reached profile start now c n count g
+    → Reached profile start (after profile now (deliveries numbers)) c n (count + length numbers) g
+    × ArePieces start.sent c n (count + length numbers) (last ∷ [])
+unfolding after
+reached_all profile start now c n count g [] last lt are reached =
+    let none : count ≡ count + 0 = omega arith in (
+      subst (λ (k : ℕ). Reached profile start now c n k g) none reached,
+      subst (λ (k : ℕ). ArePieces start.sent c n k (last ∷ [])) none are,
+    )
+reached_all profile start now c n count g (number ∷ numbers) last lt are reached =
+    let tag = are.0 in
+    let at : slice_get now.sent (number - 1) ≡ Some tag = ap (λ (sent : List Tag). slice_get sent (number - 1)) reached.sent ∙ are.1 in
+    let found : client_at now.ends tag.client ≡ Some reached.client = ap (λ (k : ℕ). client_at now.ends k) are.2 ∙ reached.found in
+    let next = delivers_piece profile now number tag reached.client at found in
+    let more = subst (λ (w : Whole). Reached profile start w c n (count + 1) g) (sym next)
+    (reached_more profile start now c n count number g tag lt are.2 are.3 are.4 reached) in
+    let others = reached_all profile start (step profile now (events.Deliver number)).whole c n (count + 1) g numbers last lt are.5 more in
+    let same : count + 1 + length numbers ≡ count + length (number ∷ numbers) = omega arith in (
+      subst (λ (k : ℕ). Reached profile start (after profile (step profile now (events.Deliver number)).whole (deliveries numbers)) c n k g) same others.0,
+      subst (λ (k : ℕ). ArePieces start.sent c n k (last ∷ [])) same others.1,
+    )
+
+after_both : (profile : Profile) (whole : Whole) (some others : List Event) → after profile whole (some ++ others) ≡ after profile (after profile whole some) others
+unfolding after
+after_both profile whole [] others = refl
+after_both profile whole (event ∷ some) others = after_both profile (step profile whole event).whole some others
+
+both_are : (some others : List Event) → AllByRecursion IsReplayEvent some → AllByRecursion IsReplayEvent others → AllByRecursion IsReplayEvent (some ++ others)
+both_are [] others first second = second
+both_are (event ∷ some) others first second = (first.0, both_are some others first.1 second)
+
+-- what the last piece answers, by its tag
+last_answer : (profile : Profile) (whole : Whole) (c n last : ℕ) (tag : Tag) (client : ClientState) (message : Message) → slice_get whole.sent (last - 1) ≡ Some tag → tag.client ≡ c
+    → client_at whole.ends tag.client ≡ Some client
+    → (tagged client.gathering tag.number (built_bytes profile (named whole.histories tag)) tag.index).answer ≡ CameWhole n (length (built_bytes profile (named whole.histories tag)))
+    → named whole.histories tag ≡ message → (apply_message client n message).answer ≡ Applied n (Accepted 0)
+    → (step profile whole (events.Deliver last)).answer ≡ delivered last c (Applied n (Accepted 0))
+last_answer profile whole c n last tag client message at is_c found came is accepted =
+    let built = named whole.histories tag in
+    let took = tagged client.gathering tag.number (built_bytes profile built) tag.index in
+    answers_tag profile whole last tag client at found
+    ∙ (ap (λ (a : Gathered). delivered last tag.client (take_answer (record client { gathering = took.gathering }) a (λ k. Ok built)).answer) came
+    ∙ (ap (λ (m : Message). delivered last tag.client (apply_message (record client { gathering = took.gathering }) n m).answer) is
+    ∙ (ap (λ (t : ClientTook). delivered last tag.client t) (same_answer client took.gathering n message ∙ accepted)
+    ∙ ap (λ (k : ℕ). delivered last k (Applied n (Accepted 0))) is_c)))
+  where
+    same_section : (client : ClientState) (g : Gathering) (n : ℕ) (section : Told) → (apply_section (record client { gathering = g }) n section).answer ≡ (apply_section client n section).answer
+    same_section client g n told.Nothing = refl
+    same_section client g n (told.Snap base head entities) = refl
+    same_section client g n (told.Skipped base) = refl
+
+    same_answer : (client : ClientState) (g : Gathering) (n : ℕ) (message : Message) → (apply_message (record client { gathering = g }) n message).answer ≡ (apply_message client n message).answer
+    same_answer client g n message = same_section client g n message.section
+
+pub in_order_is_accepted : BytesFollowTags → Below → PiecesAreTagged → InOrderIsAccepted
+unfolding tagged_all
+in_order_is_accepted law below pieces profile all c n last numbers client is are delivers found newer are_pieces count =
+    let before : StandsFor profile (kept_then profile all) (whole_then profile all) = (law profile all is are).0 in
+    let start = whole_then profile all in
+    let built = (history_at start.histories c).built in
+    let message = built_bytes profile (built_at built n) in
+    let starts : Holds profile start = record { facts = before.facts; joined = before.joined } in
+    let first_tag = first numbers last start.sent c n are_pieces in
+    let first_is = is_sent profile start (first_tag.0 - 1) first_tag.1 first_tag.2 starts in
+    let lt : c < places = subst (λ (k : ℕ). k < places) first_tag.3 first_is.client in
+    let some : 1 ≤ n = subst (λ (k : ℕ). 1 ≤ k) first_tag.4 first_is.some in
+    let joined = client_joined profile start c client lt found starts in
+    let all' = all ++ deliveries numbers in
+    let stands : StandsFor profile (kept_then profile all') (whole_then profile all') = (law profile all' is (both_are all (deliveries numbers) are delivers)).0 in
+    let now = whole_then profile all' in
+    let holds : Holds profile now = record { facts = stands.facts; joined = stands.joined } in
+    let g = client.gathering in
+    let at_start : Reached profile start start c n 0 g = record {
+      sent = refl; clients = starts.facts.clients; histories = starts.facts.histories; built = refl; client = client; found = found; gathers = refl } in
+    let reached_both = reached_all profile start start c n 0 g numbers last lt are_pieces at_start in
+    let now_is : now ≡ after profile start (deliveries numbers) = after_both profile (opening profile) all (deliveries numbers) in
+    let index : 0 + length numbers ≡ last_index message = omega (arith, count) in
+    let reached : Reached profile start now c n (last_index message) g =
+    subst (λ (w : Whole). Reached profile start w c n (last_index message) g) (sym now_is)
+    (subst (λ (k : ℕ). Reached profile start (after profile start (deliveries numbers)) c n k g) index reached_both.0) in
+    let tail = subst (λ (k : ℕ). ArePieces start.sent c n k (last ∷ [])) index reached_both.1 in
+    let tag = tail.0 in
+    let at : slice_get now.sent (last - 1) ≡ Some tag = ap (λ (sent : List Tag). slice_get sent (last - 1)) reached.sent ∙ tail.1 in
+    let tag_found : client_at now.ends tag.client ≡ Some reached.client = ap (λ (k : ℕ). client_at now.ends k) tail.2 ∙ reached.found in
+    let named_is : named now.histories tag ≡ built_at built n =
+    ap (λ (k : ℕ). built_at (history_at now.histories k).built tag.number) tail.2
+    ∙ (ap (λ (b : List Built). built_at b tag.number) reached.built ∙ ap (λ (k : ℕ). built_at built k) tail.3) in
+    let came = pieces (messages_of profile built) g n joined.3.gathers.front newer in
+    let message_is = at_number profile built n some in
+    let came_so : (tagged (tagged_all g n message (last_index message)) n message (last_index message)).answer ≡ CameWhole n (length message) =
+    subst (λ (m : List ℕ). (tagged (tagged_all g n m (last_index m)) n m (last_index m)).answer ≡ CameWhole n (length m)) message_is came.answer in
+    let took_is : tagged reached.client.gathering tag.number (built_bytes profile (named now.histories tag)) tag.index ≡ tagged (tagged_all g n message (last_index message)) n message (last_index message) =
+    ap (λ (x : Gathering). tagged x tag.number (built_bytes profile (named now.histories tag)) tag.index) reached.gathers
+    ∙ (ap (λ (k : ℕ). tagged (tagged_all g n message (last_index message)) k (built_bytes profile (named now.histories tag)) tag.index) tail.3
+    ∙ (ap (λ (b : Built). tagged (tagged_all g n message (last_index message)) n (built_bytes profile b) tag.index) named_is
+    ∙ ap (λ (k : ℕ). tagged (tagged_all g n message (last_index message)) n message k) tail.4)) in
+    let tag_sent = is_sent profile now (last - 1) tag at holds in
+    let was_built = tag_was_built profile now tag reached.client tag_sent tag_found holds in
+    let length_is : length message ≡ length (built_bytes profile (named now.histories tag)) = ap (λ (b : Built). length (built_bytes profile b)) (sym named_is) in
+    let answer = ap (λ (t : Took). t.answer) took_is ∙ (came_so ∙ ap (λ (k : ℕ). CameWhole n k) length_is) in
+    ap (λ (k : Kept). (kept_step k (events.Deliver last)).answer) (kept_is profile (kept_then profile all') now stands)
+    ∙ (ap (λ (s : KeptStep). s.answer) (delivers_agree profile now last (cited_of below profile is) holds).same
+    ∙ last_answer profile now c n last tag reached.client (message_of was_built.snapshot) at tail.2 tag_found answer was_built.is refl)
+  where
+    first : (numbers : List ℕ) (last : ℕ) (sent : List Tag) (c n : ℕ) → ArePieces sent c n 0 (numbers ++ last ∷ [])
+        → (number : ℕ) × (tag : Tag) × (slice_get sent (number - 1) ≡ Some tag) × (tag.client ≡ c) × (tag.number ≡ n)
+    first [] last sent c n are = (last, are.0, are.1, are.2, are.3)
+    first (number ∷ numbers) last sent c n are = (number, are.0, are.1, are.2, are.3)

@@ -1,13 +1,12 @@
 -- What is kept stands for a whole world: both ends are the same, and each datagram's bytes are those of the message
 -- that its tag names.
-use Rattle.std.specs.Prelude.{◌≡◌, ℕ, zero, suc, ◌+◌, ◌^◌, ◌<◌, ◌≤◌, List, [], length, map, Option, Some, None, IfSome, slice_index_or}
+use Rattle.std.specs.Prelude.{◌≡◌, ℕ, zero, suc, ◌+◌, ◌^◌, ◌<◌, ◌≤◌, List, [], length, map, Option, Some, None, slice_index_or}
 use Rattle.std.specs.List.{last_or}
 use Rattle.q3_profile.specs.declared.profile.Profile.{Profile}
 use Rattle.q3_profile.specs.Profile.{IsCodec}
 use Rattle.q3_chan.specs.declared.side.Side.TheVariants.{Server}
 use Rattle.q3_chan.specs.Datagrams.{piece_count, datagram}
-use Rattle.q3_chan.specs.Sending.{UnderWay}
-use Rattle.q3_chan.specs.Laws.{IsSendable, HoldsFront}
+use Rattle.q3_chan.specs.Laws.{IsSendable, Gathers, Sends}
 use Rattle.q3_world.specs.Message.{Snapshot, message_of, IsHeld, IsArea, AreHeld, IsBuilt}
 use Rattle.q3_world.specs.Server.{MapState, SlotState, Built, places, slot_at, built_bytes}
 use Rattle.q3_world.specs.Client.{ClientState}
@@ -17,22 +16,21 @@ use Rattle.q3_world.specs.World.{Tag, History, Whole, no_history, history_at, bu
 
 -- ---- what holds whatever bytes were delivered
 
--- a message under way is the last that was begun, and a piece of it is left
-pub record IsUnderWay (profile : Profile) (built : List Built) (way : UnderWay) : Type 0 where
-  pub some : 1 ≤ length built
-  pub message : way.message ≡ built_bytes profile (built_at built (length built))
-  pub left : way.next < piece_count (length way.message)
+-- the bytes of the message under a number; the number 0 has none
+abbrev pub messages_of : Profile → List Built → ℕ → List ℕ
+messages_of profile built zero = []
+messages_of profile built (suc number) = built_bytes profile (built_at built (suc number))
 
 -- what each end of a client keeps alone, and what was built for it
 pub record AreEnds (profile : Profile) (slot : SlotState) (client : ClientState) (history : History) : Type 0 where
   pub begun : slot.sending.number ≡ length history.built
   pub side : slot.sending.side ≡ Server
   pub qport : slot.sending.qport ≡ 0
-  pub under_way : IfSome slot.sending.under_way (IsUnderWay profile history.built)
+  pub sends : Sends (messages_of profile history.built) slot.sending
   pub player : IsHeld profile slot.player
   pub area : IsArea slot.area.items
   pub built : (k : ℕ) (d : Built) → k < length history.built → IsBuilt profile (k + 1) (slice_index_or history.built k d)
-  pub short : (k : ℕ) (d : Built) → k < length history.built → IsSendable (built_bytes profile (slice_index_or history.built k d))
+  pub sendable : (k : ℕ) (d : Built) → k < length history.built → IsSendable (built_bytes profile (slice_index_or history.built k d))
   pub by : client.profile ≡ profile
   pub from : client.gathering.side ≡ Server
 
@@ -79,20 +77,14 @@ abbrev pub Rise : List Snapshot → Type 0
 Rise snapshots = (j k : ℕ) (d : Snapshot) → j < k → k < length snapshots
     → (slice_index_or snapshots j d).head.number < (slice_index_or snapshots k d).head.number
 
--- the bytes of the message under a number; the number 0 has none
-abbrev pub messages_of : Profile → List Built → ℕ → List ℕ
-messages_of profile built zero = []
-messages_of profile built (suc number) = built_bytes profile (built_at built (suc number))
-
--- of one client: each snapshot that it accepted was built, their numbers rise, and it keeps the newest; and what was gathered
--- is the first pieces of a message that was begun
+-- of one client: each snapshot that it accepted was built, their numbers rise, and it keeps the newest, which isn't above
+-- the newest number taken; and it took and gathers only what was begun
 pub record AreJoined (profile : Profile) (map : MapState) (slot : SlotState) (client : ClientState) (history : History) : Type 0 where
   pub accepted : (k : ℕ) (d : Snapshot) → k < length history.accepted → WasBuilt history.built (slice_index_or history.accepted k d)
   pub rise : Rise history.accepted
   pub newest : client.accepted ≡ last_or None history.accepted
-  pub taken : client.gathering.taken ≡ number_of_newest client.accepted
-  pub gathers : client.gathering.number ≤ length history.built
-  pub front : HoldsFront (messages_of profile history.built) client.gathering
+  pub below : number_of_newest client.accepted ≤ client.gathering.taken
+  pub gathers : Gathers (messages_of profile history.built) (length history.built) client.gathering
 
 -- of a client that is at both ends
 abbrev pub IsJoined : Profile → MapState → Option SlotState → Option ClientState → History → Type 0

@@ -27,6 +27,9 @@ pub fn step_follows()
     player::normal_is_normal();
     player::zero_is_normal();
     chan::sent_is_tagged();
+    chan::tagged_does();
+    chan::ends_gather();
+    chan::ends_send();
     bits::message_holds_bits();
 }
 
@@ -43,6 +46,7 @@ pub fn always_legible()
     ensures { AlwaysLegible }
 {
     bytes_follow_tags();
+    chan::tagged_does();
 }
 
 /// Each snapshot that a client accepted is the one that the server built for it under that number, and the numbers rise.
@@ -70,6 +74,9 @@ pub fn applied_was_built()
     player::normal_is_normal();
     player::zero_is_normal();
     chan::sent_is_tagged();
+    chan::tagged_does();
+    chan::ends_gather();
+    chan::ends_send();
     bits::message_holds_bits();
 }
 
@@ -83,6 +90,9 @@ pub fn newer_is_accepted()
     player::normal_is_normal();
     player::zero_is_normal();
     chan::sent_is_tagged();
+    chan::tagged_does();
+    chan::ends_gather();
+    chan::ends_send();
     bits::message_holds_bits();
 }
 
@@ -97,6 +107,9 @@ pub fn in_order_is_accepted()
     player::normal_is_normal();
     player::zero_is_normal();
     chan::sent_is_tagged();
+    chan::tagged_does();
+    chan::ends_gather();
+    chan::ends_send();
     chan::pieces_are_tagged();
     bits::message_holds_bits();
 }
