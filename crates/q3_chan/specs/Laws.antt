@@ -85,13 +85,14 @@ abbrev pub StandIn : List (List ℕ) → List (List ℕ) → Type 0
 StandIn [] others = Unit {0}
 StandIn (one ∷ ones) others = (before : List (List ℕ)) × (behind : List (List ℕ)) × (others ≡ before ++ one ∷ behind) × StandIn ones behind
 
--- whatever bytes came: a message that comes whole stood in the last datagram, or is pieces of one number that came in
--- their order, of which the last is that of the last datagram
+-- whatever bytes came: a message that comes whole stood under its number in the last datagram, or is pieces of one number that
+-- came in their order, of which the last is that of the last datagram; each before it has as many bytes as go into one, and it
+-- has fewer
 abbrev pub WholeArePieces : Type 0
 WholeArePieces = (side : Side) (came : List (List ℕ)) (last : List ℕ) (number count : ℕ)
     → (gathered (gathered_all (new_gathering side) came) last).answer ≡ Whole number count
-    → ((is_fragment last ≡ false) × ((gathered (gathered_all (new_gathering side) came) last).message ≡ behind_header side last))
-    ⊎ ((parts : List (List ℕ)) × StandIn parts came
+    → ((is_fragment last ≡ false) × (number_in last ≡ number) × ((gathered (gathered_all (new_gathering side) came) last).message ≡ behind_header side last))
+    ⊎ ((parts : List (List ℕ)) × StandIn parts came × All (λ part. count_in side part ≡ fragment_size) parts × (count_in side last < fragment_size)
     × ArePieces side number 0 (parts ++ last ∷ []) (gathered (gathered_all (new_gathering side) came) last).message)
 
 -- ---- the two ends
