@@ -1,7 +1,9 @@
 -- What comes whole of any bytes.
-use Rattle.std.proofs.Common.{◌≡◌, ◌⊎◌, ◌+◌, ◌≤◌, ◌∙◌, ℕ, true, false, ltb, eqb, List, [], ◌∷◌, ◌++◌, length, append_assoc, refl, sym, ap, subst, inl, inr, arith}
-use Rattle.std.proofs.lemmas.Bool.{cond_both}
+use Rattle.std.proofs.Common.{◌≡◌, ◌⊎◌, ◌+◌, ◌<◌, ◌≤◌, ◌∙◌, ℕ, true, false, ltb, eqb, List, [], ◌∷◌, ◌++◌, length, append_assoc, refl, sym, ap, subst, inl, inr, arith}
+use Rattle.std.specs.List.{All}
+use Rattle.std.proofs.lemmas.Bool.{cond_both, ltb-true, ltb-false}
 use Rattle.std.proofs.lemmas.List.{append-nil, length-append, length-take-le}
+use Rattle.std.proofs.lemmas.List.Elements.{All-nil, All-push}
 use Rattle.q3_chan.specs.declared.side.Side.{Side}
 use Rattle.q3_chan.specs.declared.gatherer.Gathered.TheVariants.{Whole, Partial}
 use Rattle.q3_chan.specs.Datagrams.{fragment_size, is_fragment, number_in, start_in, count_in, behind_header}
@@ -53,21 +55,32 @@ StandIn-push (one ∷ ones) others last h = (
 
 -- ---- what is gathered
 
--- what is gathered are pieces of its number that came
+-- a piece of as many bytes as go into one
+abbrev IsFull : Side → List ℕ → Type 0
+IsFull side part = count_in side part ≡ fragment_size
+
+-- what is gathered are such pieces of its number that came
 record HoldsPieces (side : Side) (came : List (List ℕ)) (g : Gathering) : Type 0 where
   side-is : g.side ≡ side
   parts : List (List ℕ)
   stand : StandIn parts came
+  full : All (IsFull side) parts
   are : ArePieces side g.number 0 parts g.bytes
+
+-- a piece that is taken has as many bytes as it is said to, and no more than go into one
+piece-size : (side : Side) (g : Gathering) (last : List ℕ) → g.side ≡ side → IsTaken g last → (length (piece_in g.side last) ≡ count_in side last) × (count_in side last ≤ fragment_size)
+piece-size side g last side-is taken =
+    let same : count_in g.side last ≡ count_in side last = ap (λ (s : Side). count_in s last) side-is in
+    (length-take-le (count_in g.side last) (behind_header g.side last) taken.count ∙ same, subst (λ (n : ℕ). n ≤ fragment_size) same taken.size)
 
 HoldsPieces-more : (side : Side) (came behind : List (List ℕ)) (g : Gathering) → HoldsPieces side came g → HoldsPieces side (came ++ behind) g
 HoldsPieces-more side came behind g h =
-    record { side-is = h.side-is; parts = h.parts; stand = StandIn-more h.parts came behind h.stand; are = h.are }
+    record { side-is = h.side-is; parts = h.parts; stand = StandIn-more h.parts came behind h.stand; full = h.full; are = h.are }
 
 HoldsPieces-gathering_of : (side : Side) (came : List (List ℕ)) (g : Gathering) (number : ℕ) → HoldsPieces side came g → HoldsPieces side came (gathering_of g number)
 HoldsPieces-gathering_of side came g number h =
     cond_both (eqb number g.number) g (record g { number = number; bytes = [] }) (HoldsPieces side came) (λ _. h)
-    (λ _. record { side-is = h.side-is; parts = []; stand = tt; are = refl })
+    (λ _. record { side-is = h.side-is; parts = []; stand = tt; full = All-nil (IsFull side); are = refl })
 
 -- with the piece of a datagram more, they are the pieces that came and it
 pieces-and : (side : Side) (came : List (List ℕ)) (g : Gathering) (last : List ℕ) (h : HoldsPieces side came (gathering_of g (number_in last))) → g.side ≡ side → IsTaken g last
@@ -88,14 +101,15 @@ HoldsPieces-gathered side came g last h =
     let piece = piece_in g.side last in
     gathered-each P g last (record {
       none = λ a _. HoldsPieces-more side came (last ∷ []) g h;
-      whole = λ _ _. record { side-is = h.side-is; parts = h.parts; stand = StandIn-more h.parts came (last ∷ []) h.stand; are = h.are };
+      whole = λ _ _. record { side-is = h.side-is; parts = h.parts; stand = StandIn-more h.parts came (last ∷ []) h.stand; full = h.full; are = h.are };
       gathers = λ a _. HoldsPieces-more side came (last ∷ []) k kept;
       adds = λ taken. cond_both (ltb (length piece) fragment_size) (arrives (emptied k) k.number (k.bytes ++ piece)) (answers (record k { bytes = k.bytes ++ piece }) Partial) P
-          (λ _. record { side-is = kept.side-is; parts = []; stand = tt; are = refl })
-          (λ _. record {
+          (λ _. record { side-is = kept.side-is; parts = []; stand = tt; full = All-nil (IsFull side); are = refl })
+          (λ long. record {
             side-is = kept.side-is;
             parts = kept.parts ++ last ∷ [];
             stand = StandIn-push kept.parts came last kept.stand;
+            full = All-push (IsFull side) kept.parts last kept.full (let size = piece-size side g last h.side-is taken in omega (arith, size, ltb-false _ _ long));
             are = subst (λ (n : ℕ). ArePieces side n 0 (kept.parts ++ last ∷ []) (k.bytes ++ piece)) (sym (gathering_of-number g (number_in last))) (pieces-and side came g last kept h.side-is taken);
           });
     })
@@ -113,8 +127,8 @@ HoldsPieces-all side seen g (bytes ∷ others) h =
 abbrev ComesWhole : Side → List (List ℕ) → List ℕ → ℕ → ℕ → Took → Type 0
 ComesWhole side came last number count t =
     t.answer ≡ Whole number count
-    → ((is_fragment last ≡ false) × (t.message ≡ behind_header side last))
-    ⊎ ((parts : List (List ℕ)) × StandIn parts came × ArePieces side number 0 (parts ++ last ∷ []) t.message)
+    → ((is_fragment last ≡ false) × (number_in last ≡ number) × (t.message ≡ behind_header side last))
+    ⊎ ((parts : List (List ℕ)) × StandIn parts came × All (IsFull side) parts × (count_in side last < fragment_size) × ArePieces side number 0 (parts ++ last ∷ []) t.message)
 
 comes_whole : (side : Side) (came : List (List ℕ)) (g : Gathering) (last : List ℕ) (number count : ℕ) → HoldsPieces side came g → ComesWhole side came last number count (gathered g last)
 comes_whole side came g last number count h =
@@ -124,16 +138,17 @@ comes_whole side came g last number count h =
     let piece = piece_in g.side last in
     gathered-each P g last (record {
       none = λ a not e. absurd (subst NotWhole e not);
-      whole = λ whole _ e. inl (whole, ap (λ (s : Side). behind_header s last) h.side-is);
+      whole = λ whole _ e. let same : number_in last ≡ number = cc in inl (whole, same, ap (λ (s : Side). behind_header s last) h.side-is);
       gathers = λ a not e. absurd (subst NotWhole e not);
       adds = λ taken. cond_both (ltb (length piece) fragment_size) (arrives (emptied k) k.number (k.bytes ++ piece)) (answers (record k { bytes = k.bytes ++ piece }) Partial) P
-          (λ _ e.
+          (λ short e.
           let same : k.number ≡ number = cc in
-          inr (kept.parts, kept.stand, subst (λ (n : ℕ). ArePieces side n 0 (kept.parts ++ last ∷ []) (k.bytes ++ piece)) (sym (gathering_of-number g (number_in last)) ∙ same) (pieces-and side came g last kept h.side-is taken)))
+          let size = piece-size side g last h.side-is taken in
+          inr (kept.parts, kept.stand, kept.full, omega (arith, size, ltb-true _ _ short), subst (λ (n : ℕ). ArePieces side n 0 (kept.parts ++ last ∷ []) (k.bytes ++ piece)) (sym (gathering_of-number g (number_in last)) ∙ same) (pieces-and side came g last kept h.side-is taken)))
           (λ _ e. absurd cc);
     })
 
 pub whole_are_pieces : WholeArePieces
 whole_are_pieces side came last number count =
-    let none : HoldsPieces side [] (new_gathering side) = record { side-is = refl; parts = []; stand = tt; are = refl } in
+    let none : HoldsPieces side [] (new_gathering side) = record { side-is = refl; parts = []; stand = tt; full = All-nil (IsFull side); are = refl } in
     comes_whole side came (gathered_all (new_gathering side) came) last number count (HoldsPieces-all side [] (new_gathering side) came none)

@@ -26,6 +26,7 @@ piece_in side bytes = take (count_in side bytes) (behind_header side bytes)
 pub record IsTaken (g : Gathering) (bytes : List ℕ) : Type 0 where
   pub fragment : is_fragment bytes ≡ true
   pub start : start_in g.side bytes ≡ length (gathering_of g (number_in bytes)).bytes
+  pub size : count_in g.side bytes ≤ fragment_size
   pub count : count_in g.side bytes ≤ length (behind_header g.side bytes)
   pub most : length (gathering_of g (number_in bytes)).bytes + count_in g.side bytes ≤ longest_message
 
@@ -49,6 +50,7 @@ take_fragment-each P g bytes fragment each =
     (λ fits. each.adds (record {
       fragment = fragment;
       start = eqb-true _ _ starts;
+      size = ltb-false _ _ (or_parts _ _ (or_parts _ _ fits).0).0;
       count = ltb-false _ _ (or_parts _ _ (or_parts _ _ fits).0).1;
       most = ltb-false _ _ (or_parts _ _ fits).1;
     })))

@@ -1,80 +1,104 @@
 -- The pieces of a message, in order, make it whole.
-use Rattle.std.proofs.Common.{◌≡◌, ◌+◌, ◌*◌, ◌<◌, ◌≤◌, ◌∙◌, ℕ, zero, suc, ltb, leb, eqb, List, [], ◌∷◌, ◌++◌, length, map, take, refl, sym, ap, subst, inl, inr, add-one, arith}
+use Rattle.std.proofs.Common.{◌≡◌, ◌+◌, ◌*◌, ◌<◌, ◌≤◌, ◌∙◌, ℕ, zero, suc, ltb, leb, eqb, List, [], ◌∷◌, ◌++◌, length, map, take, max, refl, sym, ap, subst, inl, inr, add-one, arith}
 use Rattle.std.specs.List.{range_with_len}
-use Rattle.std.proofs.lemmas.Bool.{cases_lt, cond-true, cond-false, cond_both, eqb-false, eq-eqb, lt-ltb, le-ltb, lt-leb}
+use Rattle.std.proofs.lemmas.Bool.{cases_lt, cond-true, cond-false, cond_both, eqb-true, eqb-false, eq-eqb, lt-ltb, le-ltb, lt-leb}
 use Rattle.std.proofs.lemmas.List.FromFn.{map-range_with_len_more}
 use Rattle.q3_chan.specs.declared.side.Side.{Side}
 use Rattle.q3_chan.specs.declared.gatherer.Gathered.TheVariants.{Partial, OutOfOrder}
 use Rattle.q3_chan.specs.Datagrams.{fragment_size, sequence_end, piece_count, last_index, datagram}
 use Rattle.q3_chan.specs.Gathering.{Gathering, Took, answers, arrives, emptied, gathering_of, gathered, gathered_all}
 use Rattle.q3_chan.specs.Tags.{tag_piece, tagged, tagged_all, Came}
-use Rattle.q3_chan.specs.Laws.{IsSendable, HoldsFront, PiecesAreTagged, gathered_first, PiecesComeWhole}
+use Rattle.q3_chan.specs.Laws.{IsSendable, HoldsFront, PiecesAreTagged, FirstArePartial, gathered_first, PiecesComeWhole, FirstComePartial}
 use Rattle.q3_chan.proofs.Tags.{gathering_of-number, gathering_of-taken, gathering_of-front, tagged-front, tagged_does}
 use Rattle.q3_chan.proofs.Tagging.{length-front, tagged-cut, datagram_is_tagged}
 
 -- ---- by tags
 
--- an end has so many first pieces of a newer message or more, and not all
-record HoldsFirst (least : ℕ) (g : Gathering) (number : ℕ) (message : List ℕ) : Type 0 where
+-- an end that had some first pieces of a newer message, and then the first so many arrived: it has the more of both, and not all
+record HoldsFirst (held came : ℕ) (g : Gathering) (number : ℕ) (message : List ℕ) : Type 0 where
   newer : g.taken < number
   count : ℕ
-  enough : least ≤ count
+  is : count ≡ max held came
   not_all : count < piece_count (length message)
   front : (gathering_of g number).bytes ≡ take (fragment_size * count) message
 
-HoldsFirst-begin : (messages : ℕ → List ℕ) (g : Gathering) (number : ℕ) → HoldsFront messages g → g.taken < number → HoldsFirst 0 g number (messages number)
-HoldsFirst-begin messages g number h newer =
+-- of a front of the message
+HoldsFirst-front : (messages : ℕ → List ℕ) (g : Gathering) (number : ℕ) (h : HoldsFront messages (gathering_of g number)) → g.taken < number → HoldsFirst h.count 0 g number (messages number)
+HoldsFirst-front messages g number h newer =
     let k = gathering_of g number in
-    let there = gathering_of-front messages g number h in
     let same = gathering_of-number g number in
     record {
       newer = newer;
-      count = there.count;
-      enough = omega arith;
-      not_all = subst (λ (n : ℕ). there.count < piece_count (length (messages n))) same there.not_all;
-      front = subst (λ (n : ℕ). k.bytes ≡ take (fragment_size * there.count) (messages n)) same there.front;
+      count = h.count;
+      is = omega arith;
+      not_all = subst (λ (n : ℕ). h.count < piece_count (length (messages n))) same h.not_all;
+      front = subst (λ (n : ℕ). k.bytes ≡ take (fragment_size * h.count) (messages n)) same h.front;
+    }
+
+-- of nothing
+HoldsFirst-none : (g : Gathering) (number : ℕ) (message : List ℕ) → g.taken < number → (g.number ≡ number → g.bytes ≡ []) → HoldsFirst 0 0 g number message
+HoldsFirst-none g number message newer none =
+    record {
+      newer = newer;
+      count = 0;
+      is = refl;
+      not_all = omega arith;
+      front = cond_both (eqb number g.number) g (record g { number = number; bytes = [] }) (λ k. k.bytes ≡ []) (λ e. none (sym (eqb-true _ _ e))) (λ _. refl);
     }
 
 -- of a gathering of the message itself
-HoldsFirst-of : (least : ℕ) (k : Gathering) (number : ℕ) (message : List ℕ) (count : ℕ) → k.number ≡ number → k.taken < number → least ≤ count
-    → count < piece_count (length message) → k.bytes ≡ take (fragment_size * count) message → HoldsFirst least k number message
-HoldsFirst-of least k number message count same newer enough not_all front =
+HoldsFirst-of : (held came : ℕ) (k : Gathering) (number : ℕ) (message : List ℕ) (count : ℕ) → k.number ≡ number → k.taken < number → count ≡ max held came
+    → count < piece_count (length message) → k.bytes ≡ take (fragment_size * count) message → HoldsFirst held came k number message
+HoldsFirst-of held came k number message count same newer is not_all front =
     record {
       newer = newer;
       count = count;
-      enough = enough;
+      is = is;
       not_all = not_all;
       front = ap (λ (g : Gathering). g.bytes) (cond-true (eqb number k.number) k (record k { number = number; bytes = [] }) (eq-eqb _ _ (sym same))) ∙ front;
     }
 
-HoldsFirst-more : (g : Gathering) (number : ℕ) (message : List ℕ) (index : ℕ) → HoldsFirst index g number message → index + 1 < piece_count (length message)
-    → HoldsFirst (index + 1) (tagged g number message index).gathering number message
-HoldsFirst-more g number message index h more =
+-- where what was gathered ends
+front-ends : (held came : ℕ) (g : Gathering) (number : ℕ) (message : List ℕ) (h : HoldsFirst held came g number message) → length (gathering_of g number).bytes ≡ fragment_size * h.count
+front-ends held came g number message h = ap length h.front ∙ length-front message h.count h.not_all
+
+-- a piece more
+HoldsFirst-more : (held : ℕ) (g : Gathering) (number : ℕ) (message : List ℕ) (index : ℕ) → HoldsFirst held index g number message → index + 1 < piece_count (length message)
+    → HoldsFirst held (index + 1) (tagged g number message index).gathering number message
+HoldsFirst-more held g number message index h more =
     let k = gathering_of g number in
     let same = gathering_of-number g number in
     let newer : k.taken < number = subst (λ (n : ℕ). n < number) (sym (gathering_of-taken g number)) h.newer in
-    let ends : length k.bytes ≡ fragment_size * h.count = ap length h.front ∙ length-front message h.count h.not_all in
-    let P : Took → Type 0 = λ t. HoldsFirst (index + 1) t.gathering number message in
+    let ends = front-ends held index g number message h in
+    let is = h.is in
+    let P : Took → Type 0 = λ t. HoldsFirst held (index + 1) t.gathering number message in
     let grown = record k { bytes = take (fragment_size * (index + 1)) message } in
     subst P (sym (tagged-cut g number message index h.newer (omega arith)))
     (cond_both (eqb (fragment_size * index) (length k.bytes)) (tag_piece k number message index) (answers k OutOfOrder) P
-    (λ _. subst P (sym (cond-true (ltb (index + 1) (piece_count (length message))) (answers grown Partial) (arrives (emptied k) number message) (lt-ltb _ _ more)))
-    (HoldsFirst-of (index + 1) grown number message (index + 1) same newer (omega arith) more refl))
-    (λ off. HoldsFirst-of (index + 1) k number message h.count same newer (let other = eqb-false _ _ off in omega (arith, h.enough, other, ends)) h.not_all h.front))
+    (λ here. subst P (sym (cond-true (ltb (index + 1) (piece_count (length message))) (answers grown Partial) (arrives (emptied k) number message) (lt-ltb _ _ more)))
+    (HoldsFirst-of held (index + 1) grown number message (index + 1) same newer (omega (arith, eqb-true _ _ here)) more refl))
+    (λ off. HoldsFirst-of held (index + 1) k number message h.count same newer (omega (arith, eqb-false _ _ off)) h.not_all h.front))
 
-HoldsFirst-all : (messages : ℕ → List ℕ) (g : Gathering) (number count : ℕ) → HoldsFront messages g → g.taken < number → count < piece_count (length (messages number))
-    → HoldsFirst count (tagged_all g number (messages number) count) number (messages number)
+HoldsFirst-all : (held : ℕ) (g : Gathering) (number : ℕ) (message : List ℕ) (count : ℕ) → HoldsFirst held 0 g number message → count < piece_count (length message)
+    → HoldsFirst held count (tagged_all g number message count) number message
 unfolding tagged_all
-HoldsFirst-all messages g number zero h newer few = HoldsFirst-begin messages g number h newer
-HoldsFirst-all messages g number (suc count) h newer few =
-    subst (λ (n : ℕ). HoldsFirst n (tagged (tagged_all g number (messages number) count) number (messages number) count).gathering number (messages number)) (add-one count)
-    (HoldsFirst-more (tagged_all g number (messages number) count) number (messages number) count (HoldsFirst-all messages g number count h newer (omega arith)) (omega arith))
+HoldsFirst-all held g number message zero h few = h
+HoldsFirst-all held g number message (suc count) h few =
+    subst (λ (n : ℕ). HoldsFirst held n (tagged (tagged_all g number message count) number message count).gathering number message) (add-one count)
+    (HoldsFirst-more held (tagged_all g number message count) number message count (HoldsFirst-all held g number message count h (omega arith)) (omega arith))
+
+-- the piece where it ends
+tagged-next : (held index : ℕ) (g : Gathering) (number : ℕ) (message : List ℕ) (h : HoldsFirst held index g number message) → h.count ≡ index → fragment_size ≤ length message
+    → tagged g number message index ≡ tag_piece (gathering_of g number) number message index
+tagged-next held index g number message h next long =
+    let ends = front-ends held index g number message h in
+    tagged-cut g number message index h.newer long ∙ cond-true (eqb (fragment_size * index) (length (gathering_of g number).bytes)) _ _ (eq-eqb _ _ (omega arith))
 
 -- with the last it comes whole
-comes-whole : (g : Gathering) (number : ℕ) (message : List ℕ) → HoldsFirst (last_index message) g number message → Came g number message (tagged g number message (last_index message))
+comes-whole : (held : ℕ) (g : Gathering) (number : ℕ) (message : List ℕ) → held < piece_count (length message) → HoldsFirst held (last_index message) g number message
+    → Came g number message (tagged g number message (last_index message))
 unfolding tagged
-comes-whole g number message h =
-    let k = gathering_of g number in
+comes-whole held g number message few h =
     let index = last_index message in
     let P : Took → Type 0 = Came g number message in
     elim (cases_lt (length message) fragment_size) [
@@ -82,18 +106,25 @@ comes-whole g number message h =
           subst P (sym (cond-false (leb number g.taken) _ _ (lt-leb _ _ h.newer) ∙ cond-true (ltb (length message) fragment_size) _ _ (lt-ltb _ _ short)))
           (record { newer = h.newer; answer = refl; message_is = refl; taken = refl })
       | inr long ↦
-          let last : h.count ≡ index = omega (arith, h.enough, h.not_all) in
-          let ends : fragment_size * index ≡ length k.bytes = sym (ap length h.front ∙ length-front message h.count h.not_all ∙ ap (λ (n : ℕ). fragment_size * n) last) in
-          subst P (sym (tagged-cut g number message index h.newer long
-          ∙ cond-true (eqb (fragment_size * index) (length k.bytes)) _ _ (eq-eqb _ _ ends)
-          ∙ cond-false (ltb (index + 1) (piece_count (length message))) _ _ (le-ltb _ _ (omega arith))))
+          subst P (sym (tagged-next held index g number message h (omega (arith, h.is)) long ∙ cond-false (ltb (index + 1) (piece_count (length message))) _ _ (le-ltb _ _ (omega arith))))
           (record { newer = h.newer; answer = refl; message_is = refl; taken = refl })
     ]
 
 pub pieces_are_tagged : PiecesAreTagged
 pieces_are_tagged messages g number h newer =
-    comes-whole (tagged_all g number (messages number) (last_index (messages number))) number (messages number)
-    (HoldsFirst-all messages g number (last_index (messages number)) h newer (omega arith))
+    let message = messages number in
+    let there = gathering_of-front messages g number h in
+    let begin = HoldsFirst-front messages g number there newer in
+    comes-whole there.count (tagged_all g number message (last_index message)) number message (omega (arith, begin.is, begin.not_all))
+    (HoldsFirst-all there.count g number message (last_index message) begin (omega arith))
+
+-- and where nothing was held, those before it are partial
+pub first_are_partial : FirstArePartial
+first_are_partial g number message index newer none few =
+    let h = HoldsFirst-all 0 g number message index (HoldsFirst-none g number message newer none) (omega arith) in
+    let t = tagged_all g number message index in
+    ap (λ (took : Took). took.answer)
+    (tagged-next 0 index t number message h (omega (arith, h.is)) (omega arith) ∙ cond-true (ltb (index + 1) (piece_count (length message))) _ _ (lt-ltb _ _ (omega arith)))
 
 -- ---- by bytes
 
@@ -136,12 +167,23 @@ FollowsTags-all messages g qport number (suc count) h end sendable few =
       front = tagged-front messages t number count f.front;
     }
 
+-- what holds of the tags holds of the bytes
+FollowsTags-then : (P : Gathering → Took → Type 0) (messages : ℕ → List ℕ) (g : Gathering) (qport number index : ℕ) → HoldsFront messages g → number < sequence_end → IsSendable (messages number)
+    → index < piece_count (length (messages number))
+    → P (tagged_all g number (messages number) index) (tagged (tagged_all g number (messages number) index) number (messages number) index)
+    → P (gathered_first g qport number (messages number) index) (gathered (gathered_first g qport number (messages number) index) (datagram g.side qport number (messages number) index))
+FollowsTags-then P messages g qport number index h end sendable few holds =
+    let message = messages number in
+    let f = FollowsTags-all messages g qport number index h end sendable few in
+    let t = tagged_all g number message index in
+    let bytes = datagram g.side qport number message index in
+    subst (λ (k : Gathering). P k (gathered k bytes)) (sym f.is) (subst (P t) (sym (FollowsTags-next messages g qport number index f end sendable few)) holds)
+
 pub pieces_come_whole : PiecesComeWhole
 pieces_come_whole messages g qport number h newer end sendable =
     let message = messages number in
-    let last = last_index message in
-    let f = FollowsTags-all messages g qport number last h end sendable (omega arith) in
-    let t = tagged_all g number message last in
-    let bytes = datagram g.side qport number message last in
-    subst (λ (k : Gathering). Came k number message (gathered k bytes)) (sym f.is)
-    (subst (Came t number message) (sym (FollowsTags-next messages g qport number last f end sendable (omega arith))) (pieces_are_tagged messages g number h newer))
+    FollowsTags-then (λ k took. Came k number message took) messages g qport number (last_index message) h end sendable (omega arith) (pieces_are_tagged messages g number h newer)
+
+pub first_come_partial : FirstComePartial
+first_come_partial messages g qport number index h newer none end sendable few =
+    FollowsTags-then (λ k took. took.answer ≡ Partial) messages g qport number index h end sendable (omega arith) (first_are_partial g number (messages number) index newer none few)

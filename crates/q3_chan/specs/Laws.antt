@@ -2,7 +2,7 @@
 use Rattle.std.specs.Prelude.{◌≡◌, ◌⊎◌, ℕ, ◌+◌, ◌*◌, ◌^◌, ◌<◌, ◌≤◌, true, false, List, [], ◌∷◌, ◌++◌, length, map, take, Some, IfSome, All}
 use Rattle.std.specs.List.{concat, range_with_len}
 use Rattle.q3_chan.specs.declared.side.Side.{Side}
-use Rattle.q3_chan.specs.declared.gatherer.Gathered.TheVariants.{Whole}
+use Rattle.q3_chan.specs.declared.gatherer.Gathered.TheVariants.{Whole, Partial}
 use Rattle.q3_chan.specs.Datagrams.{fragment_size, longest_message, sequence_end, piece_count, last_index, pieces, datagram, datagrams, is_fragment, number_in, start_in, count_in, behind_header}
 use Rattle.q3_chan.specs.Sending.{Sending, UnderWay, IsIdle, new_sending, started, next_of, handed_out, behind}
 use Rattle.q3_chan.specs.Gathering.{Gathering, gathered, gathered_all, new_gathering}
@@ -55,6 +55,11 @@ PiecesAreTagged = (messages : ℕ → List ℕ) (g : Gathering) (number : ℕ) �
     → Came (tagged_all g number (messages number) (last_index (messages number))) number (messages number)
     (tagged (tagged_all g number (messages number) (last_index (messages number))) number (messages number) (last_index (messages number)))
 
+-- and where nothing of it was gathered before, each piece but the last is partial
+abbrev pub FirstArePartial : Type 0
+FirstArePartial = (g : Gathering) (number : ℕ) (message : List ℕ) (index : ℕ) → g.taken < number → (g.number ≡ number → g.bytes ≡ []) → index < last_index message
+    → (tagged (tagged_all g number message index) number message index).answer ≡ Partial
+
 -- an end after so many first datagrams of a message
 abbrev pub gathered_first : Gathering → ℕ → ℕ → List ℕ → ℕ → Gathering
 gathered_first g qport number message count = gathered_all g (map (datagram g.side qport number message) (range_with_len 0 count))
@@ -64,6 +69,12 @@ abbrev pub PiecesComeWhole : Type 0
 PiecesComeWhole = (messages : ℕ → List ℕ) (g : Gathering) (qport number : ℕ) → HoldsFront messages g → g.taken < number → number < sequence_end → IsSendable (messages number)
     → Came (gathered_first g qport number (messages number) (last_index (messages number))) number (messages number)
     (gathered (gathered_first g qport number (messages number) (last_index (messages number))) (datagram g.side qport number (messages number) (last_index (messages number))))
+
+-- and where nothing of it was gathered before, each but the last is partial
+abbrev pub FirstComePartial : Type 0
+FirstComePartial = (messages : ℕ → List ℕ) (g : Gathering) (qport number index : ℕ) → HoldsFront messages g → g.taken < number → (g.number ≡ number → g.bytes ≡ [])
+    → number < sequence_end → IsSendable (messages number) → index < last_index (messages number)
+    → (gathered (gathered_first g qport number (messages number) index) (datagram g.side qport number (messages number) index)).answer ≡ Partial
 
 -- whatever of one sender's datagrams came, in whatever order: a message that comes whole is the one under its number
 abbrev pub GatheredIsOne : Type 0
@@ -85,13 +96,14 @@ abbrev pub StandIn : List (List ℕ) → List (List ℕ) → Type 0
 StandIn [] others = Unit {0}
 StandIn (one ∷ ones) others = (before : List (List ℕ)) × (behind : List (List ℕ)) × (others ≡ before ++ one ∷ behind) × StandIn ones behind
 
--- whatever bytes came: a message that comes whole stood in the last datagram, or is pieces of one number that came in
--- their order, of which the last is that of the last datagram
+-- whatever bytes came: a message that comes whole stood under its number in the last datagram, or is pieces of one number that
+-- came in their order, of which the last is that of the last datagram; each before it has as many bytes as go into one, and it
+-- has fewer
 abbrev pub WholeArePieces : Type 0
 WholeArePieces = (side : Side) (came : List (List ℕ)) (last : List ℕ) (number count : ℕ)
     → (gathered (gathered_all (new_gathering side) came) last).answer ≡ Whole number count
-    → ((is_fragment last ≡ false) × ((gathered (gathered_all (new_gathering side) came) last).message ≡ behind_header side last))
-    ⊎ ((parts : List (List ℕ)) × StandIn parts came
+    → ((is_fragment last ≡ false) × (number_in last ≡ number) × ((gathered (gathered_all (new_gathering side) came) last).message ≡ behind_header side last))
+    ⊎ ((parts : List (List ℕ)) × StandIn parts came × All (λ part. count_in side part ≡ fragment_size) parts × (count_in side last < fragment_size)
     × ArePieces side number 0 (parts ++ last ∷ []) (gathered (gathered_all (new_gathering side) came) last).message)
 
 -- ---- the two ends

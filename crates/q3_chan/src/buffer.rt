@@ -4,13 +4,8 @@ ghost use Rattle.std.specs.Prelude.{◌≡◌, ◌+◌, ◌≤◌, ◌++◌, len
 ghost use Rattle.std.specs.Vec.{vec_len};
 ghost use Rattle.q3_chan.specs.Datagrams.{longest_message};
 
-use std::alloc::{AllocError, Global};
-
-/// Want of memory, and nothing else.
-pub type NoMemory = AllocError;
-
-/// The longest message in bytes, the engine's `MAX_MSGLEN`.
-pub(crate) const LONGEST_MESSAGE: usize = 16_384;
+use crate::limits::LONGEST_MESSAGE;
+use std::alloc::{AllocError as NoMemory, Global};
 
 /// Room for the longest message.
 pub(crate) fn new_buffer(alloc: Global) -> Result<Vec<u8>, NoMemory>

@@ -5,13 +5,13 @@ ghost use Rattle.std.specs.Prelude.{◌≡◌, ◌+◌, ◌≤◌, ◌++◌, ℕ
 ghost use Rattle.q3_chan.specs.Datagrams.{longest_message, is_fragment, header_length};
 ghost use Rattle.q3_chan.specs.Gathering.{new_gathering, gathered, gathering_of, arrives, emptied, take_newer, take_whole, take_fragment, take_piece, add_piece, Delivers};
 
-use crate::buffer::{LONGEST_MESSAGE, NoMemory, new_buffer, put_at};
+use crate::buffer::{new_buffer, put_at};
 use crate::header::{
     behind_header, count_in, is_connectionless, is_fragment, lacks_header, number_in, start_in,
 };
-use crate::sender::FRAGMENT_SIZE;
+use crate::limits::{FRAGMENT_SIZE, LONGEST_MESSAGE};
 use crate::side::Side;
-use std::alloc::Global;
+use std::alloc::{AllocError as NoMemory, Global};
 use std::marker::Model;
 
 /// What a receiver answers to a datagram.

@@ -6,6 +6,7 @@ ghost use Rattle.byteorder.specs.Endian.{little_bytes};
 ghost use Rattle.q3_chan.specs.Datagrams.{header, is_fragment, number_in, short_header, header_length, start_in, count_in, behind_header};
 ghost use Rattle.q3_chan.specs.Gathering.{is_connectionless};
 
+use crate::limits::DATAGRAM_ROOM;
 use crate::sender::Datagram;
 use crate::side::Side;
 use byteorder::{ByteOrder, LittleEndian};
@@ -15,7 +16,7 @@ pub(crate) const FRAGMENT_MARK: u32 = 0x8000_0000;
 
 /// Puts bytes behind those of a datagram.
 pub(crate) fn put_bytes(out: &mut Datagram, bytes: &[u8])
-    requires { length out.old.items + length bytes.now ≤ 1320 }
+    requires { length out.old.items + length bytes.now ≤ DATAGRAM_ROOM }
     ensures { out.new.items ≡ out.old.items ++ bytes.now }
 {
     let put = out.try_extend_from_slice(bytes);
@@ -24,7 +25,7 @@ pub(crate) fn put_bytes(out: &mut Datagram, bytes: &[u8])
 
 /// Puts a number of 32 bits behind the bytes of a datagram.
 fn put_long(out: &mut Datagram, number: u32)
-    requires { length out.old.items + 4 ≤ 1320 }
+    requires { length out.old.items + 4 ≤ DATAGRAM_ROOM }
     ensures { out.new.items ≡ out.old.items ++ little_bytes 4 number }
 {
     let mut bytes = [0; 4];
@@ -34,7 +35,7 @@ fn put_long(out: &mut Datagram, number: u32)
 
 /// Puts a number of 16 bits behind the bytes of a datagram.
 pub(crate) fn put_short(out: &mut Datagram, number: u16)
-    requires { length out.old.items + 2 ≤ 1320 }
+    requires { length out.old.items + 2 ≤ DATAGRAM_ROOM }
     ensures { out.new.items ≡ out.old.items ++ little_bytes 2 number }
 {
     let mut bytes = [0; 2];
@@ -44,7 +45,7 @@ pub(crate) fn put_short(out: &mut Datagram, number: u16)
 
 /// Puts what begins each datagram: the number of its message, with or without the mark, and from a client its qport.
 pub(crate) fn put_header(out: &mut Datagram, side: Side, qport: u16, number: u32)
-    requires { length out.old.items + 6 ≤ 1320 }
+    requires { length out.old.items + 6 ≤ DATAGRAM_ROOM }
     ensures bytes { out.new.items ≡ out.old.items ++ header side qport number }
     ensures some { 0 < length out.new.items }
 {

@@ -1,7 +1,7 @@
 //! Laws of messages that are cut and gathered, each the contract of a call that does nothing. A proof above cites a law by
 //! calling it.
 
-ghost use Rattle.q3_chan.specs.Laws.{PiecesAreWhole, HandsOutAll, SentIsTagged, TaggedDoes, PiecesAreTagged, PiecesComeWhole, GatheredIsOne, WholeArePieces, EndsGather, EndsSend};
+ghost use Rattle.q3_chan.specs.Laws.{PiecesAreWhole, HandsOutAll, SentIsTagged, TaggedDoes, PiecesAreTagged, FirstArePartial, PiecesComeWhole, FirstComePartial, GatheredIsOne, WholeArePieces, EndsGather, EndsSend};
 
 /// The pieces of a message, one behind the other, are the message.
 pub fn pieces_are_whole()
@@ -23,14 +23,17 @@ pub fn tagged_does()
     ensures { TaggedDoes }
 {}
 
-/// Where all pieces of a newer message but the last arrived in order, with the last it comes whole.
+/// Where all pieces of a newer message but the last arrived in order, with the last it comes whole; and if nothing of it was
+/// gathered before, the others are partial.
 pub fn pieces_are_tagged()
-    ensures { PiecesAreTagged }
+    ensures whole { PiecesAreTagged }
+    ensures partial { FirstArePartial }
 {}
 
 /// The same by bytes: where all datagrams of a newer message but the last came in order, with the last it comes whole.
 pub fn pieces_come_whole()
-    ensures { PiecesComeWhole }
+    ensures whole { PiecesComeWhole }
+    ensures partial { FirstComePartial }
 {}
 
 /// Whatever of one sender's datagrams came, in whatever order: a message that comes whole is the one under its number.

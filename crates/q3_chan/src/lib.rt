@@ -5,12 +5,13 @@ mod buffer;
 pub mod gatherer;
 mod header;
 pub mod laws;
+mod limits;
 pub mod sender;
 pub mod side;
 #[cfg(test)]
 mod tests;
 
-pub use buffer::NoMemory;
 pub use gatherer::{Gathered, Gatherer};
+pub use limits::{DATAGRAM_ROOM, FRAGMENT_SIZE, LONGEST_MESSAGE, SEQUENCE_END};
 pub use sender::{Datagram, Sender};
 pub use side::Side;

@@ -6,18 +6,16 @@ ghost use Rattle.byteorder.specs.Endian.{little_bytes};
 ghost use Rattle.q3_chan.specs.Datagrams.{fragment_size, longest_message, sequence_end, piece_count, datagram, piece};
 ghost use Rattle.q3_chan.specs.Sending.{IsIdle, new_sending, started, next_of};
 
-use crate::buffer::{NoMemory, new_buffer, put_at};
+use crate::buffer::{new_buffer, put_at};
 use crate::header::{FRAGMENT_MARK, put_bytes, put_header, put_short};
+use crate::limits::{DATAGRAM_ROOM, FRAGMENT_SIZE};
 use crate::side::Side;
 use arrayvec::ArrayVec;
-use std::alloc::Global;
+use std::alloc::{AllocError as NoMemory, Global};
 use std::marker::Model;
 
 /// The bytes of one datagram.
-pub type Datagram = ArrayVec<u8, 1320>;
-
-/// A message below this length goes whole, and no piece is longer. The engine's `FRAGMENT_SIZE`.
-pub(crate) const FRAGMENT_SIZE: usize = 1_300;
+pub type Datagram = ArrayVec<u8, DATAGRAM_ROOM>;
 
 /// Cuts messages into datagrams, one a call. It has memory of its own, which `new` takes and no other call does.
 #[derive(Drop)]
@@ -58,7 +56,7 @@ impl Sender {
         })
     }
 
-    /// Begins a message of 1 to 16,384 bytes under the next number, which is 1 at first and stays below 2^30.
+    /// Begins a message of 1 to 16,384 bytes under the next number, which is 1 at first and stays below `SEQUENCE_END`.
     pub fn start(&mut self, message: &[u8])
         requires idle { IsIdle self.old }
         requires some { 1 ≤ length message.now }

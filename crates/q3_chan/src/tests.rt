@@ -3,7 +3,7 @@
 ghost use Rattle.std.specs.Prelude.{◌≡◌, ◌≤◌, length, IfOk};
 ghost use Rattle.std.specs.Vec.{vec_len};
 
-use crate::{Datagram, Gathered, Gatherer, Sender, Side};
+use crate::{Datagram, Gathered, Gatherer, SEQUENCE_END, Sender, Side};
 use std::alloc::{AllocError, Global};
 use std::process::Abort;
 use std::test::*;
@@ -21,7 +21,7 @@ fn send(rt: &impl Abort, sender: &mut Sender, message: &[u8], count: usize, last
     requires most { length message.now ≤ 16384 }
 {
     assert!(rt; sender.idle());
-    assert!(rt; sender.number() < 100);
+    assert!(rt; sender.number() < SEQUENCE_END - 1);
     sender.start(message);
     for _ in 0..count {
         assert!(rt; !sender.idle());
