@@ -280,8 +280,8 @@ tag_is profile whole tag client cited is found holds =
     (subst IsSendable (sym at) (from.1 (n - 1) no_message (omega arith)))
     (subst (λ (m : List ℕ). tag.index < piece_count (length m)) (sym at) is.piece) in
     ap (gathered_of g) (is.bytes ∙ (ap (λ (side : Side). datagram side 0 n message tag.index) (sym from.0)
-        ∙ ap (λ (m : List ℕ). datagram g.side 0 n m tag.index) (sym at)))
-        ∙ (law.0 ∙ ap (λ (m : List ℕ). tagged g n m tag.index) at)
+    ∙ ap (λ (m : List ℕ). datagram g.side 0 n m tag.index) (sym at)))
+    ∙ (law.0 ∙ ap (λ (m : List ℕ). tagged g n m tag.index) at)
 
 -- and what is gathered then was begun
 tag_gathers : (profile : Profile) (whole : Whole) (tag : Tag) (client : ClientState) → Cited profile → IsSent profile whole.histories tag

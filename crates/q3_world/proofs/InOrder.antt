@@ -190,7 +190,14 @@ in_order_is_accepted law below pieces profile all c n last numbers client is are
     let holds : Holds profile now = record { facts = stands.facts; joined = stands.joined } in
     let g = client.gathering in
     let at_start : Reached profile start start c n 0 g = record {
-      sent = refl; clients = starts.facts.clients; histories = starts.facts.histories; built = refl; client = client; found = found; gathers = refl } in
+      sent = refl;
+      clients = starts.facts.clients;
+      histories = starts.facts.histories;
+      built = refl;
+      client = client;
+      found = found;
+      gathers = refl;
+    } in
     let reached_both = reached_all profile start start c n 0 g numbers last lt are_pieces at_start in
     let now_is : now ≡ after profile start (deliveries numbers) = after_both profile (opening profile) all (deliveries numbers) in
     let index : 0 + length numbers ≡ last_index message = omega (arith, count) in

@@ -8,16 +8,13 @@ ghost use Rattle.q3_world.specs.Views.{snapshot_of, newest_read, answer_read};
 
 use crate::bases::NoBases;
 use q3_bits::NoMemory;
-use q3_chan::{Gathered, Gatherer, Side};
+use q3_chan::{Gathered, Gatherer, LONGEST_MESSAGE, Side};
 use q3_entity::EntityState;
 use q3_player::SnapHead;
 use q3_profile::Profile;
 use q3_svmsg::{Illegible, Section, ServerMessage, read_server_message};
 use std::alloc::Global;
 use std::marker::Model;
-
-/// The longest message.
-const LONGEST_MESSAGE: usize = 16_384;
 
 /// Why a snapshot's base isn't there.
 #[derive(Clone, Copy, Debug, PartialEq, Eq)]

@@ -16,7 +16,7 @@ ghost use Rattle.q3_world.specs.Server.{places, most_numbers, new_slot, new_serv
 use crate::places::empty_places;
 use arrayvec::ArrayVec;
 use q3_bits::NoMemory;
-use q3_chan::{Datagram, Sender, Side};
+use q3_chan::{Datagram, LONGEST_MESSAGE, SEQUENCE_END, Sender, Side};
 use q3_entity::{Baselines, EntityState, List};
 use q3_fields::Table;
 use q3_io::Address;
@@ -25,12 +25,6 @@ use q3_profile::Profile;
 use q3_svmsg::{Section, ServerMessage, write_snap};
 use std::alloc::Global;
 use std::marker::Model;
-
-/// Message numbers end here.
-const SEQUENCE_END: u32 = 1 << 30;
-
-/// The longest message.
-const LONGEST_MESSAGE: usize = 16_384;
 
 /// How many entities a snapshot may have.
 const MOST_ENTITIES: usize = 256;

@@ -22,7 +22,7 @@ use crate::report::print_answer;
 use crate::server::Server;
 use arrayvec::ArrayVec;
 use q3_bits::NoMemory;
-use q3_chan::{Datagram, Sender, Side};
+use q3_chan::{DATAGRAM_ROOM, Datagram, Sender, Side};
 use q3_entity::EntityState;
 use q3_io::{Address, Failed, Files, Sink};
 use q3_player::PlayerState;
@@ -30,9 +30,6 @@ use q3_profile::Profile;
 use q3_script::Event;
 use std::alloc::Global;
 use std::marker::Model;
-
-/// The most bytes of a datagram.
-const DATAGRAM_ROOM: usize = 1_320;
 
 /// Why a step failed.
 #[derive(Clone, Copy, Debug, PartialEq, Eq)]
