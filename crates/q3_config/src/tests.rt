@@ -7,53 +7,70 @@ fn text(bytes: &[u8]) -> Result<Text, Fail> {
     Ok(Text::of(bytes).map_err(|_| "a text")?)
 }
 
-#[test]
-fn strings_by_index(rt: HostRuntime) -> Result<(), Fail> {
-    let long = vec![in rt.alloc(); b'a'; 8_192]?;
-    let mut configs = Configs::new(rt.alloc())?;
-    assert_eq!(rt; configs.size(), 1);
-    assert_eq!(rt; configs.set(4, b"100%\xff"), Ok(()));
-    assert_eq!(rt; configs.set(2, b"abc"), Ok(()));
-    assert_eq!(rt; configs.set(2, b"ab"), Ok(()));
-    assert_eq!(rt; configs.get(2), b"ab".as_slice());
-    assert_eq!(rt; configs.get(4), b"100..".as_slice());
-    assert_eq!(rt; configs.size(), 10);
-    assert_eq!(rt; configs.set(1_024, b"a"), Err(ConfigError::Index));
-    assert_eq!(rt; configs.set(5, &long), Err(ConfigError::Long));
-    assert_eq!(rt; configs.set(5, &long[..8_000]), Ok(()));
-    assert_eq!(rt; configs.set(6, &long[..8_000]), Err(ConfigError::Full));
-    assert_eq!(rt; configs.set(1_023, b"z"), Ok(()));
-    assert_eq!(rt; configs.get(1_023), b"z".as_slice());
-    assert_eq!(rt; configs.get(1_024), b"".as_slice());
-    configs.clear();
-    assert_eq!(rt; configs.size(), 1);
-    assert_eq!(rt; configs.get(5), b"".as_slice());
-    Ok(())
-}
-
-#[test]
-fn changes_that_may_go_out(rt: HostRuntime) -> Result<(), Fail> {
-    let long = vec![in rt.alloc(); b'a'; 8_192]?;
-    let mut configs = Configs::new(rt.alloc())?;
-    assert_eq!(rt; configs.admit(4, b"100% ~"), Ok(()));
-    assert_eq!(rt; configs.admit(4, b"a \"b\"\n"), Err(ConfigError::Chars(34)));
-    assert_eq!(rt; configs.admit(4, b"a\x7f"), Err(ConfigError::Chars(127)));
-    assert_eq!(rt; configs.admit(1_024, b"\""), Err(ConfigError::Index));
-    assert_eq!(rt; configs.admit(4, &long), Err(ConfigError::Long));
-    assert_eq!(rt; configs.set(4, &long[..8_000]), Ok(()));
-    assert_eq!(rt; configs.admit(4, &long[..8_191]), Ok(()));
-    assert_eq!(rt; configs.admit(5, &long[..8_000]), Err(ConfigError::Full));
-    Ok(())
-}
-
-/// A command of those that change string 4 to a text.
-fn command(configs: &Configs, text: &[u8], k: usize) -> Result<Text, Fail> {
-    configs.admit(4, text).map_err(|_| "refused")?;
-    if k < pieces(text.len()) {
-        Ok(piece(4, text, k))
+/// A command of those that change string 4 to the first bytes of a text.
+fn command(configs: &Configs, bytes: &[u8], length: usize, k: usize) -> Result<Text, Fail> {
+    let front = bytes.get(..length).ok_or("so many bytes")?;
+    configs.admit(4, front).map_err(|_| "refused")?;
+    if k < pieces(front.len()) {
+        Ok(piece(4, front, k))
     } else {
         Err("no such piece")?
     }
+}
+
+#[test]
+fn strings_by_index(rt: HostRuntime) -> Result<(), Fail> {
+    let mut configs = Configs::new(rt.alloc())?;
+    let table = [
+        (4, b"100%\xff".as_slice(), Ok(()), 7),
+        (2, b"abc".as_slice(), Ok(()), 11),
+        (2, b"ab".as_slice(), Ok(()), 10),
+        (1_023, b"z".as_slice(), Ok(()), 12),
+        (1_024, b"z".as_slice(), Err(ConfigError::Index), 12),
+    ];
+    for (index, bytes, answer, size) in table {
+        assert_eq!(rt; configs.set(index, bytes), answer);
+        assert_eq!(rt; configs.size(), size);
+    }
+    assert_eq!(rt; configs.get(2), b"ab".as_slice());
+    assert_eq!(rt; configs.get(4), b"100..".as_slice());
+    assert_eq!(rt; configs.get(1_024), b"".as_slice());
+    configs.clear();
+    assert_eq!(rt; configs.size(), 1);
+    Ok(())
+}
+
+#[test]
+fn strings_of_any_length(rt: HostRuntime) -> Result<(), Fail> {
+    let long = vec![in rt.alloc(); b'a'; 8_192]?;
+    let mut configs = Configs::new(rt.alloc())?;
+    let table = [
+        (5, 8_192, Err(ConfigError::Long)),
+        (5, 8_000, Ok(())),
+        (6, 8_000, Err(ConfigError::Full)),
+        (5, 8_191, Ok(())),
+    ];
+    for (index, length, answer) in table {
+        let front = long.get(..length).ok_or("so many bytes")?;
+        assert_eq!(rt; configs.admit(index, front), answer);
+        assert_eq!(rt; configs.set(index, front), answer);
+    }
+    Ok(())
+}
+
+#[test]
+fn bytes_that_go_out(rt: HostRuntime) -> Result<(), Fail> {
+    let configs = Configs::new(rt.alloc())?;
+    let table = [
+        (4, b"100% ~".as_slice(), Ok(())),
+        (4, b"a \"b\"\n".as_slice(), Err(ConfigError::Chars(34))),
+        (4, b"a\x7f".as_slice(), Err(ConfigError::Chars(127))),
+        (1_024, b"\"".as_slice(), Err(ConfigError::Index)),
+    ];
+    for (index, bytes, answer) in table {
+        assert_eq!(rt; configs.admit(index, bytes), answer);
+    }
+    Ok(())
 }
 
 #[test]
@@ -61,7 +78,7 @@ fn pieces_of_a_text(rt: HostRuntime) -> Result<(), Fail> {
     let long = vec![in rt.alloc(); b'a'; 1_999]?;
     let configs = Configs::new(rt.alloc())?;
     let table = [
-        (999, 0, b"cs 4 \"".as_slice(), 1_007),
+        (999, 0, b"cs 4 \"a".as_slice(), 1_007),
         (1_000, 0, b"bcs0 4 \"a".as_slice(), 1_009),
         (1_000, 1, b"bcs2 4 \"a\"\n".as_slice(), 11),
         (1_998, 0, b"bcs0 4 \"a".as_slice(), 1_009),
@@ -71,15 +88,18 @@ fn pieces_of_a_text(rt: HostRuntime) -> Result<(), Fail> {
         (1_999, 2, b"bcs2 4 \"a\"\n".as_slice(), 11),
     ];
     for (length, k, front, size) in table {
-        let sent = command(&configs, &long[..length], k)?;
+        let sent = command(&configs, &long, length, k)?;
         assert!(rt; sent.bytes().starts_with(front));
         assert_eq!(rt; sent.bytes().len(), size);
     }
-    assert_eq!(rt; pieces(999), 1);
-    assert_eq!(rt; pieces(1_998), 2);
-    assert_eq!(rt; pieces(1_999), 3);
-    assert_eq!(rt; command(&configs, b"50%", 0)?, text(b"cs 4 \"50.\"\n")?);
     Ok(())
+}
+
+#[test]
+fn counts_of_pieces(rt: HostRuntime) {
+    for (length, count) in [(999, 1), (1_000, 2), (1_998, 2), (1_999, 3), (8_191, 9)] {
+        assert_eq!(rt; pieces(length), count);
+    }
 }
 
 #[test]
@@ -102,23 +122,31 @@ fn shapes_of_commands(rt: HostRuntime) -> Result<(), Fail> {
     Ok(())
 }
 
+/// The index and the length of the text that is pending.
+fn pending_length(configs: &Configs) -> Option<(u32, usize)> {
+    configs.pending().map(|(index, text)| (index, text.len()))
+}
+
 #[test]
 fn commands_at_the_client(rt: HostRuntime) -> Result<(), Fail> {
     let mut configs = Configs::new(rt.alloc())?;
-    assert!(rt; configs.apply_command(&text(b"cs 4 \"x\"")?));
-    assert!(rt; !configs.apply_command(&text(b"cs 4 \"x\"\n")?));
-    assert!(rt; !configs.apply_command(&text(b"cs 04 \"y\"\n")?));
-    assert!(rt; !configs.apply_command(&text(b"bcs1 4 \"y\"\n")?));
-    assert_eq!(rt; configs.pending(), None);
-    assert!(rt; !configs.apply_command(&text(b"bcs0 5 \"ab\"\n")?));
-    assert!(rt; !configs.apply_command(&text(b"bcs1 4 \"y\"\n")?));
-    assert!(rt; configs.apply_command(&text(b"cs 4 \"z\"\n")?));
-    assert!(rt; !configs.apply_command(&text(b"bcs1 5 \"cd\"\n")?));
-    assert_eq!(rt; configs.pending(), Some((5, b"abcd".as_slice())));
-    assert!(rt; configs.apply_command(&text(b"bcs2 5 \"e\"\n")?));
-    assert_eq!(rt; configs.pending(), None);
-    assert_eq!(rt; configs.get(5), b"abcde".as_slice());
+    let table = [
+        (b"cs 4 \"x\"".as_slice(), true, None),
+        (b"cs 4 \"x\"\n".as_slice(), false, None),
+        (b"cs 04 \"y\"\n".as_slice(), false, None),
+        (b"bcs1 4 \"y\"\n".as_slice(), false, None),
+        (b"bcs0 5 \"ab\"\n".as_slice(), false, Some((5, 2))),
+        (b"bcs2 4 \"y\"\n".as_slice(), false, Some((5, 2))),
+        (b"cs 4 \"z\"\n".as_slice(), true, Some((5, 2))),
+        (b"bcs1 5 \"cd\"\n".as_slice(), false, Some((5, 4))),
+        (b"bcs2 5 \"e\"\n".as_slice(), true, None),
+    ];
+    for (bytes, changed, pending) in table {
+        assert_eq!(rt; configs.apply_command(&text(bytes)?), changed);
+        assert_eq!(rt; pending_length(&configs), pending);
+    }
     assert_eq!(rt; configs.get(4), b"z".as_slice());
+    assert_eq!(rt; configs.get(5), b"abcde".as_slice());
     Ok(())
 }
 
@@ -126,13 +154,11 @@ fn commands_at_the_client(rt: HostRuntime) -> Result<(), Fail> {
 fn a_pending_text_that_gets_too_long(rt: HostRuntime) -> Result<(), Fail> {
     let long = vec![in rt.alloc(); b'a'; 8_000]?;
     let mut configs = Configs::new(rt.alloc())?;
-    for k in 0..8 {
-        assert!(rt; !configs.apply_command(&command(&configs, &long, k)?));
+    let table = [0, 1, 2, 3, 4, 5, 6, 7, 7, 8];
+    for k in table {
+        let sent = command(&configs, &long, 8_000, k)?;
+        assert!(rt; !configs.apply_command(&sent));
     }
-    assert_eq!(rt; configs.pending().map(|(_, text)| text.len()), Some(7_992));
-    assert!(rt; !configs.apply_command(&command(&configs, &long, 7)?));
-    assert_eq!(rt; configs.pending(), None);
-    assert!(rt; !configs.apply_command(&command(&configs, &long, 8)?));
-    assert_eq!(rt; configs.get(4), b"".as_slice());
+    assert_eq!(rt; pending_length(&configs), None);
     Ok(())
 }
