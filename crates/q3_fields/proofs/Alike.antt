@@ -1,5 +1,5 @@
 -- What is read over other words ends at the same place, or is refused in the same way.
-use Rattle.std.proofs.Common.{◌≡◌, ◌==◌, ℕ, suc, Bool, nat_lt, if◌then◌else◌, List, [], ◌∷◌, length, take, Ok, Err, refl, arith}
+use Rattle.std.proofs.Common.{◌≡◌, ◌==◌, ℕ, Bool, nat_lt, if◌then◌else◌, List, [], ◌∷◌, length, take, Ok, Err, refl, arith}
 use Rattle.q3_bits.specs.ResultBind.{◌>>=◌, left_of, bind_alike, bind_behind, if_alike, map_err_alike}
 use Rattle.q3_bits.specs.Words.{field_at}
 use Rattle.q3_fields.specs.declared.kind.Kind.{Kind}

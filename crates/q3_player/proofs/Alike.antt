@@ -1,5 +1,5 @@
 -- What is read over another state ends at the same place, or is refused in the same way.
-use Rattle.std.proofs.Common.{◌≡◌, ◌==◌, ◌%◌, ◌/◌, ℕ, suc, Bool, if◌then◌else◌, List, [], ◌∷◌, length, map, Ok, refl, sym, ◌∙◌, arith}
+use Rattle.std.proofs.Common.{◌≡◌, ◌==◌, ◌%◌, ◌/◌, ℕ, Bool, if◌then◌else◌, List, [], ◌∷◌, length, map, Ok, refl, sym, ◌∙◌, arith}
 use Rattle.std.proofs.lemmas.List.{length-map}
 use Rattle.std.specs.Int.{w32, cast_unsigned}
 use Rattle.q3_bits.specs.ResultBind.{◌>>=◌, left_of, bind_alike, bind_behind, if_alike, map_err_alike}
@@ -11,7 +11,7 @@ use Rattle.q3_fields.specs.Texts.{player_field_at}
 use Rattle.q3_fields.specs.Deltas.{bits_read, words_after}
 use Rattle.q3_fields.specs.Laws.{WordsEndAlike}
 use Rattle.q3_player.specs.declared.state.PlayerState.{PlayerState}
-use Rattle.q3_player.specs.State.{IsState, AreShorts, array_kinds, arrays_of, with_arrays}
+use Rattle.q3_player.specs.State.{IsState, array_kinds, arrays_of, with_arrays}
 use Rattle.q3_player.specs.Delta.{place_after, places_after, array_after, arrays_after, each_after, marked_after, player_at}
 use Rattle.q3_player.specs.Laws.{PlayersEndAlike}
 

@@ -1,5 +1,5 @@
 -- What is read against a base is skipped where that base isn't held.
-use Rattle.std.proofs.Common.{◌≡◌, ◌-◌, ◌<◌, ◌==◌, ◌&&◌, ℕ, zero, suc, Bool, true, false, nat_lt, if◌then◌else◌, List, [], ◌∷◌, ◌++◌, Option, None, Ok, refl, sym, ap, subst, ◌∙◌, arith}
+use Rattle.std.proofs.Common.{◌≡◌, ◌-◌, ◌<◌, ◌&&◌, ℕ, zero, suc, Bool, true, false, nat_lt, if◌then◌else◌, List, [], ◌++◌, Option, None, refl, sym, ap, subst, ◌∙◌, arith}
 use Rattle.std.proofs.lemmas.List.{append-nil}
 use Rattle.q3_bits.specs.ResultBind.{left_of, left_ok}
 use Rattle.q3_player.specs.declared.state.PlayerState.{PlayerState}
@@ -10,14 +10,13 @@ use Rattle.q3_player.specs.Spelling.{SpellsPlayer}
 use Rattle.q3_player.specs.Laws as player
 use Rattle.q3_entity.specs.declared.state.EntityState.{EntityState}
 use Rattle.q3_entity.specs.Baselines.{Lines, AreLines}
-use Rattle.q3_entity.specs.Lists.{list_after}
 use Rattle.q3_entity.specs.Spelling.{SpellsList, SpellsSkipped}
 use Rattle.q3_entity.specs.Laws as entity
 use Rattle.q3_profile.specs.declared.profile.Profile.{Profile}
 use Rattle.q3_profile.specs.Profile.{IsCodec}
-use Rattle.q3_svmsg.specs.Values.{Base, base_player, base_entities, number_of_base, Context, Told, Snap, Skipped, Message}
+use Rattle.q3_svmsg.specs.Values.{Base, base_player, base_entities, number_of_base, Context, Told, Skipped, Message}
 use Rattle.q3_svmsg.specs.Reading.{held_base, message_after}
-use Rattle.q3_svmsg.specs.Spelling.{SpellsHead, SpellsSnapshot, SpellsSkippedSnapshot, SpellsSection, SpellsMessage}
+use Rattle.q3_svmsg.specs.Spelling.{SpellsSnapshot, SpellsSkippedSnapshot, SpellsSection, SpellsMessage}
 use Rattle.q3_svmsg.specs.Laws.{IsContext, ReadIsSpelled, SpelledIsRead, ReadIsSkipped}
 use Rattle.q3_svmsg.proofs.Held.{IsFrom, held_is_normal}
 
