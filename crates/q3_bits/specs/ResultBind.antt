@@ -1,7 +1,7 @@
 -- One step after another, where each may fail: `x ← step` of a `do` is this.
-use Rattle.std.specs.Prelude.{◌≡◌, ◌⊎◌, Result, Ok, Err, refl}
+use Rattle.std.specs.Prelude.{◌≡◌, ◌⊎◌, if◌then◌else◌, Bool, true, false, List, Result, Ok, Err, refl}
 use Rattle.std.specs.Result.{result_map_both}
-use Rattle.std.proofs.Common.{inl, inr}
+use Rattle.std.proofs.Common.{inl, inr, ap, subst}
 
 infixl 10 ◌>>=◌
 abbrev pub ◌>>=◌ : {A B E : Type 0} → Result A E → (A → Result B E) → Result B E
@@ -36,3 +36,49 @@ bind_assoc (Err e) f g = refl
 -- a row whose first step answers goes on from there
 pub bind_is : {A B E : Type 0} (r : Result A E) (f : A → Result B E) (x : A) (y : Result B E) → r ≡ Ok x → f x ≡ y → (r >>= f) ≡ y
 bind_is r f x y is e = rw is e
+
+-- what is behind an answer, or its fault
+abbrev pub left_of : {A E : Type 0} → Result (A × List Bool) E → Result (List Bool) E
+left_of (Ok x) = Ok x.1
+left_of (Err e) = Err e
+
+-- where nothing but the value differs, an answer ends at the same place
+pub left_ok : {A E : Type 0} (r : Result (A × List Bool) E) (rest : List Bool) → left_of r ≡ Ok rest → (x : A) × (r ≡ Ok (x, rest))
+left_ok (Ok x) rest e =
+    let is : x.1 ≡ rest = cc in
+    (x.0, ap (λ (left : List Bool). Ok (x.0, left)) is)
+left_ok (Err d) rest e = absurd cc
+
+-- rows that go on at the same place end at the same place
+pub bind_alike : {A B C D E : Type 0} (r : Result (A × List Bool) E) (s : Result (B × List Bool) E) (f : A × List Bool → Result (C × List Bool) E) (g : B × List Bool → Result (D × List Bool) E)
+    → left_of r ≡ left_of s → ((x : A) (y : B) (rest : List Bool) → left_of (f (x, rest)) ≡ left_of (g (y, rest))) → left_of (r >>= f) ≡ left_of (s >>= g)
+bind_alike (Ok x) (Ok y) f g e alike =
+    let is : x.1 ≡ y.1 = cc in
+    subst (λ (rest : List Bool). left_of (f x) ≡ left_of (g (y.0, rest))) is (alike x.0 y.0 x.1)
+bind_alike (Ok x) (Err d) f g e alike = absurd cc
+bind_alike (Err d) (Ok y) f g e alike = absurd cc
+bind_alike (Err d) (Err d') f g e alike =
+    let is : d ≡ d' = cc in
+    ap (λ d. Err d) is
+
+-- and so do rows behind one answer
+pub bind_behind : {A C D E : Type 0} (r : Result A E) (f : A → Result (C × List Bool) E) (g : A → Result (D × List Bool) E) → ((x : A) → left_of (f x) ≡ left_of (g x))
+    → left_of (r >>= f) ≡ left_of (r >>= g)
+bind_behind (Ok x) f g alike = alike x
+bind_behind (Err e) f g alike = refl
+
+pub if_alike : {C D E : Type 0} (b : Bool) (r r' : Result (C × List Bool) E) (s s' : Result (D × List Bool) E) → left_of r ≡ left_of s → left_of r' ≡ left_of s'
+    → left_of (if b then r else r') ≡ left_of (if b then s else s')
+if_alike true r r' s s' first second = first
+if_alike false r r' s s' first second = second
+
+pub map_err_alike : {A B D E : Type 0} (f : D → E) (r : Result (A × List Bool) D) (s : Result (B × List Bool) D) → left_of r ≡ left_of s
+    → left_of (result_map_both (λ x. x) f r) ≡ left_of (result_map_both (λ x. x) f s)
+map_err_alike f (Ok x) (Ok y) e =
+    let is : x.1 ≡ y.1 = cc in
+    ap (λ (rest : List Bool). Ok rest) is
+map_err_alike f (Ok x) (Err d) e = absurd cc
+map_err_alike f (Err d) (Ok y) e = absurd cc
+map_err_alike f (Err d) (Err d') e =
+    let is : d ≡ d' = cc in
+    ap (λ d. Err (f d)) is

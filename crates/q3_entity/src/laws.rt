@@ -94,6 +94,7 @@ pub fn list_written_is_read()
 pub fn read_is_skipped()
     ensures { ReadIsSkipped }
 {
+    fields::words_end_alike();
     zero_is_normal();
 }
 

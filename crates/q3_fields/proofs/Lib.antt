@@ -12,3 +12,4 @@ pub mod FieldTexts
 pub mod FieldsRead
 pub mod FieldSpelled
 pub mod WordsSpelled
+pub mod Alike

@@ -1,5 +1,6 @@
 -- Laws of small floats, of the normal form, of field texts and of the delta of words.
 use Rattle.std.specs.Prelude.{◌≡◌, ◌≢◌, ℕ, ◌^◌, ◌<◌, ◌≤◌, Bool, List, ◌++◌, length, drop, replicate, Ok, Some, ℤ, pos, neg_ℤ, ◌≤ℤ◌}
+use Rattle.q3_bits.specs.ResultBind.{left_of}
 use Rattle.q3_bits.specs.Words.{IsCode}
 use Rattle.q3_fields.specs.declared.kind.Kind.{Kind}
 use Rattle.q3_fields.specs.declared.delta.StateKind.{StateKind}
@@ -107,3 +108,8 @@ abbrev pub WordsSpelledAreRead : Type 0
 WordsSpelledAreRead = (state : StateKind) (words : List (List Bool)) (table : List Kind) (from to : List ℕ) (text rest : List Bool) → IsCode words
     → AreKinds table → AreWords 64 from → SpellsWords state words table from to text
     → words_after state words table from (text ++ rest) ≡ Ok (to, rest)
+
+-- what is read over other words ends at the same place, or is refused in the same way
+abbrev pub WordsEndAlike : Type 0
+WordsEndAlike = (state : StateKind) (words : List (List Bool)) (table : List Kind) (from other : List ℕ) (bits : List Bool) → length from ≡ length other
+    → left_of (words_after state words table from bits) ≡ left_of (words_after state words table other bits)

@@ -1,7 +1,7 @@
 //! Laws of small floats, of the normal form, of field texts and of the delta of words, each the contract of a call that does nothing but cite
 //! the laws below it.
 
-ghost use Rattle.q3_fields.specs.Laws.{SmallOfPattern, PatternOfSmall, NormIsNormal, NormHasItsText, PlayerFieldIsSpelled, EntityFieldIsSpelled, PlayerReadIsSpelled, EntityReadIsSpelled, PlayerSpelledIsRead, EntitySpelledIsRead, PlayerWrittenIsRead, EntityWrittenIsRead, NormalWordsAreNormal, ZerosAreNormal, LastChangedIsLeast, WordsAreSpelled, UnchangedIsNormal, WordsReadAreSpelled, WordsSpelledAreRead};
+ghost use Rattle.q3_fields.specs.Laws.{SmallOfPattern, PatternOfSmall, NormIsNormal, NormHasItsText, PlayerFieldIsSpelled, EntityFieldIsSpelled, PlayerReadIsSpelled, EntityReadIsSpelled, PlayerSpelledIsRead, EntitySpelledIsRead, PlayerWrittenIsRead, EntityWrittenIsRead, NormalWordsAreNormal, ZerosAreNormal, LastChangedIsLeast, WordsAreSpelled, UnchangedIsNormal, WordsReadAreSpelled, WordsSpelledAreRead, WordsEndAlike};
 
 use q3_bits::laws;
 
@@ -130,3 +130,8 @@ pub fn words_spelled_are_read()
     player_spelled_is_read();
     entity_spelled_is_read();
 }
+
+/// What is read over other words, as many, ends at the same place, or is refused in the same way.
+pub fn words_end_alike()
+    ensures { WordsEndAlike }
+{}

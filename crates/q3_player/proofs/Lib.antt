@@ -9,3 +9,4 @@ pub mod Maps
 pub mod BitsSpelled
 pub mod ArraySpelled
 pub mod PlayerSpelled
+pub mod Alike

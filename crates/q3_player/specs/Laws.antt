@@ -1,5 +1,6 @@
 -- Laws of the player delta.
 use Rattle.std.specs.Prelude.{◌≡◌, Bool, List, ◌++◌, Ok}
+use Rattle.q3_bits.specs.ResultBind.{left_of}
 use Rattle.q3_bits.specs.Words.{IsCode}
 use Rattle.q3_fields.specs.declared.kind.Kind.{Kind}
 use Rattle.q3_fields.specs.Kinds.{AreKinds}
@@ -38,3 +39,8 @@ WrittenIsRead = (words : List (List Bool)) (table : List Kind) (from to : Player
 -- the zero state is a state, in the normal form of every table
 abbrev pub ZeroIsNormal : Type 0
 ZeroIsNormal = (table : List Kind) → AreKinds table → IsState zero_player × IsNormal table zero_player
+
+-- what is read over another state ends at the same place, or is refused in the same way
+abbrev pub PlayersEndAlike : Type 0
+PlayersEndAlike = (words : List (List Bool)) (table : List Kind) (from other : PlayerState) (bits : List Bool) → IsState from → IsState other
+    → left_of (player_at words table from bits) ≡ left_of (player_at words table other bits)

@@ -1,6 +1,6 @@
 //! Laws of the player delta, each the contract of a call that does nothing but cite the laws below it.
 
-ghost use Rattle.q3_player.specs.Laws.{NormalIsNormal, WrittenIsSpelled, ReadIsSpelled, SpelledIsRead, WrittenIsRead, ZeroIsNormal};
+ghost use Rattle.q3_player.specs.Laws.{NormalIsNormal, WrittenIsSpelled, ReadIsSpelled, SpelledIsRead, WrittenIsRead, ZeroIsNormal, PlayersEndAlike};
 
 /// The normal form of a state is a state, in normal form.
 pub fn normal_is_normal()
@@ -48,3 +48,10 @@ pub fn written_is_read()
 pub fn zero_is_normal()
     ensures { ZeroIsNormal }
 {}
+
+/// What is read over another state ends at the same place, or is refused in the same way.
+pub fn players_end_alike()
+    ensures { PlayersEndAlike }
+{
+    q3_fields::laws::words_end_alike();
+}

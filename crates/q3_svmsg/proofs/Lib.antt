@@ -8,3 +8,4 @@ pub mod SectionSpelled
 pub mod MessageSpelled
 pub mod MessageRead
 pub mod WrittenSpelled
+pub mod Skipped

@@ -100,3 +100,11 @@ abbrev pub SpelledIsRead : Type 0
 SpelledIsRead = (profile : Profile) (context : Context) (number : ℕ) (message : Message) (text rest : List Bool) → IsCodec profile
     → IsContext profile context → SpellsMessage profile context number message text
     → message_after profile context number (text ++ rest) ≡ Ok (message, rest)
+
+-- a message whose snapshot is read against a base is read to the same place where that base isn't held, and nothing of the
+-- snapshot is kept
+abbrev pub ReadIsSkipped : Type 0
+ReadIsSkipped = (profile : Profile) (context other : Context) (number base : ℕ) (head : SnapHead) (entities : List EntityState) (message : Message) (bits rest : List Bool)
+    → IsCodec profile → IsContext profile context → IsContext profile other → message.section ≡ Snap base head entities → 0 < base → held_base other base ≡ None
+    → message_after profile context number bits ≡ Ok (message, rest)
+    → message_after profile other number bits ≡ Ok (record message { section = Skipped base }, rest)

@@ -1,6 +1,6 @@
 //! Laws of server messages, each the contract of a call that does nothing but cite the laws below it.
 
-ghost use Rattle.q3_svmsg.specs.Laws.{WrittenIsSpelled, ReadIsSpelled, SpelledIsRead, WrittenIsRead};
+ghost use Rattle.q3_svmsg.specs.Laws.{WrittenIsSpelled, ReadIsSpelled, SpelledIsRead, WrittenIsRead, ReadIsSkipped};
 
 use q3_bits::laws as bits;
 use q3_entity::laws as entity;
@@ -45,5 +45,21 @@ pub fn written_is_read()
     ensures { WrittenIsRead }
 {
     written_is_spelled();
+    spelled_is_read();
+}
+
+/// A message whose snapshot is read against a base is read to the same place where that base isn't held, and nothing of
+/// the snapshot is kept.
+pub fn read_is_skipped()
+    ensures { ReadIsSkipped }
+{
+    player::zero_is_normal();
+    player::spelled_is_read();
+    player::players_end_alike();
+    player::read_is_spelled();
+    entity::list_spelled_is_read();
+    entity::read_is_skipped();
+    entity::skipped_is_spelled();
+    read_is_spelled();
     spelled_is_read();
 }
