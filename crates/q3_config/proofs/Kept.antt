@@ -1,5 +1,5 @@
 -- Strings stay within their limits, whatever a change does.
-use Rattle.std.proofs.Common.{◌≡◌, ℕ, ◌<◌, ◌≤◌, Bool, List, [], length, replicate, map, Option, Some, None, Result, Ok, Err, inl, inr, refl, sym, ap, subst, ◌∙◌, arith}
+use Rattle.std.proofs.Common.{◌≡◌, ℕ, ◌<◌, ◌≤◌, Bool, List, [], length, replicate, map, Option, Some, None, inl, inr, refl, sym, ap, subst, ◌∙◌, arith}
 use Rattle.std.specs.Str.{bytes_eq}
 use Rattle.std.proofs.lemmas.Bool.{cases_Bool}
 use Rattle.std.proofs.lemmas.List.{length-replicate}
@@ -48,23 +48,23 @@ make_change-stays strings index text are =
     ]
 
 -- where a string was changed or the same, the strings are those of the change
-pub attempted-ok : (pending : Option Pending) (old new : List (List ℕ)) (result : Result Bool ConfigError) (changed : Bool) (index : ℕ) (text : List ℕ) → AreStrings (strings_with pending old)
-    → attempted pending new result ≡ make_change (strings_with pending old) index text → result ≡ Ok changed → AreStrings (strings_with pending new)
-attempted-ok pending old new result changed index text are is ok =
-    subst (λ (a : Applied). AreStrings a.strings) (sym is ∙ ap (λ (r : Result Bool ConfigError). attempted pending new r) ok) (make_change-stays (strings_with pending old) index text are)
+pub attempted-some : (pending : Option Pending) (old new : List (List ℕ)) (result : Option Bool) (changed : Bool) (index : ℕ) (text : List ℕ) → AreStrings (strings_with pending old)
+    → attempted pending new result ≡ make_change (strings_with pending old) index text → result ≡ Some changed → AreStrings (strings_with pending new)
+attempted-some pending old new result changed index text are is some =
+    subst (λ (a : Applied). AreStrings a.strings) (sym is ∙ ap (λ (r : Option Bool). attempted pending new r) some) (make_change-stays (strings_with pending old) index text are)
 
 -- where it couldn't be, nothing is pending
-pub attempted-err : (pending : Option Pending) (old new : List (List ℕ)) (result : Result Bool ConfigError) (fault : ConfigError) (index : ℕ) (text : List ℕ) → AreStrings (strings_with pending old)
-    → attempted pending new result ≡ make_change (strings_with pending old) index text → result ≡ Err fault → AreStrings (strings_with None new)
-attempted-err pending old new result fault index text are is err =
-    subst (λ (a : Applied). AreStrings a.strings) (sym is ∙ ap (λ (r : Result Bool ConfigError). attempted pending new r) err) (make_change-stays (strings_with pending old) index text are)
+pub attempted-none : (pending : Option Pending) (old new : List (List ℕ)) (result : Option Bool) (index : ℕ) (text : List ℕ) → AreStrings (strings_with pending old)
+    → attempted pending new result ≡ make_change (strings_with pending old) index text → result ≡ None → AreStrings (strings_with None new)
+attempted-none pending old new result index text are is none =
+    subst (λ (a : Applied). AreStrings a.strings) (sym is ∙ ap (λ (r : Option Bool). attempted pending new r) none) (make_change-stays (strings_with pending old) index text are)
 
 -- and where nothing was pending before, nothing is
-attempted-none : (new : List (List ℕ)) (result : Result Bool ConfigError) → (attempted None new result).strings ≡ strings_with None new
-attempted-none new (Ok changed) = refl
-attempted-none new (Err fault) = refl
+attempted-either : (new : List (List ℕ)) (result : Option Bool) → (attempted None new result).strings ≡ strings_with None new
+attempted-either new (Some changed) = refl
+attempted-either new None = refl
 
-pub attempted-last : (pending : Option Pending) (old new : List (List ℕ)) (result : Result Bool ConfigError) (index : ℕ) (text : List ℕ) → AreStrings (strings_with pending old)
+pub attempted-last : (pending : Option Pending) (old new : List (List ℕ)) (result : Option Bool) (index : ℕ) (text : List ℕ) → AreStrings (strings_with pending old)
     → attempted None new result ≡ make_change (strings_with None old) index text → AreStrings (strings_with None new)
 attempted-last pending old new result index text are is =
-    subst (λ (s : Strings). AreStrings s) (ap (λ (a : Applied). a.strings) (sym is) ∙ attempted-none new result) (make_change-stays (strings_with None old) index text (without_pending-stays (strings_with pending old) are))
+    subst (λ (s : Strings). AreStrings s) (ap (λ (a : Applied). a.strings) (sym is) ∙ attempted-either new result) (make_change-stays (strings_with None old) index text (without_pending-stays (strings_with pending old) are))

@@ -45,6 +45,12 @@ end_is [] start i d lt = absurd (omega arith)
 end_is (text ∷ texts) start zero d lt = omega (arith, length-append text [])
 end_is (text ∷ texts) start (suc i) d lt = omega (arith, length-append text (concat (take (suc i) texts)), end_is texts (start + length text) i d (omega arith))
 
+-- the bytes up to the end of a string
+take_next : (texts : List (List ℕ)) (i : ℕ) → i < length texts → concat (take (suc i) texts) ≡ concat (take i texts) ++ get_or texts i []
+take_next [] i lt = absurd (omega arith)
+take_next (text ∷ texts) zero lt = append-nil text
+take_next (text ∷ texts) (suc i) lt = ap (λ (bs : List ℕ). text ++ bs) (take_next texts i (omega arith)) ∙ sym (append_assoc text (concat (take i texts)) (get_or texts i []))
+
 suc-sub-one : (i : ℕ) → suc i - 1 ≡ i
 suc-sub-one i = omega arith
 
@@ -98,11 +104,6 @@ end_most (first ∷ texts) start (suc k) lt = omega (arith, length-append first 
 pub counted : (ends bytes : List ℕ) → LieBehind ends bytes → length (strings_of ends bytes) ≡ length ends
 counted ends bytes lie = sym (length-ends_from 0 (strings_of ends bytes)) ∙ ap (λ (es : List ℕ). length es) lie.ends_are
 
-take_next : (texts : List (List ℕ)) (i : ℕ) → i < length texts → concat (take (suc i) texts) ≡ concat (take i texts) ++ get_or texts i []
-take_next [] i lt = absurd (omega arith)
-take_next (text ∷ texts) zero lt = append-nil text
-take_next (text ∷ texts) (suc i) lt = ap (λ (bs : List ℕ). text ++ bs) (take_next texts i (omega arith)) ∙ sym (append_assoc text (concat (take i texts)) (get_or texts i []))
-
 -- where a string starts, in the ends of strings that lie one behind the other
 starts : (ends bytes : List ℕ) (i : ℕ) → LieBehind ends bytes → i < length (strings_of ends bytes) → start_at ends i ≡ length (concat (take i (strings_of ends bytes)))
 starts ends bytes i lie lt = subst (λ (es : List ℕ). start_at es i ≡ length (concat (take i (strings_of ends bytes)))) lie.ends_are (start_is (strings_of ends bytes) i lt)
@@ -152,7 +153,7 @@ stands ends bytes i lie inside =
       most = most;
     }
 
--- what is known of bytes with a string somewhere: what stands before it, and behind it
+-- what stands before a string and behind it
 around : (bytes before text behind : List ℕ) (start : ℕ) → bytes ≡ before ++ (text ++ behind) → length before ≡ start
     → (take start bytes ≡ before) × (drop (start + length text) bytes ≡ behind)
 around bytes before text behind start whole is = (

@@ -1,6 +1,5 @@
 -- What the parts of kept strings do: the strings themselves, the text that is pending, and the change that a text is read as.
-use Rattle.std.specs.Prelude.{ℕ, Bool, List, Option, Some, None, Result, Ok, Err}
-use Rattle.q3_config.specs.declared.error.ConfigError.{ConfigError}
+use Rattle.std.specs.Prelude.{ℕ, Bool, List, Option, Some, None}
 use Rattle.q3_config.specs.Strings.{Strings, Pending}
 use Rattle.q3_config.specs.declared.shapes.Word as code
 use Rattle.q3_config.specs.declared.shapes.Word.TheVariants as read
@@ -13,9 +12,9 @@ abbrev pub strings_with : Option Pending → List (List ℕ) → Strings
 strings_with pending texts = record { texts = texts; pending = pending }
 
 -- what an attempt to change a string leaves: it changed or was the same, or couldn't be, which ends the pending text
-abbrev pub attempted : Option Pending → List (List ℕ) → Result Bool ConfigError → Applied
-attempted pending texts (Ok changed) = record { strings = strings_with pending texts; changed = changed }
-attempted pending texts (Err fault) = unchanged (strings_with None texts)
+abbrev pub attempted : Option Pending → List (List ℕ) → Option Bool → Applied
+attempted pending texts (Some changed) = record { strings = strings_with pending texts; changed = changed }
+attempted pending texts None = unchanged (strings_with None texts)
 
 -- what is still to be done where a piece came behind the pending text
 abbrev pub finished : Strings → Word → Option Pending → Applied

@@ -145,8 +145,8 @@ impl Configs {
         ensures { make_change self.old index text.now ≡ record { strings = self.new; changed = result } }
     {
         match self.table.change(index, text) {
-            Ok(changed) => changed,
-            Err(_) => {
+            Some(changed) => changed,
+            None => {
                 self.pending.end();
                 false
             }

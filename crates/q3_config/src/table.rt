@@ -56,12 +56,16 @@ impl Table {
         })
     }
 
-    /// The string at an index.
-    pub fn get(&self, index: usize) -> &[u8]
-        requires { index < length self.now }
+    /// The string at an index, and none past the last index.
+    pub fn string(&self, index: u32) -> &[u8]
+        requires { length self.now ≡ places }
         ensures { result.now ≡ slice_index_or self.now index [] }
     {
-        text_at(&self.ends, &self.bytes, index)
+        if (index as usize) < PLACES {
+            self.get(index as usize)
+        } else {
+            &[]
+        }
     }
 
     /// One, and for each string that isn't empty its bytes and one more.
@@ -72,30 +76,13 @@ impl Table {
         self.size
     }
 
-    /// Whether the strings with this one at an index are within the greatest size.
-    pub fn fits(&self, index: usize, text: &[u8]) -> bool
-        requires { index < length self.now }
-        ensures { result ≡ nat_le (config_size (slice_set self.now index (map translated text.now))) most_size }
+    /// Takes the bytes of all strings away.
+    pub fn clear(&mut self)
+        ensures { self.new ≡ replicate (length self.old) [] }
     {
-        self.size_with(index, text) <= MOST_SIZE
-    }
-
-    /// Puts a text in the place of the string at an index, each byte translated.
-    pub fn put(&mut self, index: usize, text: &[u8])
-        requires index { index < length self.old }
-        requires fits { config_size (slice_set self.old index (map translated text.now)) ≤ most_size }
-        ensures { self.new ≡ slice_set self.old index (map translated text.now) }
-    {
-        self.size = self.size_with(index, text);
-        put_at(&mut self.bytes, &mut self.ends, index, text);
-    }
-
-    /// The size of the strings with this one at an index.
-    fn size_with(&self, index: usize, text: &[u8]) -> usize
-        requires { index < length self.now }
-        ensures { result ≡ config_size (slice_set self.now index (map translated text.now)) }
-    {
-        self.size + size_of(text) - size_of(self.get(index))
+        self.bytes.clear();
+        self.ends.fill(0);
+        self.size = 1;
     }
 
     /// Sets the string at an index, or leaves the strings as they are and says why.
@@ -110,28 +97,16 @@ impl Table {
         Ok(())
     }
 
-    /// Sets the string at an index where it is another, and says whether it was. `Err` is what is wrong with it.
-    pub fn change(&mut self, index: u32, text: &[u8]) -> Result<bool, ConfigError>
+    /// Sets the string at an index where it is another, and says whether it was. `None` where it can't be set.
+    pub fn change(&mut self, index: u32, text: &[u8]) -> Option<bool>
         requires { length self.old ≡ places }
         ensures { (pending : Option Pending) → attempted pending self.new result ≡ make_change (strings_with pending self.old) index text.now }
     {
         if self.has(index, text) {
-            return Ok(false);
+            return Some(false);
         }
-        self.set(index, text)?;
-        Ok(true)
-    }
-
-    /// What is wrong with a text for an index.
-    #[tactic(auto, unfolding(crate::specs::Strings::set_fault))]
-    fn check(&self, index: u32, text: &[u8]) -> Result<(), ConfigError>
-        requires { length self.now ≡ places }
-        ensures { (pending : Option Pending) → result ≡ refused (set_fault (strings_with pending self.now) index text.now) }
-    {
-        if index as usize >= PLACES {
-            return Err(ConfigError::Index);
-        }
-        self.check_room(index as usize, text)
+        self.set(index, text).ok()?;
+        Some(true)
     }
 
     /// What is wrong with a text as such: it is too long, or the strings with it would be too large.
@@ -149,6 +124,18 @@ impl Table {
         }
     }
 
+    /// What is wrong with a text for an index.
+    #[tactic(auto, unfolding(crate::specs::Strings::set_fault))]
+    fn check(&self, index: u32, text: &[u8]) -> Result<(), ConfigError>
+        requires { length self.now ≡ places }
+        ensures { (pending : Option Pending) → result ≡ refused (set_fault (strings_with pending self.now) index text.now) }
+    {
+        if index as usize >= PLACES {
+            return Err(ConfigError::Index);
+        }
+        self.check_room(index as usize, text)
+    }
+
     /// Whether the string at an index is this text, each byte translated.
     fn has(&self, index: u32, text: &[u8]) -> bool
         requires { length self.now ≡ places }
@@ -157,25 +144,38 @@ impl Table {
         is_translated(self.string(index), text)
     }
 
-    /// The string at an index, and none past the last index.
-    pub fn string(&self, index: u32) -> &[u8]
-        requires { length self.now ≡ places }
+    /// The string at an index.
+    fn get(&self, index: usize) -> &[u8]
+        requires { index < length self.now }
         ensures { result.now ≡ slice_index_or self.now index [] }
     {
-        if (index as usize) < PLACES {
-            self.get(index as usize)
-        } else {
-            &[]
-        }
+        text_at(&self.ends, &self.bytes, index)
     }
 
-    /// Takes the bytes of all strings away.
-    pub fn clear(&mut self)
-        ensures { self.new ≡ replicate (length self.old) [] }
+    /// Whether the strings with this one at an index are within the greatest size.
+    fn fits(&self, index: usize, text: &[u8]) -> bool
+        requires { index < length self.now }
+        ensures { result ≡ nat_le (config_size (slice_set self.now index (map translated text.now))) most_size }
     {
-        self.bytes.clear();
-        self.ends.fill(0);
-        self.size = 1;
+        self.size_with(index, text) <= MOST_SIZE
+    }
+
+    /// Puts a text in the place of the string at an index, each byte translated.
+    fn put(&mut self, index: usize, text: &[u8])
+        requires index { index < length self.old }
+        requires fits { config_size (slice_set self.old index (map translated text.now)) ≤ most_size }
+        ensures { self.new ≡ slice_set self.old index (map translated text.now) }
+    {
+        self.size = self.size_with(index, text);
+        put_at(&mut self.bytes, &mut self.ends, index, text);
+    }
+
+    /// The size of the strings with this one at an index.
+    fn size_with(&self, index: usize, text: &[u8]) -> usize
+        requires { index < length self.now }
+        ensures { result ≡ config_size (slice_set self.now index (map translated text.now)) }
+    {
+        self.size + size_of(text) - size_of(self.get(index))
     }
 }
 

@@ -1,5 +1,5 @@
-use Rattle.std.proofs.Common.{◌≡◌, Ok, sym, ap, ◌∙◌}
-use Rattle.q3_config.specs.Strings.{Strings, refused, room_fault, admit_fault}
+use Rattle.std.proofs.Common.{sym, ap, ◌∙◌}
+use Rattle.q3_config.specs.Strings.{Strings, refused, room_fault}
 use Rattle.q3_config.proofs.Faults.{admit_fault-carried, all-carried, on_ok}
 use Rattle.q3_config.proofs.configs.Configs.admit.Goals as goal
 
