@@ -37,7 +37,7 @@ use Rattle.q3_world.specs.Server.{SlotState, ServerState, Built, Emission, place
 use Rattle.q3_world.specs.Client.{ClientState, Taken, read_by, take_answer, take_gathered, take_at}
 use Rattle.q3_world.specs.Ends.{Ends, EndsStep, client_at, join, set_entity, remove_entity, set_player, set_area}
 use Rattle.q3_world.specs.Kept.{SentBytes, Kept, KeptStep, kept_ends, kept_serve, kept_taken, kept_arrive, kept_deliver, kept_step}
-use Rattle.q3_world.specs.World.{Tag, Step, Whole, no_message, history_at, built_at, with_ends, serve, named, arrive_taken, arrive, deliver, step}
+use Rattle.q3_world.specs.World.{Tag, Step, Whole, no_message, history_at, with_ends, serve, named, arrive_taken, arrive, deliver, step}
 use Rattle.q3_world.specs.StandsFor.{AreEnds, IsSent, WasBuilt, messages_of, StandsFor, bytes_of}
 use Rattle.q3_world.proofs.Growth.{history_after}
 use Rattle.q3_world.proofs.Clients.{at_number, slot_begun, AreEnds-begun, AreJoined-gathered, AreJoined-accepted}

@@ -218,7 +218,7 @@ newest_was profile map (Some slot) (Some client) history snapshot shown is joine
         subst (λ (s : Snapshot). WasBuilt history.built s) there (all place snapshot (omega arith))
 
 -- what a show by bytes prints
-shows : (kept : Kept) (c : ℕ) → (kept_step kept (events.Show c)).answer.snapshot ≡ newest (client_at kept.ends c)
+pub shows : (kept : Kept) (c : ℕ) → (kept_step kept (events.Show c)).answer.snapshot ≡ newest (client_at kept.ends c)
 unfolding kept_step
 shows kept c = refl
 

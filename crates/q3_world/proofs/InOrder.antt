@@ -1,5 +1,5 @@
 -- The pieces of a message that arrive in order.
-use Rattle.std.proofs.Common.{◌≡◌, ℕ, suc, ◌+◌, ◌-◌, ◌<◌, ◌≤◌, List, [], ◌∷◌, ◌++◌, length, Option, Some, None, Result, Ok, Err, refl, sym, ap, subst, ◌∙◌, arith}
+use Rattle.std.proofs.Common.{◌≡◌, ℕ, suc, ◌+◌, ◌-◌, ◌<◌, ◌≤◌, List, [], ◌∷◌, ◌++◌, length, Option, Some, None, Ok, refl, sym, ap, subst, ◌∙◌, arith}
 use Rattle.std.specs.Prelude.{slice_get}
 use Rattle.std.specs.List.{AllByRecursion}
 use Rattle.std.proofs.Math.ListN.{length-set}
@@ -7,7 +7,6 @@ use Rattle.q3_profile.specs.declared.profile.Profile.{Profile}
 use Rattle.q3_script.specs.declared.event.Event.{Event}
 use Rattle.q3_script.specs.declared.event.Event.TheVariants as events
 use Rattle.q3_script.specs.Grammar.{IsReplayEvent}
-use Rattle.q3_svmsg.specs.declared.error.Illegible.{Illegible}
 use Rattle.q3_svmsg.specs.Values as told
 use Rattle.q3_svmsg.specs.Values.{Told, Message}
 use Rattle.q3_chan.specs.declared.gatherer.Gathered.{Gathered}
@@ -23,11 +22,11 @@ use Rattle.q3_world.specs.declared.client.ClientTook.{ClientTook}
 use Rattle.q3_world.specs.Message.{Snapshot, message_of}
 use Rattle.q3_world.specs.Server.{Built, places, built_bytes}
 use Rattle.q3_world.specs.Client.{ClientState, Taken, apply_section, apply_message, take_answer, take_gathered}
-use Rattle.q3_world.specs.Ends.{Ends, client_at, with_client, delivered}
+use Rattle.q3_world.specs.Ends.{client_at, with_client, delivered}
 use Rattle.q3_world.specs.Kept.{Kept, KeptStep, kept_step}
-use Rattle.q3_world.specs.World.{Tag, Step, Whole, History, history_at, built_at, no_history, accepted_after, named, arrive_taken, step, after, opening}
+use Rattle.q3_world.specs.World.{Tag, Whole, History, history_at, built_at, accepted_after, named, arrive_taken, step, after, opening}
 use Rattle.q3_world.specs.StandsFor.{StandsFor, messages_of}
-use Rattle.q3_world.specs.Schedules.{kept_then, whole_then, history_then, BytesFollowTags, ArePieces, deliveries, InOrderIsAccepted}
+use Rattle.q3_world.specs.Schedules.{kept_then, whole_then, BytesFollowTags, ArePieces, deliveries, InOrderIsAccepted}
 use Rattle.q3_world.proofs.Growth.{there_heard, OnlyAt-heard, history_heard}
 use Rattle.q3_world.proofs.Clients.{at_number}
 use Rattle.q3_world.proofs.Events.{Holds, client_joined, tag_was_built}
@@ -58,14 +57,28 @@ heard_built history None = refl
 heard_built history (Some snapshot) = refl
 
 -- a world in which of one message so many first pieces arrived since another
-record Reached (profile : Profile) (start now : Whole) (c n count : ℕ) (g : Gathering) : Type 0 where
-  sent : now.sent ≡ start.sent
-  clients : length now.ends.clients ≡ places
-  histories : length now.histories ≡ places
-  built : (history_at now.histories c).built ≡ (history_at start.histories c).built
-  client : ClientState
-  found : client_at now.ends c ≡ Some client
-  gathers : client.gathering ≡ tagged_all g n (built_bytes profile (built_at (history_at start.histories c).built n)) count
+pub record Reached (profile : Profile) (start now : Whole) (c n count : ℕ) (g : Gathering) : Type 0 where
+  pub sent : now.sent ≡ start.sent
+  pub clients : length now.ends.clients ≡ places
+  pub histories : length now.histories ≡ places
+  pub built : (history_at now.histories c).built ≡ (history_at start.histories c).built
+  pub client : ClientState
+  pub found : client_at now.ends c ≡ Some client
+  pub gathers : client.gathering ≡ tagged_all g n (built_bytes profile (built_at (history_at start.histories c).built n)) count
+
+-- in the beginning none did
+pub reached_none : (profile : Profile) (start : Whole) (c n : ℕ) (client : ClientState) → Holds profile start → client_at start.ends c ≡ Some client
+    → Reached profile start start c n 0 client.gathering
+unfolding tagged_all
+reached_none profile start c n client holds found = record {
+  sent = refl;
+  clients = holds.facts.clients;
+  histories = holds.facts.histories;
+  built = refl;
+  client = client;
+  found = found;
+  gathers = refl;
+}
 
 -- the piece of a tag arrives
 abbrev arrived : Profile → Whole → ℕ → Tag → ClientState → Taken
@@ -116,7 +129,7 @@ delivers_piece profile whole number tag client at found = rw (at, found) refl
 
 -- ---- pieces, one after the other
 
-reached_all : (profile : Profile) (start now : Whole) (c n count : ℕ) (g : Gathering) (numbers : List ℕ) (last : ℕ) → c < places
+pub reached_all : (profile : Profile) (start now : Whole) (c n count : ℕ) (g : Gathering) (numbers : List ℕ) (last : ℕ) → c < places
     → ArePieces start.sent c n count (numbers ++ last ∷ []) → Reached profile start now c n count g
     → Reached profile start (after profile now (deliveries numbers)) c n (count + length numbers) g
     × ArePieces start.sent c n (count + length numbers) (last ∷ [])
@@ -139,12 +152,12 @@ reached_all profile start now c n count g (number ∷ numbers) last lt are reach
       subst (λ (k : ℕ). ArePieces start.sent c n k (last ∷ [])) same others.1,
     )
 
-after_both : (profile : Profile) (whole : Whole) (some others : List Event) → after profile whole (some ++ others) ≡ after profile (after profile whole some) others
+pub after_both : (profile : Profile) (whole : Whole) (some others : List Event) → after profile whole (some ++ others) ≡ after profile (after profile whole some) others
 unfolding after
 after_both profile whole [] others = refl
 after_both profile whole (event ∷ some) others = after_both profile (step profile whole event).whole some others
 
-both_are : (some others : List Event) → AllByRecursion IsReplayEvent some → AllByRecursion IsReplayEvent others → AllByRecursion IsReplayEvent (some ++ others)
+pub both_are : (some others : List Event) → AllByRecursion IsReplayEvent some → AllByRecursion IsReplayEvent others → AllByRecursion IsReplayEvent (some ++ others)
 both_are [] others first second = second
 both_are (event ∷ some) others first second = (first.0, both_are some others first.1 second)
 
@@ -189,15 +202,7 @@ in_order_is_accepted law below pieces profile all c n last numbers client is are
     let now = whole_then profile all' in
     let holds : Holds profile now = record { facts = stands.facts; joined = stands.joined } in
     let g = client.gathering in
-    let at_start : Reached profile start start c n 0 g = record {
-      sent = refl;
-      clients = starts.facts.clients;
-      histories = starts.facts.histories;
-      built = refl;
-      client = client;
-      found = found;
-      gathers = refl;
-    } in
+    let at_start = reached_none profile start c n client starts found in
     let reached_both = reached_all profile start start c n 0 g numbers last lt are_pieces at_start in
     let now_is : now ≡ after profile start (deliveries numbers) = after_both profile (opening profile) all (deliveries numbers) in
     let index : 0 + length numbers ≡ last_index message = omega (arith, count) in

@@ -1,6 +1,6 @@
 -- Laws over every list of events.
-use Rattle.std.specs.Prelude.{◌≡◌, ℕ, ◌+◌, ◌-◌, ◌<◌, List, [], ◌∷◌, ◌++◌, length, map, Some, slice_get, slice_index_or}
-use Rattle.std.specs.List.{AllByRecursion}
+use Rattle.std.specs.Prelude.{◌≡◌, ℕ, ◌+◌, ◌-◌, ◌<◌, List, [], ◌∷◌, ◌++◌, length, map, replicate, ◌≤◌, Some, slice_get, slice_index_or}
+use Rattle.std.specs.List.{AllByRecursion, range_with_len}
 use Rattle.q3_profile.specs.declared.profile.Profile.{Profile}
 use Rattle.q3_profile.specs.Profile.{IsCodec}
 use Rattle.q3_script.specs.declared.event.Event.{Event}
@@ -11,11 +11,12 @@ use Rattle.q3_world.specs.declared.client.SnapOutcome.{SnapOutcome}
 use Rattle.q3_world.specs.declared.client.SnapOutcome.TheVariants.{Accepted}
 use Rattle.q3_world.specs.declared.client.ClientTook.TheVariants.{Runt, Connectionless, BadFragment, Illegible, Applied}
 use Rattle.q3_chan.specs.declared.gatherer.Gathered.TheVariants.{Whole as CameWhole}
-use Rattle.q3_chan.specs.Datagrams.{last_index}
+use Rattle.q3_chan.specs.Datagrams.{sequence_end, longest_message, piece_count, last_index}
+use Rattle.q3_chan.specs.Sending.{IsIdle}
 use Rattle.q3_chan.specs.Gathering.{gathered}
 use Rattle.q3_world.specs.declared.answer.Answer.{Answer}
 use Rattle.q3_world.specs.declared.answer.Answer.TheVariants.{Deliver}
-use Rattle.q3_world.specs.Server.{Built, places, built_bytes}
+use Rattle.q3_world.specs.Server.{MapState, SlotState, Built, places, slot_at, next_snapshot, next_message, built_bytes}
 use Rattle.q3_world.specs.Client.{ClientState}
 use Rattle.q3_world.specs.Ends.{Ends, client_at, newest, delivered}
 use Rattle.q3_world.specs.Kept.{SentBytes, Kept, opening_kept, kept_step, kept_after, kept_answers}
@@ -120,3 +121,24 @@ InOrderIsAccepted = (profile : Profile) (all : List Event) (c n last : ℕ) (num
     → ArePieces (whole_then profile all).sent c n 0 (numbers ++ last ∷ [])
     → length numbers ≡ last_index (built_bytes profile (built_at (history_then profile all c).built n))
     → (kept_step (kept_then profile (all ++ deliveries numbers)) (events.Deliver last)).answer ≡ delivered last c (Applied n (Accepted 0))
+
+-- so many datagrams of a message are made for a client, and delivered in the order in which they are made, from a number on
+abbrev pub serve_and_deliver : ℕ → ℕ → ℕ → List Event
+serve_and_deliver c first count = replicate count (events.Serve c) ++ deliveries (range_with_len first count)
+
+-- how many datagrams the next message of a slot takes
+abbrev pub datagrams_of : Profile → MapState → SlotState → ℕ
+datagrams_of profile map slot = piece_count (length (built_bytes profile (next_message map slot)))
+
+-- whatever came before: where nothing is under way to a client, a message may be begun and isn't too long, and all of its
+-- datagrams are made and arrive in order, the client then shows the snapshot that the server had for it
+abbrev pub ServedIsShown : Type 0
+ServedIsShown = (profile : Profile) (all : List Event) (c : ℕ) (slot : SlotState) (client : ClientState) → IsCodec profile
+    → AllByRecursion IsReplayEvent all
+    → AllByRecursion IsReplayEvent (serve_and_deliver c (length (whole_then profile all).sent + 1) (datagrams_of profile (whole_then profile all).ends.server.map slot))
+    → slot_at (whole_then profile all).ends.server c ≡ Some slot → client_at (whole_then profile all).ends c ≡ Some client
+    → IsIdle slot.sending → slot.sending.number + 1 < sequence_end
+    → length (built_bytes profile (next_message (whole_then profile all).ends.server.map slot)) ≤ longest_message
+    → (kept_step (kept_then profile (all ++ serve_and_deliver c (length (whole_then profile all).sent + 1)
+    (datagrams_of profile (whole_then profile all).ends.server.map slot))) (events.Show c)).answer.snapshot
+    ≡ Some (next_snapshot (whole_then profile all).ends.server.map slot)

@@ -1,7 +1,7 @@
 //! Laws of what is built and of every schedule, each the contract of a call that does nothing but cite the laws below it.
 
 ghost use Rattle.q3_world.specs.MessageLaws.{BuiltIsRead};
-ghost use Rattle.q3_world.specs.Schedules.{StepFollows, BytesFollowTags, AlwaysLegible, AcceptedWereBuilt, ShownWasBuilt, AppliedWasBuilt, NewerIsAccepted, InOrderIsAccepted};
+ghost use Rattle.q3_world.specs.Schedules.{StepFollows, BytesFollowTags, AlwaysLegible, AcceptedWereBuilt, ShownWasBuilt, AppliedWasBuilt, NewerIsAccepted, InOrderIsAccepted, ServedIsShown};
 
 use q3_bits::laws as bits;
 use q3_chan::laws as chan;
@@ -111,5 +111,16 @@ pub fn in_order_is_accepted()
     chan::ends_gather();
     chan::ends_send();
     chan::pieces_are_tagged();
+    bits::message_holds_bits();
+}
+
+/// Whatever came before, where nothing is under way to a client, a message may be begun and isn't too long, and all of its
+/// datagrams are made and arrive in order, the client then shows the snapshot that the server had for it.
+pub fn served_is_shown()
+    ensures { ServedIsShown }
+{
+    bytes_follow_tags();
+    in_order_is_accepted();
+    applied_was_built();
     bits::message_holds_bits();
 }
