@@ -1,0 +1,6 @@
+pub mod Moves
+pub mod Values
+pub mod Texts
+pub mod Reading
+pub mod Spelling
+pub mod Laws
