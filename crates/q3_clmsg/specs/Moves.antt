@@ -1,5 +1,5 @@
 -- Moves: what one says, and the delta in which a message carries it, hidden by a key.
-use Rattle.std.specs.Prelude.{◌≡◌, ℕ, zero, suc, ◌+◌, ◌-◌, ◌%◌, ◌^◌, ◌<◌, ◌==◌, nat_lt, if◌then◌else◌, Bool, List, [], ◌∷◌, ◌++◌, length, All, bit_xor, ℤ, pos, neg_ℤ, ◌≤ℤ◌, Result, Ok, Err}
+use Rattle.std.specs.Prelude.{◌≡◌, ℕ, zero, suc, ◌+◌, ◌-◌, ◌%◌, ◌^◌, ◌<◌, ◌==◌, nat_lt, if◌then◌else◌, Bool, List, [], ◌∷◌, ◌++◌, length, All, bit_xor, ℤ, pos, neg_ℤ, ◌≤ℤ◌, Result, Ok}
 use Rattle.std.specs.Int.{w8, cast_unsigned, cast_signed}
 use Rattle.std.specs.Str.{bytes_eq}
 use Rattle.q3_bits.specs.ResultBind.{◌>>=◌}
@@ -30,8 +30,13 @@ pub record IsMove (one : Move) : Type 0 where
 -- ---- the fields of a move but its time
 
 -- how many bits each has: three angles, forward, right and up, the buttons, and the weapon
-abbrev pub widths : List ℕ
-widths = 16 ∷ 16 ∷ 16 ∷ 8 ∷ 8 ∷ 8 ∷ 16 ∷ 8 ∷ []
+abbrev pub move_widths : List ℕ
+move_widths = 16 ∷ 16 ∷ 16 ∷ 8 ∷ 8 ∷ 8 ∷ 16 ∷ 8 ∷ []
+
+-- each field fits its width
+abbrev pub AreFields : List ℕ → List ℕ → Type 0
+AreFields (width ∷ widths) (field ∷ fields) = (field < 2 ^ width) × AreFields widths fields
+AreFields widths fields = Unit {0}
 
 -- the fields as numbers of so many bits
 abbrev pub fields_of : Move → List ℕ
@@ -81,18 +86,25 @@ abbrev pub time_bits : List (List Bool) → ℕ → ℕ → List Bool
 time_bits words from to =
     if nat_lt (behind from to) 256 then row_bits words ((1, 1) ∷ (behind from to, 8) ∷ []) else row_bits words ((0, 1) ∷ (to, 32) ∷ [])
 
--- the fields: each is bit 0 where it is as it was, or bit 1 and the field, hidden
+-- a field: bit 0 where it is as it was, or bit 1 and the field, hidden
+abbrev pub field_delta : List (List Bool) → ℕ → ℕ → ℕ → ℕ → List Bool
+field_delta words key width from to =
+    if from == to then field_bits words 1 0 else row_bits words ((1, 1) ∷ (hidden key width to, width) ∷ [])
+
+-- fields, each behind the one before
 unfoldable pub fields_bits : List (List Bool) → ℕ → List ℕ → List ℕ → List ℕ → List Bool
-fields_bits words key (width ∷ widths) (a ∷ from) (b ∷ to) =
-    (if a == b then field_bits words 1 0 else row_bits words ((1, 1) ∷ (hidden key width b, width) ∷ [])) ++ fields_bits words key widths from to
+fields_bits words key (width ∷ widths) (a ∷ from) (b ∷ to) = field_delta words key width a b ++ fields_bits words key widths from to
 fields_bits words key widths from to = []
 
--- a move behind another: its time, and bit 0 where nothing else changed, or bit 1 and the fields
+-- what changed beside the time: bit 0 where nothing did, or bit 1 and the fields
+abbrev pub changed_bits : List (List Bool) → ℕ → List ℕ → List ℕ → List Bool
+changed_bits words key from to =
+    if bytes_eq from to then field_bits words 1 0 else field_bits words 1 1 ++ fields_bits words key move_widths from to
+
+-- a move behind another: its time, and what else changed
 unfoldable pub move_delta : List (List Bool) → ℕ → Move → Move → List Bool
 move_delta words key from to =
-    time_bits words from.time to.time
-    ++ (if bytes_eq (fields_of from) (fields_of to) then field_bits words 1 0
-    else field_bits words 1 1 ++ fields_bits words (move_key key to.time) widths (fields_of from) (fields_of to))
+    time_bits words from.time to.time ++ changed_bits words (move_key key to.time) (fields_of from) (fields_of to)
 
 -- moves, each behind the one before
 unfoldable pub moves_bits : List (List Bool) → ℕ → Move → List Move → List Bool
@@ -130,7 +142,7 @@ move_at words key from bits = do
   time ← time_at words from.time bits
   changed ← field_at words 1 time.1
   if changed.0 == 0 then Ok (record from { time = time.0 }, changed.1) else (do
-    fields ← fields_at words (move_key key time.0) widths (fields_of from) changed.1
+    fields ← fields_at words (move_key key time.0) move_widths (fields_of from) changed.1
     Ok (move_of time.0 fields.0, fields.1))
 
 -- so many moves, each behind the one before

@@ -5,7 +5,7 @@ use Rattle.q3_bits.specs.Words.{field_bits, row_bits}
 use Rattle.q3_text.specs.declared.text.Command.{Command}
 use Rattle.q3_strings.specs.Strings.{SpellsNops, SpellsCommands}
 use Rattle.q3_clmsg.specs.declared.moves.Move.{Move}
-use Rattle.q3_clmsg.specs.Moves.{no_move, widths, fields_of, move_of, move_key, hidden}
+use Rattle.q3_clmsg.specs.Moves.{no_move, move_widths, fields_of, move_of, move_key, hidden}
 use Rattle.q3_clmsg.specs.Texts.{move_operation}
 use Rattle.q3_clmsg.specs.Values.{Message}
 
@@ -30,7 +30,7 @@ pub record SpellsMove (words : List (List Bool)) (key : ℕ) (from to : Move) (b
   pub of_time : SpellsTime words from.time to.time time
   pub of_rest : ((to ≡ record from { time = to.time }) × (rest ≡ field_bits words 1 0))
     ⊎ ((fields : List ℕ) × (text : List Bool) × (to ≡ move_of to.time fields)
-    × SpellsFields words (move_key key to.time) widths (fields_of from) fields text × (rest ≡ field_bits words 1 1 ++ text))
+    × SpellsFields words (move_key key to.time) move_widths (fields_of from) fields text × (rest ≡ field_bits words 1 1 ++ text))
   pub whole : bits ≡ time ++ rest
 
 -- moves, each behind the one before

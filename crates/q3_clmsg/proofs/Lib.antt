@@ -1,0 +1,4 @@
+pub mod Keys
+pub mod Fields
+pub mod Fronts
+pub mod MoveRows
