@@ -90,3 +90,7 @@ refused (Some fault) = Err fault
 abbrev pub after_set : Strings → ℕ → List ℕ → Option ConfigError → Strings
 after_set strings index text None = with_string strings index text
 after_set strings index text (Some fault) = strings
+
+-- the id of the server's map: the number that string 1, an info string, has under `sv_serverid`, if it has one
+unfoldable pub server_id : Strings → Option ℕ
+server_id strings = option_and_then info_number (info_of (string_at strings 1) (codes "sv_serverid"))
