@@ -1,6 +1,8 @@
 -- Config strings: a string for each index, empty where none is set, and their size.
-use Rattle.std.specs.Prelude.{◌≡◌, ℕ, ◌+◌, ◌==◌, ◌<◌, ◌≤◌, nat_lt, nat_le, ◌&&◌, not, if◌then◌else◌, Bool, List, [], ◌∷◌, length, map, replicate, find, sum, All, slice_index_or, slice_set, Option, Some, None, IfSome, Result, Ok, Err}
+use Rattle.std.specs.Prelude.{◌≡◌, ℕ, ◌+◌, ◌==◌, ◌<◌, ◌≤◌, nat_lt, nat_le, ◌&&◌, not, if◌then◌else◌, Bool, List, [], ◌∷◌, length, map, replicate, find, sum, All, slice_index_or, slice_set, codes, Option, Some, None, IfSome, option_and_then, Result, Ok, Err}
 use Rattle.q3_text.specs.Texts.{translated}
+use Rattle.q3_text.specs.Info.{info_of}
+use Rattle.q3_text.specs.Decimals.{info_number}
 use Rattle.q3_config.specs.declared.error.ConfigError.{ConfigError}
 use Rattle.q3_config.specs.declared.error.ConfigError.TheVariants.{Index, Chars, Long, Full}
 
