@@ -1,0 +1,79 @@
+-- What is known where nothing is wrong with a text, and that strings stay within their limits then.
+use Rattle.std.proofs.Common.{◌≡◌, ℕ, ◌<◌, ◌≤◌, Bool, true, false, ltb, leb, List, length, set, map, Option, Some, None, inl, inr, refl, sym, ap, ◌∙◌, arith, Ok}
+use Rattle.std.specs.Prelude.{not, find}
+use Rattle.std.proofs.lemmas.Bool.{cases_Bool, ltb-true, ltb-false, leb-true, lt-ltb, le-ltb}
+use Rattle.std.proofs.lemmas.List.{length-set, length-map}
+use Rattle.std.proofs.lemmas.List.Elements.{All-set}
+use Rattle.q3_text.specs.Texts.{translated}
+use Rattle.q3_config.specs.declared.error.ConfigError.{ConfigError}
+use Rattle.q3_config.specs.declared.error.ConfigError.TheVariants.{Index, Long, Full}
+use Rattle.q3_config.specs.Strings.{Strings, AreStrings, places, longest_string, most_size, config_size, with_string, is_config_byte, fits, room_fault, set_fault, admit_fault, refused, after_set}
+
+abbrev pub no_fault : Option ConfigError
+no_fault = None
+
+abbrev some_fault : ConfigError → Option ConfigError
+some_fault fault = Some fault
+
+-- an index among the places leaves what is wrong with the room
+pub set_fault-within : (strings : Strings) (index : ℕ) (text : List ℕ) → index < places → set_fault strings index text ≡ room_fault strings index text
+unfolding set_fault
+set_fault-within strings index text lt = rw (lt-ltb index places lt) refl
+
+-- another has no string
+pub set_fault-past : (strings : Strings) (index : ℕ) (text : List ℕ) → places ≤ index → set_fault strings index text ≡ Some Index
+unfolding set_fault
+set_fault-past strings index text le = rw (le-ltb index places le) refl
+
+-- where all bytes may be carried, only the room can be wrong
+pub admit_fault-carried : (strings : Strings) (index : ℕ) (text : List ℕ) → index < places → find (λ byte. not (is_config_byte byte)) text ≡ None → admit_fault strings index text ≡ room_fault strings index text
+unfolding admit_fault
+admit_fault-carried strings index text lt none = rw (lt-ltb index places lt, none) refl
+
+-- a text that is neither too long nor too large with the others
+pub record Fits (strings : Strings) (index : ℕ) (text : List ℕ) : Type 0 where
+  pub short : length text ≤ longest_string
+  pub room : config_size (with_string strings index text).texts ≤ most_size
+
+pub fits_room : (strings : Strings) (index : ℕ) (text : List ℕ) → room_fault strings index text ≡ None → Fits strings index text
+fits_room strings index text none =
+    elim (cases_Bool (ltb longest_string (length text))) [
+      | inl long ↦ let e : some_fault Long ≡ no_fault = rw long at none in absurd cc
+      | inr short ↦ elim (cases_Bool (fits strings index text)) [
+        | inl within ↦ record { short = ltb-false _ _ short; room = leb-true _ _ within }
+        | inr full ↦ let e : some_fault Full ≡ no_fault = rw (short, full) at none in absurd cc
+      ]
+    ]
+
+-- a text that may be set
+pub record Settable (strings : Strings) (index : ℕ) (text : List ℕ) : Type 0 where
+  pub within : index < places
+  pub fits : Fits strings index text
+
+pub settable : (strings : Strings) (index : ℕ) (text : List ℕ) → set_fault strings index text ≡ None → Settable strings index text
+settable strings index text none =
+    elim (cases_Bool (ltb index places)) [
+      | inl within ↦ let lt = ltb-true _ _ within in record { within = lt; fits = fits_room strings index text (sym (set_fault-within strings index text lt) ∙ none) }
+      | inr past ↦ let e : some_fault Index ≡ no_fault = sym (set_fault-past strings index text (ltb-false _ _ past)) ∙ none in absurd cc
+    ]
+
+-- nothing is refused
+pub none_refused : (fault : Option ConfigError) → Ok tt ≡ refused fault → fault ≡ None
+none_refused None e = refl
+none_refused (Some fault) e = absurd cc
+
+-- strings with another are strings
+pub with_string-stays : (strings : Strings) (index : ℕ) (text : List ℕ) → AreStrings strings → Fits strings index text → AreStrings (with_string strings index text)
+with_string-stays strings index text are fit = record {
+  count = length-set strings.texts index (map translated text) ∙ are.count;
+  size = fit.room;
+  each = All-set (λ (text : List ℕ). length text ≤ longest_string) strings.texts index (map translated text) (let short = fit.short in omega (arith, length-map text translated)) are.each;
+  pending = are.pending;
+}
+
+pub after_set-stays : (strings : Strings) (index : ℕ) (text : List ℕ) → AreStrings strings → AreStrings (after_set strings index text (set_fault strings index text))
+after_set-stays strings index text are = stays (set_fault strings index text) refl
+  where
+    stays : (fault : Option ConfigError) → set_fault strings index text ≡ fault → AreStrings (after_set strings index text fault)
+    stays None none = with_string-stays strings index text are (settable strings index text none).fits
+    stays (Some fault) some = are

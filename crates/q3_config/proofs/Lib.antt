@@ -1,0 +1,4 @@
+pub mod Places
+pub mod Sizes
+pub mod Faults
+pub mod Kept

@@ -1,0 +1,40 @@
+-- Laws of config strings and of the commands that change them.
+use Rattle.std.specs.Prelude.{◌≡◌, ◌≢◌, ◌⊎◌, ℕ, ◌<◌, ◌==◌, if◌then◌else◌, List, [], ◌∷◌, ◌++◌, length, map, codes, All, None, Some}
+use Rattle.std.specs.List.{range_with_len}
+use Rattle.q3_text.specs.Texts.{IsText}
+use Rattle.q3_config.specs.Strings.{Strings, AreStrings, places, with_string, admit_fault}
+use Rattle.q3_config.specs.Commands.{Change, change_text, change_in, config_piece, piece_count}
+use Rattle.q3_config.specs.Changes.{Applied, after_command, after_commands}
+
+-- a change as a text may carry it
+pub record IsChange (change : Change) : Type 0 where
+  pub index : change.index < places
+  pub no_quote : All (λ byte. byte ≢ 34) change.text
+
+-- what is spelled as a change is read as it, with its newline or without
+abbrev pub SpelledIsRead : Type 0
+SpelledIsRead = (change : Change) (text : List ℕ) → IsChange change → (text ≡ change_text change) ⊎ (text ++ codes "\n" ≡ change_text change)
+    → change_in text ≡ Some change
+
+-- what is read as a change was spelled so
+abbrev pub ReadIsSpelled : Type 0
+ReadIsSpelled = (change : Change) (text : List ℕ) → change_in text ≡ Some change
+    → IsChange change × ((text ≡ change_text change) ⊎ (text ++ codes "\n" ≡ change_text change))
+
+-- the texts of a change that goes out, piece by piece
+abbrev pub piece_texts : ℕ → List ℕ → List (List ℕ)
+piece_texts index text = map (λ k. change_text (config_piece index text k)) (range_with_len 0 (piece_count (length text)))
+
+-- the pieces of a text that may go out are texts of commands
+abbrev pub PiecesAreTexts : Type 0
+PiecesAreTexts = (strings : Strings) (index : ℕ) (text : List ℕ) → admit_fault strings index text ≡ None → All IsText (piece_texts index text)
+
+-- where the change may be made, the pieces in their order make that one change
+abbrev pub PiecesMakeChange : Type 0
+PiecesMakeChange = (strings : Strings) (index : ℕ) (text : List ℕ) → AreStrings strings → admit_fault strings index text ≡ None
+    → after_commands strings (piece_texts index text)
+    ≡ record (with_string strings index text) { pending = if piece_count (length text) == 1 then strings.pending else None }
+
+-- strings stay within their limits, whatever a command does
+abbrev pub StringsStay : Type 0
+StringsStay = (strings : Strings) (text : List ℕ) → AreStrings strings → IsText text → AreStrings (after_command strings text).strings

@@ -1,0 +1,12 @@
+//! Config strings: 1,024 strings of bounded size, and the commands that change them.
+#![tactic(auto)]
+
+pub mod configs;
+pub mod error;
+mod pending;
+mod shapes;
+mod table;
+
+pub use configs::Configs;
+pub use error::ConfigError;
+pub use shapes::shape;
