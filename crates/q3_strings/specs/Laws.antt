@@ -1,11 +1,12 @@
 -- Laws of bytes, of strings and of commands.
-use Rattle.std.specs.Prelude.{◌≡◌, ℕ, ◌^◌, ◌<◌, ◌≤◌, Bool, List, ◌++◌, length, All, Ok}
-use Rattle.q3_bits.specs.Words.{IsCode}
+use Rattle.std.specs.Prelude.{◌≡◌, ℕ, ◌^◌, ◌<◌, ◌≤◌, Bool, List, [], ◌∷◌, ◌++◌, length, All, Ok}
+use Rattle.q3_bits.specs.Words.{IsCode, row_bits}
 use Rattle.q3_text.specs.declared.text.Command.{Command}
 use Rattle.q3_text.specs.Texts.{IsText, IsTextByte}
 use Rattle.q3_strings.specs.Texts.{bytes_row, string_bits, command_bits}
 use Rattle.q3_strings.specs.Reading.{bytes_after, string_after, command_after}
 use Rattle.q3_strings.specs.Spelling.{SpellsString, SpellsCommand}
+use Rattle.q3_strings.specs.Commands.{commands_bits, nops_bits, SpellsCommands}
 
 -- a command as the program's type holds it
 pub record IsCommand (command : Command) : Type 0 where
@@ -49,3 +50,14 @@ CommandReadIsSpelled = (words : List (List Bool)) (command : Command) (bits rest
 abbrev pub CommandSpelledIsRead : Type 0
 CommandSpelledIsRead = (words : List (List Bool)) (command : Command) (spelling rest : List Bool) → IsCode words → SpellsCommand words command spelling
     → command_after words (spelling ++ rest) ≡ Ok (command, rest)
+
+-- what is written of commands spells them
+abbrev pub CommandsAreSpelled : Type 0
+CommandsAreSpelled = (words : List (List Bool)) (operation : ℕ) (commands : List Command) → All IsCommand commands
+    → SpellsCommands words operation commands (commands_bits words operation commands)
+
+-- a nop before commands, and before the nops behind them, is a nop of theirs
+abbrev pub NopIsSpelled : Type 0
+NopIsSpelled = (words : List (List Bool)) (operation : ℕ) (commands : List Command) (text : List Bool) (count : ℕ) → SpellsCommands words operation commands text
+    → (longer : List Bool) × (more : ℕ) × SpellsCommands words operation commands longer
+    × ((rest : List Bool) → row_bits words ((1, 8) ∷ []) ++ (text ++ (nops_bits words count ++ rest)) ≡ longer ++ (nops_bits words more ++ rest))

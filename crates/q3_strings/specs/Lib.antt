@@ -1,5 +1,6 @@
 pub mod Texts
 pub mod Reading
 pub mod Spelling
+pub mod Commands
 pub mod Rows
 pub mod Laws

@@ -1,6 +1,6 @@
 //! Laws of bytes, of strings and of commands, each the contract of a call that does nothing but cite the laws below it.
 
-ghost use Rattle.q3_strings.specs.Laws.{BytesWerePut, BytesAreRead, StringIsSpelled, StringReadIsSpelled, StringSpelledIsRead, CommandIsSpelled, CommandReadIsSpelled, CommandSpelledIsRead};
+ghost use Rattle.q3_strings.specs.Laws.{BytesWerePut, BytesAreRead, StringIsSpelled, StringReadIsSpelled, StringSpelledIsRead, CommandIsSpelled, CommandReadIsSpelled, CommandSpelledIsRead, CommandsAreSpelled, NopIsSpelled};
 
 use q3_bits::laws;
 
@@ -60,3 +60,15 @@ pub fn command_spelled_is_read()
     laws::put_is_read();
     string_spelled_is_read();
 }
+
+/// What is written of commands spells them.
+pub fn commands_are_spelled()
+    ensures { CommandsAreSpelled }
+{
+    command_is_spelled();
+}
+
+/// A nop before commands, and before the nops behind them, is a nop of theirs.
+pub fn nop_is_spelled()
+    ensures { NopIsSpelled }
+{}

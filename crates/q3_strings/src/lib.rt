@@ -10,4 +10,4 @@ pub mod writing;
 
 pub use error::StringError;
 pub use reading::{read_bytes, read_command, read_string, read_text};
-pub use writing::{write_bytes, write_command, write_string};
+pub use writing::{write_bytes, write_command, write_commands, write_string};

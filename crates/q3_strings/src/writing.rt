@@ -4,6 +4,7 @@
 ghost use Rattle.std.specs.Prelude.{◌≡◌};
 ghost use Rattle.q3_bits.specs.Streams.{Writes};
 ghost use Rattle.q3_strings.specs.Texts.{bytes_row, string_bits, command_bits};
+ghost use Rattle.q3_strings.specs.Commands.{issued_bits, commands_bits};
 
 use q3_bits::{Overflow, Writer, laws};
 use q3_text::Command;
@@ -38,4 +39,26 @@ pub fn write_command(w: &mut Writer, command: &Command) -> Result<(), Overflow>
     laws::texts_are_written();
     w.put_all(&[(command.number, 32)])?;
     write_string(w, command.text.bytes())
+}
+
+/// Writes commands, each behind the operation of its end. `Overflow` comes as in `write_bytes`.
+pub fn write_commands(w: &mut Writer, operation: u8, commands: &[Command]) -> Result<(), Overflow>
+    ensures { Writes w.old w.new (commands_bits w.old.words operation commands.now) result }
+{
+    laws::texts_are_written();
+    // what stands there fits the room
+    prove!(w.length() > 0);
+    for command in commands {
+        write_issued(w, operation, command)?;
+    }
+    Ok(())
+}
+
+/// Writes an operation, and a command behind it.
+fn write_issued(w: &mut Writer, operation: u8, command: &Command) -> Result<(), Overflow>
+    ensures { Writes w.old w.new (issued_bits w.old.words operation command.now) result }
+{
+    laws::texts_are_written();
+    w.put_all(&[(u32::from(operation), 8)])?;
+    write_command(w, command)
 }
