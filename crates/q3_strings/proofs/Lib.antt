@@ -2,3 +2,4 @@ pub mod Fronts
 pub mod Rows
 pub mod Spelled
 pub mod Nops
+pub mod Turns

@@ -1,12 +1,15 @@
 -- Laws of bytes, of strings and of commands.
-use Rattle.std.specs.Prelude.{◌≡◌, ℕ, ◌^◌, ◌<◌, ◌≤◌, Bool, List, [], ◌∷◌, ◌++◌, length, All, Ok}
-use Rattle.q3_bits.specs.Words.{IsCode, row_bits}
+use Rattle.std.specs.Prelude.{◌≡◌, ℕ, ◌^◌, ◌<◌, ◌≤◌, Bool, List, [], ◌∷◌, ◌++◌, length, All, Ok, Err}
+use Rattle.q3_bits.specs.Words.{IsCode, row_bits, field_at}
+use Rattle.q3_bits.specs.declared.reader.ReadError.{ReadError}
+use Rattle.q3_bits.specs.declared.reader.ReadError.TheVariants.{End}
 use Rattle.q3_text.specs.declared.text.Command.{Command}
 use Rattle.q3_text.specs.Texts.{IsText, IsTextByte}
 use Rattle.q3_strings.specs.Texts.{bytes_row, string_bits, command_bits}
 use Rattle.q3_strings.specs.Reading.{bytes_after, string_after, command_after}
 use Rattle.q3_strings.specs.Spelling.{SpellsString, SpellsCommand}
 use Rattle.q3_strings.specs.Commands.{commands_bits, nops_bits, SpellsCommands}
+use Rattle.q3_strings.specs.Turns.{HasTurn}
 
 -- a command as the program's type holds it
 pub record IsCommand (command : Command) : Type 0 where
@@ -61,3 +64,14 @@ abbrev pub NopIsSpelled : Type 0
 NopIsSpelled = (words : List (List Bool)) (operation : ℕ) (commands : List Command) (text : List Bool) (count : ℕ) → SpellsCommands words operation commands text
     → (longer : List Bool) × (more : ℕ) × SpellsCommands words operation commands longer
     × ((rest : List Bool) → row_bits words ((1, 8) ∷ []) ++ (text ++ (nops_bits words count ++ rest)) ≡ longer ++ (nops_bits words more ++ rest))
+
+-- what holds of operations that are read one after the other
+pub record TurnsAreTaken : Type 0 where
+  -- an operation takes a bit at least
+  pub shorter : (words : List (List Bool)) (bits rest : List Bool) (operation : ℕ) → IsCode words → field_at words 8 bits ≡ Ok (operation, rest)
+      → length rest < length bits
+  -- so a turn is taken of those that are left
+  pub turn : (words : List (List Bool)) (bits rest : List Bool) (operation turns : ℕ) → IsCode words → Ok (operation, rest) ≡ field_at words 8 bits
+      → length bits ≤ turns → HasTurn turns rest
+  -- where no bit is left, the bits end
+  pub ends : (words : List (List Bool)) (e : ReadError) → IsCode words → field_at words 8 [] ≡ Err e → e ≡ End

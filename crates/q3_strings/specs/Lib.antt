@@ -3,4 +3,5 @@ pub mod Reading
 pub mod Spelling
 pub mod Commands
 pub mod Rows
+pub mod Turns
 pub mod Laws

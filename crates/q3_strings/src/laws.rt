@@ -1,6 +1,6 @@
 //! Laws of bytes, of strings and of commands, each the contract of a call that does nothing but cite the laws below it.
 
-ghost use Rattle.q3_strings.specs.Laws.{BytesWerePut, BytesAreRead, StringIsSpelled, StringReadIsSpelled, StringSpelledIsRead, CommandIsSpelled, CommandReadIsSpelled, CommandSpelledIsRead, CommandsAreSpelled, NopIsSpelled};
+ghost use Rattle.q3_strings.specs.Laws.{BytesWerePut, BytesAreRead, StringIsSpelled, StringReadIsSpelled, StringSpelledIsRead, CommandIsSpelled, CommandReadIsSpelled, CommandSpelledIsRead, CommandsAreSpelled, NopIsSpelled, TurnsAreTaken};
 
 use q3_bits::laws;
 
@@ -72,3 +72,11 @@ pub fn commands_are_spelled()
 pub fn nop_is_spelled()
     ensures { NopIsSpelled }
 {}
+
+/// Operations that are read one after the other are at most as many as bits.
+pub fn turns_are_taken()
+    ensures { TurnsAreTaken }
+{
+    laws::read_was_put();
+    laws::ends_cut_short();
+}
