@@ -1,9 +1,7 @@
 -- Laws of client messages.
 use Rattle.std.specs.Prelude.{◌≡◌, ℕ, ◌^◌, ◌<◌, ◌≤◌, Bool, false, List, [], ◌++◌, length, All, Ok}
 use Rattle.q3_bits.specs.Words.{IsCode}
-use Rattle.q3_text.specs.declared.text.Command.{Command}
-use Rattle.q3_text.specs.Texts.{IsText}
-use Rattle.q3_strings.specs.Strings.{IsCommand}
+use Rattle.q3_strings.specs.Laws.{IsCommand}
 use Rattle.q3_clmsg.specs.Moves.{IsMove}
 use Rattle.q3_clmsg.specs.Values.{Message}
 use Rattle.q3_clmsg.specs.Texts.{client_text}

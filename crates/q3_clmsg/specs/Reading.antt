@@ -6,38 +6,48 @@ use Rattle.q3_bits.specs.Words.{field_at}
 use Rattle.q3_bits.specs.declared.reader.ReadError.{ReadError}
 use Rattle.q3_bits.specs.declared.reader.ReadError.TheVariants.{End}
 use Rattle.q3_text.specs.declared.text.Command.{Command}
-use Rattle.q3_strings.specs.Strings.{command_after}
+use Rattle.q3_strings.specs.declared.error.StringError.{StringError}
+use Rattle.q3_strings.specs.declared.error.StringError.TheVariants as strings
+use Rattle.q3_strings.specs.Reading.{command_after}
 use Rattle.q3_clmsg.specs.declared.moves.Move.{Move}
+use Rattle.q3_clmsg.specs.declared.heads.Heads.{Heads}
 use Rattle.q3_clmsg.specs.declared.error.ClientIllegible.{ClientIllegible}
 use Rattle.q3_clmsg.specs.declared.error.ClientIllegible.TheVariants.{Bits, BadOp, MoveCount, TextLong, Commands}
 use Rattle.q3_clmsg.specs.Moves.{no_move, moves_at}
 use Rattle.q3_clmsg.specs.Values.{Message, empty_message}
 
+-- the faults of the parts
 abbrev pub bits_read : {A : Type 0} → Result A ReadError → Result A ClientIllegible
 bits_read {A = A} r = result_map_both (λ (x : A). x) Bits r
+
+abbrev pub string_error : StringError → ClientIllegible
+string_error (strings.Bits e) = Bits e
+string_error strings.Long = TextLong
+
+abbrev pub strings_read : {A : Type 0} → Result A StringError → Result A ClientIllegible
+strings_read {A = A} r = result_map_both (λ (x : A). x) string_error r
 
 -- a field of so many bits
 abbrev pub field_read : List (List Bool) → ℕ → List Bool → Result (ℕ × List Bool) ClientIllegible
 field_read words width bits = bits_read (field_at words width bits)
 
 -- the three leading longs, and how many bits they take
-pub record LeadingLongs : Type 0 where
-  pub id : ℕ
-  pub acknowledged : ℕ
-  pub command : ℕ
-
-unfoldable pub heads_after : List (List Bool) → List Bool → Result (LeadingLongs × List Bool) ReadError
+unfoldable pub heads_after : List (List Bool) → List Bool → Result (Heads × List Bool) ReadError
 heads_after words bits = do
   id ← field_at words 32 bits
   acknowledged ← field_at words 32 id.1
   command ← field_at words 32 acknowledged.1
-  Ok (record { id = id.0; acknowledged = acknowledged.0; command = command.0 }, command.1)
+  Ok (record { id = id.0; acknowledged = acknowledged.0; command = command.0; bits = length bits - length command.1 }, command.1)
+
+-- these alone
+abbrev pub heads_at : List (List Bool) → List Bool → Result Heads ReadError
+heads_at words bits = heads_after words bits >>= λ read. Ok read.0
 
 -- one command more behind its operation, where there are fewer than 64
 unfoldable pub commands_after : List (List Bool) → List Command → List Bool → Result (List Command × List Bool) ClientIllegible
 commands_after words commands bits =
     if nat_lt (length commands) 64 then (do
-      command ← command_after words bits
+      command ← strings_read (command_after words bits)
       Ok (commands ++ command.0 ∷ [], command.1))
     else Err Commands
 

@@ -2,8 +2,7 @@
 -- in 32 bits where 8 would do, fields marked as changed that are as they were, and -128 for -127.
 use Rattle.std.specs.Prelude.{◌≡◌, ◌⊎◌, ℕ, ◌+◌, ◌%◌, ◌^◌, ◌<◌, ◌≤◌, Bool, false, List, [], ◌∷◌, ◌++◌, length}
 use Rattle.q3_bits.specs.Words.{field_bits, row_bits}
-use Rattle.q3_text.specs.declared.text.Command.{Command}
-use Rattle.q3_strings.specs.Strings.{SpellsNops, SpellsCommands}
+use Rattle.q3_strings.specs.Commands.{SpellsNops, SpellsCommands}
 use Rattle.q3_clmsg.specs.declared.moves.Move.{Move}
 use Rattle.q3_clmsg.specs.Moves.{no_move, move_widths, fields_of, move_of, move_key, hidden}
 use Rattle.q3_clmsg.specs.Texts.{move_operation}
@@ -29,8 +28,8 @@ pub record SpellsMove (words : List (List Bool)) (key : ℕ) (from to : Move) (b
   pub rest : List Bool
   pub of_time : SpellsTime words from.time to.time time
   pub of_rest : ((to ≡ record from { time = to.time }) × (rest ≡ field_bits words 1 0))
-    ⊎ ((fields : List ℕ) × (text : List Bool) × (to ≡ move_of to.time fields)
-    × SpellsFields words (move_key key to.time) move_widths (fields_of from) fields text × (rest ≡ field_bits words 1 1 ++ text))
+      ⊎ ((fields : List ℕ) × (text : List Bool) × (to ≡ move_of to.time fields)
+      × SpellsFields words (move_key key to.time) move_widths (fields_of from) fields text × (rest ≡ field_bits words 1 1 ++ text))
   pub whole : bits ≡ time ++ rest
 
 -- moves, each behind the one before
@@ -61,4 +60,4 @@ pub record SpellsMessage (words : List (List Bool)) (key : ℕ) (message : Messa
   pub of_section : SpellsSection words key message.delta message.moves section
   pub of_behind : SpellsNops words behind
   pub whole : bits ≡ row_bits words ((message.id, 32) ∷ (message.acknowledged, 32) ∷ (message.command, 32) ∷ [])
-    ++ commands ++ nops ++ section ++ behind ++ row_bits words ((5, 8) ∷ [])
+      ++ commands ++ nops ++ section ++ behind ++ row_bits words ((5, 8) ∷ [])

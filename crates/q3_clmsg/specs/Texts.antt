@@ -1,8 +1,7 @@
 -- The text of a client's message.
 use Rattle.std.specs.Prelude.{ℕ, Bool, true, false, List, [], ◌∷◌, ◌++◌, length}
-use Rattle.std.specs.List.{flat_map}
 use Rattle.q3_bits.specs.Words.{row_bits}
-use Rattle.q3_strings.specs.Strings.{command_bits}
+use Rattle.q3_strings.specs.Commands.{commands_bits}
 use Rattle.q3_clmsg.specs.declared.moves.Move.{Move}
 use Rattle.q3_clmsg.specs.Moves.{no_move, moves_bits}
 use Rattle.q3_clmsg.specs.Values.{Message}
@@ -22,6 +21,6 @@ section_bits words key delta moves =
 unfoldable pub client_text : List (List Bool) → ℕ → Message → List Bool
 client_text words key message =
     row_bits words ((message.id, 32) ∷ (message.acknowledged, 32) ∷ (message.command, 32) ∷ [])
-    ++ flat_map (command_bits words 4) message.commands
+    ++ commands_bits words 4 message.commands
     ++ section_bits words key message.delta message.moves
     ++ row_bits words ((5, 8) ∷ [])
