@@ -4,4 +4,8 @@ pub mod Fronts
 pub mod MoveRows
 pub mod Sections
 pub mod Turns
+pub mod Steps
+pub mod TimeSpelled
+pub mod FieldsSpelled
+pub mod MovesSpelled
 pub mod CommandRows
