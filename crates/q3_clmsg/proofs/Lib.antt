@@ -8,4 +8,6 @@ pub mod Steps
 pub mod TimeSpelled
 pub mod FieldsSpelled
 pub mod MovesSpelled
+pub mod MessageSpelled
+pub mod MessageRead
 pub mod CommandRows

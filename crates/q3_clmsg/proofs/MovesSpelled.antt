@@ -1,5 +1,5 @@
 -- Moves: what is written spells them, what is read was spelled so, and what is spelled so is read.
-use Rattle.std.proofs.Common.{◌≡◌, ◌⊎◌, ◌<◌, ◌+◌, ◌^◌, ◌==◌, ℕ, zero, suc, Bool, true, false, eqb, cond, List, [], ◌∷◌, ◌++◌, length, Ok, refl, sym, ap, subst, ◌∙◌, append_assoc, arith, inl, inr}
+use Rattle.std.proofs.Common.{◌≡◌, ◌⊎◌, ◌<◌, ℕ, zero, suc, Bool, true, eqb, cond, List, [], ◌∷◌, ◌++◌, length, Ok, refl, sym, ap, subst, ◌∙◌, append_assoc, arith, inl, inr}
 use Rattle.std.specs.List.{All}
 use Rattle.std.specs.Str.{bytes_eq}
 use Rattle.std.proofs.lemmas.Bool.{cases_Bool, eqb-true, eqb-false}
@@ -195,8 +195,13 @@ move_is_read put words code key from to text rest s =
           (ap (λ (one : Move). Ok (one, rest)) (sym only.0))
       | inr some ↦
           let behind : s.rest ++ rest ≡ field_bits words 1 1 ++ (some.1 ++ rest) = ap (λ (text : List Bool). text ++ rest) some.4 ∙ append_assoc (field_bits words 1 1) some.1 rest in
-          rw (same, time_is_read put words code from.time to.time s.time (s.rest ++ rest) s.of_time, behind, put words 1 1 (some.1 ++ rest) code (omega arith),
-          fields_are_read put words code (move_key key to.time) move_widths (fields_of from) some.0 some.1 rest some.3)
+          rw (
+            same,
+            time_is_read put words code from.time to.time s.time (s.rest ++ rest) s.of_time,
+            behind,
+            put words 1 1 (some.1 ++ rest) code (omega arith),
+            fields_are_read put words code (move_key key to.time) move_widths (fields_of from) some.0 some.1 rest some.3,
+          )
           (ap (λ (one : Move). Ok (one, rest)) (sym some.2))
     ]
 

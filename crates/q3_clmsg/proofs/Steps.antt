@@ -1,5 +1,5 @@
 -- The signed fields of a move, and a move as its fields.
-use Rattle.std.proofs.Common.{◌≡◌, ℕ, ◌+◌, ◌-◌, ◌^◌, ◌<◌, ◌≤◌, eqb, suc, false, List, [], ◌∷◌, ◌++◌, length, get_or, ℤ, pos, negsuc, refl, sym, ap, ◌∙◌, arith, inl, inr}
+use Rattle.std.proofs.Common.{◌≡◌, ℕ, ◌+◌, ◌-◌, ◌^◌, ◌<◌, ◌≤◌, eqb, suc, false, List, [], ◌∷◌, ◌++◌, length, ℤ, pos, negsuc, refl, ap, ◌∙◌, arith, inl, inr}
 use Rattle.std.specs.Int.{w8, cast_unsigned}
 use Rattle.std.specs.List.{All}
 use Rattle.std.proofs.lemmas.Bool.{cases_Bool}
@@ -54,9 +54,13 @@ fields_are one is = go one.angles is.three is.angles
         let behind = All-tail (λ (angle : ℕ). angle < 2 ^ 16) a (b ∷ c ∷ []) each in
         let last = All-tail (λ (angle : ℕ). angle < 2 ^ 16) b (c ∷ []) behind in (
           All-head (λ (angle : ℕ). angle < 2 ^ 16) a (b ∷ c ∷ []) each,
-          (All-head (λ (angle : ℕ). angle < 2 ^ 16) b (c ∷ []) behind,
-          (All-head (λ (angle : ℕ). angle < 2 ^ 16) c [] last,
-          (step_fits one.forward is.forward, (step_fits one.right is.right, (step_fits one.up is.up, (is.buttons, (is.weapon, tt))))))),
+          (
+            All-head (λ (angle : ℕ). angle < 2 ^ 16) b (c ∷ []) behind,
+            (
+              All-head (λ (angle : ℕ). angle < 2 ^ 16) c [] last,
+              (step_fits one.forward is.forward, (step_fits one.right is.right, (step_fits one.up is.up, (is.buttons, (is.weapon, tt))))),
+            ),
+          ),
         )
     go angles three each = absurd (omega (arith, three))
 

@@ -3,6 +3,7 @@
 
 pub mod error;
 pub mod heads;
+pub mod laws;
 pub mod message;
 pub mod moves;
 mod operations;
