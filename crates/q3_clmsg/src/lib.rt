@@ -9,6 +9,8 @@ pub mod moves;
 mod operations;
 pub mod reading;
 pub mod report;
+#[cfg(test)]
+mod tests;
 pub mod writing;
 
 pub use error::ClientIllegible;
