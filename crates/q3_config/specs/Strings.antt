@@ -1,6 +1,8 @@
 -- Config strings: a string for each index, empty where none is set, and their size.
-use Rattle.std.specs.Prelude.{◌≡◌, ℕ, ◌+◌, ◌==◌, ◌<◌, ◌≤◌, nat_lt, nat_le, ◌&&◌, not, if◌then◌else◌, Bool, List, [], length, map, replicate, find, sum, All, slice_index_or, slice_set, Option, Some, None, IfSome, Result, Ok, Err}
+use Rattle.std.specs.Prelude.{◌≡◌, ℕ, ◌+◌, ◌==◌, ◌<◌, ◌≤◌, nat_lt, nat_le, ◌&&◌, not, if◌then◌else◌, Bool, List, [], length, map, replicate, find, sum, All, slice_index_or, slice_set, Option, Some, None, IfSome, Result, Ok, Err, ◌∷◌, codes, option_and_then}
 use Rattle.q3_text.specs.Texts.{translated}
+use Rattle.q3_text.specs.Info.{info_of}
+use Rattle.q3_text.specs.Decimals.{info_number}
 use Rattle.q3_config.specs.declared.error.ConfigError.{ConfigError}
 use Rattle.q3_config.specs.declared.error.ConfigError.TheVariants.{Index, Chars, Long, Full}
 
@@ -90,3 +92,7 @@ refused (Some fault) = Err fault
 abbrev pub after_set : Strings → ℕ → List ℕ → Option ConfigError → Strings
 after_set strings index text None = with_string strings index text
 after_set strings index text (Some fault) = strings
+
+-- the id of the server's map: the number that string 1, an info string, has under `sv_serverid`, if it has one
+unfoldable pub server_id : Strings → Option ℕ
+server_id strings = option_and_then info_number (info_of (string_at strings 1) (codes "sv_serverid"))

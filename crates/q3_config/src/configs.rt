@@ -4,7 +4,7 @@
 //! (cl_cgame.c).
 
 ghost use Rattle.std.specs.Prelude.{◌≡◌, ◌<◌, ◌≤◌, ◌==◌, not, if◌then◌else◌, length, find, option_map, All, IsTrue, IfOk, OnOk};
-ghost use Rattle.q3_config.specs.Strings.{AreStrings, places, longest_string, no_strings, string_at, config_size, is_config_byte, set_fault, admit_fault, refused, after_set};
+ghost use Rattle.q3_config.specs.Strings.{AreStrings, places, longest_string, no_strings, string_at, config_size, is_config_byte, set_fault, admit_fault, refused, after_set, server_id};
 ghost use Rattle.q3_config.specs.Commands as commands;
 ghost use Rattle.q3_config.specs.Changes.{unchanged, make_change, go_on, after_change, after_command};
 ghost use Rattle.q3_config.specs.Parts.{meant, finished};
@@ -14,9 +14,12 @@ use crate::pending::{LONGEST, Pending};
 use crate::shapes::{Change, Word, change_of};
 use crate::table::{PLACES, Table};
 use q3_bits::NoMemory;
-use q3_text::Text;
+use q3_text::{Text, decimal, info_value};
 use std::alloc::Global;
 use std::marker::Model;
+
+/// The index of the string that tells the server's settings, the engine's `CS_SYSTEMINFO` (bg_public.h).
+const SYSTEM_INFO: u32 = 1;
 
 /// 1,024 strings, each of at most 8,191 bytes and together of a size of at most 16,000, and the big text that is
 /// pending, if one is. It has memory of its own, which `new` takes and no other call does. Bytes are kept as texts have
@@ -63,6 +66,15 @@ impl Configs {
         ensures strings { AreStrings self.now }
     {
         self.table.size() as u32
+    }
+
+    /// The id of the server's map: the number from 0 to 2^31 - 1 under `sv_serverid` in string 1. `None` exactly where
+    /// there is no such key there or no such number.
+    #[tactic(auto, unfolding(crate::specs::Strings::server_id))]
+    pub fn server_id(&self) -> Option<u32>
+        ensures { result ≡ server_id self.now }
+    {
+        decimal(info_value(self.get(SYSTEM_INFO), b"sv_serverid")?)
     }
 
     /// Takes all strings away, and the text that is pending.

@@ -1,5 +1,5 @@
 -- The spellings of what stands behind an entity's number: a reader takes each of them and no other text.
-use Rattle.std.proofs.Common.{◌≡◌, ◌⊎◌, ℕ, ◌^◌, ◌<◌, Bool, false, cond, eqb, List, ◌++◌, Option, Some, None, Ok, refl, sym, subst, append_assoc, arith, inl, inr}
+use Rattle.std.proofs.Common.{◌≡◌, ◌⊎◌, ℕ, ◌^◌, ◌<◌, Bool, false, cond, eqb, List, ◌++◌, Option, Some, None, Ok, refl, sym, ap, ◌∙◌, subst, append_assoc, arith, inl, inr}
 use Rattle.std.proofs.lemmas.Bool.{cases_Bool, eqb-true, eqb-false}
 use Rattle.std.proofs.lemmas.List.{append-nil}
 use Rattle.q3_bits.specs.ResultBind.{bind_ok, map_err_ok}
@@ -15,13 +15,8 @@ use Rattle.q3_entity.specs.declared.reading.Entry.{Entry}
 use Rattle.q3_entity.specs.declared.reading.Entry.TheVariants.{Removed, Changed, Same}
 use Rattle.q3_entity.specs.Delta.{removal, entity_error, bits_read, words_read, delta_at, present_at, entity_at}
 use Rattle.q3_entity.specs.declared.error.EntityError.TheVariants.{Bits}
-use Rattle.q3_entity.specs.Spelling.{Entered, SpellsEntry}
-
--- the words of an entity that is there
-abbrev pub words_there : Entry → List ℕ → Option (List ℕ)
-words_there Removed words = None
-words_there Changed words = Some words
-words_there Same words = Some words
+use Rattle.q3_entity.specs.Spelling.{Entered, SpellsEntry, words_there}
+use Rattle.q3_entity.specs.Laws.{EntryReadIsSpelled, EntrySpelledIsRead}
 
 -- what stands behind the number of an entry
 abbrev pub SpellsMarks : List (List Bool) → Layout → List ℕ → Option (List ℕ) → List Bool → Type 0
@@ -170,3 +165,26 @@ marks_are_read put law words table from there text rest code is_table are (inr (
     record { kind = Same; to = from; is = sym same; reads = rw is (same_is_read put words table from rest code) }
 marks_are_read put law words table from there text rest code is_table are (inr (inr (to, delta, changed, spelled, is))) =
     record { kind = Changed; to = to; is = sym changed; reads = rw is (changed_is_read put law words table from to delta rest code is_table are spelled) }
+
+-- ---- and behind its number
+
+pub entry_was_spelled : ReadWasPut → WordsReadAreSpelled → EntryReadIsSpelled
+entry_was_spelled put law words table from to kind number bits rest code is_table are e =
+    let read = marks_were_spelled put law words table from bits ((kind, to), rest) code is_table are e in
+    let entry : Entered = record { number = number; words = words_there kind to } in
+    (read.are, read.normal, read.text, read.parts, entry_of_marks words table from entry read.text read.spells)
+
+pub entry_is_read : PutIsRead → WordsSpelledAreRead → EntrySpelledIsRead
+entry_is_read put law words table from entry text rest code is_table are within s =
+    let own = marks_of_entry words table from entry text s in
+    let read = marks_are_read put law words table from entry.words own.0 rest code is_table are own.1 in
+    let number = field_bits words table.number_bits entry.number in (
+      own.0 ++ rest,
+      read.kind,
+      read.to,
+      read.is,
+      ap (λ (text : List Bool). field_at words table.number_bits (text ++ rest)) own.2
+          ∙ ap (field_at words table.number_bits) (append_assoc number own.0 rest)
+          ∙ put words table.number_bits entry.number (own.0 ++ rest) code (omega (arith, within)),
+      read.reads,
+    )

@@ -12,9 +12,9 @@ use Rattle.q3_entity.specs.Entities.{RiseFrom, AreStates, most_entities, with_nu
 use Rattle.q3_entity.specs.Baselines.{Lines, AreLines}
 use Rattle.q3_entity.specs.Lists.{words_from, numbers_after, list_after}
 use Rattle.q3_entity.specs.Laws.{ZeroIsNormal, ListSpelledIsRead}
-use Rattle.q3_entity.specs.Spelling.{Entered, EntriesRise, RemoveFrom, state_after}
+use Rattle.q3_entity.specs.Spelling.{Entered, EntriesRise, RemoveFrom, state_after, words_there}
 use Rattle.q3_entity.proofs.Results.{number_is_read}
-use Rattle.q3_entity.proofs.EntrySpelled.{words_there, SpellsMarks, marks_are_read}
+use Rattle.q3_entity.proofs.EntrySpelled.{SpellsMarks, marks_are_read}
 use Rattle.q3_entity.proofs.EntriesSpelled.{first_number, first-least, SpellsBehind, behind_of_entries}
 use Rattle.q3_entity.proofs.OneNumber.{with_first, cut, entry_of, entry_of-below, entry_of-first, entry_of-others, state_there, pushed, pushed-first, stays-is, entered-is}
 use Rattle.q3_entity.proofs.ListSpelled.{from_words}

@@ -17,9 +17,9 @@ use Rattle.q3_entity.specs.Entities.{IsNormal, RiseFrom, IsList, AreStates, AreN
 use Rattle.q3_entity.specs.Baselines.{Lines, AreLines}
 use Rattle.q3_entity.specs.Lists.{number_at, words_from, numbers_after, list_after}
 use Rattle.q3_entity.specs.Laws.{ZeroIsNormal, ListReadIsSpelled}
-use Rattle.q3_entity.specs.Spelling.{Entered, SpellsEntries, EntriesRise, RemoveFrom, state_after}
+use Rattle.q3_entity.specs.Spelling.{Entered, SpellsEntries, EntriesRise, RemoveFrom, state_after, words_there}
 use Rattle.q3_entity.proofs.Results.{number_was_read}
-use Rattle.q3_entity.proofs.EntrySpelled.{words_there, ReadMarks, marks_were_spelled}
+use Rattle.q3_entity.proofs.EntrySpelled.{ReadMarks, marks_were_spelled}
 use Rattle.q3_entity.proofs.EntriesSpelled.{first_number, SpellsBehind, entries_of_behind, behind_texts}
 use Rattle.q3_entity.proofs.OneNumber.{with_first, IsNamed, first-rises, first-found, first-others, first-all, with_number-all, entry_of, entry_of-below, entry_of-first, entry_of-others, state_there, pushed, pushed-first, stays-was, entered-was}
 use Rattle.q3_entity.proofs.Steps.{number_step}

@@ -8,11 +8,10 @@ use Rattle.q3_entity.specs.declared.reading.Entry.{Entry}
 use Rattle.q3_entity.specs.declared.reading.Entry.TheVariants.{Removed, Changed, Same}
 use Rattle.q3_entity.specs.Entities.{RiseFrom, most_entities, with_number}
 use Rattle.q3_entity.specs.Lists.{one_more, stays, entered}
-use Rattle.q3_entity.specs.Spelling.{Entered, EntriesRise, state_after}
+use Rattle.q3_entity.specs.Spelling.{Entered, EntriesRise, state_after, words_there}
 use Rattle.q3_entity.proofs.Risen.{rise-lower, with_number-behind, with_number-below}
 use Rattle.q3_entity.proofs.Numbers.{with_number-named}
 use Rattle.q3_entity.proofs.ListWritten.{found-all}
-use Rattle.q3_entity.proofs.EntrySpelled.{words_there}
 
 -- the entity of a number, if there is one, and those behind it
 abbrev pub with_first : Option EntityState → List EntityState → List EntityState

@@ -13,10 +13,10 @@ use Rattle.q3_entity.specs.Delta.{entity_at}
 use Rattle.q3_entity.specs.Lists.{number_at}
 use Rattle.q3_entity.specs.Walking.{skipped_at}
 use Rattle.q3_entity.specs.Laws.{ZeroIsNormal, SkippedIsSpelled, SpelledIsSkipped}
-use Rattle.q3_entity.specs.Spelling.{Entered, SpellsEntries, EntriesRise}
+use Rattle.q3_entity.specs.Spelling.{Entered, SpellsEntries, EntriesRise, words_there}
 use Rattle.q3_entity.proofs.Results.{number_was_read, number_is_read}
 use Rattle.q3_entity.proofs.Skipping.{skipped_from, skip_begins, skip_turns, skip_ends}
-use Rattle.q3_entity.proofs.EntrySpelled.{words_there, SpellsMarks, marks_were_spelled, marks_are_read}
+use Rattle.q3_entity.proofs.EntrySpelled.{SpellsMarks, marks_were_spelled, marks_are_read}
 use Rattle.q3_entity.proofs.EntriesSpelled.{first_number, SpellsBehind, entries_of_behind, behind_of_entries, first-least, behind_texts}
 use Rattle.q3_entity.proofs.ListWritten.{rise-weaker}
 use Rattle.q3_entity.proofs.SetLines.{zeros_there}

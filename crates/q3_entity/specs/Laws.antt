@@ -1,15 +1,16 @@
 -- Laws of entity deltas and lists.
-use Rattle.std.specs.Prelude.{◌≡◌, ◌≢◌, ℕ, ◌<◌, Bool, List, [], ◌++◌, map, Ok}
-use Rattle.q3_bits.specs.Words.{IsCode, field_at}
+use Rattle.std.specs.Prelude.{◌≡◌, ◌≢◌, ℕ, ◌<◌, Bool, true, List, [], ◌++◌, map, Some, Ok}
+use Rattle.q3_bits.specs.Words.{IsCode, field_bits, field_at}
 use Rattle.q3_fields.specs.Kinds.{Layout, IsTable, end_mark}
-use Rattle.q3_fields.specs.States.{AreWords}
+use Rattle.q3_fields.specs.States.{AreWords, normal_words}
 use Rattle.q3_entity.specs.declared.state.EntityState.{EntityState}
+use Rattle.q3_entity.specs.declared.reading.Entry.{Entry}
 use Rattle.q3_entity.specs.declared.reading.Entry.TheVariants.{Removed}
 use Rattle.q3_entity.specs.Entities.{zero_entity, normal_entity, IsNormal, IsList, Rises, AreStates, AreNormal}
 use Rattle.q3_entity.specs.Baselines.{Lines, AreLines, most_lines, no_lines, with_line}
 use Rattle.q3_entity.specs.Delta.{entity_delta, entry_of, removal, entity_at}
 use Rattle.q3_entity.specs.Lists.{list_text, list_after, list_skipped}
-use Rattle.q3_entity.specs.Spelling.{SpellsList, SpellsSkipped}
+use Rattle.q3_entity.specs.Spelling.{Entered, words_there, SpellsEntry, SpellsList, SpellsSkipped}
 
 -- the normal form of a state is a state, in normal form; so is the zero state
 abbrev pub NormalIsNormal : Type 0
@@ -46,6 +47,26 @@ RemovalIsRead = (words : List (List Bool)) (table : Layout) (number : ℕ) (from
     → number < end_mark table
     → (left : List Bool) × (field_at words table.number_bits (removal words table number ++ rest) ≡ Ok (number, left))
     × (entity_at words table from left ≡ Ok ((Removed, from), rest))
+
+-- what is written of an entity by force, against a state in normal form, spells its entry, in normal form
+abbrev pub ForcedIsSpelled : Type 0
+ForcedIsSpelled = (words : List (List Bool)) (table : Layout) (from to : EntityState) → IsCode words → IsTable table
+    → AreWords 64 from.words → IsNormal table from → AreWords 64 to.words
+    → SpellsEntry words table from.words (record { number = to.number; words = Some (normal_entity table to).words }) (entity_delta words table from to true)
+
+-- what is read behind a number was spelled so, and its words are in normal form where those that it changed from are
+abbrev pub EntryReadIsSpelled : Type 0
+EntryReadIsSpelled = (words : List (List Bool)) (table : Layout) (from to : List ℕ) (kind : Entry) (number : ℕ) (bits rest : List Bool) → IsCode words
+    → IsTable table → AreWords 64 from → entity_at words table from bits ≡ Ok ((kind, to), rest)
+    → AreWords 64 to × (normal_words table.kinds from ≡ from → normal_words table.kinds to ≡ to) × (own : List Bool) × (bits ≡ own ++ rest)
+    × SpellsEntry words table from (record { number = number; words = words_there kind to }) (field_bits words table.number_bits number ++ own)
+
+-- an entry that is spelled so is read: its number, and what stands behind it, with whatever follows
+abbrev pub EntrySpelledIsRead : Type 0
+EntrySpelledIsRead = (words : List (List Bool)) (table : Layout) (from : List ℕ) (entry : Entered) (text rest : List Bool) → IsCode words → IsTable table
+    → AreWords 64 from → entry.number < end_mark table → SpellsEntry words table from entry text
+    → (left : List Bool) × (kind : Entry) × (to : List ℕ) × (words_there kind to ≡ entry.words)
+    × (field_at words table.number_bits (text ++ rest) ≡ Ok (entry.number, left)) × (entity_at words table from left ≡ Ok ((kind, to), rest))
 
 -- what is written of a list against a base and baselines in normal form spells the entities in normal form
 abbrev pub ListIsSpelled : Type 0

@@ -6,6 +6,8 @@ use Rattle.q3_fields.specs.Kinds.{Layout, end_mark}
 use Rattle.q3_fields.specs.declared.delta.StateKind.TheVariants.{Entity}
 use Rattle.q3_fields.specs.Spelling.{SpellsWords}
 use Rattle.q3_entity.specs.declared.state.EntityState.{EntityState}
+use Rattle.q3_entity.specs.declared.reading.Entry.{Entry}
+use Rattle.q3_entity.specs.declared.reading.Entry.TheVariants.{Removed}
 use Rattle.q3_entity.specs.Entities.{IsList, with_number}
 use Rattle.q3_entity.specs.Baselines.{Lines, no_lines}
 use Rattle.q3_entity.specs.Delta.{opening, removal}
@@ -15,6 +17,11 @@ use Rattle.q3_entity.specs.Lists.{words_from}
 pub record Entered : Type 0 where
   pub number : ℕ
   pub words : Option (List ℕ)
+
+-- the words of an entity that is there
+abbrev pub words_there : Entry → List ℕ → Option (List ℕ)
+words_there Removed words = None
+words_there other words = Some words
 
 -- an entry's text, against the words that it changed from
 abbrev pub SpellsEntry : List (List Bool) → Layout → List ℕ → Entered → List Bool → Type 0

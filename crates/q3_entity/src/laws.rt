@@ -1,6 +1,6 @@
 //! Laws of entity deltas and of lists, each the contract of a call that does nothing but cite the laws below it.
 
-ghost use Rattle.q3_entity.specs.Laws.{NormalIsNormal, ZeroIsNormal, ListRises, NoLinesAreLines, LineIsAdded, EntityWrittenIsRead, RemovalIsRead, ListIsSpelled, ListReadIsSpelled, ListSpelledIsRead, ListWrittenIsRead, ReadIsSkipped, SkippedIsSpelled, SpelledIsSkipped};
+ghost use Rattle.q3_entity.specs.Laws.{NormalIsNormal, ZeroIsNormal, ListRises, NoLinesAreLines, LineIsAdded, EntityWrittenIsRead, RemovalIsRead, ForcedIsSpelled, EntryReadIsSpelled, EntrySpelledIsRead, ListIsSpelled, ListReadIsSpelled, ListSpelledIsRead, ListWrittenIsRead, ReadIsSkipped, SkippedIsSpelled, SpelledIsSkipped};
 
 use q3_bits::laws as bits;
 use q3_fields::laws as fields;
@@ -50,6 +50,30 @@ pub fn removal_is_read()
     ensures { RemovalIsRead }
 {
     bits::put_is_read();
+}
+
+/// What is written of an entity by force against a state in normal form spells its entry, in normal form.
+pub fn forced_is_spelled()
+    ensures { ForcedIsSpelled }
+{
+    fields::words_are_spelled();
+    fields::unchanged_is_normal();
+}
+
+/// What is read behind an entity's number was spelled so, and is in normal form where the state that it changed from is.
+pub fn entry_read_is_spelled()
+    ensures { EntryReadIsSpelled }
+{
+    bits::read_was_put();
+    fields::words_read_are_spelled();
+}
+
+/// An entry that is spelled so is read, with whatever follows it.
+pub fn entry_spelled_is_read()
+    ensures { EntrySpelledIsRead }
+{
+    bits::put_is_read();
+    fields::words_spelled_are_read();
 }
 
 /// What is written of a list against a base and baselines in normal form spells the entities in normal form.

@@ -45,9 +45,21 @@ pub record IsContext (profile : Profile) (context : Context) : Type 0 where
   pub bases : (number : ℕ) (base : Base) → context.base number ≡ Some base → IsBase profile base
   pub lines : AreLines profile.entity context.lines
 
--- a message with a snapshot, or with no section
+-- a gamestate as an end may send it: texts that a string can carry, baselines in normal form, and a server id
+pub record IsGamestate (profile : Profile) (game : Gamestate) : Type 0 where
+  pub command : game.command < 2 ^ 32
+  pub slot : game.slot < 2 ^ 32
+  pub feed : game.feed < 2 ^ 32
+  pub strings : AreStrings game.strings
+  pub texts : All (All IsTextByte) game.strings.texts
+  pub pending : game.strings.pending ≡ None
+  pub lines : AreLines profile.entity game.lines
+  pub id : IsSome (server_id game.strings)
+
+-- a message with a gamestate, with a snapshot, or with no section
 abbrev pub IsTold : Profile → Context → Told → Type 0
 IsTold profile context Nothing = Unit {0}
+IsTold profile context (Game game) = IsGamestate profile game
 IsTold profile context (Snap base head entities) =
     IsHead head × AreEntities profile entities × IsNamed (held_base context base) head.number base
 IsTold profile context (Skipped base) = ⊥

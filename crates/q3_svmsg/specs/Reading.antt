@@ -21,10 +21,10 @@ use Rattle.q3_svmsg.specs.declared.error.Illegible.TheVariants.{Bits, BadOp, Ent
 use Rattle.q3_entity.specs.Baselines.{Lines}
 use Rattle.q3_svmsg.specs.Values.{Base, base_player, base_entities, number_of_base, section_of, Context, Told, Nothing, Snap, Skipped, Message}
 
--- the answer of a reader of a section that leaves a snapshot in its places
-abbrev pub telling : SnapHead → List EntityState → Result Section Illegible → Result Told Illegible
-telling head entities (Ok section) = Ok (section_of section head entities)
-telling head entities (Err e) = Err e
+-- the answer of a reader of a section that leaves a gamestate or a snapshot in its places
+abbrev pub telling : Gamestate → SnapHead → List EntityState → Result Section Illegible → Result Told Illegible
+telling game head entities (Ok section) = Ok (section_of section game head entities)
+telling game head entities (Err e) = Err e
 
 -- the faults of the parts
 abbrev pub bits_read : {A : Type 0} → Result A ReadError → Result A Illegible
@@ -122,6 +122,62 @@ section_after profile context number bits = do
   against_base profile context distance.0 (number_of_base number distance.0) (held_base context (number_of_base number distance.0))
       (record { number = number; time = time.0; flags = flags.0; area = record { items = area.0 }; player = zero_player }) area.1
 
+-- a config string is set, unless it is too large with the others
+abbrev pub config_set : Strings → ℕ → List ℕ → Option ConfigError → Result Strings Illegible
+config_set strings index text None = Ok (with_string strings index text)
+config_set strings index text (Some fault) = Err (Config fault)
+
+-- a config string behind its operation: its index, which is refused above 1,023 before the text is read, and its string
+unfoldable pub config_after : List (List Bool) → Strings → List Bool → Result (Strings × List Bool) Illegible
+config_after words strings bits = do
+  index ← field_read words 16 bits
+  if nat_lt index.0 places then (do
+    text ← string_after words longest_string index.1
+    set ← config_set strings index.0 text.0 (set_fault strings index.0 text.0)
+    Ok (set, text.1))
+  else Err (Config Index)
+
+-- a baseline that was read is set; one that is removed is refused
+abbrev pub baseline_set : Lines → ℕ → Entry → List ℕ → Result Lines Illegible
+baseline_set lines number Removed words = Err (Entity (Removes number))
+baseline_set lines number other words = Ok (with_line lines (record { number = number; words = words }))
+
+-- a baseline behind its operation: its number, which is refused where it is the end mark before its text is read, and its
+-- state against the zero state
+unfoldable pub baseline_after : Profile → Lines → List Bool → Result (Lines × List Bool) Illegible
+baseline_after profile lines bits = do
+  number ← field_read profile.code profile.entity.number_bits bits
+  if number.0 == end_mark profile.entity then Err (Entity (Order number.0)) else (do
+    state ← entities_read (entity_at profile.code profile.entity (replicate 64 0) number.1)
+    set ← baseline_set lines number.0 state.0.0 state.0.1
+    Ok (set, state.1))
+
+-- config strings and baselines in any order, a later one for an earlier, up to the operation 8; there are at most so many,
+-- since each takes a bit
+unfoldable pub settings_after : Profile → ℕ → Strings → Lines → List Bool → Result ((Strings × Lines) × List Bool) Illegible
+settings_after profile zero strings lines bits = Err (Bits End)
+settings_after profile (suc most) strings lines bits = do
+  operation ← field_read profile.code 8 bits
+  if operation.0 == 8 then Ok ((strings, lines), operation.1) else
+      if operation.0 == 3 then (do
+        config ← config_after profile.code strings operation.1
+        settings_after profile most config.0 lines config.1) else
+      if operation.0 == 4 then (do
+        baseline ← baseline_after profile lines operation.1
+        settings_after profile most strings baseline.0 baseline.1)
+      else Err (BadOp operation.0)
+
+-- a gamestate behind its operation; one whose strings give no server id is refused before its slot is read
+unfoldable pub gamestate_after : Profile → List Bool → Result (Told × List Bool) Illegible
+gamestate_after profile bits = do
+  command ← field_read profile.code 32 bits
+  settings ← settings_after profile (length command.1) no_strings no_lines command.1
+  if is_some (server_id settings.0.0) then (do
+    slot ← field_read profile.code 32 settings.1
+    feed ← field_read profile.code 32 slot.1
+    Ok (Game (record { command = command.0; strings = settings.0.0; lines = settings.0.1; slot = slot.0; feed = feed.0 }), feed.1))
+  else Err NoServerId
+
 -- behind the section: nops, and the end; there are at most so many operations, since each takes a bit
 unfoldable pub ending_after : List (List Bool) → ℕ → List Bool → Result (Unit {0} × List Bool) Illegible
 ending_after words zero bits = Err (Bits End)
@@ -140,6 +196,10 @@ operations_after profile context number (suc most) message bits = do
       if operation.0 == 5 then (do
         commands ← commands_after profile.code message.commands operation.1
         operations_after profile context number most (record message { commands = commands.0 }) commands.1) else
+      if operation.0 == 2 then (do
+        section ← gamestate_after profile operation.1
+        ending ← ending_after profile.code (length section.1) section.1
+        Ok (record message { section = section.0 }, ending.1)) else
       if operation.0 == 7 then (do
         section ← section_after profile context number operation.1
         ending ← ending_after profile.code (length section.1) section.1

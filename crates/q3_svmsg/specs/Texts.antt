@@ -1,15 +1,19 @@
 -- The text of a server's message.
-use Rattle.std.specs.Prelude.{ℕ, Bool, List, [], ◌∷◌, ◌++◌, length, map, Option}
-use Rattle.std.specs.List.{flat_map}
+use Rattle.std.specs.Prelude.{ℕ, Bool, List, [], ◌∷◌, ◌++◌, length, map, true, Option, Some, None}
+use Rattle.std.specs.List.{flat_map, range_with_len}
 use Rattle.q3_bits.specs.Words.{row_bits}
 use Rattle.q3_text.specs.declared.text.Command.{Command}
 use Rattle.q3_player.specs.declared.head.SnapHead.{SnapHead}
 use Rattle.q3_player.specs.Delta.{player_delta}
 use Rattle.q3_entity.specs.declared.state.EntityState.{EntityState}
-use Rattle.q3_entity.specs.Baselines.{Lines}
+use Rattle.q3_fields.specs.Kinds.{Layout}
+use Rattle.q3_config.specs.Strings.{places, string_at}
+use Rattle.q3_entity.specs.Entities.{zero_entity}
+use Rattle.q3_entity.specs.Delta.{entity_delta}
+use Rattle.q3_entity.specs.Baselines.{Lines, most_lines, set_at}
 use Rattle.q3_entity.specs.Lists.{list_text}
 use Rattle.q3_profile.specs.declared.profile.Profile.{Profile}
-use Rattle.q3_svmsg.specs.Values.{Base, base_player, base_entities, distance_to, Told, Snap, Message}
+use Rattle.q3_svmsg.specs.Values.{Base, base_player, base_entities, distance_to, Gamestate, Told, Game, Snap, Message}
 
 -- bytes, one behind the other
 abbrev pub bytes_row : List (List Bool) → List ℕ → List Bool
@@ -36,8 +40,29 @@ snapshot_bits profile lines against base head entities =
     ++ player_delta profile.code profile.player.kinds (base_player against) head.player
     ++ list_text profile.code profile.entity lines (base_entities against) entities
 
+-- a config string: the operation 3, its index, and its string; an empty one isn't said
+abbrev pub config_bits : List (List Bool) → ℕ → List ℕ → List Bool
+config_bits words index [] = []
+config_bits words index text = row_bits words ((3, 8) ∷ (index, 16) ∷ []) ++ string_bits words text
+
+-- a baseline: the operation 4, and its state, by force and against the zero state; one that isn't set isn't said
+abbrev pub baseline_bits : List (List Bool) → Layout → Option EntityState → List Bool
+baseline_bits words table None = []
+baseline_bits words table (Some state) =
+    row_bits words ((4, 8) ∷ []) ++ entity_delta words table (zero_entity state.number) state true
+
+-- a gamestate: the operation 2, the number of the last server command, the config strings by index and the baselines by
+-- number, the operation 8, the slot, and the feed
+unfoldable pub gamestate_bits : Profile → Gamestate → List Bool
+gamestate_bits profile game =
+    row_bits profile.code ((2, 8) ∷ (game.command, 32) ∷ [])
+    ++ flat_map (λ index. config_bits profile.code index (string_at game.strings index)) (range_with_len 0 places)
+    ++ flat_map (λ number. baseline_bits profile.code profile.entity (set_at game.lines number)) (range_with_len 0 most_lines)
+    ++ row_bits profile.code ((8, 8) ∷ (game.slot, 32) ∷ (game.feed, 32) ∷ [])
+
 -- the section of a message; a snapshot that was skipped has no text of its own
 unfoldable pub section_bits : Profile → Lines → Option Base → Told → List Bool
+section_bits profile lines against (Game game) = gamestate_bits profile game
 section_bits profile lines against (Snap base head entities) = snapshot_bits profile lines against base head entities
 section_bits profile lines against other = []
 

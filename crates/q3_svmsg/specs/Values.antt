@@ -7,6 +7,7 @@ use Rattle.q3_player.specs.State.{zero_player}
 use Rattle.q3_entity.specs.declared.state.EntityState.{EntityState}
 use Rattle.q3_fields.specs.Kinds.{Layout}
 use Rattle.q3_entity.specs.Entities.{IsList, run_of}
+use Rattle.q3_config.specs.Strings.{Strings}
 use Rattle.q3_entity.specs.Baselines.{Lines}
 use Rattle.q3_svmsg.specs.declared.message.Section.{Section}
 use Rattle.q3_svmsg.specs.declared.message.Section.TheVariants as sections
@@ -32,10 +33,20 @@ pub record Context : Type 0 where
   pub base : ℕ → Option Base
   pub lines : Lines
 
--- a message's section: none; a snapshot, with the number of its base, 0 for none; or a snapshot whose base isn't held
--- and of which nothing is kept
+-- a gamestate: the number of the last server command issued, the config strings, the baselines, the client's slot, and the
+-- checksum feed
+pub record Gamestate : Type 0 where
+  pub command : ℕ
+  pub strings : Strings
+  pub lines : Lines
+  pub slot : ℕ
+  pub feed : ℕ
+
+-- a message's section: none; a gamestate; a snapshot, with the number of its base, 0 for none; or a snapshot whose base
+-- isn't held and of which nothing is kept
 pub data Told : Type 0 where
   Nothing : Told
+  Game : Gamestate → Told
   Snap : ℕ → SnapHead → List EntityState → Told
   Skipped : ℕ → Told
 
@@ -46,16 +57,27 @@ pub record Message : Type 0 where
   pub section : Told
 
 -- what the program's type says
-abbrev pub section_of : Section → SnapHead → List EntityState → Told
-section_of sections.Nothing head entities = Nothing
-section_of (sections.Snap base true) head entities = Snap base head entities
-section_of (sections.Snap base false) head entities = Skipped base
+abbrev pub section_of : Section → Gamestate → SnapHead → List EntityState → Told
+section_of sections.Nothing game head entities = Nothing
+section_of sections.Game game head entities = Game game
+section_of (sections.Snap base true) game head entities = Snap base head entities
+section_of (sections.Snap base false) game head entities = Skipped base
+
+-- the gamestate for which a message has room
+abbrev pub game_of : ServerMessage → Gamestate
+game_of message = record {
+  command = message.command;
+  strings = message.configs;
+  lines = message.baselines;
+  slot = message.slot;
+  feed = message.feed;
+}
 
 abbrev pub told_of : ServerMessage → Message
 told_of message = record {
   ack = message.ack;
   commands = message.commands.value.items;
-  section = section_of message.section message.head message.entities.value.items;
+  section = section_of message.section (game_of message) message.head message.entities.value.items;
 }
 
 -- the entities of a snapshot, where there is one, are a list

@@ -1,0 +1,39 @@
+//! Laws of client messages, each the contract of a call that does nothing but cite the laws below it.
+
+ghost use Rattle.q3_clmsg.specs.Laws.{WrittenIsSpelled, ReadIsSpelled, SpelledIsRead, WrittenIsRead};
+
+use q3_bits::laws as bits;
+use q3_strings::laws as strings;
+
+/// What is written of a message spells it by the same key.
+pub fn written_is_spelled()
+    ensures { WrittenIsSpelled }
+{
+    strings::commands_are_spelled();
+}
+
+/// What is read as a message was spelled so, and is one that an end may send.
+pub fn read_is_spelled()
+    ensures { ReadIsSpelled }
+{
+    bits::read_was_put();
+    strings::command_read_is_spelled();
+    strings::nop_is_spelled();
+}
+
+/// What is spelled so is read, with whatever follows it. So where a reader refuses, no front of the bits is spelled so.
+pub fn spelled_is_read()
+    ensures { SpelledIsRead }
+{
+    bits::put_is_read();
+    strings::command_spelled_is_read();
+    strings::turns_are_taken();
+}
+
+/// What is written of a message is read back by the same key, with whatever follows it.
+pub fn written_is_read()
+    ensures { WrittenIsRead }
+{
+    written_is_spelled();
+    spelled_is_read();
+}

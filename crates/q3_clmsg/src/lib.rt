@@ -1,0 +1,21 @@
+//! Client messages: what one says, how it is written, and what is read of one.
+#![tactic(auto)]
+
+pub mod error;
+pub mod heads;
+pub mod laws;
+pub mod message;
+pub mod moves;
+mod operations;
+pub mod reading;
+pub mod report;
+#[cfg(test)]
+mod tests;
+pub mod writing;
+
+pub use error::ClientIllegible;
+pub use heads::{Heads, read_heads};
+pub use message::ClientMessage;
+pub use moves::{Move, message_key};
+pub use reading::read_client_message;
+pub use writing::write_client_message;

@@ -1,0 +1,43 @@
+//! A client's message as a value.
+
+ghost use Rattle.std.specs.Prelude.{◌≡◌, IfOk};
+
+use crate::moves::Move;
+use arrayvec::ArrayVec;
+use q3_bits::NoMemory;
+use q3_text::Command;
+use std::alloc::Global;
+
+/// A message of a client, with room for 64 commands and 32 moves.
+// The commands lie on the heap: `new` takes their memory, and no later call takes any.
+#[derive(Drop)]
+pub struct ClientMessage {
+    /// The id of the server's map that the client plays, 0 before it knows one.
+    pub id: u32,
+    /// The number of the newest server message that came whole.
+    pub acknowledged: u32,
+    /// The number of the last server command that the client executed.
+    pub command: u32,
+    pub commands: Box<ArrayVec<Command, 64>>,
+    /// Whether the server may write snapshots against the one of the newest message. It is false without moves.
+    pub delta: bool,
+    pub moves: ArrayVec<Move, 32>,
+}
+
+impl ClientMessage {
+    ghost use Rattle.q3_clmsg.specs.Values.{said_of, empty_message};
+
+    /// A message with nothing in it. `Err` is want of memory.
+    pub fn new(alloc: Global) -> Result<ClientMessage, NoMemory>
+        ensures { IfOk result (λ made. said_of made ≡ empty_message) }
+    {
+        Ok(ClientMessage {
+            id: 0,
+            acknowledged: 0,
+            command: 0,
+            commands: Box::new(alloc, ArrayVec::new())?,
+            delta: false,
+            moves: ArrayVec::new(),
+        })
+    }
+}

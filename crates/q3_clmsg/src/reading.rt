@@ -1,0 +1,138 @@
+//! Reads a client's message. Keeps the rules "layout of a client message" and "move section", the engine's
+//! `SV_ExecuteClientMessage` and `SV_UserMove` (sv_client.c). That nops are taken, and what is refused, is this
+//! project's own.
+
+ghost use Rattle.std.specs.Prelude.{◌≡◌, length};
+ghost use Rattle.q3_bits.specs.Bits.{bits_of};
+ghost use Rattle.q3_bits.specs.Words.{IsCode};
+ghost use Rattle.q3_bits.specs.Streams.{Reads, holding};
+ghost use Rattle.q3_clmsg.specs.Values.{said_of};
+ghost use Rattle.q3_clmsg.specs.Reading.{commands_after, section_after, ending_after, moved_after, operations_after, client_at};
+
+use crate::error::ClientIllegible;
+use crate::heads::heads_from;
+use crate::message::ClientMessage;
+use crate::moves::{Move, read_moves};
+use crate::operations::{CLIENT_COMMAND, EOF, MOVE, MOVE_NO_DELTA, NOP};
+use arrayvec::ArrayVec;
+use q3_bits::{Code, Reader};
+use q3_strings::{laws, read_command};
+use q3_text::Command;
+
+/// The operation of a command, as it is read.
+const COMMAND: u32 = CLIENT_COMMAND as u32;
+
+/// Reads one command more behind its operation. A 65th is refused before it is read.
+#[tactic(auto, unfolding(crate::specs::Reading::commands_after))]
+fn read_next_command(
+    r: &mut Reader,
+    commands: &mut ArrayVec<Command, 64>,
+) -> Result<(), ClientIllegible>
+    ensures { Reads r.old r.new (commands_after r.old.words commands.old.items r.old.left) (holding commands.new.items result) }
+{
+    if commands.is_full() {
+        return Err(ClientIllegible::Commands);
+    }
+    commands.push(read_command(r)?);
+    Ok(())
+}
+
+/// Reads the moves behind their operation, and how many there are.
+#[tactic(auto, unfolding(crate::specs::Reading::section_after))]
+fn read_section(
+    r: &mut Reader,
+    key: u32,
+    into: &mut ArrayVec<Move, 32>,
+) -> Result<(), ClientIllegible>
+    ensures { Reads r.old r.new (section_after r.old.words key r.old.left) (holding into.new.items result) }
+{
+    let count = r.get(8)?;
+    if count < 1 || count > 32 {
+        return Err(ClientIllegible::MoveCount(count as u8));
+    }
+    read_moves(r, key, count, into)?;
+    Ok(())
+}
+
+/// Reads what is behind the moves: nops, and the end.
+fn read_ending(r: &mut Reader) -> Result<(), ClientIllegible>
+    requires { IsCode r.old.words }
+    ensures { Reads r.old r.new (ending_after r.old.words (length r.old.left) r.old.left) result }
+{
+    laws::turns_are_taken();
+    loop {
+        let operation = r.get(8)?;
+        if operation == EOF {
+            return Ok(());
+        }
+        if operation != NOP {
+            return Err(ClientIllegible::BadOp(operation as u8));
+        }
+    }
+}
+
+/// Reads the moves behind their operation, and the message to its end.
+#[tactic(auto, unfolding(crate::specs::Reading::moved_after))]
+fn read_moved(
+    r: &mut Reader,
+    key: u32,
+    delta: bool,
+    into: &mut ClientMessage,
+) -> Result<(), ClientIllegible>
+    requires { IsCode r.old.words }
+    ensures { Reads r.old r.new (moved_after r.old.words key delta (said_of into.old) r.old.left) (holding (said_of into.new) result) }
+{
+    read_section(r, key, &mut into.moves)?;
+    into.delta = delta;
+    read_ending(r)
+}
+
+/// Reads what is behind the leading longs: nops and commands, up to the end of the message or its moves.
+fn read_operations(
+    r: &mut Reader,
+    key: u32,
+    into: &mut ClientMessage,
+) -> Result<(), ClientIllegible>
+    requires { IsCode r.old.words }
+    ensures { Reads r.old r.new (operations_after r.old.words key (length r.old.left) (said_of into.old) r.old.left) (holding (said_of into.new) result) }
+{
+    laws::turns_are_taken();
+    laws::command_read_is_spelled();
+    loop {
+        match r.get(8)? {
+            NOP => {}
+            COMMAND => read_next_command(r, &mut into.commands)?,
+            MOVE => return read_moved(r, key, true, into),
+            MOVE_NO_DELTA => return read_moved(r, key, false, into),
+            EOF => return Ok(()),
+            operation => return Err(ClientIllegible::BadOp(operation as u8)),
+        }
+    }
+}
+
+/// Reads a client's message by the key of its moves, as `message_key` gives it. Without moves `delta` is false. After a
+/// refusal `into` may hold anything.
+///
+/// `Err` is the first fault in reading order: `Bits` where the bits don't read; `BadOp` for an operation that may not
+/// stand there: before the moves others than nop, command, moves and the end, and behind them others than nop and the
+/// end; `Commands` for a 65th command; `TextLong` where the byte behind 1,023 of a string isn't 0; `MoveCount` for no
+/// move or more than 32.
+#[tactic(auto, unfolding(crate::specs::Reading::client_after))]
+pub fn read_client_message(
+    code: &Code,
+    bytes: &[u8],
+    key: u32,
+    into: &mut ClientMessage,
+) -> Result<(), ClientIllegible>
+    ensures { holding (said_of into.new) result ≡ client_at code.now key (bits_of bytes.now) }
+{
+    let mut r = Reader::new(code, bytes);
+    let heads = heads_from(&mut r)?;
+    into.id = heads.id;
+    into.acknowledged = heads.acknowledged;
+    into.command = heads.command;
+    into.commands.clear();
+    into.delta = false;
+    into.moves.clear();
+    read_operations(&mut r, key, into)
+}

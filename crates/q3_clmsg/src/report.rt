@@ -1,0 +1,42 @@
+//! The words that tell why a client's message isn't legible, as reports print them.
+
+ghost use Rattle.std.specs.Prelude.{◌≡◌};
+ghost use Rattle.q3_clmsg.specs.Report.{bits_word, cause_word as word_of_cause, cause_number as number_of_cause};
+
+use crate::error::ClientIllegible;
+use q3_bits::ReadError;
+
+fn word_of_bits(e: ReadError) -> &'static [u8]
+    ensures { result.now ≡ bits_word e }
+{
+    match e {
+        ReadError::End => b"end",
+        ReadError::NoWord => b"noword",
+    }
+}
+
+/// The word of a cause.
+pub fn cause_word(cause: ClientIllegible) -> &'static [u8]
+    ensures { result.now ≡ word_of_cause cause }
+{
+    match cause {
+        ClientIllegible::Bits(e) => word_of_bits(e),
+        ClientIllegible::BadOp(_) => b"op",
+        ClientIllegible::MoveCount(_) => b"moves",
+        ClientIllegible::TextLong => b"text",
+        ClientIllegible::Commands => b"commands",
+        ClientIllegible::Ack(_) => b"ack",
+    }
+}
+
+/// The number that is printed behind the word of a cause.
+pub fn cause_number(cause: ClientIllegible) -> Option<u32>
+    ensures { result ≡ number_of_cause cause }
+{
+    match cause {
+        ClientIllegible::BadOp(byte) => Some(u32::from(byte)),
+        ClientIllegible::MoveCount(count) => Some(u32::from(count)),
+        ClientIllegible::Ack(number) => Some(number),
+        _ => None,
+    }
+}

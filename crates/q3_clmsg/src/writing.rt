@@ -1,0 +1,69 @@
+//! Writes a client's message. Keeps the rules "layout of a client message" and "move section", the engine's
+//! `CL_WritePacket` (cl_input.c).
+
+ghost use Rattle.std.specs.Prelude.{◌≡◌, ◌≤◌, length};
+ghost use Rattle.q3_bits.specs.Streams.{Writes, Fills};
+ghost use Rattle.q3_clmsg.specs.Values.{said_of};
+ghost use Rattle.q3_clmsg.specs.Texts.{move_operation, section_bits, client_text};
+
+use crate::message::ClientMessage;
+use crate::moves::{Move, write_moves};
+use crate::operations::{CLIENT_COMMAND, EOF, MOVE, MOVE_NO_DELTA};
+use q3_bits::{Code, Overflow, Writer, laws};
+use q3_strings::write_commands;
+
+/// Writes a message to the front of a buffer of 1 to 16,384 bytes, and answers how many bytes it has; those behind it
+/// stay. `key` is that of its moves, as `message_key` gives it. Without moves nothing tells whether `delta` is set.
+/// `Overflow` comes exactly where the message is longer than the buffer.
+pub fn write_client_message(
+    code: &Code,
+    message: &ClientMessage,
+    key: u32,
+    into: &mut [u8],
+) -> Result<usize, Overflow>
+    requires some { 1 ≤ length into.old }
+    requires most { length into.old ≤ 16384 }
+    ensures { Fills into.old into.new (client_text code.now key (said_of message.now)) result }
+{
+    let mut w = Writer::new(code, into.len());
+    write_message(&mut w, message, key)?;
+    Ok(w.copy_to(into))
+}
+
+/// Writes the three longs, the commands, the moves, and the end.
+#[tactic(auto, unfolding(crate::specs::Texts::client_text))]
+fn write_message(w: &mut Writer, message: &ClientMessage, key: u32) -> Result<(), Overflow>
+    ensures { Writes w.old w.new (client_text w.old.words key (said_of message.now)) result }
+{
+    laws::texts_are_written();
+    w.put_all(&[
+        (message.id, 32),
+        (message.acknowledged, 32),
+        (message.command, 32),
+    ])?;
+    write_commands(w, CLIENT_COMMAND, &message.commands)?;
+    write_section(w, key, message.delta, &message.moves)?;
+    w.put_all(&[(EOF, 8)])
+}
+
+/// Writes the moves, and before them their operation and how many they are; nothing where there are none.
+fn write_section(w: &mut Writer, key: u32, delta: bool, moves: &[Move]) -> Result<(), Overflow>
+    requires { length moves.now ≤ 32 }
+    ensures { Writes w.old w.new (section_bits w.old.words key delta moves.now) result }
+{
+    laws::texts_are_written();
+    // what stands there fits the room
+    prove!(w.length() > 0);
+    if moves.is_empty() {
+        return Ok(());
+    }
+    w.put_all(&[(operation_of(delta), 8), (moves.len() as u32, 8)])?;
+    write_moves(w, key, moves)
+}
+
+/// The operation of moves.
+fn operation_of(delta: bool) -> u32
+    ensures { result ≡ move_operation delta }
+{
+    if delta { MOVE } else { MOVE_NO_DELTA }
+}

@@ -1,0 +1,48 @@
+-- Commands with nops before them.
+use Rattle.std.proofs.Common.{◌≡◌, ℕ, suc, Bool, List, [], ◌∷◌, ◌++◌, replicate, refl, sym, ap, ◌∙◌, append_assoc}
+use Rattle.std.proofs.lemmas.List.{append-nil}
+use Rattle.std.proofs.lemmas.List.Elements.{All-head, All-tail}
+use Rattle.q3_bits.specs.Words.{row_bits}
+use Rattle.q3_strings.specs.Texts.{command_bits}
+use Rattle.q3_strings.specs.Commands.{commands_bits, nops_bits}
+use Rattle.q3_strings.specs.Rows.{row-none, row-behind}
+use Rattle.q3_strings.specs.Laws.{IsCommand, CommandIsSpelled, CommandsAreSpelled, NopIsSpelled}
+
+-- no nop
+no_nop : (words : List (List Bool)) → [] ≡ nops_bits words 0
+no_nop words = row-none words [] ∙ append-nil (nops_bits words 0)
+
+pub commands_are_spelled : CommandIsSpelled → CommandsAreSpelled
+commands_are_spelled one words operation [] each = refl
+commands_are_spelled one words operation (command ∷ commands) each = (
+  [],
+  command_bits words command,
+  commands_bits words operation commands,
+  refl,
+  (0, no_nop words),
+  one words command (All-head IsCommand command commands each),
+  commands_are_spelled one words operation commands (All-tail IsCommand command commands each),
+)
+
+-- one nop more
+one_more : (words : List (List Bool)) (nops : List Bool) (count : ℕ) → nops ≡ nops_bits words count → row_bits words ((1, 8) ∷ []) ++ nops ≡ nops_bits words (suc count)
+one_more words nops count is =
+    ap (λ (text : List Bool). row_bits words ((1, 8) ∷ []) ++ text) (is ∙ sym (append-nil (nops_bits words count)))
+    ∙ sym (row-behind words 1 8 (replicate count (1, 8)) []) ∙ append-nil (nops_bits words (suc count))
+
+pub nop_is_spelled : NopIsSpelled
+nop_is_spelled words operation [] text count s = (
+  [],
+  suc count,
+  refl,
+  λ rest.
+      ap (λ (text : List Bool). row_bits words ((1, 8) ∷ []) ++ (text ++ (nops_bits words count ++ rest))) s
+      ∙ sym (row-behind words 1 8 (replicate count (1, 8)) rest),
+)
+nop_is_spelled words operation (command ∷ commands) text count (nops, first, others, whole, are_nops, of_command, of_others) =
+    let one = row_bits words ((1, 8) ∷ []) in (
+      (one ++ nops) ++ row_bits words ((operation, 8) ∷ []) ++ first ++ others,
+      count,
+      (one ++ nops, first, others, refl, (suc are_nops.0, one_more words nops are_nops.0 are_nops.1), of_command, of_others),
+      λ rest. ap (λ (text : List Bool). one ++ (text ++ (nops_bits words count ++ rest))) whole ∙ simp append_assoc,
+    )

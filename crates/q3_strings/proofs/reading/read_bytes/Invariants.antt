@@ -1,0 +1,11 @@
+use Rattle.std.proofs.Common.{◌≡◌, ◌-◌, length}
+use Rattle.q3_strings.specs.Reading.{bytes_after}
+use Rattle.q3_strings.proofs.Fronts.{HasFront}
+use Rattle.q3_strings.proofs.reading.read_bytes.Given as goal
+
+-- so many bytes were read
+abbrev pub invariant-loop : goal.invariant-loop
+invariant-loop g l = record {
+  count : length l.into.items ≡ l.counter;
+  reads : HasFront l.fn.r l.r l.into.items (bytes_after l.fn.r.words (l.count - l.counter) l.r.left) (bytes_after l.fn.r.words l.count l.fn.r.left);
+}

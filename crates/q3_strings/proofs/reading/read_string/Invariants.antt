@@ -1,0 +1,14 @@
+use Rattle.std.proofs.Common.{◌≡◌, ◌-◌, length}
+use Rattle.std.specs.List.{All}
+use Rattle.q3_text.specs.Texts.{IsTextByte}
+use Rattle.q3_strings.specs.Reading.{string_after}
+use Rattle.q3_strings.proofs.Fronts.{HasFront}
+use Rattle.q3_strings.proofs.reading.read_string.Given as goal
+
+-- so many bytes were read, none of them 0
+abbrev pub invariant-loop : goal.invariant-loop
+invariant-loop g l = record {
+  count : length l.into.items ≡ l.counter;
+  each : All IsTextByte l.into.items;
+  reads : HasFront l.fn.r l.r l.into.items (string_after l.fn.r.words (g.row.N - l.counter) l.r.left) (string_after l.fn.r.words g.row.N l.fn.r.left);
+}

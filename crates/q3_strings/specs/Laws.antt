@@ -1,0 +1,77 @@
+-- Laws of bytes, of strings and of commands.
+use Rattle.std.specs.Prelude.{◌≡◌, ℕ, ◌^◌, ◌<◌, ◌≤◌, Bool, List, [], ◌∷◌, ◌++◌, length, All, Ok, Err}
+use Rattle.q3_bits.specs.Words.{IsCode, row_bits, field_at}
+use Rattle.q3_bits.specs.declared.reader.ReadError.{ReadError}
+use Rattle.q3_bits.specs.declared.reader.ReadError.TheVariants.{End}
+use Rattle.q3_text.specs.declared.text.Command.{Command}
+use Rattle.q3_text.specs.Texts.{IsText, IsTextByte}
+use Rattle.q3_strings.specs.Texts.{bytes_row, string_bits, command_bits}
+use Rattle.q3_strings.specs.Reading.{bytes_after, string_after, command_after}
+use Rattle.q3_strings.specs.Spelling.{SpellsString, SpellsCommand}
+use Rattle.q3_strings.specs.Commands.{commands_bits, nops_bits, SpellsCommands}
+use Rattle.q3_strings.specs.Turns.{HasTurn}
+
+-- a command as the program's type holds it
+pub record IsCommand (command : Command) : Type 0 where
+  pub number : command.number < 2 ^ 32
+  pub text : IsText command.text
+
+-- bytes that are read were put, and bytes that are put are read, with whatever follows them
+abbrev pub BytesWerePut : Type 0
+BytesWerePut = (words : List (List Bool)) (count : ℕ) (bytes : List ℕ) (bits rest : List Bool) → IsCode words → bytes_after words count bits ≡ Ok (bytes, rest)
+    → (length bytes ≡ count) × All (λ byte. byte < 256) bytes × (bits ≡ bytes_row words bytes ++ rest)
+
+abbrev pub BytesAreRead : Type 0
+BytesAreRead = (words : List (List Bool)) (bytes : List ℕ) (rest : List Bool) → IsCode words → All (λ byte. byte < 256) bytes
+    → bytes_after words (length bytes) (bytes_row words bytes ++ rest) ≡ Ok (bytes, rest)
+
+-- what is written of bytes that a text may hold spells them
+abbrev pub StringIsSpelled : Type 0
+StringIsSpelled = (words : List (List Bool)) (most : ℕ) (text : List ℕ) → All IsTextByte text → length text ≤ most
+    → SpellsString words most text (string_bits words text)
+
+-- what is read as a string was spelled so, and holds bytes that a text may hold
+abbrev pub StringReadIsSpelled : Type 0
+StringReadIsSpelled = (words : List (List Bool)) (most : ℕ) (text : List ℕ) (bits rest : List Bool) → IsCode words → string_after words most bits ≡ Ok (text, rest)
+    → All IsTextByte text × (spelling : List Bool) × (bits ≡ spelling ++ rest) × SpellsString words most text spelling
+
+-- what is spelled so is read, with whatever follows it
+abbrev pub StringSpelledIsRead : Type 0
+StringSpelledIsRead = (words : List (List Bool)) (most : ℕ) (text : List ℕ) (spelling rest : List Bool) → IsCode words → SpellsString words most text spelling
+    → string_after words most (spelling ++ rest) ≡ Ok (text, rest)
+
+-- what is written of a command spells it
+abbrev pub CommandIsSpelled : Type 0
+CommandIsSpelled = (words : List (List Bool)) (command : Command) → IsCommand command → SpellsCommand words command (command_bits words command)
+
+-- what is read as a command was spelled so, and is one that the program's type may hold
+abbrev pub CommandReadIsSpelled : Type 0
+CommandReadIsSpelled = (words : List (List Bool)) (command : Command) (bits rest : List Bool) → IsCode words → command_after words bits ≡ Ok (command, rest)
+    → IsCommand command × (spelling : List Bool) × (bits ≡ spelling ++ rest) × SpellsCommand words command spelling
+
+-- what is spelled so is read, with whatever follows it
+abbrev pub CommandSpelledIsRead : Type 0
+CommandSpelledIsRead = (words : List (List Bool)) (command : Command) (spelling rest : List Bool) → IsCode words → SpellsCommand words command spelling
+    → command_after words (spelling ++ rest) ≡ Ok (command, rest)
+
+-- what is written of commands spells them
+abbrev pub CommandsAreSpelled : Type 0
+CommandsAreSpelled = (words : List (List Bool)) (operation : ℕ) (commands : List Command) → All IsCommand commands
+    → SpellsCommands words operation commands (commands_bits words operation commands)
+
+-- a nop before commands, and before the nops behind them, is a nop of theirs
+abbrev pub NopIsSpelled : Type 0
+NopIsSpelled = (words : List (List Bool)) (operation : ℕ) (commands : List Command) (text : List Bool) (count : ℕ) → SpellsCommands words operation commands text
+    → (longer : List Bool) × (more : ℕ) × SpellsCommands words operation commands longer
+    × ((rest : List Bool) → row_bits words ((1, 8) ∷ []) ++ (text ++ (nops_bits words count ++ rest)) ≡ longer ++ (nops_bits words more ++ rest))
+
+-- what holds of operations that are read one after the other
+pub record TurnsAreTaken : Type 0 where
+  -- an operation takes a bit at least
+  pub shorter : (words : List (List Bool)) (bits rest : List Bool) (operation : ℕ) → IsCode words → field_at words 8 bits ≡ Ok (operation, rest)
+      → length rest < length bits
+  -- so a turn is taken of those that are left
+  pub turn : (words : List (List Bool)) (bits rest : List Bool) (operation turns : ℕ) → IsCode words → Ok (operation, rest) ≡ field_at words 8 bits
+      → length bits ≤ turns → HasTurn turns rest
+  -- where no bit is left, the bits end
+  pub ends : (words : List (List Bool)) (e : ReadError) → IsCode words → field_at words 8 [] ≡ Err e → e ≡ End

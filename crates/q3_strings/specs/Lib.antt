@@ -1,0 +1,7 @@
+pub mod Texts
+pub mod Reading
+pub mod Spelling
+pub mod Commands
+pub mod Rows
+pub mod Turns
+pub mod Laws

@@ -1,0 +1,62 @@
+-- How rows of fields are read, by what is known of one field.
+use Rattle.std.specs.Prelude.{◌≡◌, ℕ, ◌^◌, ◌<◌, Bool, List, [], ◌∷◌, ◌++◌, Result, Ok, Err, refl}
+use Rattle.std.specs.Result.{result_map_both}
+use Rattle.std.proofs.Common.{ap, ◌∙◌, sym, append_assoc}
+use Rattle.std.proofs.lemmas.List.{append-nil}
+use Rattle.q3_bits.specs.Words.{IsCode, field_bits, field_at, row_bits}
+use Rattle.q3_bits.specs.Laws.{ReadWasPut, PutIsRead}
+
+-- an answer with another's value
+answer_of : {A E F : Type 0} → Result A E → Result A F → Result A E
+answer_of r (Ok x) = Ok x
+answer_of r (Err f) = r
+
+-- of an answer whose faults are told in other words, the value is the same
+pub answer_ok : {A E F : Type 0} (fault : E → F) (r : Result A E) (x : A) → result_map_both (λ (x : A). x) fault r ≡ Ok x → r ≡ Ok x
+unfolding answer_of
+answer_ok fault (Ok y) x e = ap (λ r. answer_of (Ok y) r) e
+answer_ok fault (Err d) x e = ap (λ r. answer_of (Err d) r) e
+
+-- of no fields there is no text
+pub row-none : (words : List (List Bool)) (bits : List Bool) → bits ≡ row_bits words [] ++ bits
+unfolding row_bits
+row-none words bits = refl
+
+-- a row behind a field is a row
+pub row-behind : (words : List (List Bool)) (value width : ℕ) (fields : List (ℕ × ℕ)) (rest : List Bool)
+    → row_bits words ((value, width) ∷ fields) ++ rest ≡ row_bits words ((value, width) ∷ []) ++ (row_bits words fields ++ rest)
+unfolding row_bits
+row-behind words value width fields rest =
+    append_assoc (field_bits words width value) (row_bits words fields) rest
+    ∙ ap (λ (text : List Bool). text ++ (row_bits words fields ++ rest)) (sym (append-nil (field_bits words width value)))
+
+-- a field that was read: its value fits, and it stands in front of the row that is behind it
+pub record WasField (words : List (List Bool)) (width : ℕ) (bits : List Bool) (found : ℕ × List Bool) : Type 0 where
+  pub fits : found.0 < 2 ^ width
+  pub row : (fields : List (ℕ × ℕ)) (rest : List Bool) → found.1 ≡ row_bits words fields ++ rest → bits ≡ row_bits words ((found.0, width) ∷ fields) ++ rest
+
+pub field_was_put : ReadWasPut → (words : List (List Bool)) (width : ℕ) (bits : List Bool) (found : ℕ × List Bool) → IsCode words → field_at words width bits ≡ Ok found
+    → WasField words width bits found
+unfolding row_bits
+field_was_put put words width bits found code e =
+    let was = put words width found.0 bits found.1 code e in
+    record {
+      fits = was.0;
+      row = λ fields rest is.
+          was.1 ∙ ap (λ (left : List Bool). field_bits words width found.0 ++ left) is
+          ∙ sym (append_assoc (field_bits words width found.0) (row_bits words fields) rest);
+    }
+
+module _ (words : List (List Bool)) (code : IsCode words) (put : PutIsRead) where
+  -- the first field of a row is read
+  pub row-first : (value width : ℕ) (fields : List (ℕ × ℕ)) (rest : List Bool) → value < 2 ^ width
+      → field_at words width (row_bits words ((value, width) ∷ fields) ++ rest) ≡ Ok (value, row_bits words fields ++ rest)
+  unfolding row_bits
+  row-first value width fields rest fits =
+      ap (λ (bits : List Bool). field_at words width bits) (append_assoc (field_bits words width value) (row_bits words fields) rest)
+      ∙ put words width value (row_bits words fields ++ rest) code fits
+
+  -- and so is the last
+  pub row-last : (value width : ℕ) (rest : List Bool) → value < 2 ^ width → field_at words width (row_bits words ((value, width) ∷ []) ++ rest) ≡ Ok (value, rest)
+  unfolding row_bits
+  row-last value width rest fits = row-first value width [] rest fits

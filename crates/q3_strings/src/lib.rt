@@ -1,0 +1,13 @@
+//! The strings of bit messages, and the commands that both ends send each other.
+#![tactic(auto)]
+
+pub mod error;
+pub mod laws;
+pub mod reading;
+#[cfg(test)]
+mod tests;
+pub mod writing;
+
+pub use error::StringError;
+pub use reading::{read_bytes, read_command, read_string, read_text};
+pub use writing::{write_bytes, write_command, write_commands, write_string};

@@ -1,0 +1,85 @@
+//! Reads strings and commands. Keeps the rules "strings and their translation" and "commands in messages", the engine's
+//! `MSG_ReadString` and `MSG_ReadBigString` (msg.c). The engine cuts a long string; that it is refused is this project's
+//! own.
+
+ghost use Rattle.std.specs.Prelude.{◌≡◌, ◌≤◌, All};
+ghost use Rattle.q3_bits.specs.Streams.{Reads, holding};
+ghost use Rattle.q3_text.specs.Texts.{IsText, IsTextByte, most_bytes};
+ghost use Rattle.q3_strings.specs.Reading.{bytes_after, string_after, command_after};
+
+use crate::error::StringError;
+use arrayvec::ArrayVec;
+use q3_bits::{ReadError, Reader};
+use q3_text::{Command, Text, laws, translate};
+
+/// The most bytes of a text.
+const MOST_BYTES: usize = 1_023;
+
+/// Reads so many bytes, as they are. After a refusal `into` may hold any.
+/// `End` and `NoWord` come as in `Reader::get`.
+pub fn read_bytes<const N: usize>(
+    r: &mut Reader,
+    count: usize,
+    into: &mut ArrayVec<u8, N>,
+) -> Result<(), ReadError>
+    requires { count ≤ N }
+    ensures { Reads r.old r.new (bytes_after r.old.words count r.old.left) (holding into.new.items result) }
+{
+    into.clear();
+    for _ in 0..count {
+        into.push(r.get(8)? as u8);
+    }
+    Ok(())
+}
+
+/// Reads a string of at most as many bytes as there is room for, and translates each. After a refusal `into` may hold
+/// any. `Err` is the first in reading order: `Bits` where the bits don't read; `Long` where the byte behind the last that
+/// there is room for isn't 0.
+pub fn read_string<const N: usize>(
+    r: &mut Reader,
+    into: &mut ArrayVec<u8, N>,
+) -> Result<(), StringError>
+    ensures reads { Reads r.old r.new (string_after r.old.words N r.old.left) (holding into.new.items result) }
+    ensures each { All IsTextByte into.new.items }
+{
+    into.clear();
+    for _ in 0..N {
+        let byte = r.get(8)?;
+        if byte == 0 {
+            return Ok(());
+        }
+        into.push(translate(byte as u8));
+    }
+    if r.get(8)? != 0 {
+        return Err(StringError::Long);
+    }
+    Ok(())
+}
+
+/// The text of bytes that are one.
+fn text_from(bytes: &[u8]) -> Text
+    requires { IsText bytes.now }
+    ensures { result ≡ bytes.now }
+{
+    laws::texts_are_texts();
+    Text::of(bytes).unwrap()
+}
+
+/// Reads a string of at most 1,023 bytes. `Err` comes as in `read_string`.
+pub fn read_text(r: &mut Reader) -> Result<Text, StringError>
+    ensures { Reads r.old r.new (string_after r.old.words most_bytes r.old.left) result }
+{
+    let mut bytes: ArrayVec<u8, MOST_BYTES> = ArrayVec::new();
+    read_string(r, &mut bytes)?;
+    Ok(text_from(&bytes))
+}
+
+/// Reads a command behind its operation. `Err` comes as in `read_string`.
+#[tactic(auto, unfolding(crate::specs::Reading::command_after))]
+pub fn read_command(r: &mut Reader) -> Result<Command, StringError>
+    ensures { Reads r.old r.new (command_after r.old.words r.old.left) result }
+{
+    let number = r.get(32)?;
+    let text = read_text(r)?;
+    Ok(Command { number, text })
+}
