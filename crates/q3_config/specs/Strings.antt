@@ -1,5 +1,5 @@
 -- Config strings: a string for each index, empty where none is set, and their size.
-use Rattle.std.specs.Prelude.{◌≡◌, ℕ, ◌+◌, ◌==◌, ◌<◌, ◌≤◌, nat_lt, nat_le, ◌&&◌, not, if◌then◌else◌, Bool, List, [], length, map, replicate, find, sum, All, slice_index_or, slice_set, Option, Some, None, IfSome, Result, Ok, Err, ◌∷◌, codes, option_and_then}
+use Rattle.std.specs.Prelude.{◌≡◌, ℕ, ◌+◌, ◌==◌, ◌<◌, ◌≤◌, nat_lt, nat_le, ◌&&◌, not, if◌then◌else◌, Bool, List, [], length, map, replicate, find, sum, All, slice_index_or, slice_set, Option, Some, None, IfSome, Result, Ok, Err, codes, option_and_then}
 use Rattle.q3_text.specs.Texts.{translated}
 use Rattle.q3_text.specs.Info.{info_of}
 use Rattle.q3_text.specs.Decimals.{info_number}
