@@ -10,7 +10,7 @@ use Rattle.q3_bits.specs.Words.{IsCode, row_bits, field_at}
 use Rattle.q3_bits.specs.Laws.{ReadWasPut}
 use Rattle.q3_text.specs.declared.text.Command.{Command}
 use Rattle.q3_strings.specs.Commands.{commands_bits, nops_bits, SpellsCommands}
-use Rattle.q3_strings.specs.Rows.{answer_ok, row-none, row-behind, field_was_put}
+use Rattle.q3_strings.specs.Rows.{answer_ok, row-empty, row-none, row-behind, field_was_put}
 use Rattle.q3_strings.specs.Laws.{IsCommand, CommandReadIsSpelled, CommandsAreSpelled, NopIsSpelled}
 use Rattle.q3_clmsg.specs.declared.moves.Move.{Move}
 use Rattle.q3_clmsg.specs.declared.heads.Heads.{Heads}
@@ -28,9 +28,6 @@ use Rattle.q3_clmsg.proofs.CommandRows.{ReadCommand, command_was_spelled}
 -- the end
 abbrev pub end : List (List Bool) → List Bool
 end words = row_bits words ((5, 8) ∷ [])
-
-no_nop : (words : List (List Bool)) → [] ≡ nops_bits words 0
-no_nop words = row-none words [] ∙ append-nil (nops_bits words 0)
 
 -- no moves
 none_spelled : (words : List (List Bool)) (key : ℕ) (delta : Bool) (moves : List Move) → delta ≡ false → moves ≡ [] → SpellsSection words key delta moves []
@@ -66,9 +63,9 @@ message_is_spelled commands_are words key message code fits is =
       section = section;
       behind = [];
       of_commands = commands_are words 4 message.commands is.commands;
-      of_nops = (0, no_nop words);
+      of_nops = (0, row-empty words);
       of_section = section_is_spelled words key message.delta message.moves is.few_moves is.moves is.whole;
-      of_behind = (0, no_nop words);
+      of_behind = (0, row-empty words);
       whole = simp append-nil;
     }
 
@@ -244,7 +241,7 @@ module _ (words : List (List Bool)) (key : ℕ) (message : Message) (bits left :
         few_moves = read.few_moves;
         moves = read.moves;
         whole = read.whole;
-        of_commands = ([], command.text, read.commands, refl, (0, no_nop words), command.spells, read.of_commands);
+        of_commands = ([], command.text, read.commands, refl, (0, row-empty words), command.spells, read.of_commands);
         of_section = read.of_section;
         parts =
             is

@@ -19,9 +19,6 @@ use q3_bits::{Code, Reader};
 use q3_strings::{laws, read_command};
 use q3_text::Command;
 
-/// The operation of a command, as it is read.
-const COMMAND: u32 = CLIENT_COMMAND as u32;
-
 /// Reads one command more behind its operation. A 65th is refused before it is read.
 #[tactic(auto, unfolding(crate::specs::Reading::commands_after))]
 fn read_next_command(
@@ -101,7 +98,7 @@ fn read_operations(
     loop {
         match r.get(8)? {
             NOP => {}
-            COMMAND => read_next_command(r, &mut into.commands)?,
+            CLIENT_COMMAND => read_next_command(r, &mut into.commands)?,
             MOVE => return read_moved(r, key, true, into),
             MOVE_NO_DELTA => return read_moved(r, key, false, into),
             EOF => return Ok(()),

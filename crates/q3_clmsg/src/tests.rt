@@ -26,11 +26,28 @@ fn message_without_moves_is_written_and_read(rt: HostRuntime) -> Result<(), Fail
         write_client_message(&code, &message, 0, &mut [0; 13]),
         Err(Overflow)
     );
+    message.commands.push(Command {
+        number: 2,
+        text: Text::of(b"a%").expect(&rt, "a text"),
+    });
+    let mut with_command = [0; 22];
+    assert_eq!(rt;
+        write_client_message(&code, &message, 0, &mut with_command),
+        Ok(22)
+    );
+    assert_eq!(rt;
+        with_command,
+        [
+            0x00, 0x00, 0x00, 0x00, 0x01, 0x00, 0x00, 0x00, 0x00, 0x00, 0x00, 0x00, 0x04, 0x02,
+            0x00, 0x00, 0x00, 0x61, 0x2e, 0x00, 0x05, 0x00
+        ]
+    );
     message.id = 7;
     message.delta = true;
     assert_eq!(rt; read_client_message(&code, &into, 0, &mut message), Ok(()));
     assert_eq!(rt; message.id, 0);
     assert_eq!(rt; message.acknowledged, 1);
+    assert!(rt; message.commands.is_empty());
     assert_eq!(rt; message.delta, false);
     assert!(rt; message.moves.is_empty());
     Ok(())

@@ -13,7 +13,7 @@ use q3_bits::{Code, Overflow, Writer, laws};
 use q3_strings::write_commands;
 
 /// Writes a message to the front of a buffer of 1 to 16,384 bytes, and answers how many bytes it has; those behind it
-/// stay. `key` is that of its moves, as `message_key` gives it. Without moves nothing tells whether `delta` is set.
+/// stay. `key` is that of its moves, as `message_key` gives it. Without moves `delta` isn't written.
 /// `Overflow` comes exactly where the message is longer than the buffer.
 pub fn write_client_message(
     code: &Code,
@@ -41,7 +41,7 @@ fn write_message(w: &mut Writer, message: &ClientMessage, key: u32) -> Result<()
         (message.acknowledged, 32),
         (message.command, 32),
     ])?;
-    write_commands(w, CLIENT_COMMAND, &message.commands)?;
+    write_commands(w, CLIENT_COMMAND as u8, &message.commands)?;
     write_section(w, key, message.delta, &message.moves)?;
     w.put_all(&[(EOF, 8)])
 }

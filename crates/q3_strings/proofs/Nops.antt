@@ -5,12 +5,8 @@ use Rattle.std.proofs.lemmas.List.Elements.{All-head, All-tail}
 use Rattle.q3_bits.specs.Words.{row_bits}
 use Rattle.q3_strings.specs.Texts.{command_bits}
 use Rattle.q3_strings.specs.Commands.{commands_bits, nops_bits}
-use Rattle.q3_strings.specs.Rows.{row-none, row-behind}
+use Rattle.q3_strings.specs.Rows.{row-empty, row-behind}
 use Rattle.q3_strings.specs.Laws.{IsCommand, CommandIsSpelled, CommandsAreSpelled, NopIsSpelled}
-
--- no nop
-no_nop : (words : List (List Bool)) → [] ≡ nops_bits words 0
-no_nop words = row-none words [] ∙ append-nil (nops_bits words 0)
 
 pub commands_are_spelled : CommandIsSpelled → CommandsAreSpelled
 commands_are_spelled one words operation [] each = refl
@@ -19,7 +15,7 @@ commands_are_spelled one words operation (command ∷ commands) each = (
   command_bits words command,
   commands_bits words operation commands,
   refl,
-  (0, no_nop words),
+  (0, row-empty words),
   one words command (All-head IsCommand command commands each),
   commands_are_spelled one words operation commands (All-tail IsCommand command commands each),
 )

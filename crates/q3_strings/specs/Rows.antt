@@ -22,6 +22,9 @@ pub row-none : (words : List (List Bool)) (bits : List Bool) → bits ≡ row_bi
 unfolding row_bits
 row-none words bits = refl
 
+pub row-empty : (words : List (List Bool)) → [] ≡ row_bits words []
+row-empty words = row-none words [] ∙ append-nil (row_bits words [])
+
 -- a row behind a field is a row
 pub row-behind : (words : List (List Bool)) (value width : ℕ) (fields : List (ℕ × ℕ)) (rest : List Bool)
     → row_bits words ((value, width) ∷ fields) ++ rest ≡ row_bits words ((value, width) ∷ []) ++ (row_bits words fields ++ rest)
