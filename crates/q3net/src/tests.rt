@@ -10,9 +10,6 @@ const SCRIPT: &[u8] = b"client 0 17 5000 1 10.0.0.1:27960\ntime 1000\nshow 0\n";
 
 const REPORT: &[u8] = b"client 0 ok\ntime ok\nshow 0 none\n";
 
-/// No call fails.
-const NONE: (&[u64], &[u64]) = (&[], &[]);
-
 /// A profile with the plain code: the word of a byte is its eight bits, least first.
 const PROFILE: &[u8] = br#"protocol = 68
 server_ring = 4096
@@ -74,21 +71,21 @@ fn status_of(alloc: Global, words: &[String], files: &mut MemFiles, out: &mut Li
     run(alloc, words, files, out)
 }
 
-/// Runs a command line over files `p` and `s` of these bytes, where these calls fail: it answers this status and prints
-/// this.
+/// Runs a command line over the profile `p` and a script `s`, where a call of the files fails and a write, each by its
+/// number, 0 for none: it answers this status and prints this.
 fn wants(
     rt: &impl std::process::Abort,
     alloc: Global,
     line: &str,
-    stored: (&[u8], &[u8]),
-    fails: (&[u64], &[u64]),
+    script: &[u8],
+    fails: (u64, u64),
     status: u8,
     printed: &[u8],
 ) {
-    let mut files = MemFiles::new(alloc, 2, 8_192, 4, fails.0).expect(rt, "memory");
-    assert!(rt; files.store("p", stored.0));
-    assert!(rt; files.store("s", stored.1));
-    let mut out = Line::new(MemSink::new(alloc, 4_096, fails.1).expect(rt, "memory"));
+    let mut files = MemFiles::new(alloc, 2, 8_192, 4, &[fails.0]).expect(rt, "memory");
+    assert!(rt; files.store("p", profile()));
+    assert!(rt; files.store("s", script));
+    let mut out = Line::new(MemSink::new(alloc, 4_096, &[fails.1]).expect(rt, "memory"));
     let words = words(alloc, line).expect(rt, "memory");
     assert_eq!(rt; status_of(alloc, &words, &mut files, &mut out), status);
     assert_eq!(rt; out.sink().bytes(), printed);
@@ -97,21 +94,26 @@ fn wants(
 #[test]
 fn each_status(rt: HostRuntime) {
     let alloc = rt.alloc();
-    let good = (profile(), SCRIPT);
-    wants(&rt, alloc, "replay p s", good, NONE, 0, REPORT);
-    wants(&rt, alloc, "replay p", good, NONE, 2, b"usage\n");
-    wants(&rt, alloc, "replay t s", good, NONE, 3, b"read fault\n");
-    let bad = (SCRIPT, SCRIPT);
-    wants(&rt, alloc, "replay p s", bad, NONE, 5, b"profile: toml\n");
-    let bad = (profile(), b"time 1\n\nserve x\n".as_slice());
+    wants(&rt, alloc, "replay p s", SCRIPT, (0, 0), 0, REPORT);
+    wants(&rt, alloc, "replay p", SCRIPT, (0, 0), 2, b"usage\n");
+    wants(&rt, alloc, "replay t s", SCRIPT, (0, 0), 3, b"read fault\n");
+    wants(
+        &rt,
+        alloc,
+        "replay s s",
+        SCRIPT,
+        (0, 0),
+        5,
+        b"profile: toml\n",
+    );
     wants(
         &rt,
         alloc,
         "replay p s",
-        bad,
-        NONE,
+        b"time\n",
+        (0, 0),
         6,
-        b"script: line 3: number\n",
+        b"script: line 1: count\n",
     );
 }
 
@@ -120,14 +122,13 @@ fn each_status(rt: HostRuntime) {
 #[test]
 fn faults_of_the_outside(rt: HostRuntime) {
     let alloc = rt.alloc();
-    let good = (profile(), SCRIPT);
-    wants(&rt, alloc, "replay p s", good, (&[], &[1]), 4, b"");
+    wants(&rt, alloc, "replay p s", SCRIPT, (0, 1), 4, b"");
     wants(
         &rt,
         alloc,
         "replay p s",
-        good,
-        (&[], &[2]),
+        SCRIPT,
+        (0, 2),
         4,
         b"client 0 ok\n",
     );
@@ -135,27 +136,11 @@ fn faults_of_the_outside(rt: HostRuntime) {
         &rt,
         alloc,
         "replay p s",
-        good,
-        (&[], &[3]),
+        SCRIPT,
+        (0, 3),
         4,
         b"client 0 ok\ntime ok\n",
     );
-    wants(
-        &rt,
-        alloc,
-        "replay p s",
-        good,
-        (&[2], &[]),
-        3,
-        b"read fault\n",
-    );
-    wants(
-        &rt,
-        alloc,
-        "replay p s",
-        good,
-        (&[5], &[]),
-        3,
-        b"read fault\n",
-    );
+    wants(&rt, alloc, "replay p s", SCRIPT, (2, 0), 3, b"read fault\n");
+    wants(&rt, alloc, "replay p s", SCRIPT, (5, 0), 3, b"read fault\n");
 }
