@@ -1,5 +1,5 @@
 -- What a snapshot is read against is in normal form.
-use Rattle.std.proofs.Common.{◌≡◌, ◌+◌, ℕ, zero, suc, [], Option, Some, None, arith}
+use Rattle.std.proofs.Common.{◌≡◌, ◌+◌, ℕ, zero, suc, Option, Some, None, arith}
 use Rattle.std.proofs.lemmas.List.Elements.{All-nil}
 use Rattle.q3_player.specs.State.{IsState, IsNormal}
 use Rattle.q3_player.specs.Laws as player
