@@ -3,12 +3,11 @@ use Rattle.std.proofs.Common.{◌≡◌, ◌<◌, ◌≤◌, Bool, true, nat_lt,
 use Rattle.std.proofs.lemmas.Bool.{cases_Bool}
 use Rattle.std.proofs.lemmas.Bool.Decides.{nat_tests}
 use Rattle.std.proofs.lemmas.List.{length-append}
-use Rattle.q3_bits.specs.ResultBind.{bind_ok}
+use Rattle.q3_bits.specs.ResultBind.{bind_ok, map_err_ok}
 use Rattle.q3_bits.specs.Words.{IsCode}
 use Rattle.q3_text.specs.declared.text.Command.{Command}
 use Rattle.q3_strings.specs.Reading.{command_after}
 use Rattle.q3_strings.specs.Spelling.{SpellsCommand}
-use Rattle.q3_strings.specs.Rows.{answer_ok}
 use Rattle.q3_strings.specs.Laws.{IsCommand, CommandReadIsSpelled, CommandSpelledIsRead}
 use Rattle.q3_clmsg.specs.Reading.{string_error, strings_read, commands_after}
 
@@ -32,7 +31,7 @@ command_was_spelled law words code commands bits found e =
           let read = bind_ok (strings_read (command_after words bits)) (λ command. Ok (commands ++ command.0 ∷ [], command.1)) found (rw room at e) in
           let made = read.2 in
           let same : (commands ++ read.0.0 ∷ [], read.0.1) ≡ found = cc in
-          let was = law words read.0.0 bits read.0.1 code (answer_ok string_error (command_after words bits) read.0 read.1) in
+          let was = law words read.0.0 bits read.0.1 code (map_err_ok string_error (command_after words bits) read.0 read.1) in
           let few : length commands < 64 = grind (arith, nat_tests) in
           subst (ReadCommand words commands bits) {x = (commands ++ read.0.0 ∷ [], read.0.1)} same (record {
             few = few;

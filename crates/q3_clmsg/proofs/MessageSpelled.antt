@@ -5,12 +5,12 @@ use Rattle.std.proofs.lemmas.Bool.{cases_Bool, eqb-true}
 use Rattle.std.proofs.lemmas.Bool.Decides.{nat_tests}
 use Rattle.std.proofs.lemmas.List.{length-append, append-nil}
 use Rattle.std.proofs.lemmas.List.Elements.{All-nil, All-cons}
-use Rattle.q3_bits.specs.ResultBind.{◌>>=◌, bind_ok}
+use Rattle.q3_bits.specs.ResultBind.{◌>>=◌, bind_ok, map_err_ok}
 use Rattle.q3_bits.specs.Words.{IsCode, row_bits, field_at}
 use Rattle.q3_bits.specs.Laws.{ReadWasPut}
 use Rattle.q3_text.specs.declared.text.Command.{Command}
 use Rattle.q3_strings.specs.Commands.{commands_bits, nops_bits, SpellsCommands}
-use Rattle.q3_strings.specs.Rows.{answer_ok, row-empty, row-none, row-behind, field_was_put}
+use Rattle.q3_strings.specs.Rows.{row-empty, row-none, row-behind, field_was_put}
 use Rattle.q3_strings.specs.Laws.{IsCommand, CommandReadIsSpelled, CommandsAreSpelled, NopIsSpelled}
 use Rattle.q3_clmsg.specs.declared.moves.Move.{Move}
 use Rattle.q3_clmsg.specs.declared.heads.Heads.{Heads}
@@ -87,8 +87,8 @@ section_was_spelled put words code key bits found e =
     (λ count. cond (nat_le 1 count.0 && nat_le count.0 32) (bits_read (moves_at words key count.0 no_move count.1)) (Err (MoveCount count.0))) found e in
     elim (cases_Bool (nat_le 1 count.0.0 && nat_le count.0.0 32)) [
       | inl within ↦
-          let was = field_was_put put words 8 bits count.0 code (answer_ok Bits (field_at words 8 bits) count.0 count.1) in
-          let were = moves_were_spelled put words code key count.0.0 no_move count.0.1 found none_is (answer_ok Bits (moves_at words key count.0.0 no_move count.0.1) found (rw within at count.2)) in
+          let was = field_was_put put words 8 bits count.0 code (map_err_ok Bits (field_at words 8 bits) count.0 count.1) in
+          let were = moves_were_spelled put words code key count.0.0 no_move count.0.1 found none_is (map_err_ok Bits (moves_at words key count.0.0 no_move count.0.1) found (rw within at count.2)) in
           let some : 0 < count.0.0 = grind (arith, nat_tests, within) in
           let few : count.0.0 ≤ 32 = grind (arith, nat_tests, within) in
           record {
@@ -118,7 +118,7 @@ ending_was_spelled put words code zero bits found e = absurd cc
 ending_was_spelled put words code (suc turns) bits found e =
     let operation = bind_ok (field_read words 8 bits)
     (λ operation. cond (eqb operation.0 5) (Ok (tt, operation.1)) (cond (eqb operation.0 1) (ending_after words turns operation.1) (Err (BadOp operation.0)))) found e in
-    let was = field_was_put put words 8 bits operation.0 code (answer_ok Bits (field_at words 8 bits) operation.0 operation.1) in
+    let was = field_was_put put words 8 bits operation.0 code (map_err_ok Bits (field_at words 8 bits) operation.0 operation.1) in
     elim (cases_Bool (eqb operation.0.0 5)) [
       | inl done ↦
           let made = rw done at operation.2 in
@@ -315,7 +315,7 @@ module _ (put : ReadWasPut) (command_law : CommandReadIsSpelled) (nop_law : NopI
       (cond (eqb operation.0 2) (moved_after words key true message operation.1)
       (cond (eqb operation.0 3) (moved_after words key false message operation.1) (Err (BadOp operation.0))))))) found e in
       let left = operation.0.1 in
-      let was = field_was_put put words 8 bits operation.0 code (answer_ok Bits (field_at words 8 bits) operation.0 operation.1) in
+      let was = field_was_put put words 8 bits operation.0 code (map_err_ok Bits (field_at words 8 bits) operation.0 operation.1) in
       let front = λ (byte : ℕ) (here : eqb operation.0.0 byte ≡ true).
       was.row [] left (row-none words left) ∙ ap (λ (n : ℕ). row_bits words ((n, 8) ∷ []) ++ left) (eqb-true operation.0.0 byte here) in
       elim (cases_Bool (eqb operation.0.0 5)) [
@@ -439,6 +439,6 @@ pub message_was_spelled : ReadWasPut → CommandReadIsSpelled → NopIsSpelled �
 unfolding client_after
 message_was_spelled put command_law nop_law words key message bits rest code fits e =
     let heads = bind_ok (bits_read (heads_after words bits)) (λ heads. operations_after words key (length heads.1) (start_of heads.0) heads.1) (message, rest) e in
-    let were = heads_were_spelled put words code bits heads.0 (answer_ok Bits (heads_after words bits) heads.0 heads.1) in
+    let were = heads_were_spelled put words code bits heads.0 (map_err_ok Bits (heads_after words bits) heads.0 heads.1) in
     let read = operations_were_spelled put command_law nop_law words code key (length heads.0.1) (start_of heads.0.0) heads.0.1 (message, rest) (record { delta = refl; moves = refl }) (omega arith) heads.2 in
     message_behind words key message bits rest heads.0 were read

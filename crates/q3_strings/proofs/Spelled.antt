@@ -4,7 +4,7 @@ use Rattle.std.specs.List.{All}
 use Rattle.std.proofs.lemmas.Bool.{cases_Bool, eqb-true, eqb-false}
 use Rattle.std.proofs.lemmas.List.{length-map}
 use Rattle.std.proofs.lemmas.List.Elements.{All-nil, All-cons, All-head, All-tail}
-use Rattle.q3_bits.specs.ResultBind.{◌>>=◌, bind_ok}
+use Rattle.q3_bits.specs.ResultBind.{◌>>=◌, bind_ok, map_err_ok}
 use Rattle.q3_bits.specs.Words.{IsCode, row_bits, field_at}
 use Rattle.q3_bits.specs.Laws.{PutIsRead, ReadWasPut}
 use Rattle.q3_bits.specs.declared.reader.ReadError.{ReadError}
@@ -15,7 +15,7 @@ use Rattle.q3_strings.specs.declared.error.StringError.TheVariants.{Bits, Long}
 use Rattle.q3_strings.specs.Texts.{bytes_row, string_bits}
 use Rattle.q3_strings.specs.Reading.{bits_read, bytes_after, string_after, command_after}
 use Rattle.q3_strings.specs.Spelling.{SpellsString, SpellsCommand}
-use Rattle.q3_strings.specs.Rows.{answer_ok, row-none, WasField, field_was_put, row-first, row-last}
+use Rattle.q3_strings.specs.Rows.{row-none, WasField, field_was_put, row-first, row-last}
 use Rattle.q3_strings.specs.Laws.{IsCommand, BytesWerePut, BytesAreRead, StringReadIsSpelled, StringSpelledIsRead, CommandReadIsSpelled, CommandSpelledIsRead}
 use Rattle.q3_strings.proofs.Fronts.{Read, with_front, isnt_zero, translated_is_text, bytes_none, bytes_more, string_end, string_more}
 
@@ -109,7 +109,7 @@ string_was : ReadWasPut → (words : List (List Bool)) → IsCode words → (mos
 unfolding string_after
 string_was put words code zero bits found e =
     let byte = bind_ok (bits_read (field_at words 8 bits)) (λ byte. cond (eqb byte.0 0) (Ok ([], byte.1)) (Err Long)) found e in
-    let read = answer_ok Bits (field_at words 8 bits) byte.0 byte.1 in
+    let read = map_err_ok Bits (field_at words 8 bits) byte.0 byte.1 in
     elim (cases_Bool (eqb byte.0.0 0)) [
       | inl none ↦
           let made = rw none at byte.2 in
@@ -120,7 +120,7 @@ string_was put words code zero bits found e =
 string_was put words code (suc most) bits found e =
     let byte = bind_ok (bits_read (field_at words 8 bits))
     (λ byte. cond (eqb byte.0 0) (Ok ([], byte.1)) (string_after words most byte.1 >>= λ others. Ok (translated byte.0 ∷ others.0, others.1))) found e in
-    let read = answer_ok Bits (field_at words 8 bits) byte.0 byte.1 in
+    let read = map_err_ok Bits (field_at words 8 bits) byte.0 byte.1 in
     elim (cases_Bool (eqb byte.0.0 0)) [
       | inl none ↦
           let made = rw none at byte.2 in
@@ -185,7 +185,7 @@ unfolding command_after
 command_was_spelled put law words command bits rest code e =
     let number = bind_ok (bits_read (field_at words 32 bits)) (λ number. string_after words most_bytes number.1 >>= λ text. Ok (record { number = number.0; text = text.0 }, text.1)) (command, rest) e in
     let string = bind_ok (string_after words most_bytes number.0.1) (λ text. Ok (record { number = number.0.0; text = text.0 }, text.1)) (command, rest) number.2 in
-    let was = field_was_put put words 32 bits number.0 code (answer_ok Bits (field_at words 32 bits) number.0 number.1) in
+    let was = field_was_put put words 32 bits number.0 code (map_err_ok Bits (field_at words 32 bits) number.0 number.1) in
     let were = law words most_bytes string.0.0 number.0.1 string.0.1 code string.1 in
     let made = string.2 in
     let read : Command = record { number = number.0.0; text = string.0.0 } in

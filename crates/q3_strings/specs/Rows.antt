@@ -1,21 +1,9 @@
 -- How rows of fields are read, by what is known of one field.
-use Rattle.std.specs.Prelude.{◌≡◌, ℕ, ◌^◌, ◌<◌, Bool, List, [], ◌∷◌, ◌++◌, Result, Ok, Err, refl}
-use Rattle.std.specs.Result.{result_map_both}
+use Rattle.std.specs.Prelude.{◌≡◌, ℕ, ◌^◌, ◌<◌, Bool, List, [], ◌∷◌, ◌++◌, Ok, refl}
 use Rattle.std.proofs.Common.{ap, ◌∙◌, sym, append_assoc}
 use Rattle.std.proofs.lemmas.List.{append-nil}
 use Rattle.q3_bits.specs.Words.{IsCode, field_bits, field_at, row_bits}
 use Rattle.q3_bits.specs.Laws.{ReadWasPut, PutIsRead}
-
--- an answer with another's value
-answer_of : {A E F : Type 0} → Result A E → Result A F → Result A E
-answer_of r (Ok x) = Ok x
-answer_of r (Err f) = r
-
--- of an answer whose faults are told in other words, the value is the same
-pub answer_ok : {A E F : Type 0} (fault : E → F) (r : Result A E) (x : A) → result_map_both (λ (x : A). x) fault r ≡ Ok x → r ≡ Ok x
-unfolding answer_of
-answer_ok fault (Ok y) x e = ap (λ r. answer_of (Ok y) r) e
-answer_ok fault (Err d) x e = ap (λ r. answer_of (Err d) r) e
 
 -- of no fields there is no text
 pub row-none : (words : List (List Bool)) (bits : List Bool) → bits ≡ row_bits words [] ++ bits

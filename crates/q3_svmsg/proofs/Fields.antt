@@ -1,49 +1,13 @@
--- Fields of a row, one behind the other: what is read was put, and what is put is read.
-use Rattle.std.proofs.Common.{◌≡◌, ℕ, ◌^◌, ◌<◌, Bool, List, [], ◌∷◌, ◌++◌, Ok, refl, ap, ◌∙◌, sym, append_assoc}
+-- Fields of a message that were read.
+use Rattle.std.proofs.Common.{◌≡◌, ℕ, Bool, List, Ok}
 use Rattle.q3_bits.specs.ResultBind.{map_err_ok}
-use Rattle.q3_bits.specs.Words.{IsCode, field_bits, field_at, row_bits}
-use Rattle.q3_bits.specs.Laws.{ReadWasPut, PutIsRead}
+use Rattle.q3_bits.specs.Words.{IsCode, field_at}
+use Rattle.q3_bits.specs.Laws.{ReadWasPut}
+use Rattle.q3_strings.specs.Rows.{WasField, field_was_put}
 use Rattle.q3_svmsg.specs.declared.error.Illegible.TheVariants.{Bits}
 use Rattle.q3_svmsg.specs.Reading.{field_read}
 
--- of no fields there is no text
-pub row-none : (words : List (List Bool)) (bits : List Bool) → bits ≡ row_bits words [] ++ bits
-unfolding row_bits
-row-none words bits = refl
-
--- a row behind a field is a row
-pub row-behind : (words : List (List Bool)) (value width : ℕ) (fields : List (ℕ × ℕ)) (rest : List Bool)
-    → row_bits words ((value, width) ∷ fields) ++ rest ≡ row_bits words ((value, width) ∷ []) ++ (row_bits words fields ++ rest)
-unfolding row_bits
-row-behind words value width fields rest = simp append_assoc
-
--- a field that was read: its value fits, and it stands in front of the row that is behind it
-pub record WasField (words : List (List Bool)) (width : ℕ) (bits : List Bool) (found : ℕ × List Bool) : Type 0 where
-  pub fits : found.0 < 2 ^ width
-  pub row : (fields : List (ℕ × ℕ)) (rest : List Bool) → found.1 ≡ row_bits words fields ++ rest → bits ≡ row_bits words ((found.0, width) ∷ fields) ++ rest
-
-pub field_was_put : ReadWasPut → (words : List (List Bool)) (width : ℕ) (bits : List Bool) (found : ℕ × List Bool) → IsCode words → field_read words width bits ≡ Ok found
+-- a field that was read was put
+pub field_was : ReadWasPut → (words : List (List Bool)) (width : ℕ) (bits : List Bool) (found : ℕ × List Bool) → IsCode words → field_read words width bits ≡ Ok found
     → WasField words width bits found
-unfolding row_bits
-field_was_put put words width bits found code e =
-    let was = put words width found.0 bits found.1 code (map_err_ok Bits (field_at words width bits) found e) in
-    record {
-      fits = was.0;
-      row = λ fields rest is.
-          was.1 ∙ ap (λ (left : List Bool). field_bits words width found.0 ++ left) is
-          ∙ sym (append_assoc (field_bits words width found.0) (row_bits words fields) rest);
-    }
-
-module _ (words : List (List Bool)) (code : IsCode words) (put : PutIsRead) where
-  -- the first field of a row is read
-  pub row-first : (value width : ℕ) (fields : List (ℕ × ℕ)) (rest : List Bool) → value < 2 ^ width
-      → field_at words width (row_bits words ((value, width) ∷ fields) ++ rest) ≡ Ok (value, row_bits words fields ++ rest)
-  unfolding row_bits
-  row-first value width fields rest fits =
-      ap (λ (bits : List Bool). field_at words width bits) (append_assoc (field_bits words width value) (row_bits words fields) rest)
-      ∙ put words width value (row_bits words fields ++ rest) code fits
-
-  -- and so is the last
-  pub row-last : (value width : ℕ) (rest : List Bool) → value < 2 ^ width → field_at words width (row_bits words ((value, width) ∷ []) ++ rest) ≡ Ok (value, rest)
-  unfolding row_bits
-  row-last value width rest fits = row-first value width [] rest fits
+field_was put words width bits found code e = field_was_put put words width bits found code (map_err_ok Bits (field_at words width bits) found e)

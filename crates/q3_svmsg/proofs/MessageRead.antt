@@ -4,18 +4,19 @@ use Rattle.std.proofs.lemmas.List.{append-nil, length-append}
 use Rattle.q3_bits.specs.Words.{IsCode, row_bits}
 use Rattle.q3_bits.specs.Laws.{PutIsRead, ReadWasPut}
 use Rattle.q3_text.specs.declared.text.Command.{Command}
-use Rattle.q3_player.specs.Laws as player
-use Rattle.q3_entity.specs.Laws as entity
 use Rattle.q3_profile.specs.declared.profile.Profile.{Profile}
 use Rattle.q3_profile.specs.Profile.{IsCodec}
-use Rattle.q3_svmsg.specs.Values.{Context, Told, Nothing, Snap, Skipped, Message}
+use Rattle.q3_svmsg.specs.Values.{Context, Told, Nothing, Game, Snap, Skipped, Message}
 use Rattle.q3_svmsg.specs.Reading.{ending_after, operations_after, message_after}
 use Rattle.q3_svmsg.specs.Spelling.{SpellsCommands, SpellsSection}
 use Rattle.q3_svmsg.specs.Laws.{IsContext, SpelledIsRead}
-use Rattle.q3_svmsg.proofs.Fields.{row-none, row-first, row-last}
+use Rattle.q3_strings.specs.Rows.{row-none, row-first, row-last}
+use Rattle.q3_strings.specs.Laws.{CommandSpelledIsRead}
+use Rattle.q3_svmsg.proofs.Below.{IsRead}
 use Rattle.q3_svmsg.proofs.Turns.{turn, ending_done, ending_nop, operations_done, operations_nop, operations_command, operations_section}
 use Rattle.q3_svmsg.proofs.CommandsSpelled.{command_is_read}
 use Rattle.q3_svmsg.proofs.SectionSpelled.{TakenSection, snapshot_is_read, skipped_is_read}
+use Rattle.q3_svmsg.proofs.GameSpelled.{game_is_read}
 use Rattle.q3_svmsg.proofs.MessageSpelled.{nops, end}
 
 -- ---- behind the section
@@ -38,7 +39,7 @@ ending_is_read words code put was_put (suc count) turns rest enough =
 
 -- ---- before the section
 
-module _ (profile : Profile) (context : Context) (number : ℕ) (code : IsCode profile.code) (put : PutIsRead) (was_put : ReadWasPut) where
+module _ (profile : Profile) (context : Context) (number : ℕ) (code : IsCode profile.code) (put : PutIsRead) (was_put : ReadWasPut) (command_law : CommandSpelledIsRead) where
   -- the operations behind a text that was read
   record HasRest (turns : ℕ) (message after : Message) (bits rest : List Bool) : Type 0 where
     left : ℕ
@@ -73,18 +74,17 @@ module _ (profile : Profile) (context : Context) (number : ℕ) (code : IsCode p
   commands_are_read (command ∷ commands) turns message text rest (before, first, others, whole, are_nops, of_command, of_others) few enough =
       let words = profile.code in
       let count = are_nops.0 in
-      let fields = (command.number, 32) ∷ [] in
       let behind = of_command.0 ++ (others ++ rest) in
-      let bits = row_bits words ((5, 8) ∷ fields) ++ behind in
-      let same : text ++ rest ≡ nops words count ++ bits = rw (whole, are_nops.1, of_command.3) (simp append_assoc) in
+      let bits = row_bits words ((5, 8) ∷ []) ++ behind in
+      let same : text ++ rest ≡ nops words count ++ bits = rw (whole, are_nops.1, of_command.2) (simp append_assoc) in
       let over = nops_are_read count turns message bits (omega (arith, enough, ap length same)) in
-      let read = sym (row-first words code put 5 8 fields behind (omega arith)) in
-      let one = turn words was_put code bits (row_bits words fields ++ behind) 5 over.left read over.enough in
+      let read = sym (row-last words code put 5 8 behind (omega arith)) in
+      let one = turn words was_put code bits behind 5 over.left read over.enough in
       let after = record message { commands = message.commands ++ command ∷ [] } in
-      let step = operations_command profile context number message bits (row_bits words fields ++ behind) (others ++ rest) (message.commands ++ command ∷ []) over.left one.left read one.is
-      (sym (command_is_read words code put message.commands command of_command.0 (others ++ rest) (omega (arith, few)) of_command.1 of_command.2)) in
+      let step = operations_command profile context number message bits behind (others ++ rest) (message.commands ++ command ∷ []) over.left one.left read one.is
+      (sym (command_is_read command_law words code message.commands command of_command.0 (others ++ rest) (omega (arith, few)) of_command.1)) in
       let more = commands_are_read commands one.left after others rest of_others (omega (arith, few, length-append message.commands (command ∷ [])))
-      (omega (arith, one.enough, length-append (row_bits words fields) behind, length-append of_command.0 (others ++ rest))) in
+      (omega (arith, one.enough, length-append of_command.0 (others ++ rest))) in
       record {
         left = more.left;
         enough = more.enough;
@@ -100,12 +100,12 @@ module _ (profile : Profile) (context : Context) (number : ℕ) (code : IsCode p
       let words = profile.code in
       let behind = nops words count ++ (end words ++ rest) in
       let left = took.bits ++ behind in
-      let bits = row_bits words ((7, 8) ∷ []) ++ left in
-      let same : text ++ behind ≡ bits = ap (λ (text : List Bool). text ++ behind) took.parts ∙ append_assoc (row_bits words ((7, 8) ∷ [])) took.bits behind in
-      let read = sym (row-last words code put 7 8 left (omega arith)) in
-      let one = turn words was_put code bits left 7 turns read (omega (arith, enough, ap length same)) in
+      let operation = row_bits words ((took.operation, 8) ∷ []) in
+      let same : text ++ behind ≡ operation ++ left = ap (λ (text : List Bool). text ++ behind) took.parts ∙ append_assoc operation took.bits behind in
+      let read = sym (row-last words code put took.operation 8 left took.fits) in
+      let one = turn words was_put code (operation ++ left) left took.operation turns read (omega (arith, enough, ap length same)) in
       ap (λ (bits : List Bool). operations_after profile context number turns message bits) same
-      ∙ operations_section profile context number message bits left behind rest told turns one.left read one.is (sym took.reads)
+      ∙ operations_section profile context number message (operation ++ left) took.operation left behind rest told turns one.left read one.is took.reads
       (sym (ending_is_read words code put was_put count (length behind) rest (omega arith)))
 
   -- none, and the end
@@ -119,25 +119,28 @@ module _ (profile : Profile) (context : Context) (number : ℕ) (code : IsCode p
       let one = turn words was_put code bits rest 8 over.left read over.enough in
       over.is ∙ operations_done profile context number message bits rest over.left one.left read one.is
 
-section_is_read : PutIsRead → ReadWasPut → player.ZeroIsNormal → player.SpelledIsRead → entity.ListSpelledIsRead → entity.SpelledIsSkipped → (profile : Profile) (context : Context) (number : ℕ)
+section_is_read : IsRead → (profile : Profile) (context : Context) (number : ℕ)
     → IsCodec profile → IsContext profile context → (turns count : ℕ) (message : Message) (told : Told) (text rest : List Bool) → message.section ≡ Nothing
     → SpellsSection profile context number told text → length (text ++ (nops profile.code count ++ (end profile.code ++ rest))) ≤ turns
     → operations_after profile context number turns message (text ++ (nops profile.code count ++ (end profile.code ++ rest))) ≡ Ok (record message { section = told }, rest)
-section_is_read put was_put zero_is player_law list_law skip_law profile context number codec is turns count message Nothing text rest none s enough =
+section_is_read laws profile context number codec is turns count message Nothing text rest none s enough =
     let left = nops profile.code count ++ (end profile.code ++ rest) in
     ap (λ (text : List Bool). operations_after profile context number turns message (text ++ left)) s
-    ∙ none_is_read profile context number codec.code put was_put turns count message rest (omega (arith, enough, length-append text left))
+    ∙ none_is_read profile context number codec.code laws.put laws.was_put laws.command turns count message rest (omega (arith, enough, length-append text left))
     ∙ ap (λ (told : Told). Ok (record message { section = told }, rest)) none
-section_is_read put was_put zero_is player_law list_law skip_law profile context number codec is turns count message (Snap base snap entities) text rest none s enough =
-    taken_is_read profile context number codec.code put was_put turns count message (Snap base snap entities) text rest
-    (snapshot_is_read put zero_is player_law list_law profile context number base snap entities text (nops profile.code count ++ (end profile.code ++ rest)) codec is s) enough
-section_is_read put was_put zero_is player_law list_law skip_law profile context number codec is turns count message (Skipped base) text rest none s enough =
-    taken_is_read profile context number codec.code put was_put turns count message (Skipped base) text rest
-    (skipped_is_read put zero_is player_law skip_law profile context number base text (nops profile.code count ++ (end profile.code ++ rest)) codec s) enough
+section_is_read laws profile context number codec is turns count message (Game game) text rest none s enough =
+    taken_is_read profile context number codec.code laws.put laws.was_put laws.command turns count message (Game game) text rest
+    (game_is_read laws profile context number game text (nops profile.code count ++ (end profile.code ++ rest)) codec s) enough
+section_is_read laws profile context number codec is turns count message (Snap base snap entities) text rest none s enough =
+    taken_is_read profile context number codec.code laws.put laws.was_put laws.command turns count message (Snap base snap entities) text rest
+    (snapshot_is_read laws.put laws.bytes laws.no_player laws.player laws.list profile context number base snap entities text (nops profile.code count ++ (end profile.code ++ rest)) codec is s) enough
+section_is_read laws profile context number codec is turns count message (Skipped base) text rest none s enough =
+    taken_is_read profile context number codec.code laws.put laws.was_put laws.command turns count message (Skipped base) text rest
+    (skipped_is_read laws.put laws.bytes laws.no_player laws.player laws.skipped profile context number base text (nops profile.code count ++ (end profile.code ++ rest)) codec s) enough
 
-pub message_is_read : PutIsRead → ReadWasPut → player.ZeroIsNormal → player.SpelledIsRead → entity.ListSpelledIsRead → entity.SpelledIsSkipped → SpelledIsRead
+pub message_is_read : IsRead → SpelledIsRead
 unfolding message_after
-message_is_read put was_put zero_is player_law list_law skip_law profile context number message text rest codec is s =
+message_is_read laws profile context number message text rest codec is s =
     let words = profile.code in
     let start : Message = record { ack = message.ack; commands = []; section = Nothing } in
     let count = s.of_behind.0 in
@@ -145,9 +148,9 @@ message_is_read put was_put zero_is player_law list_law skip_law profile context
     let behind = nops words s.of_nops.0 ++ told in
     let bits = s.commands ++ behind in
     let same : text ++ rest ≡ row_bits words ((message.ack, 32) ∷ []) ++ bits = rw (s.whole, s.of_nops.1, s.of_behind.1) (simp append_assoc) in
-    let commands = commands_are_read profile context number codec.code put was_put message.commands (length bits) start s.commands behind s.of_commands (omega (arith, s.few)) (omega arith) in
+    let commands = commands_are_read profile context number codec.code laws.put laws.was_put laws.command message.commands (length bits) start s.commands behind s.of_commands (omega (arith, s.few)) (omega arith) in
     let after : Message = record start { commands = message.commands } in
-    let over = nops_are_read profile context number codec.code put was_put s.of_nops.0 commands.left after told commands.enough in
-    rw (same, row-last words codec.code put message.ack 32 bits s.ack)
+    let over = nops_are_read profile context number codec.code laws.put laws.was_put laws.command s.of_nops.0 commands.left after told commands.enough in
+    rw (same, row-last words codec.code laws.put message.ack 32 bits s.ack)
     (commands.is ∙ over.is
-    ∙ section_is_read put was_put zero_is player_law list_law skip_law profile context number codec is over.left count after message.section s.section rest refl s.of_section over.enough)
+    ∙ section_is_read laws profile context number codec is over.left count after message.section s.section rest refl s.of_section over.enough)

@@ -6,18 +6,19 @@ use Rattle.q3_bits.specs.ResultBind.{◌>>=◌, bind_ok}
 use Rattle.q3_bits.specs.Words.{IsCode, row_bits}
 use Rattle.q3_bits.specs.Laws.{ReadWasPut}
 use Rattle.q3_text.specs.declared.text.Command.{Command}
-use Rattle.q3_player.specs.Laws as player
-use Rattle.q3_entity.specs.Laws as entity
 use Rattle.q3_profile.specs.declared.profile.Profile.{Profile}
 use Rattle.q3_profile.specs.Profile.{IsCodec}
 use Rattle.q3_svmsg.specs.declared.error.Illegible.TheVariants.{BadOp}
 use Rattle.q3_svmsg.specs.Values.{Context, Told, Nothing, Message}
-use Rattle.q3_svmsg.specs.Reading.{field_read, commands_after, section_after, ending_after, operations_after, message_after}
+use Rattle.q3_svmsg.specs.Reading.{field_read, commands_after, gamestate_after, section_after, ending_after, operations_after, message_after}
 use Rattle.q3_svmsg.specs.Spelling.{SpellsCommands, SpellsSection}
 use Rattle.q3_svmsg.specs.Laws.{IsContext, ReadIsSpelled}
-use Rattle.q3_svmsg.proofs.Fields.{row-none, row-behind, field_was_put}
+use Rattle.q3_strings.specs.Rows.{row-none, row-behind}
+use Rattle.q3_svmsg.proofs.Below.{WasRead}
+use Rattle.q3_svmsg.proofs.Fields.{field_was}
 use Rattle.q3_svmsg.proofs.CommandsSpelled.{ReadCommand, command_was_spelled}
 use Rattle.q3_svmsg.proofs.SectionSpelled.{ReadSection, section_was_spelled}
+use Rattle.q3_svmsg.proofs.GameSpelled.{game_was_spelled}
 
 -- so many nops
 abbrev pub nops : List (List Bool) → ℕ → List Bool
@@ -41,7 +42,7 @@ ending_was_spelled put words code zero bits found e = absurd cc
 ending_was_spelled put words code (suc turns) bits found e =
     let operation = bind_ok (field_read words 8 bits)
     (λ operation. cond (eqb operation.0 8) (Ok (tt, operation.1)) (cond (eqb operation.0 1) (ending_after words turns operation.1) (Err (BadOp operation.0)))) found e in
-    let was = field_was_put put words 8 bits operation.0 code operation.1 in
+    let was = field_was put words 8 bits operation.0 code operation.1 in
     elim (cases_Bool (eqb operation.0.0 8)) [
       | inl done ↦
           let made = rw done at operation.2 in
@@ -158,8 +159,8 @@ read_command : (profile : Profile) (context : Context) (number : ℕ) (message :
     → ReadOperations profile context number (record message { commands = commands.0 }) commands.1 found → ReadOperations profile context number message bits found
 read_command profile context number message bits left commands found is command read =
     let words = profile.code in
-    let fields = (command.command.number, 32) ∷ [] in
-    let first = row_bits words ((5, 8) ∷ fields) ++ command.text in
+    let operation = row_bits words ((5, 8) ∷ []) in
+    let first = operation ++ command.text in
     let others = nops words read.count ++ (read.section ++ (nops words read.behind ++ (end words ++ found.1))) in
     record {
       added = command.command ∷ read.added;
@@ -170,14 +171,13 @@ read_command profile context number message bits left commands found is command 
       ack = read.ack;
       all = read.all ∙ ap (λ (all : List Command). all ++ read.added) command.all ∙ append_assoc message.commands (command.command ∷ []) read.added;
       few = read.few;
-      of_commands = ([], first, read.commands, refl, (0, no_nop), (command.text, command.fits, command.spells, refl), read.of_commands);
+      of_commands = ([], first, read.commands, refl, (0, no_nop), (command.text, command.spells, refl), read.of_commands);
       of_section = read.of_section;
       parts =
           is
-          ∙ ap (λ (left : List Bool). row_bits words ((5, 8) ∷ []) ++ left) command.parts
-          ∙ sym (row-behind words 5 8 fields (command.text ++ commands.1))
-          ∙ ap (λ (left : List Bool). row_bits words ((5, 8) ∷ fields) ++ (command.text ++ left)) read.parts
-          ∙ sym (append_assoc (row_bits words ((5, 8) ∷ fields)) command.text (read.commands ++ others))
+          ∙ ap (λ (left : List Bool). operation ++ left) command.parts
+          ∙ ap (λ (left : List Bool). operation ++ (command.text ++ left)) read.parts
+          ∙ sym (append_assoc operation command.text (read.commands ++ others))
           ∙ sym (append_assoc first read.commands others);
     }
   where
@@ -185,10 +185,10 @@ read_command profile context number message bits left commands found is command 
     no_nop = row-none profile.code [] ∙ append-nil (nops profile.code 0)
 
 -- the section, and what is behind it
-read_section : (profile : Profile) (context : Context) (number : ℕ) (message : Message) (bits left : List Bool) (section : Told × List Bool) (ending : Unit {0} × List Bool)
-    → length message.commands ≤ 64 → bits ≡ row_bits profile.code ((7, 8) ∷ []) ++ left → ReadSection profile context number left section → ReadEnding profile.code section.1 ending
+read_section : (profile : Profile) (context : Context) (number operation : ℕ) (message : Message) (bits left : List Bool) (section : Told × List Bool) (ending : Unit {0} × List Bool)
+    → length message.commands ≤ 64 → bits ≡ row_bits profile.code ((operation, 8) ∷ []) ++ left → ReadSection profile context number operation left section → ReadEnding profile.code section.1 ending
     → ReadOperations profile context number message bits (record message { section = section.0 }, ending.1)
-read_section profile context number message bits left section ending few is read behind =
+read_section profile context number operation message bits left section ending few is read behind =
     let words = profile.code in
     let others = read.text ++ (nops words behind.count ++ (end words ++ ending.1)) in
     record {
@@ -205,24 +205,48 @@ read_section profile context number message bits left section ending few is read
       parts = is ∙ read.parts ∙ ap (λ (left : List Bool). read.text ++ left) behind.parts ∙ row-none words others;
     }
 
-operations_were_spelled : ReadWasPut → player.ZeroIsNormal → player.ReadIsSpelled → entity.ListReadIsSpelled → entity.SkippedIsSpelled → (profile : Profile) (context : Context) (number : ℕ)
+-- the ending behind a section, which makes what was found
+record EndsFound (words : List (List Bool)) (message : Message) (section : Told × List Bool) (found : Message × List Bool) : Type 0 where
+  ending : Unit {0} × List Bool
+  read : ReadEnding words section.1 ending
+  is : (record message { section = section.0 }, ending.1) ≡ found
+
+ending_behind : ReadWasPut → (words : List (List Bool)) → IsCode words → (message : Message) (section : Told × List Bool) (found : Message × List Bool)
+    → (ending_after words (length section.1) section.1 >>= λ ending. Ok (record message { section = section.0 }, ending.1)) ≡ Ok found → EndsFound words message section found
+ending_behind put words code message section found e =
+    let ending = bind_ok (ending_after words (length section.1) section.1) (λ ending. Ok (record message { section = section.0 }, ending.1)) found e in
+    let made = ending.2 in
+    record { ending = ending.0; read = ending_was_spelled put words code (length section.1) section.1 ending.0 ending.1; is = cc }
+
+-- the two together
+read_last : (profile : Profile) (context : Context) (number operation : ℕ) (message : Message) (bits left : List Bool) (section : Told × List Bool) (found : Message × List Bool)
+    → length message.commands ≤ 64 → bits ≡ row_bits profile.code ((operation, 8) ∷ []) ++ left → ReadSection profile context number operation left section
+    → EndsFound profile.code message section found → ReadOperations profile context number message bits found
+read_last profile context number operation message bits left section found few is read ends =
+    subst (ReadOperations profile context number message bits) {x = (record message { section = section.0 }, ends.ending.1)} ends.is
+    (read_section profile context number operation message bits left section ends.ending few is read ends.read)
+
+operations_were_spelled : WasRead → (profile : Profile) (context : Context) (number : ℕ)
     → IsCodec profile → IsContext profile context → (turns : ℕ) (message : Message) (bits : List Bool) (found : Message × List Bool) → message.section ≡ Nothing
     → length message.commands ≤ 64 → operations_after profile context number turns message bits ≡ Ok found → ReadOperations profile context number message bits found
 unfolding operations_after
-operations_were_spelled put zero_is player_law list_law skip_law profile context number codec is zero message bits found none few e = absurd cc
-operations_were_spelled put zero_is player_law list_law skip_law profile context number codec is (suc turns) message bits found none few e =
+operations_were_spelled laws profile context number codec is zero message bits found none few e = absurd cc
+operations_were_spelled laws profile context number codec is (suc turns) message bits found none few e =
     let words = profile.code in
     let code = codec.code in
     let on_command = λ (left : List Bool).
     commands_after words message.commands left >>= λ commands. operations_after profile context number turns (record message { commands = commands.0 }) commands.1 in
+    let on_game = λ (left : List Bool).
+    gamestate_after profile left >>= λ section. (ending_after words (length section.1) section.1 >>= λ ending. Ok (record message { section = section.0 }, ending.1)) in
     let on_section = λ (left : List Bool).
     section_after profile context number left >>= λ section. (ending_after words (length section.1) section.1 >>= λ ending. Ok (record message { section = section.0 }, ending.1)) in
     let operation = bind_ok (field_read words 8 bits)
     (λ operation. cond (eqb operation.0 8) (Ok (message, operation.1))
     (cond (eqb operation.0 1) (operations_after profile context number turns message operation.1)
-    (cond (eqb operation.0 5) (on_command operation.1) (cond (eqb operation.0 7) (on_section operation.1) (Err (BadOp operation.0)))))) found e in
+    (cond (eqb operation.0 5) (on_command operation.1)
+    (cond (eqb operation.0 2) (on_game operation.1) (cond (eqb operation.0 7) (on_section operation.1) (Err (BadOp operation.0))))))) found e in
     let left = operation.0.1 in
-    let was = field_was_put put words 8 bits operation.0 code operation.1 in
+    let was = field_was laws.put words 8 bits operation.0 code operation.1 in
     let front = λ (byte : ℕ) (here : eqb operation.0.0 byte ≡ true).
     was.row [] left (row-none words left) ∙ ap (λ (n : ℕ). row_bits words ((n, 8) ∷ []) ++ left) (eqb-true operation.0.0 byte here) in
     elim (cases_Bool (eqb operation.0.0 8)) [
@@ -235,44 +259,50 @@ operations_were_spelled put zero_is player_law list_law skip_law profile context
           elim (cases_Bool (eqb operation.0.0 1)) [
             | inl nop ↦
                 read_nop profile context number message bits left found (front 1 nop)
-                (operations_were_spelled put zero_is player_law list_law skip_law profile context number codec is turns message left found none few (rw nop at next))
+                (operations_were_spelled laws profile context number codec is turns message left found none few (rw nop at next))
             | inr other ↦
                 let next' = rw other at next in
                 elim (cases_Bool (eqb operation.0.0 5)) [
                   | inl command ↦
                       let commands = bind_ok (commands_after words message.commands left)
                       (λ commands. operations_after profile context number turns (record message { commands = commands.0 }) commands.1) found (rw command at next') in
-                      let read = command_was_spelled put words code message.commands left commands.0 commands.1 in
+                      let read = command_was_spelled laws.command words code message.commands left commands.0 commands.1 in
                       let long : length commands.0.0 ≤ 64 = omega (arith, ap length read.all, length-append message.commands (read.command ∷ []), read.few) in
                       read_command profile context number message bits left commands.0 found (front 5 command) read
-                      (operations_were_spelled put zero_is player_law list_law skip_law profile context number codec is turns (record message { commands = commands.0.0 }) commands.0.1 found none long commands.2)
+                      (operations_were_spelled laws profile context number codec is turns (record message { commands = commands.0.0 }) commands.0.1 found none long commands.2)
                   | inr last ↦
                       let next'' = rw last at next' in
-                      elim (cases_Bool (eqb operation.0.0 7)) [
-                        | inl snapshot ↦
-                            let section = bind_ok (section_after profile context number left)
-                            (λ section. ending_after words (length section.1) section.1 >>= λ ending. Ok (record message { section = section.0 }, ending.1)) found (rw snapshot at next'') in
-                            let ending = bind_ok (ending_after words (length section.0.1) section.0.1) (λ ending. Ok (record message { section = section.0.0 }, ending.1)) found section.2 in
-                            let made = ending.2 in
-                            let same : (record message { section = section.0.0 }, ending.0.1) ≡ found = cc in
-                            subst (ReadOperations profile context number message bits) {x = (record message { section = section.0.0 }, ending.0.1)} same
-                            (read_section profile context number message bits left section.0 ending.0 few (front 7 snapshot)
-                            (section_was_spelled put zero_is player_law list_law skip_law profile context number left section.0 codec is section.1)
-                            (ending_was_spelled put words code (length section.0.1) section.0.1 ending.0 ending.1))
-                        | inr bad ↦ absurd (let wrong = rw bad at next'' in cc)
+                      elim (cases_Bool (eqb operation.0.0 2)) [
+                        | inl game ↦
+                            let section = bind_ok (gamestate_after profile left)
+                            (λ section. ending_after words (length section.1) section.1 >>= λ ending. Ok (record message { section = section.0 }, ending.1)) found (rw game at next'') in
+                            read_last profile context number 2 message bits left section.0 found few (front 2 game)
+                            (game_was_spelled laws profile context number left section.0 codec section.1)
+                            (ending_behind laws.put words code message section.0 found section.2)
+                        | inr only ↦
+                            let snapshot_or = rw only at next'' in
+                            elim (cases_Bool (eqb operation.0.0 7)) [
+                              | inl snapshot ↦
+                                  let section = bind_ok (section_after profile context number left)
+                                  (λ section. ending_after words (length section.1) section.1 >>= λ ending. Ok (record message { section = section.0 }, ending.1)) found (rw snapshot at snapshot_or) in
+                                  read_last profile context number 7 message bits left section.0 found few (front 7 snapshot)
+                                  (section_was_spelled laws.put laws.bytes laws.no_player laws.player laws.list laws.skipped profile context number left section.0 codec is section.1)
+                                  (ending_behind laws.put words code message section.0 found section.2)
+                              | inr bad ↦ absurd (let wrong = rw bad at snapshot_or in cc)
+                            ]
                       ]
                 ]
           ]
     ]
 
-pub message_was_spelled : ReadWasPut → player.ZeroIsNormal → player.ReadIsSpelled → entity.ListReadIsSpelled → entity.SkippedIsSpelled → ReadIsSpelled
+pub message_was_spelled : WasRead → ReadIsSpelled
 unfolding message_after
-message_was_spelled put zero_is player_law list_law skip_law profile context number message bits rest codec is e =
+message_was_spelled laws profile context number message bits rest codec is e =
     let words = profile.code in
     let start = λ (ack : ℕ). let m : Message = record { ack = ack; commands = []; section = Nothing } in m in
     let ack = bind_ok (field_read words 32 bits) (λ ack. operations_after profile context number (length ack.1) (start ack.0) ack.1) (message, rest) e in
-    let was = field_was_put put words 32 bits ack.0 codec.code ack.1 in
-    let read = operations_were_spelled put zero_is player_law list_law skip_law profile context number codec is (length ack.0.1) (start ack.0.0) ack.0.1 (message, rest) refl (omega arith) ack.2 in
+    let was = field_was laws.put words 32 bits ack.0 codec.code ack.1 in
+    let read = operations_were_spelled laws profile context number codec is (length ack.0.1) (start ack.0.0) ack.0.1 (message, rest) refl (omega arith) ack.2 in
     let section = read.section in
     let behind = nops words read.behind in (
       row_bits words ((message.ack, 32) ∷ []) ++ read.commands ++ nops words read.count ++ section ++ behind ++ end words,

@@ -1,28 +1,11 @@
--- Rows of bytes and of commands.
-use Rattle.std.proofs.Common.{◌≡◌, ◌+◌, ◌<◌, ◌≤◌, ℕ, Bool, List, [], ◌∷◌, ◌++◌, length, drop, get_or, refl}
+-- Rows of commands.
+use Rattle.std.proofs.Common.{◌≡◌, ◌+◌, ◌<◌, ℕ, Bool, List, ◌++◌, length, drop, get_or, refl}
 use Rattle.std.specs.List.{flat_map}
-use Rattle.std.proofs.lemmas.List.{drop_more, drop_all, map-append}
-use Rattle.std.proofs.lemmas.Grind.{flat_map-append}
-use Rattle.q3_bits.specs.Words.{field_bits, row_bits}
+use Rattle.std.proofs.lemmas.List.{drop_more}
 use Rattle.q3_text.specs.declared.text.Command.{Command}
-use Rattle.q3_svmsg.specs.Texts.{bytes_row, string_bits, command_bits}
-
--- what is left of the bytes, one byte on
-pub bytes-next : (words same : List (List Bool)) (bytes : List ℕ) (k : ℕ) → same ≡ words → k < length bytes
-    → bytes_row words (drop k bytes) ≡ field_bits same 8 (get_or bytes k 0) ++ bytes_row words (drop (k + 1) bytes)
-unfolding row_bits
-bytes-next words same bytes k is more = rw (is, drop_more bytes k 0 more) refl
-
-pub bytes-end : (words : List (List Bool)) (bytes : List ℕ) (k : ℕ) → length bytes ≤ k → bytes_row words (drop k bytes) ≡ []
-unfolding row_bits
-bytes-end words bytes k past = rw (drop_all k bytes past) refl
+use Rattle.q3_svmsg.specs.Texts.{server_command_bits}
 
 -- what is left of the commands, one command on
 pub commands-next : (words same : List (List Bool)) (commands : List Command) (k : ℕ) (command : Command) → same ≡ words → k < length commands → command ≡ get_or commands k command
-    → flat_map (command_bits words) (drop k commands) ≡ command_bits same command ++ flat_map (command_bits words) (drop (k + 1) commands)
+    → flat_map (server_command_bits words) (drop k commands) ≡ server_command_bits same command ++ flat_map (server_command_bits words) (drop (k + 1) commands)
 commands-next words same commands k command is more item = rw (is, drop_more commands k command more, ← item) refl
-
--- a string is its bytes and a 0
-pub string-is : (words : List (List Bool)) (text : List ℕ) → string_bits words text ≡ bytes_row words text ++ row_bits words ((0, 8) ∷ [])
-unfolding row_bits
-string-is words text = rw (map-append, flat_map-append) refl

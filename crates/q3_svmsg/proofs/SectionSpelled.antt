@@ -1,8 +1,12 @@
 -- A snapshot: what is read was spelled so, and what is spelled so is read.
-use Rattle.std.proofs.Common.{◌≡◌, ◌⊎◌, ◌<◌, ℕ, zero, suc, Bool, List, [], ◌∷◌, ◌++◌, length, Option, Some, None, IsSome, Ok, refl, sym, ap, subst, ◌∙◌, append_assoc, arith, inl, inr}
+use Rattle.std.proofs.Common.{◌≡◌, ◌⊎◌, ◌<◌, ℕ, zero, suc, Bool, List, [], ◌∷◌, ◌++◌, length, Option, Some, None, IsSome, Ok, refl, sym, ap, subst, ◌∙◌, append_assoc, arith, inl, inr, Result, Err}
 use Rattle.q3_bits.specs.ResultBind.{◌>>=◌, bind_ok, map_err_ok}
 use Rattle.q3_bits.specs.Words.{row_bits}
 use Rattle.q3_bits.specs.Laws.{PutIsRead, ReadWasPut}
+use Rattle.q3_strings.specs.Texts.{bytes_row}
+use Rattle.q3_strings.specs.Rows.{row-behind, row-first}
+use Rattle.q3_strings.specs.Laws.{BytesWerePut, BytesAreRead}
+use Rattle.q3_fields.specs.declared.delta.DeltaError.{DeltaError}
 use Rattle.q3_player.specs.declared.state.PlayerState.{PlayerState}
 use Rattle.q3_player.specs.declared.head.SnapHead.{SnapHead}
 use Rattle.q3_player.specs.State.{IsState, zero_player}
@@ -18,11 +22,11 @@ use Rattle.q3_profile.specs.declared.profile.Profile.{Profile}
 use Rattle.q3_profile.specs.Profile.{IsCodec}
 use Rattle.q3_svmsg.specs.declared.error.Illegible.TheVariants.{Player, Entity}
 use Rattle.q3_svmsg.specs.Values.{Base, base_player, base_entities, number_of_base, Context, Told, Snap, Skipped}
-use Rattle.q3_svmsg.specs.Texts.{bytes_row}
 use Rattle.q3_svmsg.specs.Reading.{player_read, entities_read, field_read, held_base, snapshot_after, snapshot_skipped, against_base, area_after, section_after}
 use Rattle.q3_svmsg.specs.Spelling.{SpellsHead, SpellsSnapshot, SpellsSkippedSnapshot, SpellsSection}
 use Rattle.q3_svmsg.specs.Laws.{IsContext}
-use Rattle.q3_svmsg.proofs.Fields.{row-behind, field_was_put, row-first}
+use Rattle.q3_svmsg.proofs.Fields.{field_was}
+use Rattle.q3_svmsg.proofs.Turns.{ReadsSection}
 use Rattle.q3_svmsg.proofs.CommandsSpelled.{area_was_spelled, area_is_read}
 use Rattle.q3_svmsg.proofs.Held.{IsFrom, held_is_normal}
 
@@ -135,10 +139,10 @@ over_is_read zero_is player_law list_law profile to player list rest codec state
 -- ---- the section
 
 -- a section that was read behind its operation
-pub record ReadSection (profile : Profile) (context : Context) (number : ℕ) (bits : List Bool) (found : Told × List Bool) : Type 0 where
+pub record ReadSection (profile : Profile) (context : Context) (number operation : ℕ) (bits : List Bool) (found : Told × List Bool) : Type 0 where
   pub text : List Bool
   pub spells : SpellsSection profile context number found.0 text
-  pub parts : row_bits profile.code ((7, 8) ∷ []) ++ bits ≡ text ++ found.1
+  pub parts : row_bits profile.code ((operation, 8) ∷ []) ++ bits ≡ text ++ found.1
 
 -- what stands behind a head that was read
 record ReadBehind (profile : Profile) (context : Context) (number distance : ℕ) (head : SnapHead) (bits : List Bool) (found : Told × List Bool) : Type 0 where
@@ -214,11 +218,11 @@ behind_was_spelled zero_is player_law list_law skip_law profile context number (
       parts = read.parts;
     })
 
-pub section_was_spelled : ReadWasPut → player.ZeroIsNormal → player.ReadIsSpelled → entity.ListReadIsSpelled → entity.SkippedIsSpelled → (profile : Profile) (context : Context) (number : ℕ)
+pub section_was_spelled : ReadWasPut → BytesWerePut → player.ZeroIsNormal → player.ReadIsSpelled → entity.ListReadIsSpelled → entity.SkippedIsSpelled → (profile : Profile) (context : Context) (number : ℕ)
     (bits : List Bool) (found : Told × List Bool) → IsCodec profile → IsContext profile context → section_after profile context number bits ≡ Ok found
-    → ReadSection profile context number bits found
+    → ReadSection profile context number 7 bits found
 unfolding section_after
-section_was_spelled put zero_is player_law list_law skip_law profile context number bits found codec is e =
+section_was_spelled put bytes zero_is player_law list_law skip_law profile context number bits found codec is e =
     let words = profile.code in
     let code = codec.code in
     let head = λ (time flags : ℕ) (area : List ℕ). let h : SnapHead = record { number = number; time = time; flags = flags; area = record { items = area }; player = zero_player } in h in
@@ -230,10 +234,10 @@ section_was_spelled put zero_is player_law list_law skip_law profile context num
     (λ distance. field_read words 8 distance.1 >>= λ flags. (area_after words flags.1 >>= λ area. against time.0.0 distance.0 flags.0 area)) found time.2 in
     let flags = bind_ok (field_read words 8 distance.0.1) (λ flags. area_after words flags.1 >>= λ area. against time.0.0 distance.0.0 flags.0 area) found distance.2 in
     let area = bind_ok (area_after words flags.0.1) (λ area. against time.0.0 distance.0.0 flags.0.0 area) found flags.2 in
-    let time_was = field_was_put put words 32 bits time.0 code time.1 in
-    let distance_was = field_was_put put words 8 time.0.1 distance.0 code distance.1 in
-    let flags_was = field_was_put put words 8 distance.0.1 flags.0 code flags.1 in
-    let area_was = area_was_spelled put words code flags.0.1 area.0 area.1 in
+    let time_was = field_was put words 32 bits time.0 code time.1 in
+    let distance_was = field_was put words 8 time.0.1 distance.0 code distance.1 in
+    let flags_was = field_was put words 8 distance.0.1 flags.0 code flags.1 in
+    let area_was = area_was_spelled put bytes words code flags.0.1 area.0 area.1 in
     let snap = head time.0.0 flags.0.0 area.0.0 in
     let behind = behind_was_spelled zero_is player_law list_law skip_law profile context number distance.0.0 (held_base context (number_of_base number distance.0.0)) snap area.0.1 found
     codec is refl area.2 in
@@ -264,13 +268,13 @@ section_was_spelled put zero_is player_law list_law skip_law profile context num
 -- ---- a section that is spelled so is read
 
 -- the head, and what is behind it
-head_is_read : PutIsRead → (profile : Profile) (context : Context) (distance base : ℕ) (snap : SnapHead) (front left : List Bool) → IsCodec profile
+head_is_read : PutIsRead → BytesAreRead → (profile : Profile) (context : Context) (distance base : ℕ) (snap : SnapHead) (front left : List Bool) → IsCodec profile
     → SpellsHead profile.code snap.number distance snap front → base ≡ number_of_base snap.number distance
     → (bits : List Bool) × (front ≡ row_bits profile.code ((7, 8) ∷ []) ++ bits)
     × (section_after profile context snap.number (bits ++ left)
     ≡ against_base profile context distance base (held_base context base) (record snap { player = zero_player }) left)
 unfolding section_after
-head_is_read put profile context distance base snap front left codec s named =
+head_is_read put bytes profile context distance base snap front left codec s named =
     let words = profile.code in
     let code = codec.code in
     let area = bytes_row words snap.area.items in
@@ -283,16 +287,18 @@ head_is_read put profile context distance base snap front left codec s named =
         row-first words code put snap.time 32 ((distance, 8) ∷ (snap.flags, 8) ∷ count) (area ++ left) s.time,
         row-first words code put distance 8 ((snap.flags, 8) ∷ count) (area ++ left) s.near,
         row-first words code put snap.flags 8 count (area ++ left) s.flags,
-        area_is_read words code put snap.area.items left s.area s.short,
+        area_is_read put bytes words code snap.area.items left s.area s.short,
         named,
       ) refl,
     )
 
 -- a section that is spelled behind its operation
 pub record TakenSection (profile : Profile) (context : Context) (number : ℕ) (told : Told) (text rest : List Bool) : Type 0 where
+  pub operation : ℕ
+  pub fits : operation < 256
   pub bits : List Bool
-  pub parts : text ≡ row_bits profile.code ((7, 8) ∷ []) ++ bits
-  pub reads : section_after profile context number (bits ++ rest) ≡ Ok (told, rest)
+  pub parts : text ≡ row_bits profile.code ((operation, 8) ∷ []) ++ bits
+  pub reads : ReadsSection profile context number operation (bits ++ rest) (Ok (told, rest))
 
 -- without a base, or against one that is held, a snapshot is read
 against_held : (profile : Profile) (context : Context) (distance base : ℕ) (against : Option Base) (head : SnapHead) (bits : List Bool) → (distance ≡ 0) ⊎ IsSome against
@@ -310,37 +316,43 @@ against_none profile context zero base None head bits rest some none over = absu
 against_none profile context (suc near) base None head bits rest some none over = rw over refl
 
 -- a head, and a player and a list that are read behind it
-behind_head : PutIsRead → (profile : Profile) (context : Context) (number distance base : ℕ) (snap : SnapHead) (told : Told) (text front player list rest : List Bool) → IsCodec profile
+behind_head : PutIsRead → BytesAreRead → (profile : Profile) (context : Context) (number distance base : ℕ) (snap : SnapHead) (told : Told) (text front player list rest : List Bool) → IsCodec profile
     → SpellsHead profile.code number distance snap front → base ≡ number_of_base number distance → text ≡ front ++ player ++ list
     → against_base profile context distance base (held_base context base) (record snap { player = zero_player }) (player ++ (list ++ rest)) ≡ Ok (told, rest)
     → TakenSection profile context number told text rest
-behind_head put profile context number distance base snap told text front player list rest codec s named whole read =
+behind_head put bytes profile context number distance base snap told text front player list rest codec s named whole read =
     let of_head = subst (λ (n : ℕ). SpellsHead profile.code n distance snap front) (sym s.under) s in
-    let head = head_is_read put profile context distance base snap front (player ++ (list ++ rest)) codec of_head (subst (λ (n : ℕ). base ≡ number_of_base n distance) (sym s.under) named) in
+    let head = head_is_read put bytes profile context distance base snap front (player ++ (list ++ rest)) codec of_head (subst (λ (n : ℕ). base ≡ number_of_base n distance) (sym s.under) named) in
     record {
+      operation = 7;
+      fits = omega arith;
       bits = head.0 ++ (player ++ list);
       parts = whole ∙ ap (λ (front : List Bool). front ++ player ++ list) head.1 ∙ simp append_assoc;
-      reads =
-          subst (λ (n : ℕ). section_after profile context n ((head.0 ++ (player ++ list)) ++ rest) ≡ Ok (told, rest)) s.under
-          (ap (λ (bits : List Bool). section_after profile context snap.number bits) (texts_behind head.0 player list rest) ∙ head.2 ∙ read);
+      reads = inr (
+        refl,
+        sym (
+            subst (λ (n : ℕ). section_after profile context n ((head.0 ++ (player ++ list)) ++ rest) ≡ Ok (told, rest)) s.under
+            (ap (λ (bits : List Bool). section_after profile context snap.number bits) (texts_behind head.0 player list rest) ∙ head.2 ∙ read)
+            ),
+      );
     }
 
-pub snapshot_is_read : PutIsRead → player.ZeroIsNormal → player.SpelledIsRead → entity.ListSpelledIsRead → (profile : Profile) (context : Context) (number base : ℕ) (snap : SnapHead)
+pub snapshot_is_read : PutIsRead → BytesAreRead → player.ZeroIsNormal → player.SpelledIsRead → entity.ListSpelledIsRead → (profile : Profile) (context : Context) (number base : ℕ) (snap : SnapHead)
     (entities : List EntityState) (text rest : List Bool) → IsCodec profile → IsContext profile context → SpellsSnapshot profile context number base snap entities text
     → TakenSection profile context number (Snap base snap entities) text rest
-snapshot_is_read put zero_is player_law list_law profile context number base snap entities text rest codec is s =
+snapshot_is_read put bytes zero_is player_law list_law profile context number base snap entities text rest codec is s =
     let against = held_base context base in
     let head = record snap { player = zero_player } in
     let states = states_are_read player_law list_law profile context.lines against base head snap.player entities (s.player ++ s.list) rest codec is.lines
     (held_is_normal profile context codec is zero_is base against refl)
     (record { player = s.player; list = s.list; state = s.state; of_player = s.of_player; of_list = s.of_list; whole = refl }) in
-    behind_head put profile context number s.distance base snap (Snap base snap entities) text s.head s.player s.list rest codec s.of_head s.named s.whole
+    behind_head put bytes profile context number s.distance base snap (Snap base snap entities) text s.head s.player s.list rest codec s.of_head s.named s.whole
     (against_held profile context s.distance base against head (s.player ++ (s.list ++ rest)) s.held
     ∙ ap (λ (bits : List Bool). snapshot_after profile context.lines against base head bits) (sym (append_assoc s.player s.list rest)) ∙ states)
 
-pub skipped_is_read : PutIsRead → player.ZeroIsNormal → player.SpelledIsRead → entity.SpelledIsSkipped → (profile : Profile) (context : Context) (number base : ℕ) (text rest : List Bool)
+pub skipped_is_read : PutIsRead → BytesAreRead → player.ZeroIsNormal → player.SpelledIsRead → entity.SpelledIsSkipped → (profile : Profile) (context : Context) (number base : ℕ) (text rest : List Bool)
     → IsCodec profile → SpellsSkippedSnapshot profile context number base text → TakenSection profile context number (Skipped base) text rest
-skipped_is_read put zero_is player_law list_law profile context number base text rest codec s =
-    behind_head put profile context number s.distance base s.snap (Skipped base) text s.head s.player s.list rest codec s.of_head s.named s.whole
+skipped_is_read put bytes zero_is player_law list_law profile context number base text rest codec s =
+    behind_head put bytes profile context number s.distance base s.snap (Skipped base) text s.head s.player s.list rest codec s.of_head s.named s.whole
     (against_none profile context s.distance base (held_base context base) (record s.snap { player = zero_player }) (s.player ++ (s.list ++ rest)) rest s.some s.not_held
     (over_is_read zero_is player_law list_law profile s.snap.player s.player s.list rest codec s.state s.of_player s.of_list))

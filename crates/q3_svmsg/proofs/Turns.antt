@@ -1,10 +1,9 @@
 -- Operations that are read one after the other: each takes a bit at least, so there are at most as many as bits.
-use Rattle.std.proofs.Common.{◌≡◌, ◌+◌, ◌<◌, ◌≤◌, ◌==◌, ◌/◌, ◌%◌, ℕ, zero, suc, Bool, true, false, if◌then◌else◌, nat_lt, List, [], ◌∷◌, ◌++◌, length, Result, Ok, Err, refl, sym, ap, arith}
+use Rattle.std.proofs.Common.{◌≡◌, ◌⊎◌, inl, inr, ◌+◌, ◌<◌, ◌≤◌, ◌==◌, ◌/◌, ◌%◌, ℕ, zero, suc, Bool, true, false, if◌then◌else◌, nat_lt, List, [], ◌∷◌, ◌++◌, length, Result, Ok, Err, refl, sym, ap, arith}
 use Rattle.std.proofs.lemmas.List.{length-append}
 use Rattle.q3_bits.specs.Words.{word_of, IsCode, field_bits, bytes_bits, field_at}
 use Rattle.q3_bits.specs.Bits.{low_bits}
 use Rattle.q3_bits.specs.ResultBind.{◌>>=◌, bind_ok, map_err_ok}
-use Rattle.q3_text.specs.Texts.{most_bytes, translated}
 use Rattle.q3_bits.specs.Laws.{ReadWasPut, FieldsEndCutShort}
 use Rattle.q3_bits.specs.Streams.{Reading, with_rest, holding}
 use Rattle.q3_bits.specs.declared.reader.ReadError.{ReadError}
@@ -12,9 +11,11 @@ use Rattle.q3_bits.specs.declared.reader.ReadError.TheVariants.{End, NoWord}
 use Rattle.q3_text.specs.declared.text.Command.{Command}
 use Rattle.q3_profile.specs.declared.profile.Profile.{Profile}
 use Rattle.q3_svmsg.specs.declared.error.Illegible.{Illegible}
-use Rattle.q3_svmsg.specs.declared.error.Illegible.TheVariants.{Bits, BadOp, TextLong, Commands}
+use Rattle.q3_svmsg.specs.declared.error.Illegible.TheVariants.{Bits, BadOp, Commands}
 use Rattle.q3_svmsg.specs.Values.{Context, Told, Message}
-use Rattle.q3_svmsg.specs.Reading.{field_read, string_after, command_after, commands_after, section_after, ending_after, operations_after}
+use Rattle.q3_strings.specs.Reading.{string_after, command_after}
+use Rattle.q3_strings.specs.Laws.{StringReadIsSpelled, CommandReadIsSpelled}
+use Rattle.q3_svmsg.specs.Reading.{string_error, strings_read, field_read, commands_after, gamestate_after, section_after, ending_after, operations_after}
 
 -- a word has a bit at least
 some_bits : (words : List (List Bool)) → IsCode words → (byte : ℕ) → byte < 256 → (word : List Bool) → word_of words byte ≡ word → 0 < length word
@@ -91,6 +92,11 @@ ending_bad words bits rest byte turns left read is not_end not_nop = rw (is, ←
 
 -- ---- before the section
 
+-- a section of this operation reads so
+abbrev pub ReadsSection : Profile → Context → ℕ → ℕ → List Bool → Result (Told × List Bool) Illegible → Type 0
+ReadsSection profile context number operation bits read =
+    ((operation ≡ 2) × (read ≡ gamestate_after profile bits)) ⊎ ((operation ≡ 7) × (read ≡ section_after profile context number bits))
+
 pub operations_fault : (profile : Profile) (context : Context) (number : ℕ) (message : Message) → FieldsEndCutShort → IsCode profile.code → (bits : List Bool) (e : ReadError) (turns : ℕ)
     → Err e ≡ field_at profile.code 8 bits → length bits ≤ turns → operations_after profile context number turns message bits ≡ Err (Bits e)
 unfolding operations_after
@@ -122,35 +128,38 @@ module _ (profile : Profile) (context : Context) (number : ℕ) (message : Messa
   operations_command_fault rest e turns left read is command = rw (is, ← read, ← command) refl
 
   -- a section that was read, and what is behind it
-  pub operations_section : (rest behind end : List Bool) (section : Told) (turns left : ℕ) → Ok (7, rest) ≡ field_at profile.code 8 bits → turns ≡ suc left
-      → Ok (section, behind) ≡ section_after profile context number rest → Ok (tt, end) ≡ ending_after profile.code (length behind) behind
+  pub operations_section : (operation : ℕ) (rest behind end : List Bool) (section : Told) (turns left : ℕ) → Ok (operation, rest) ≡ field_at profile.code 8 bits → turns ≡ suc left
+      → ReadsSection profile context number operation rest (Ok (section, behind)) → Ok (tt, end) ≡ ending_after profile.code (length behind) behind
       → operations_after profile context number turns message bits ≡ Ok (record message { section = section }, end)
   unfolding operations_after
-  operations_section rest behind end section turns left read is told ending = rw (is, ← read, ← told, ← ending) refl
+  operations_section operation rest behind end section turns left read is (inl (game, told)) ending = rw (is, ← read, game, ← told, ← ending) refl
+  operations_section operation rest behind end section turns left read is (inr (snapshot, told)) ending = rw (is, ← read, snapshot, ← told, ← ending) refl
 
-  pub operations_ending_fault : (rest behind : List Bool) (section : Told) (e : Illegible) (turns left : ℕ) → Ok (7, rest) ≡ field_at profile.code 8 bits → turns ≡ suc left
-      → Ok (section, behind) ≡ section_after profile context number rest → Err e ≡ ending_after profile.code (length behind) behind
+  pub operations_ending_fault : (operation : ℕ) (rest behind : List Bool) (section : Told) (e : Illegible) (turns left : ℕ) → Ok (operation, rest) ≡ field_at profile.code 8 bits → turns ≡ suc left
+      → ReadsSection profile context number operation rest (Ok (section, behind)) → Err e ≡ ending_after profile.code (length behind) behind
       → operations_after profile context number turns message bits ≡ Err e
   unfolding operations_after
-  operations_ending_fault rest behind section e turns left read is told ending = rw (is, ← read, ← told, ← ending) refl
+  operations_ending_fault operation rest behind section e turns left read is (inl (game, told)) ending = rw (is, ← read, game, ← told, ← ending) refl
+  operations_ending_fault operation rest behind section e turns left read is (inr (snapshot, told)) ending = rw (is, ← read, snapshot, ← told, ← ending) refl
 
   -- the two, by what the ending answered
-  pub section_ends : (rest behind end : List Bool) (section : Told) (turns left : ℕ) → Ok (7, rest) ≡ field_at profile.code 8 bits → turns ≡ suc left
-      → Ok (section, behind) ≡ section_after profile context number rest → (result : Result (Unit {0}) Illegible)
+  pub section_ends : (operation : ℕ) (rest behind end : List Bool) (section : Told) (turns left : ℕ) → Ok (operation, rest) ≡ field_at profile.code 8 bits → turns ≡ suc left
+      → ReadsSection profile context number operation rest (Ok (section, behind)) → (result : Result (Unit {0}) Illegible)
       → with_rest end result ≡ ending_after profile.code (length behind) behind
       → with_rest end (holding (record message { section = section }) result) ≡ operations_after profile context number turns message bits
-  section_ends rest behind end section turns left read is told (Ok done) ending = sym (operations_section rest behind end section turns left read is told ending)
-  section_ends rest behind end section turns left read is told (Err e) ending = sym (operations_ending_fault rest behind section e turns left read is told ending)
+  section_ends operation rest behind end section turns left read is told (Ok done) ending = sym (operations_section operation rest behind end section turns left read is told ending)
+  section_ends operation rest behind end section turns left read is told (Err e) ending = sym (operations_ending_fault operation rest behind section e turns left read is told ending)
 
-  pub operations_section_fault : (rest : List Bool) (e : Illegible) (turns left : ℕ) → Ok (7, rest) ≡ field_at profile.code 8 bits → turns ≡ suc left
-      → Err e ≡ section_after profile context number rest → operations_after profile context number turns message bits ≡ Err e
+  pub operations_section_fault : (operation : ℕ) (rest : List Bool) (e : Illegible) (turns left : ℕ) → Ok (operation, rest) ≡ field_at profile.code 8 bits → turns ≡ suc left
+      → ReadsSection profile context number operation rest (Err e) → operations_after profile context number turns message bits ≡ Err e
   unfolding operations_after
-  operations_section_fault rest e turns left read is told = rw (is, ← read, ← told) refl
+  operations_section_fault operation rest e turns left read is (inl (game, told)) = rw (is, ← read, game, ← told) refl
+  operations_section_fault operation rest e turns left read is (inr (snapshot, told)) = rw (is, ← read, snapshot, ← told) refl
 
   pub operations_bad : (rest : List Bool) (byte turns left : ℕ) → Ok (byte, rest) ≡ field_at profile.code 8 bits → turns ≡ suc left
-      → (byte == 8) ≡ false → (byte == 1) ≡ false → (byte == 5) ≡ false → (byte == 7) ≡ false → operations_after profile context number turns message bits ≡ Err (BadOp byte)
+      → (byte == 8) ≡ false → (byte == 1) ≡ false → (byte == 5) ≡ false → (byte == 2) ≡ false → (byte == 7) ≡ false → operations_after profile context number turns message bits ≡ Err (BadOp byte)
   unfolding operations_after
-  operations_bad rest byte turns left read is not_end not_nop not_command not_section = rw (is, ← read, not_end, not_nop, not_command, not_section) refl
+  operations_bad rest byte turns left read is not_end not_nop not_command not_game not_section = rw (is, ← read, not_end, not_nop, not_command, not_game, not_section) refl
 
 -- ---- a command takes no bit twice
 
@@ -163,21 +172,21 @@ abbrev left_of : {A : Type 0} → List Bool → Result (A × List Bool) Illegibl
 left_of bits (Ok x) = x.1
 left_of bits (Err e) = bits
 
-shrinks_ok : {A : Type 0} (x : A) (bits : List Bool) → Shrinks bits (Ok (x, bits))
+pub shrinks_ok : {A : Type 0} (x : A) (bits : List Bool) → Shrinks bits (Ok (x, bits))
 shrinks_ok {A = A} x bits = record {
   by = λ y rest is.
       let same : bits ≡ rest = ap (λ (read : Result (A × List Bool) Illegible). left_of bits read) is in
       omega (arith, ap length same);
 }
 
-shrinks_err : {A : Type 0} (bits : List Bool) (e : Illegible) → Shrinks {A = A} bits (Err e)
+pub shrinks_err : {A : Type 0} (bits : List Bool) (e : Illegible) → Shrinks {A = A} bits (Err e)
 shrinks_err bits e = record { by = λ y rest is. absurd cc }
 
-shrinks_if : {A : Type 0} (b : Bool) (bits : List Bool) (x y : Result (A × List Bool) Illegible) → Shrinks bits x → Shrinks bits y → Shrinks bits (if b then x else y)
+pub shrinks_if : {A : Type 0} (b : Bool) (bits : List Bool) (x y : Result (A × List Bool) Illegible) → Shrinks bits x → Shrinks bits y → Shrinks bits (if b then x else y)
 shrinks_if true bits x y first second = first
 shrinks_if false bits x y first second = second
 
-shrinks_bind : {A B : Type 0} (bits : List Bool) (read : Result (A × List Bool) Illegible) (f : A × List Bool → Result (B × List Bool) Illegible) → Shrinks bits read
+pub shrinks_bind : {A B : Type 0} (bits : List Bool) (read : Result (A × List Bool) Illegible) (f : A × List Bool → Result (B × List Bool) Illegible) → Shrinks bits read
     → ((x : A × List Bool) → Shrinks x.1 (f x)) → Shrinks bits (read >>= f)
 shrinks_bind bits read f first others = record {
   by = λ y rest is.
@@ -185,29 +194,33 @@ shrinks_bind bits read f first others = record {
       omega (arith, first.by steps.0.0 steps.0.1 steps.1, (others steps.0).by y rest steps.2);
 }
 
-shrinks_field : (words : List (List Bool)) → ReadWasPut → IsCode words → (width : ℕ) (bits : List Bool) → Shrinks bits (field_read words width bits)
+-- a text, and what is behind it
+pub behind_text : (bits text rest : List Bool) → bits ≡ text ++ rest → length rest ≤ length bits
+behind_text bits text rest is = omega (arith, ap length is, length-append text rest)
+
+pub shrinks_field : (words : List (List Bool)) → ReadWasPut → IsCode words → (width : ℕ) (bits : List Bool) → Shrinks bits (field_read words width bits)
 shrinks_field words was_put code width bits = record {
   by = λ value rest is.
-      let put = was_put words width value bits rest code (map_err_ok Bits (field_at words width bits) (value, rest) is) in
-      omega (arith, ap length put.1, length-append (field_bits words width value) rest);
+      behind_text bits (field_bits words width value) rest (was_put words width value bits rest code (map_err_ok Bits (field_at words width bits) (value, rest) is)).1;
 }
 
-shrinks_string : (words : List (List Bool)) → ReadWasPut → IsCode words → (most : ℕ) (bits : List Bool) → Shrinks bits (string_after words most bits)
-unfolding string_after
-shrinks_string words was_put code zero bits =
-    shrinks_bind bits _ _ (shrinks_field words was_put code 8 bits)
-    (λ byte. shrinks_if (byte.0 == 0) byte.1 _ _ (shrinks_ok [] byte.1) (shrinks_err byte.1 TextLong))
-shrinks_string words was_put code (suc most) bits =
-    shrinks_bind bits _ _ (shrinks_field words was_put code 8 bits)
-    (λ byte. shrinks_if (byte.0 == 0) byte.1 _ _ (shrinks_ok [] byte.1)
-    (shrinks_bind byte.1 _ _ (shrinks_string words was_put code most byte.1) (λ others. shrinks_ok (translated byte.0 ∷ others.0) others.1)))
+pub shrinks_string : (words : List (List Bool)) → StringReadIsSpelled → IsCode words → (most : ℕ) (bits : List Bool) → Shrinks bits (strings_read (string_after words most bits))
+shrinks_string words law code most bits = record {
+  by = λ text rest is.
+      let was = law words most text bits rest code (map_err_ok string_error (string_after words most bits) (text, rest) is) in
+      behind_text bits was.1 rest was.2;
+}
 
-pub shrinks_commands : (words : List (List Bool)) → ReadWasPut → IsCode words → (commands : List Command) (bits : List Bool) → Shrinks bits (commands_after words commands bits)
-unfolding commands_after command_after
-shrinks_commands words was_put code commands bits =
+pub shrinks_commands : (words : List (List Bool)) → CommandReadIsSpelled → IsCode words → (commands : List Command) (bits : List Bool) → Shrinks bits (commands_after words commands bits)
+unfolding commands_after
+shrinks_commands words law code commands bits =
     shrinks_if (nat_lt (length commands) 64) bits _ _
-    (shrinks_bind bits _ _
-    (shrinks_bind bits _ _ (shrinks_field words was_put code 32 bits)
-    (λ number. shrinks_bind number.1 _ _ (shrinks_string words was_put code most_bytes number.1) (λ text. shrinks_ok (record { number = number.0; text = text.0 }) text.1)))
-    (λ command. shrinks_ok (commands ++ command.0 ∷ []) command.1))
+    (shrinks_bind bits _ _ (shrinks_command bits) (λ command. shrinks_ok (commands ++ command.0 ∷ []) command.1))
     (shrinks_err bits Commands)
+  where
+    shrinks_command : (bits : List Bool) → Shrinks bits (strings_read (command_after words bits))
+    shrinks_command bits = record {
+      by = λ command rest is.
+          let was = law words command bits rest code (map_err_ok string_error (command_after words bits) (command, rest) is) in
+          behind_text bits was.1 rest was.2;
+    }

@@ -1,63 +1,43 @@
 -- What is written of a message spells it.
-use Rattle.std.proofs.Common.{◌≡◌, ◌⊎◌, ◌+◌, ◌-◌, ◌<◌, ◌≤◌, ◌==◌, ◌&&◌, ℕ, zero, suc, Bool, true, false, nat_lt, if◌then◌else◌, List, [], ◌∷◌, length, map, Option, Some, None, IsSome, refl, sym, ap, ◌∙◌, arith, inl, inr}
+use Rattle.std.proofs.Common.{◌≡◌, ◌⊎◌, ◌+◌, ◌-◌, ◌<◌, ◌==◌, ◌&&◌, ℕ, zero, suc, Bool, true, false, nat_lt, if◌then◌else◌, List, [], ◌∷◌, Option, Some, None, IsSome, refl, sym, ap, ◌∙◌, arith, inl, inr}
 use Rattle.std.specs.List.{All, flat_map}
 use Rattle.std.proofs.lemmas.Bool.Decides.{nat_tests}
 use Rattle.std.proofs.lemmas.List.{append-nil}
 use Rattle.std.proofs.lemmas.List.Elements.{All-head, All-tail}
 use Rattle.q3_bits.specs.Words.{row_bits}
 use Rattle.q3_text.specs.declared.text.Command.{Command}
-use Rattle.q3_text.specs.Texts.{most_bytes, translated, IsTextByte}
+use Rattle.q3_strings.specs.Texts.{command_bits}
+use Rattle.q3_strings.specs.Rows.{row-none}
+use Rattle.q3_strings.specs.Laws.{IsCommand, CommandIsSpelled}
 use Rattle.q3_player.specs.Delta.{player_delta}
-use Rattle.q3_player.specs.Laws as player
 use Rattle.q3_entity.specs.Lists.{list_text}
-use Rattle.q3_entity.specs.Laws as entity
 use Rattle.q3_profile.specs.declared.profile.Profile.{Profile}
 use Rattle.q3_profile.specs.Profile.{IsCodec}
-use Rattle.q3_svmsg.specs.Values.{Base, base_player, base_entities, Context, Told, Nothing, Snap, Skipped, IsNamed, distance_to, number_of_base}
-use Rattle.q3_svmsg.specs.Texts.{string_bits, command_bits, head_bits, snapshot_bits, section_bits, message_text}
+use Rattle.q3_svmsg.specs.Values.{Base, base_player, base_entities, Context, Told, Nothing, Game, Snap, Skipped, IsNamed, distance_to, number_of_base}
+use Rattle.q3_svmsg.specs.Texts.{server_command_bits, head_bits, snapshot_bits, section_bits, message_text}
 use Rattle.q3_svmsg.specs.Reading.{held_base}
-use Rattle.q3_svmsg.specs.Spelling.{SpellsString, SpellsCommands, SpellsSection}
-use Rattle.q3_svmsg.specs.Laws.{IsCommand, IsContext, IsTold, HasNumber, base_in, normal_told, WrittenIsSpelled}
-use Rattle.q3_svmsg.proofs.Fields.{row-none}
+use Rattle.q3_svmsg.specs.Spelling.{SpellsCommands, SpellsSection}
+use Rattle.q3_svmsg.specs.Laws.{IsContext, IsTold, HasNumber, base_in, normal_told, WrittenIsSpelled}
+use Rattle.q3_svmsg.proofs.Below.{WasWritten}
+use Rattle.q3_svmsg.proofs.GameWritten.{game_is_spelled}
 use Rattle.q3_svmsg.proofs.Held.{held_is_normal}
 
 -- ---- commands
 
--- a byte of a text is translated to itself
-text_byte : (byte : ℕ) → IsTextByte byte → translated byte ≡ byte
-text_byte byte is =
-    let seven : nat_lt 127 byte ≡ false = grind (arith, nat_tests, is.seven_bits) in
-    let no_percent : (byte == 37) ≡ false = grind (arith, nat_tests, is.no_percent) in
-    rw (seven, no_percent) refl
-
--- and so are all of them
-text_bytes : (text : List ℕ) → All IsTextByte text → text ≡ map translated text
-text_bytes [] each = refl
-text_bytes (byte ∷ text) each =
-    ap (λ (others : List ℕ). byte ∷ others) (text_bytes text (All-tail IsTextByte byte text each))
-    ∙ ap (λ (b : ℕ). b ∷ map translated text) (sym (text_byte byte (All-head IsTextByte byte text each)))
-
-string_is_spelled : (words : List (List Bool)) (most : ℕ) (text : List ℕ) → length text ≤ most → All IsTextByte text → SpellsString words most text (string_bits words text)
-string_is_spelled words most text short each =
-    (text, λ i default more. is_byte (each i default more), short, text_bytes text each, refl)
-  where
-    is_byte : {byte : ℕ} → IsTextByte byte → (0 < byte) × (byte < 256)
-    is_byte is = (is.some, omega (arith, is.seven_bits))
-
 no_nop : (words : List (List Bool)) → [] ≡ row_bits words []
 no_nop words = row-none words [] ∙ append-nil (row_bits words [])
 
-commands_are_spelled : (words : List (List Bool)) (commands : List Command) → All IsCommand commands → SpellsCommands words commands (flat_map (command_bits words) commands)
-commands_are_spelled words [] each = refl
-commands_are_spelled words (command ∷ commands) each =
+commands_are_spelled : CommandIsSpelled → (words : List (List Bool)) (commands : List Command) → All IsCommand commands → SpellsCommands words commands (flat_map (server_command_bits words) commands)
+commands_are_spelled law words [] each = refl
+commands_are_spelled law words (command ∷ commands) each =
     let is = All-head IsCommand command commands each in (
       [],
-      command_bits words command,
-      flat_map (command_bits words) commands,
+      server_command_bits words command,
+      flat_map (server_command_bits words) commands,
       refl,
       (0, no_nop words),
-      (string_bits words command.text, is.number, string_is_spelled words most_bytes command.text is.text.short is.text.each, refl),
-      commands_are_spelled words commands (All-tail IsCommand command commands each),
+      (command_bits words command, law words command is, refl),
+      commands_are_spelled law words commands (All-tail IsCommand command commands each),
     )
 
 -- ---- the section
@@ -87,15 +67,16 @@ may_be : (against : Option Base) (number base : ℕ) → IsNamed against number 
 may_be (Some held) number base named = inr refl
 may_be None number base named = inl (ap (distance_to number) named)
 
-section_is_spelled : player.ZeroIsNormal → player.NormalIsNormal → player.WrittenIsSpelled → entity.ListIsSpelled → (profile : Profile) (context : Context) (number : ℕ) (told : Told)
+section_is_spelled : WasWritten → (profile : Profile) (context : Context) (number : ℕ) (told : Told)
     → IsCodec profile → IsContext profile context → IsTold profile context told → HasNumber number told
     → SpellsSection profile context number (normal_told profile told) (section_bits profile context.lines (base_in context told) told)
 unfolding section_bits snapshot_bits
-section_is_spelled zero_is normal_is player_law list_law profile context number Nothing codec is_context is has_number = refl
-section_is_spelled zero_is normal_is player_law list_law profile context number (Snap base head entities) codec is_context is has_number =
+section_is_spelled below profile context number Nothing codec is_context is has_number = refl
+section_is_spelled below profile context number (Game game) codec is_context is has_number = game_is_spelled below profile game codec is
+section_is_spelled below profile context number (Snap base head entities) codec is_context is has_number =
     let words = profile.code in
     let against = held_base context base in
-    let from = held_is_normal profile context codec is_context zero_is base against refl in
+    let from = held_is_normal profile context codec is_context below.no_player base against refl in
     let is_head = is.0 in
     record {
       distance = distance_to head.number base;
@@ -113,20 +94,20 @@ section_is_spelled zero_is normal_is player_law list_law profile context number 
         short = is_head.short;
         text = refl;
       };
-      state = (normal_is profile.player.kinds head.player codec.player.kinds is_head.player).0;
-      of_player = player_law words profile.player.kinds (base_player against) head.player codec.code codec.player.kinds from.state from.normal is_head.player;
-      of_list = list_law words profile.entity context.lines (base_entities against) entities codec.code codec.entity is_context.lines from.list from.states from.normal_entities is.1.list is.1.states;
+      state = (below.normal profile.player.kinds head.player codec.player.kinds is_head.player).0;
+      of_player = below.player words profile.player.kinds (base_player against) head.player codec.code codec.player.kinds from.state from.normal is_head.player;
+      of_list = below.list words profile.entity context.lines (base_entities against) entities codec.code codec.entity is_context.lines from.list from.states from.normal_entities is.1.list is.1.states;
       whole = refl;
     }
-section_is_spelled zero_is normal_is player_law list_law profile context number (Skipped base) codec is_context is has_number = absurd is
+section_is_spelled below profile context number (Skipped base) codec is_context is has_number = absurd is
 
 -- ---- the message
 
-pub message_is_spelled : player.ZeroIsNormal → player.NormalIsNormal → player.WrittenIsSpelled → entity.ListIsSpelled → WrittenIsSpelled
+pub message_is_spelled : WasWritten → WrittenIsSpelled
 unfolding message_text
-message_is_spelled zero_is normal_is player_law list_law profile context number message codec is_context is =
+message_is_spelled below profile context number message codec is_context is =
     let words = profile.code in
-    let commands = flat_map (command_bits words) message.commands in
+    let commands = flat_map (server_command_bits words) message.commands in
     let section = section_bits profile context.lines (base_in context message.section) message.section in
     record {
       ack = is.ack;
@@ -135,9 +116,9 @@ message_is_spelled zero_is normal_is player_law list_law profile context number 
       nops = [];
       section = section;
       behind = [];
-      of_commands = commands_are_spelled words message.commands is.commands;
+      of_commands = commands_are_spelled below.command words message.commands is.commands;
       of_nops = (0, no_nop words);
-      of_section = section_is_spelled zero_is normal_is player_law list_law profile context number message.section codec is_context is.section is.number_is;
+      of_section = section_is_spelled below profile context number message.section codec is_context is.section is.number_is;
       of_behind = (0, no_nop words);
       whole = simp append-nil;
     }

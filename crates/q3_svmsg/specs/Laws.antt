@@ -1,7 +1,8 @@
 -- Laws of a server's messages.
-use Rattle.std.specs.Prelude.{◌≡◌, ℕ, ◌^◌, ◌<◌, ◌≤◌, Bool, List, ◌++◌, length, map, Option, Some, None, All, Ok}
-use Rattle.q3_text.specs.declared.text.Command.{Command}
-use Rattle.q3_text.specs.Texts.{IsText}
+use Rattle.std.specs.Prelude.{◌≡◌, ℕ, ◌^◌, ◌<◌, ◌≤◌, Bool, List, ◌++◌, length, map, Option, Some, None, All, IsSome, Ok}
+use Rattle.q3_text.specs.Texts.{IsTextByte}
+use Rattle.q3_strings.specs.Laws.{IsCommand}
+use Rattle.q3_config.specs.Strings.{AreStrings, server_id}
 use Rattle.q3_player.specs.declared.head.SnapHead.{SnapHead}
 use Rattle.q3_player.specs.State.{IsState, IsNormal, normal_player}
 use Rattle.q3_entity.specs.declared.state.EntityState.{EntityState}
@@ -9,15 +10,10 @@ use Rattle.q3_entity.specs.Entities.{normal_entity, IsList, AreStates, AreNormal
 use Rattle.q3_entity.specs.Baselines.{AreLines}
 use Rattle.q3_profile.specs.declared.profile.Profile.{Profile}
 use Rattle.q3_profile.specs.Profile.{IsCodec}
-use Rattle.q3_svmsg.specs.Values.{Base, IsNamed, Context, Told, Nothing, Snap, Skipped, Message}
+use Rattle.q3_svmsg.specs.Values.{Base, IsNamed, Context, Gamestate, Told, Nothing, Game, Snap, Skipped, Message}
 use Rattle.q3_svmsg.specs.Texts.{message_text}
 use Rattle.q3_svmsg.specs.Spelling.{SpellsMessage}
 use Rattle.q3_svmsg.specs.Reading.{held_base, message_after}
-
--- a command as the program's type holds it
-pub record IsCommand (command : Command) : Type 0 where
-  pub number : command.number < 2 ^ 32
-  pub text : IsText command.text
 
 -- the head of a snapshot as the program's type holds it
 pub record IsHead (head : SnapHead) : Type 0 where

@@ -3,3 +3,4 @@ pub mod Texts
 pub mod Reading
 pub mod Spelling
 pub mod Laws
+pub mod Report

@@ -1,25 +1,36 @@
 -- What a reader of a server's message answers: its value, or the first refusal in reading order.
-use Rattle.std.specs.Prelude.{ℕ, zero, suc, ◌+◌, ◌-◌, ◌==◌, nat_lt, Bool, if◌then◌else◌, List, [], ◌∷◌, ◌++◌, length, Option, Some, None, Result, Ok, Err}
+use Rattle.std.specs.Prelude.{ℕ, zero, suc, ◌+◌, ◌-◌, ◌==◌, nat_lt, Bool, if◌then◌else◌, List, [], ◌∷◌, ◌++◌, length, replicate, Option, Some, None, Result, Ok, Err}
+use Rattle.std.specs.Option.{is_some}
 use Rattle.std.specs.Result.{result_map_both}
 use Rattle.q3_bits.specs.ResultBind.{◌>>=◌}
 use Rattle.q3_bits.specs.Words.{field_at}
 use Rattle.q3_bits.specs.declared.reader.ReadError.{ReadError}
 use Rattle.q3_bits.specs.declared.reader.ReadError.TheVariants.{End}
 use Rattle.q3_text.specs.declared.text.Command.{Command}
-use Rattle.q3_text.specs.Texts.{most_bytes, translated}
+use Rattle.q3_strings.specs.declared.error.StringError.{StringError}
+use Rattle.q3_strings.specs.declared.error.StringError.TheVariants as strings
+use Rattle.q3_strings.specs.Reading.{bytes_after, string_after, command_after}
 use Rattle.q3_fields.specs.declared.delta.DeltaError.{DeltaError}
 use Rattle.q3_player.specs.declared.head.SnapHead.{SnapHead}
 use Rattle.q3_player.specs.State.{zero_player}
 use Rattle.q3_player.specs.Delta.{player_at}
 use Rattle.q3_entity.specs.declared.error.EntityError.{EntityError}
 use Rattle.q3_entity.specs.declared.state.EntityState.{EntityState}
+use Rattle.q3_entity.specs.declared.reading.Entry.{Entry}
+use Rattle.q3_entity.specs.declared.reading.Entry.TheVariants.{Removed}
+use Rattle.q3_entity.specs.declared.error.EntityError.TheVariants.{Order, Removes}
+use Rattle.q3_fields.specs.Kinds.{end_mark}
+use Rattle.q3_entity.specs.Delta.{entity_at}
 use Rattle.q3_entity.specs.Lists.{list_after, list_skipped}
+use Rattle.q3_config.specs.declared.error.ConfigError.{ConfigError}
+use Rattle.q3_config.specs.declared.error.ConfigError.TheVariants.{Index}
+use Rattle.q3_config.specs.Strings.{Strings, places, longest_string, no_strings, with_string, set_fault, server_id}
 use Rattle.q3_profile.specs.declared.profile.Profile.{Profile}
 use Rattle.q3_svmsg.specs.declared.message.Section.{Section}
 use Rattle.q3_svmsg.specs.declared.error.Illegible.{Illegible}
-use Rattle.q3_svmsg.specs.declared.error.Illegible.TheVariants.{Bits, BadOp, Entity, Player, Area, TextLong, Commands}
-use Rattle.q3_entity.specs.Baselines.{Lines}
-use Rattle.q3_svmsg.specs.Values.{Base, base_player, base_entities, number_of_base, section_of, Context, Told, Nothing, Snap, Skipped, Message}
+use Rattle.q3_svmsg.specs.declared.error.Illegible.TheVariants.{Bits, BadOp, Entity, Player, Area, Config, TextLong, NoServerId, Commands}
+use Rattle.q3_entity.specs.Baselines.{Lines, no_lines, with_line}
+use Rattle.q3_svmsg.specs.Values.{Base, base_player, base_entities, number_of_base, section_of, Context, Gamestate, Told, Nothing, Game, Snap, Skipped, Message}
 
 -- the answer of a reader of a section that leaves a gamestate or a snapshot in its places
 abbrev pub telling : Gamestate → SnapHead → List EntityState → Result Section Illegible → Result Told Illegible
@@ -36,6 +47,14 @@ player_read {A = A} r = result_map_both (λ (x : A). x) Player r
 abbrev pub entities_read : {A : Type 0} → Result A EntityError → Result A Illegible
 entities_read {A = A} r = result_map_both (λ (x : A). x) Entity r
 
+-- faults of strings, as those of messages
+abbrev pub string_error : StringError → Illegible
+string_error (strings.Bits e) = Bits e
+string_error strings.Long = TextLong
+
+abbrev pub strings_read : {A : Type 0} → Result A StringError → Result A Illegible
+strings_read {A = A} r = result_map_both (λ (x : A). x) string_error r
+
 -- a field of so many bits
 abbrev pub field_read : List (List Bool) → ℕ → List Bool → Result (ℕ × List Bool) Illegible
 field_read words width bits = bits_read (field_at words width bits)
@@ -46,37 +65,11 @@ ack_at words bits = do
   ack ← field_at words 32 bits
   Ok (ack.0, length bits - length ack.1)
 
--- so many bytes
-unfoldable pub bytes_after : List (List Bool) → ℕ → List Bool → Result (List ℕ × List Bool) Illegible
-bytes_after words zero bits = Ok ([], bits)
-bytes_after words (suc count) bits = do
-  byte ← field_read words 8 bits
-  others ← bytes_after words count byte.1
-  Ok (byte.0 ∷ others.0, others.1)
-
--- a string: bytes, each translated, up to a 0 that comes after at most so many
-unfoldable pub string_after : List (List Bool) → ℕ → List Bool → Result (List ℕ × List Bool) Illegible
-string_after words zero bits = do
-  byte ← field_read words 8 bits
-  if byte.0 == 0 then Ok ([], byte.1) else Err TextLong
-string_after words (suc most) bits = do
-  byte ← field_read words 8 bits
-  if byte.0 == 0 then Ok ([], byte.1) else (do
-    others ← string_after words most byte.1
-    Ok (translated byte.0 ∷ others.0, others.1))
-
--- a command behind its operation
-unfoldable pub command_after : List (List Bool) → List Bool → Result (Command × List Bool) Illegible
-command_after words bits = do
-  number ← field_read words 32 bits
-  text ← string_after words most_bytes number.1
-  Ok (record { number = number.0; text = text.0 }, text.1)
-
 -- one command more behind its operation, where there are fewer than 64
 unfoldable pub commands_after : List (List Bool) → List Command → List Bool → Result (List Command × List Bool) Illegible
 commands_after words commands bits =
     if nat_lt (length commands) 64 then (do
-      command ← command_after words bits
+      command ← strings_read (command_after words bits)
       Ok (commands ++ command.0 ∷ [], command.1))
     else Err Commands
 
@@ -110,7 +103,7 @@ against_base profile context (suc distance) base None head bits = do
 unfoldable pub area_after : List (List Bool) → List Bool → Result (List ℕ × List Bool) Illegible
 area_after words bits = do
   count ← field_read words 8 bits
-  if nat_lt 32 count.0 then Err (Area count.0) else bytes_after words count.0 count.1
+  if nat_lt 32 count.0 then Err (Area count.0) else bits_read (bytes_after words count.0 count.1)
 
 -- a snapshot behind its operation
 unfoldable pub section_after : Profile → Context → ℕ → List Bool → Result (Told × List Bool) Illegible
@@ -132,10 +125,10 @@ unfoldable pub config_after : List (List Bool) → Strings → List Bool → Res
 config_after words strings bits = do
   index ← field_read words 16 bits
   if nat_lt index.0 places then (do
-    text ← string_after words longest_string index.1
+    text ← strings_read (string_after words longest_string index.1)
     set ← config_set strings index.0 text.0 (set_fault strings index.0 text.0)
     Ok (set, text.1))
-  else Err (Config Index)
+      else Err (Config Index)
 
 -- a baseline that was read is set; one that is removed is refused
 abbrev pub baseline_set : Lines → ℕ → Entry → List ℕ → Result Lines Illegible
@@ -176,7 +169,7 @@ gamestate_after profile bits = do
     slot ← field_read profile.code 32 settings.1
     feed ← field_read profile.code 32 slot.1
     Ok (Game (record { command = command.0; strings = settings.0.0; lines = settings.0.1; slot = slot.0; feed = feed.0 }), feed.1))
-  else Err NoServerId
+      else Err NoServerId
 
 -- behind the section: nops, and the end; there are at most so many operations, since each takes a bit
 unfoldable pub ending_after : List (List Bool) → ℕ → List Bool → Result (Unit {0} × List Bool) Illegible

@@ -1,9 +1,10 @@
 -- The spellings of a server's message that a reader accepts: nops between operations, strings of which bytes become `.`,
 -- and every spelling of a player and of a list.
-use Rattle.std.specs.Prelude.{◌≡◌, ◌⊎◌, ℕ, ◌^◌, ◌<◌, ◌≤◌, Bool, List, [], ◌∷◌, ◌++◌, length, map, replicate, All, Some, None, IsSome}
+use Rattle.std.specs.Prelude.{◌≡◌, ◌⊎◌, ℕ, ◌^◌, ◌<◌, ◌≤◌, Bool, List, [], ◌∷◌, ◌++◌, length, replicate, All, Some, None, IsSome}
 use Rattle.q3_bits.specs.Words.{row_bits}
 use Rattle.q3_text.specs.declared.text.Command.{Command}
-use Rattle.q3_text.specs.Texts.{most_bytes, translated}
+use Rattle.q3_strings.specs.Texts.{bytes_row}
+use Rattle.q3_strings.specs.Spelling.{SpellsString, SpellsCommand}
 use Rattle.q3_player.specs.declared.head.SnapHead.{SnapHead}
 use Rattle.q3_player.specs.State.{IsState, zero_player}
 use Rattle.q3_player.specs.Spelling.{SpellsPlayer}
@@ -14,31 +15,22 @@ use Rattle.q3_entity.specs.Baselines.{Lines, no_lines, with_line}
 use Rattle.q3_entity.specs.Spelling.{SpellsEntry, SpellsList, SpellsSkipped}
 use Rattle.q3_profile.specs.declared.profile.Profile.{Profile}
 use Rattle.q3_svmsg.specs.Values.{base_player, base_entities, number_of_base, Context, Gamestate, Told, Nothing, Game, Snap, Skipped, Message}
-use Rattle.q3_svmsg.specs.Texts.{bytes_row, string_bits}
 use Rattle.q3_svmsg.specs.Reading.{held_base}
 
 -- nops, any number of them
 abbrev pub SpellsNops : List (List Bool) → List Bool → Type 0
 SpellsNops words bits = (count : ℕ) × (bits ≡ row_bits words (replicate count (1, 8)))
 
--- a string of at most so many bytes, none of which is 0: each byte of the text is one of them, translated
-abbrev pub SpellsString : List (List Bool) → ℕ → List ℕ → List Bool → Type 0
-SpellsString words most text bits =
-    (bytes : List ℕ) × All (λ byte. (0 < byte) × (byte < 256)) bytes × (length bytes ≤ most) × (text ≡ map translated bytes)
-    × (bits ≡ string_bits words bytes)
-
--- a command: its operation, its number, and its string
-abbrev pub SpellsCommand : List (List Bool) → Command → List Bool → Type 0
-SpellsCommand words command bits =
-    (text : List Bool) × (command.number < 2 ^ 32) × SpellsString words most_bytes command.text text
-    × (bits ≡ row_bits words ((5, 8) ∷ (command.number, 32) ∷ []) ++ text)
+-- a command behind its operation
+abbrev pub SpellsServerCommand : List (List Bool) → Command → List Bool → Type 0
+SpellsServerCommand words command bits = (text : List Bool) × SpellsCommand words command text × (bits ≡ row_bits words ((5, 8) ∷ []) ++ text)
 
 -- commands, with nops before each
 abbrev pub SpellsCommands : List (List Bool) → List Command → List Bool → Type 0
 SpellsCommands words [] bits = bits ≡ []
 SpellsCommands words (command ∷ commands) bits =
     (nops : List Bool) × (first : List Bool) × (rest : List Bool) × (bits ≡ nops ++ first ++ rest)
-    × SpellsNops words nops × SpellsCommand words command first × SpellsCommands words commands rest
+    × SpellsNops words nops × SpellsServerCommand words command first × SpellsCommands words commands rest
 
 -- what a snapshot says before its player: the operation, the time, how far below the base is, the flags, and the area
 pub record SpellsHead (words : List (List Bool)) (number distance : ℕ) (head : SnapHead) (bits : List Bool) : Type 0 where
@@ -134,7 +126,7 @@ pub record SpellsGamestate (profile : Profile) (game : Gamestate) (bits : List B
   pub lines : game.lines ≡ lines_after no_lines settings
   pub id : IsSome (server_id game.strings)
   pub whole : bits ≡ row_bits profile.code ((2, 8) ∷ (game.command, 32) ∷ []) ++ text
-    ++ row_bits profile.code ((8, 8) ∷ (game.slot, 32) ∷ (game.feed, 32) ∷ [])
+      ++ row_bits profile.code ((8, 8) ∷ (game.slot, 32) ∷ (game.feed, 32) ∷ [])
 
 -- the section of a message under a number, or none
 abbrev pub SpellsSection : Profile → Context → ℕ → Told → List Bool → Type 0

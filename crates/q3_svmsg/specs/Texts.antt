@@ -1,8 +1,9 @@
 -- The text of a server's message.
-use Rattle.std.specs.Prelude.{ℕ, Bool, List, [], ◌∷◌, ◌++◌, length, map, true, Option, Some, None}
+use Rattle.std.specs.Prelude.{ℕ, Bool, List, [], ◌∷◌, ◌++◌, length, true, Option, Some, None}
 use Rattle.std.specs.List.{flat_map, range_with_len}
 use Rattle.q3_bits.specs.Words.{row_bits}
 use Rattle.q3_text.specs.declared.text.Command.{Command}
+use Rattle.q3_strings.specs.Texts.{bytes_row, string_bits, command_bits}
 use Rattle.q3_player.specs.declared.head.SnapHead.{SnapHead}
 use Rattle.q3_player.specs.Delta.{player_delta}
 use Rattle.q3_entity.specs.declared.state.EntityState.{EntityState}
@@ -15,17 +16,9 @@ use Rattle.q3_entity.specs.Lists.{list_text}
 use Rattle.q3_profile.specs.declared.profile.Profile.{Profile}
 use Rattle.q3_svmsg.specs.Values.{Base, base_player, base_entities, distance_to, Gamestate, Told, Game, Snap, Message}
 
--- bytes, one behind the other
-abbrev pub bytes_row : List (List Bool) → List ℕ → List Bool
-bytes_row words bytes = row_bits words (map (λ byte. (byte, 8)) bytes)
-
--- a string: its bytes and a 0
-abbrev pub string_bits : List (List Bool) → List ℕ → List Bool
-string_bits words text = bytes_row words (text ++ 0 ∷ [])
-
--- a command: the operation 5, its number, and its string
-abbrev pub command_bits : List (List Bool) → Command → List Bool
-command_bits words command = row_bits words ((5, 8) ∷ (command.number, 32) ∷ []) ++ string_bits words command.text
+-- a command behind its operation 5
+abbrev pub server_command_bits : List (List Bool) → Command → List Bool
+server_command_bits words command = row_bits words ((5, 8) ∷ []) ++ command_bits words command
 
 -- the head of a snapshot: the operation 7, the time, how far below the base is, the flags, and the area
 abbrev pub head_bits : List (List Bool) → ℕ → SnapHead → List Bool
@@ -51,13 +44,17 @@ baseline_bits words table None = []
 baseline_bits words table (Some state) =
     row_bits words ((4, 8) ∷ []) ++ entity_delta words table (zero_entity state.number) state true
 
+-- the texts of so many numbers from one on, one behind the other
+unfoldable pub numbered : ℕ → ℕ → (ℕ → List Bool) → List Bool
+numbered count from text = flat_map text (range_with_len from count)
+
 -- a gamestate: the operation 2, the number of the last server command, the config strings by index and the baselines by
 -- number, the operation 8, the slot, and the feed
 unfoldable pub gamestate_bits : Profile → Gamestate → List Bool
 gamestate_bits profile game =
     row_bits profile.code ((2, 8) ∷ (game.command, 32) ∷ [])
-    ++ flat_map (λ index. config_bits profile.code index (string_at game.strings index)) (range_with_len 0 places)
-    ++ flat_map (λ number. baseline_bits profile.code profile.entity (set_at game.lines number)) (range_with_len 0 most_lines)
+    ++ numbered places 0 (λ index. config_bits profile.code index (string_at game.strings index))
+    ++ numbered most_lines 0 (λ number. baseline_bits profile.code profile.entity (set_at game.lines number))
     ++ row_bits profile.code ((8, 8) ∷ (game.slot, 32) ∷ (game.feed, 32) ∷ [])
 
 -- the section of a message; a snapshot that was skipped has no text of its own
@@ -70,6 +67,6 @@ section_bits profile lines against other = []
 unfoldable pub message_text : Profile → Lines → Option Base → Message → List Bool
 message_text profile lines against message =
     row_bits profile.code ((message.ack, 32) ∷ [])
-    ++ flat_map (command_bits profile.code) message.commands
+    ++ flat_map (server_command_bits profile.code) message.commands
     ++ section_bits profile lines against message.section
     ++ row_bits profile.code ((8, 8) ∷ [])

@@ -111,3 +111,8 @@ IsNamed (Some held) number base = (0 < base) × (base < number) × (number ≤ b
 abbrev pub HasSnap : Section → Option Base → ℕ → Type 0
 HasSnap (sections.Snap base true) against number = IsNamed against number base
 HasSnap section against number = ⊥
+
+-- a section that has a text: a gamestate, or such a snapshot
+abbrev pub HasText : Section → Option Base → ℕ → Type 0
+HasText sections.Game against number = Unit {0}
+HasText section against number = HasSnap section against number

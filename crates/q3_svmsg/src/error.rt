@@ -1,11 +1,14 @@
 //! Why a server's message isn't legible.
 
 ghost use Rattle.std.specs.Prelude.{◌≡◌};
-ghost use Rattle.q3_svmsg.specs.declared.error.Illegible.TheVariants.{Bits, Entity, Player};
+ghost use Rattle.q3_svmsg.specs.declared.error.Illegible.TheVariants.{Bits, Entity, Player, Config};
+ghost use Rattle.q3_svmsg.specs.Reading.{string_error};
 
 use q3_bits::ReadError;
+use q3_config::ConfigError;
 use q3_entity::EntityError;
 use q3_player::PlayerError;
+use q3_strings::StringError;
 
 /// The first fault in reading order.
 #[derive(Clone, Copy, Debug, PartialEq, Eq)]
@@ -20,8 +23,12 @@ pub enum Illegible {
     Player(PlayerError),
     /// The area has more than 32 bytes.
     Area(u8),
-    /// A string has more than 1,023 bytes.
+    /// A config string can't be set: `Index` or `Full`.
+    Config(ConfigError),
+    /// A string has more than 1,023 bytes, or a config string more than 8,191.
     TextLong,
+    /// The config strings of a gamestate give no server id.
+    NoServerId,
     /// There is a 65th command.
     Commands,
 }
@@ -47,5 +54,24 @@ impl From<PlayerError> for Illegible {
 
     fn from(e: PlayerError) -> Illegible {
         Illegible::Player(e)
+    }
+}
+
+impl From<ConfigError> for Illegible {
+    ghost from_gives = { λ e f. f ≡ Config e };
+
+    fn from(e: ConfigError) -> Illegible {
+        Illegible::Config(e)
+    }
+}
+
+impl From<StringError> for Illegible {
+    ghost from_gives = { λ e f. f ≡ string_error e };
+
+    fn from(e: StringError) -> Illegible {
+        match e {
+            StringError::Bits(e) => Illegible::Bits(e),
+            StringError::Long => Illegible::TextLong,
+        }
     }
 }

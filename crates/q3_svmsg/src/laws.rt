@@ -5,14 +5,19 @@ ghost use Rattle.q3_svmsg.specs.Laws.{WrittenIsSpelled, ReadIsSpelled, SpelledIs
 use q3_bits::laws as bits;
 use q3_entity::laws as entity;
 use q3_player::laws as player;
+use q3_strings::laws as strings;
 
 /// What is written of a message spells it under its number, its states in normal form.
 pub fn written_is_spelled()
     ensures { WrittenIsSpelled }
 {
+    strings::string_is_spelled();
+    strings::command_is_spelled();
     player::zero_is_normal();
     player::normal_is_normal();
     player::written_is_spelled();
+    entity::zero_is_normal();
+    entity::forced_is_spelled();
     entity::list_is_spelled();
 }
 
@@ -21,8 +26,13 @@ pub fn read_is_spelled()
     ensures { ReadIsSpelled }
 {
     bits::read_was_put();
+    strings::bytes_were_put();
+    strings::string_read_is_spelled();
+    strings::command_read_is_spelled();
     player::zero_is_normal();
     player::read_is_spelled();
+    entity::zero_is_normal();
+    entity::entry_read_is_spelled();
     entity::list_read_is_spelled();
     entity::skipped_is_spelled();
 }
@@ -33,8 +43,13 @@ pub fn spelled_is_read()
 {
     bits::put_is_read();
     bits::read_was_put();
+    strings::bytes_are_read();
+    strings::string_spelled_is_read();
+    strings::command_spelled_is_read();
     player::zero_is_normal();
     player::spelled_is_read();
+    entity::zero_is_normal();
+    entity::entry_spelled_is_read();
     entity::list_spelled_is_read();
     entity::spelled_is_skipped();
 }

@@ -3,10 +3,13 @@
 
 pub mod bases;
 pub mod error;
+mod game_reading;
+mod game_writing;
 pub mod laws;
 pub mod message;
 mod operations;
 pub mod reading;
+pub mod report;
 #[cfg(test)]
 mod tests;
 pub mod writing;
@@ -15,4 +18,5 @@ pub use bases::{BaseView, Bases};
 pub use error::Illegible;
 pub use message::{Section, ServerMessage};
 pub use reading::{read_ack, read_server_message};
-pub use writing::write_snap;
+pub use report::{cause_number, cause_word};
+pub use writing::{write_game, write_snap};

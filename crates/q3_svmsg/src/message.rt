@@ -4,7 +4,8 @@ ghost use Rattle.std.specs.Prelude.{◌≡◌, [], IfOk};
 
 use arrayvec::ArrayVec;
 use q3_bits::NoMemory;
-use q3_entity::List;
+use q3_config::Configs;
+use q3_entity::{Baselines, List};
 use q3_player::SnapHead;
 use q3_text::Command;
 use std::alloc::Global;
@@ -13,23 +14,38 @@ use std::alloc::Global;
 #[derive(Clone, Copy, Debug, PartialEq, Eq)]
 pub enum Section {
     Nothing,
+    /// A gamestate.
+    Game,
     /// A snapshot, with the number of its base, 0 for none. Where the base isn't held, the snapshot was only read to
     /// its end.
     Snap { base: u32, held: bool },
 }
 
-/// A message of the server, with room for 64 commands and one snapshot.
-// The two lists lie on the heap: `new` takes their memory, and no later call takes any.
+/// A config string that is read.
+pub(crate) type BigString = ArrayVec<u8, 8_191>;
+
+/// A message of the server, with room for 64 commands, one gamestate and one snapshot.
+// The lists and the string lie on the heap: `new` takes their memory, and no later call takes any.
 #[derive(Drop)]
 pub struct ServerMessage {
     /// The number of the last client command that the server executed.
     pub ack: u32,
     pub commands: Box<ArrayVec<Command, 64>>,
     pub section: Section,
+    /// The gamestate's config strings, where the section is a gamestate; and so for all up to the checksum feed.
+    pub configs: Configs,
+    pub baselines: Baselines,
+    /// The number of the last server command issued.
+    pub command: u32,
+    /// The client's slot.
+    pub slot: u32,
+    /// The checksum feed of the map.
+    pub feed: u32,
     /// The snapshot's head and player, where the section is a snapshot.
     pub head: SnapHead,
     /// The snapshot's entities, by rising number.
     pub entities: Box<List>,
+    pub(crate) string: Box<BigString>,
 }
 
 impl ServerMessage {
@@ -46,8 +62,14 @@ impl ServerMessage {
             ack: 0,
             commands: Box::new(alloc, ArrayVec::new())?,
             section: Section::Nothing,
+            configs: Configs::new(alloc)?,
+            baselines: Baselines::new(alloc)?,
+            command: 0,
+            slot: 0,
+            feed: 0,
             head: SnapHead::new(),
             entities: Box::new(alloc, List::new())?,
+            string: Box::new(alloc, ArrayVec::new())?,
         })
     }
 }

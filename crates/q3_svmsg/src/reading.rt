@@ -1,29 +1,27 @@
 //! Reads a server's message. Keeps the rules "layout of a server message", "snapshot section" and "snapshot whose base
-//! is not held", the engine's `CL_ParseServerMessage` and `CL_ParseSnapshot`. The refusals are this project's own.
+//! is not held", the engine's `CL_ParseServerMessage` and `CL_ParseSnapshot` (cl_parse.c). The refusals are this project's own.
 
 ghost use Rattle.std.specs.Prelude.{◌≡◌, ◌<◌, ◌≤◌, ℕ, length, map, option_map, All, IfOk, OnOk};
 ghost use Rattle.q3_bits.specs.Bits.{bits_of};
 ghost use Rattle.q3_bits.specs.Words.{IsCode};
 ghost use Rattle.q3_bits.specs.Streams.{Reads, holding};
-ghost use Rattle.q3_text.specs.Texts.{most_bytes, translated};
 ghost use Rattle.q3_player.specs.State.{zero_player};
 ghost use Rattle.q3_entity.specs.Entities.{Rises};
-ghost use Rattle.q3_svmsg.specs.Values.{Base, Message, base_of, base_player, base_entities, number_of_base, told_of, section_of, HasList};
-ghost use Rattle.q3_svmsg.specs.Reading.{ack_at, bytes_after, string_after, command_after, area_after, held_base, snapshot_after, snapshot_skipped, against_base, section_after, ending_after, operations_after, commands_after, message_at, telling};
+ghost use Rattle.q3_svmsg.specs.Values.{Base, Gamestate, Message, base_of, base_player, base_entities, number_of_base, told_of, section_of, HasList};
+ghost use Rattle.q3_svmsg.specs.Reading.{ack_at, area_after, held_base, snapshot_after, snapshot_skipped, against_base, section_after, ending_after, operations_after, commands_after, message_at, telling};
 
 use crate::bases::{BaseView, Bases, base_or};
 use crate::error::Illegible;
+use crate::game_reading::read_gamestate;
 use crate::message::{Section, ServerMessage};
-use crate::operations::{EOF, NOP, SERVER_COMMAND, SNAPSHOT};
+use crate::operations::{EOF, GAMESTATE, NOP, SERVER_COMMAND, SNAPSHOT};
 use arrayvec::ArrayVec;
 use q3_bits::{Code, ReadError, Reader, laws};
 use q3_entity::{Baselines, List, read_list, skip_list};
 use q3_player::{PlayerState, SnapHead, read_player};
 use q3_profile::Profile;
-use q3_text::{Command, Text};
-
-/// The most bytes of a string.
-const MOST_BYTES: usize = 1_023;
+use q3_strings::{laws as strings, read_bytes, read_command};
+use q3_text::Command;
 
 /// Reads the number of the last client command that the server executed, and answers how many bits it takes.
 /// `End` and `NoWord` come as in `Reader::get`.
@@ -35,55 +33,6 @@ pub fn read_ack(code: &Code, bytes: &[u8]) -> Result<(u32, usize), ReadError>
     Ok((ack, r.place()))
 }
 
-/// The text of bytes that were read.
-fn text_from(bytes: &[u8]) -> Text
-    requires most { length bytes.now ≤ most_bytes }
-    requires some { All (λ byte. 0 < byte) bytes.now }
-    ensures { result ≡ map translated bytes.now }
-{
-    Text::of(bytes).unwrap()
-}
-
-/// Reads a string, and translates its bytes.
-fn read_string(r: &mut Reader) -> Result<Text, Illegible>
-    ensures { Reads r.old r.new (string_after r.old.words most_bytes r.old.left) result }
-{
-    let mut bytes: ArrayVec<u8, MOST_BYTES> = ArrayVec::new();
-    for _ in 0..MOST_BYTES {
-        let byte = r.get(8)?;
-        if byte == 0 {
-            return Ok(text_from(&bytes));
-        }
-        bytes.push(byte as u8);
-    }
-    if r.get(8)? != 0 {
-        return Err(Illegible::TextLong);
-    }
-    Ok(text_from(&bytes))
-}
-
-/// Reads a command behind its operation.
-#[tactic(auto, unfolding(crate::specs::Reading::command_after))]
-fn read_command(r: &mut Reader) -> Result<Command, Illegible>
-    ensures { Reads r.old r.new (command_after r.old.words r.old.left) result }
-{
-    let number = r.get(32)?;
-    let text = read_string(r)?;
-    Ok(Command { number, text })
-}
-
-/// Reads so many bytes.
-fn read_bytes(r: &mut Reader, count: u32, into: &mut ArrayVec<u8, 32>) -> Result<(), Illegible>
-    requires { count ≤ 32 }
-    ensures { Reads r.old r.new (bytes_after r.old.words count r.old.left) (holding into.new.items result) }
-{
-    into.clear();
-    for _ in 0..count {
-        into.push(r.get(8)? as u8);
-    }
-    Ok(())
-}
-
 /// Reads the area bytes and how many there are.
 #[tactic(auto, unfolding(crate::specs::Reading::area_after))]
 fn read_area(r: &mut Reader, into: &mut ArrayVec<u8, 32>) -> Result<(), Illegible>
@@ -93,7 +42,8 @@ fn read_area(r: &mut Reader, into: &mut ArrayVec<u8, 32>) -> Result<(), Illegibl
     if count > 32 {
         return Err(Illegible::Area(count as u8));
     }
-    read_bytes(r, count, into)
+    read_bytes(r, count as usize, into)?;
+    Ok(())
 }
 
 /// Reads one command more behind its operation. A 65th is refused before it is read.
@@ -141,9 +91,9 @@ fn read_snapshot(
     entities: &mut List,
 ) -> Result<Section, Illegible>
     requires { Rises (base_entities (option_map base_of against)) }
-    ensures reads { Reads r.old r.new (snapshot_after (record profile.now { code = r.old.words }) baselines.now (option_map base_of against.entry) base head.old r.old.left)
-        (telling head.new entities.new.items result) }
-    ensures list { IfOk result (λ section. HasList profile.now.entity (section_of section head.new entities.new.items)) }
+    ensures reads { (game : Gamestate) → Reads r.old r.new (snapshot_after (record profile.now { code = r.old.words }) baselines.now (option_map base_of against.entry) base head.old r.old.left)
+        (telling game head.new entities.new.items result) }
+    ensures list { (game : Gamestate) → IfOk result (λ section. HasList profile.now.entity (section_of section game head.new entities.new.items)) }
 {
     let zero = PlayerState::zero();
     let from = base_or(against, &zero);
@@ -174,9 +124,9 @@ fn read_against<B: Bases>(
     head: &mut SnapHead,
     entities: &mut List,
 ) -> Result<Section, Illegible>
-    ensures reads { Reads r.old r.new (against_base (record profile.now { code = r.old.words }) (B.context bases.now) distance base (held_base (B.context bases.now) base) head.old r.old.left)
-        (telling head.new entities.new.items result) }
-    ensures list { IfOk result (λ section. HasList profile.now.entity (section_of section head.new entities.new.items)) }
+    ensures reads { (game : Gamestate) → Reads r.old r.new (against_base (record profile.now { code = r.old.words }) (B.context bases.now) distance base (held_base (B.context bases.now) base) head.old r.old.left)
+        (telling game head.new entities.new.items result) }
+    ensures list { (game : Gamestate) → IfOk result (λ section. HasList profile.now.entity (section_of section game head.new entities.new.items)) }
 {
     let against = held(bases, base);
     if against.is_none() && distance != 0 {
@@ -196,9 +146,9 @@ fn read_section<B: Bases>(
     head: &mut SnapHead,
     entities: &mut List,
 ) -> Result<Section, Illegible>
-    ensures reads { Reads r.old r.new (section_after (record profile.now { code = r.old.words }) (B.context bases.now) number r.old.left)
-        (telling head.new entities.new.items result) }
-    ensures list { IfOk result (λ section. HasList profile.now.entity (section_of section head.new entities.new.items)) }
+    ensures reads { (game : Gamestate) → Reads r.old r.new (section_after (record profile.now { code = r.old.words }) (B.context bases.now) number r.old.left)
+        (telling game head.new entities.new.items result) }
+    ensures list { (game : Gamestate) → IfOk result (λ section. HasList profile.now.entity (section_of section game head.new entities.new.items)) }
 {
     *head = SnapHead::new();
     head.number = number;
@@ -244,9 +194,15 @@ fn read_operations<B: Bases>(
 {
     laws::read_was_put();
     laws::ends_cut_short();
+    strings::command_read_is_spelled();
     loop {
         match r.get(8)? {
             NOP => {}
+            GAMESTATE => {
+                read_gamestate(r, profile, into)?;
+                into.section = Section::Game;
+                return read_ending(r);
+            }
             SERVER_COMMAND => read_next_command(r, &mut into.commands)?,
             SNAPSHOT => {
                 into.section = read_section(
@@ -269,9 +225,12 @@ fn read_operations<B: Bases>(
 /// read to its end, and nothing of it is kept. After a refusal `into` may hold anything.
 ///
 /// `Err` is the first fault in reading order: `Bits` where the bits don't read; `BadOp` for an operation that may not
-/// stand there: before the section others than nop, command, snapshot and the end, and behind it others than nop and the
-/// end; `Commands` for a 65th command; `TextLong` where the byte behind 1,023 of a string isn't 0; `Area` for more than
-/// 32 area bytes; `Player` and `Entity` where these don't read.
+/// stand there: before the section others than nop, command, gamestate, snapshot and the end, inside a gamestate others
+/// than config string, baseline and the end, and behind the section others than nop and the end; `Commands` for a 65th
+/// command; `TextLong` where the byte behind 1,023 of a string, or behind 8,191 of a config string, isn't 0; `Area` for
+/// more than 32 area bytes; `Player` and `Entity` where these don't read, and of a baseline also `Order` for the end mark,
+/// before its state is read, and `Removes`; `Config` of a gamestate, with `Index`, before the string is read, or with
+/// `Full`, behind it; `NoServerId` where the gamestate's strings give none, before its slot is read.
 #[tactic(auto, unfolding(crate::specs::Reading::message_after))]
 pub fn read_server_message<B: Bases>(
     profile: &Profile,

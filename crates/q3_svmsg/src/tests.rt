@@ -4,10 +4,12 @@ ghost use Rattle.std.specs.Prelude.{◌≡◌, ◌≤◌, All, IfOk, slice_index
 
 use super::*;
 use q3_bits::{Code, CodeError, NoMemory, Overflow, ReadError, Writer};
+use q3_config::ConfigError;
 use q3_entity::{Baselines, EntityError, EntityState, Run};
 use q3_fields::Table;
 use q3_player::{PlayerError, PlayerState};
 use q3_profile::Profile;
+use q3_strings::write_string;
 use q3_text::{Command, Text};
 use std::alloc::{AllocError, Global};
 use std::slice::from_ref;
@@ -199,6 +201,56 @@ fn messages_are_read(rt: HostRuntime) -> Result<(), Fail> {
 }
 
 #[test]
+fn gamestates_are_written_and_read(rt: HostRuntime) -> Result<(), Fail> {
+    let profile = profile(
+        rt.alloc(),
+        Table::of(&[0, 8, -16]).expect(&rt, "a table"),
+        Table::of(&[0, 16]).expect(&rt, "a table"),
+    )?;
+    let held = Held {
+        player: PlayerState::zero(),
+        baselines: Baselines::new(rt.alloc())?,
+    };
+    let mut message = ServerMessage::new(rt.alloc())?;
+    message.section = Section::Game;
+    message.feed = 77;
+    assert_eq!(rt; message.configs.set(1, b"\\sv_serverid\\1"), Ok(()));
+    let bytes = [
+        0x00, 0x00, 0x00, 0x00, 0x02, 0x00, 0x00, 0x00, 0x00, 0x03, 0x01, 0x00, 0x5c, 0x73, 0x76,
+        0x5f, 0x73, 0x65, 0x72, 0x76, 0x65, 0x72, 0x69, 0x64, 0x5c, 0x31, 0x00, 0x08, 0x00, 0x00,
+        0x00, 0x00, 0x4d, 0x00, 0x00, 0x00, 0x08, 0x00,
+    ];
+    let mut into = [0xaa; 38];
+    assert_eq!(rt; write_game(&profile, &message, &mut into), Ok(38));
+    assert_eq!(rt; into, bytes);
+    assert_eq!(rt;
+        write_game(&profile, &message, &mut into[..37]),
+        Err(Overflow)
+    );
+    let mut other = ServerMessage::new(rt.alloc())?;
+    assert_eq!(rt; read(&profile, &held, &bytes, &mut other), Ok(()));
+    assert_eq!(rt; other.section, Section::Game);
+    assert_eq!(rt; other.configs.server_id(), Some(1));
+    assert_eq!(rt; other.feed, 77);
+    let twice = [
+        0x03, 0x00, 0x00, 0x00, 0x02, 0x07, 0x00, 0x00, 0x00, 0x03, 0x01, 0x00, 0x61, 0x00, 0x03,
+        0x01, 0x00, 0x73, 0x76, 0x5f, 0x73, 0x65, 0x72, 0x76, 0x65, 0x72, 0x69, 0x64, 0x5c, 0x32,
+        0x00, 0x04, 0x05, 0x28, 0xe0, 0x03, 0x82, 0x04, 0x40, 0x10, 0x00, 0x00, 0x00, 0x68, 0x02,
+        0x00, 0x00, 0x40, 0x00,
+    ];
+    assert_eq!(rt; read(&profile, &held, &twice, &mut other), Ok(()));
+    assert_eq!(rt; other.ack, 3);
+    assert_eq!(rt; other.command, 7);
+    assert_eq!(rt; other.configs.get(1), b"sv_serverid\\2".as_slice());
+    assert_eq!(rt; other.configs.size(), 15);
+    assert_eq!(rt; other.baselines.get(5).words[1], 7);
+    assert!(rt; other.baselines.is_set(9));
+    assert!(rt; !other.baselines.is_set(4));
+    assert_eq!(rt; (other.slot, other.feed), (2, 77));
+    Ok(())
+}
+
+#[test]
 fn first_fault_in_reading_order(rt: HostRuntime) -> Result<(), Fail> {
     let profile = profile(
         rt.alloc(),
@@ -211,7 +263,7 @@ fn first_fault_in_reading_order(rt: HostRuntime) -> Result<(), Fail> {
         baselines: Baselines::new(rt.alloc())?,
     };
     let mut message = ServerMessage::new(rt.alloc())?;
-    let cases: [(&[u8], Illegible); 18] = [
+    let cases: [(&[u8], Illegible); 25] = [
         (&[], Illegible::Bits(ReadError::End)),
         (&[0x00, 0x00, 0x00, 0x00], Illegible::Bits(ReadError::End)),
         (
@@ -219,7 +271,46 @@ fn first_fault_in_reading_order(rt: HostRuntime) -> Result<(), Fail> {
             Illegible::Bits(ReadError::End),
         ),
         (&[0x00, 0x00, 0x00, 0x00, 0x00], Illegible::BadOp(0)),
-        (&[0x00, 0x00, 0x00, 0x00, 0x02, 0x08], Illegible::BadOp(2)),
+        (
+            &[0x00, 0x00, 0x00, 0x00, 0x02, 0x08],
+            Illegible::Bits(ReadError::End),
+        ),
+        (
+            &[0x00, 0x00, 0x00, 0x00, 0x02, 0x00, 0x00, 0x00, 0x00],
+            Illegible::Bits(ReadError::End),
+        ),
+        (
+            &[0x00, 0x00, 0x00, 0x00, 0x02, 0x00, 0x00, 0x00, 0x00, 0x01],
+            Illegible::BadOp(1),
+        ),
+        (
+            &[
+                0x00, 0x00, 0x00, 0x00, 0x02, 0x00, 0x00, 0x00, 0x00, 0x03, 0x00, 0x04,
+            ],
+            Illegible::Config(ConfigError::Index),
+        ),
+        (
+            &[
+                0x00, 0x00, 0x00, 0x00, 0x02, 0x00, 0x00, 0x00, 0x00, 0x03, 0xff, 0x03,
+            ],
+            Illegible::Bits(ReadError::End),
+        ),
+        (
+            &[
+                0x00, 0x00, 0x00, 0x00, 0x02, 0x00, 0x00, 0x00, 0x00, 0x04, 0xff, 0x03,
+            ],
+            Illegible::Entity(EntityError::Order(1023)),
+        ),
+        (
+            &[
+                0x00, 0x00, 0x00, 0x00, 0x02, 0x00, 0x00, 0x00, 0x00, 0x04, 0x05, 0x04,
+            ],
+            Illegible::Entity(EntityError::Removes(5)),
+        ),
+        (
+            &[0x00, 0x00, 0x00, 0x00, 0x02, 0x00, 0x00, 0x00, 0x00, 0x08],
+            Illegible::NoServerId,
+        ),
         (&[0x00, 0x00, 0x00, 0x00, 0x03, 0x08], Illegible::BadOp(3)),
         (&[0x00, 0x00, 0x00, 0x00, 0x04, 0x08], Illegible::BadOp(4)),
         (&[0x00, 0x00, 0x00, 0x00, 0x06, 0x08], Illegible::BadOp(6)),
@@ -359,6 +450,16 @@ fn repeated<'a>(
     Ok(w)
 }
 
+/// A message with a gamestate of two strings of these bytes.
+fn with_strings<'a>(code: &'a Code, text: &[u8]) -> Result<Writer<'a>, Overflow> {
+    let mut w = Writer::new(code, 16_384);
+    w.put_all(&[(0, 32), (2, 8), (0, 32), (3, 8), (2, 16)])?;
+    write_string(&mut w, text)?;
+    w.put_all(&[(3, 8), (3, 16)])?;
+    write_string(&mut w, text)?;
+    Ok(w)
+}
+
 #[test]
 fn what_is_too_long_is_refused(rt: HostRuntime) -> Result<(), Fail> {
     let profile = profile(
@@ -411,6 +512,18 @@ fn what_is_too_long_is_refused(rt: HostRuntime) -> Result<(), Fail> {
     assert_eq!(rt;
         read(&profile, &held, many.bytes(), &mut message),
         Err(Illegible::Entity(EntityError::Many))
+    );
+    let letters = vec![in rt.alloc(); b'a'; 8_000]?;
+    let strings = with_strings(&profile.code, &letters).expect(&rt, "room");
+    assert_eq!(rt;
+        read(&profile, &held, strings.bytes(), &mut message),
+        Err(Illegible::Config(ConfigError::Full))
+    );
+    let letters = vec![in rt.alloc(); b'a'; 8_192]?;
+    let long = [&[0x00, 0x00, 0x00, 0x00, 0x02, 0x00, 0x00, 0x00, 0x00, 0x03, 0x02, 0x00], letters.as_slice()].concat(rt.alloc())?;
+    assert_eq!(rt;
+        read(&profile, &held, &long, &mut message),
+        Err(Illegible::TextLong)
     );
     Ok(())
 }

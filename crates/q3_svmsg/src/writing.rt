@@ -1,20 +1,23 @@
 //! Writes a server's message. Keeps the rules "layout of a server message" and "snapshot section", the engine's
-//! `SV_SendClientSnapshot` and `SV_WriteSnapshotToClient`.
+//! `SV_SendClientSnapshot`, `SV_SendClientGameState` and `SV_WriteSnapshotToClient`.
 
-ghost use Rattle.std.specs.Prelude.{◌≡◌, ◌≤◌, length, option_map};
+ghost use Rattle.std.specs.Prelude.{◌≡◌, ◌≤◌, length, None, option_map};
 ghost use Rattle.std.specs.List.{flat_map};
 ghost use Rattle.q3_bits.specs.Streams.{Writes, Fills};
+ghost use Rattle.q3_entity.specs.Baselines.{Lines};
 ghost use Rattle.q3_entity.specs.Entities.{IsList};
-ghost use Rattle.q3_svmsg.specs.Values.{HasSnap, base_of, base_entities, distance_to, told_of};
-ghost use Rattle.q3_svmsg.specs.Texts.{bytes_row, string_bits, command_bits, head_bits, snapshot_bits, section_bits, message_text};
+ghost use Rattle.q3_svmsg.specs.Values.{HasSnap, HasText, HasList, base_of, base_entities, distance_to, told_of};
+ghost use Rattle.q3_svmsg.specs.Texts.{server_command_bits, head_bits, snapshot_bits, section_bits, message_text};
 
 use crate::bases::{BaseView, base_or};
+use crate::game_writing::write_gamestate;
 use crate::message::{Section, ServerMessage};
 use crate::operations::{EOF, SERVER_COMMAND, SNAPSHOT};
 use q3_bits::{Overflow, Writer, laws};
 use q3_entity::{Baselines, EntityState, write_list};
 use q3_player::{PlayerState, SnapHead, write_player};
 use q3_profile::Profile;
+use q3_strings::{write_bytes, write_command};
 use q3_text::Command;
 
 /// Writes a message with a snapshot to the front of a buffer of 1 to 16,384 bytes, and answers how many bytes it has;
@@ -34,6 +37,39 @@ pub fn write_snap(
     requires most { length into.old ≤ 16384 }
     ensures { Fills into.old into.new (message_text profile.now baselines.now (option_map base_of base.entry) (told_of message.now)) result }
 {
+    fill(profile, message, baselines, base, into)
+}
+
+/// Writes a message with a gamestate to the front of a buffer of 1 to 16,384 bytes, and answers how many bytes it has;
+/// those behind it stay. `Overflow` comes exactly where the message is longer than the buffer.
+pub fn write_game(
+    profile: &Profile,
+    message: &ServerMessage,
+    into: &mut [u8],
+) -> Result<usize, Overflow>
+    requires game { message.now.section ≡ Section.Game }
+    requires some { 1 ≤ length into.old }
+    requires most { length into.old ≤ 16384 }
+    ensures { (lines : Lines) → Fills into.old into.new (message_text profile.now lines None (told_of message.now)) result }
+{
+    fill(profile, message, &message.baselines, None, into)
+}
+
+/// Writes a message to the front of a buffer; against its base, if it has a snapshot.
+fn fill(
+    profile: &Profile,
+    message: &ServerMessage,
+    baselines: &Baselines,
+    base: Option<BaseView>,
+    into: &mut [u8],
+) -> Result<usize, Overflow>
+    requires section { HasText message.now.section (option_map base_of base) message.now.head.number }
+    requires entities { HasList profile.now.entity (told_of message.now).section }
+    requires base_entities { IsList profile.now.entity (base_entities (option_map base_of base)) }
+    requires some { 1 ≤ length into.old }
+    requires most { length into.old ≤ 16384 }
+    ensures { Fills into.old into.new (message_text profile.now baselines.now (option_map base_of base.entry) (told_of message.now)) result }
+{
     let mut w = Writer::new(&profile.code, into.len());
     write_message(&mut w, profile, message, baselines, base)?;
     Ok(w.copy_to(into))
@@ -48,8 +84,8 @@ fn write_message(
     baselines: &Baselines,
     base: Option<BaseView>,
 ) -> Result<(), Overflow>
-    requires snap { HasSnap message.now.section (option_map base_of base) message.now.head.number }
-    requires entities { IsList profile.now.entity message.now.entities.value.items }
+    requires section { HasText message.now.section (option_map base_of base) message.now.head.number }
+    requires entities { HasList profile.now.entity (told_of message.now).section }
     requires base_entities { IsList profile.now.entity (base_entities (option_map base_of base)) }
     ensures { Writes w.old w.new (message_text (record profile.now { code = w.old.words }) baselines.now (option_map base_of base.entry) (told_of message.now)) result }
 {
@@ -60,7 +96,7 @@ fn write_message(
     w.put_all(&[(EOF, 8)])
 }
 
-/// Writes the section, which is a snapshot.
+/// Writes the section: a gamestate, or a snapshot.
 #[tactic(auto, unfolding(crate::specs::Texts::section_bits))]
 fn write_section(
     w: &mut Writer,
@@ -69,27 +105,27 @@ fn write_section(
     baselines: &Baselines,
     base: Option<BaseView>,
 ) -> Result<(), Overflow>
-    requires snap { HasSnap message.now.section (option_map base_of base) message.now.head.number }
-    requires entities { IsList profile.now.entity message.now.entities.value.items }
+    requires section { HasText message.now.section (option_map base_of base) message.now.head.number }
+    requires entities { HasList profile.now.entity (told_of message.now).section }
     requires base_entities { IsList profile.now.entity (base_entities (option_map base_of base)) }
     ensures { Writes w.old w.new (section_bits (record profile.now { code = w.old.words }) baselines.now (option_map base_of base.entry) (told_of message.now).section) result }
 {
-    let Section::Snap {
-        base: number,
-        held: true,
-    } = message.section
-    else {
-        unreachable!();
-    };
-    write_snapshot(
-        w,
-        profile,
-        baselines,
-        number,
-        base,
-        &message.head,
-        &message.entities,
-    )
+    match message.section {
+        Section::Game => write_gamestate(w, profile, message),
+        Section::Snap {
+            base: number,
+            held: true,
+        } => write_snapshot(
+            w,
+            profile,
+            baselines,
+            number,
+            base,
+            &message.head,
+            &message.entities,
+        ),
+        _ => unreachable!(),
+    }
 }
 
 /// Writes a snapshot against its base, which is given with its number: the head, the player, and the entities.
@@ -146,44 +182,22 @@ fn distance(number: u32, base: u32) -> u32
 
 /// Writes commands.
 fn write_commands(w: &mut Writer, commands: &[Command]) -> Result<(), Overflow>
-    ensures { Writes w.old w.new (flat_map (command_bits w.old.words) commands.now) result }
+    ensures { Writes w.old w.new (flat_map (server_command_bits w.old.words) commands.now) result }
 {
     laws::texts_are_written();
     // what stands there fits the room
     prove!(w.length() > 0);
     for command in commands {
-        write_command(w, command)?;
+        write_server_command(w, command)?;
     }
     Ok(())
 }
 
 /// Writes a command: the operation, its number, and its string.
-fn write_command(w: &mut Writer, command: &Command) -> Result<(), Overflow>
-    ensures { Writes w.old w.new (command_bits w.old.words command.now) result }
+fn write_server_command(w: &mut Writer, command: &Command) -> Result<(), Overflow>
+    ensures { Writes w.old w.new (server_command_bits w.old.words command.now) result }
 {
     laws::texts_are_written();
-    w.put_all(&[(SERVER_COMMAND, 8), (command.number, 32)])?;
-    write_string(w, command.text.bytes())
-}
-
-/// Writes a string: its bytes, and a 0.
-fn write_string(w: &mut Writer, text: &[u8]) -> Result<(), Overflow>
-    ensures { Writes w.old w.new (string_bits w.old.words text.now) result }
-{
-    laws::texts_are_written();
-    write_bytes(w, text)?;
-    w.put_all(&[(0, 8)])
-}
-
-/// Writes bytes.
-fn write_bytes(w: &mut Writer, bytes: &[u8]) -> Result<(), Overflow>
-    ensures { Writes w.old w.new (bytes_row w.old.words bytes.now) result }
-{
-    laws::texts_are_written();
-    // what stands there fits the room
-    prove!(w.length() > 0);
-    for byte in bytes {
-        w.put(u32::from(*byte), 8)?;
-    }
-    Ok(())
+    w.put_all(&[(SERVER_COMMAND, 8)])?;
+    write_command(w, command)
 }

@@ -3,4 +3,15 @@ use Rattle.q3_svmsg.proofs.laws.read_is_spelled.Goals as goal
 
 pub returns : goal.returns
 returns c =
-    message_was_spelled c.read_was_put.ensures c.zero_is_normal.ensures c.read_is_spelled.ensures c.list_read_is_spelled.ensures c.skipped_is_spelled.ensures
+    message_was_spelled (record {
+      put = c.read_was_put.ensures;
+      bytes = c.bytes_were_put.ensures;
+      string = c.string_read_is_spelled.ensures;
+      command = c.command_read_is_spelled.ensures;
+      no_player = c.zero_is_normal.ensures;
+      player = c.read_is_spelled.ensures;
+      no_entity = c.zero_is_normal-2.ensures;
+      entry = c.entry_read_is_spelled.ensures;
+      list = c.list_read_is_spelled.ensures;
+      skipped = c.skipped_is_spelled.ensures;
+    })

@@ -2,10 +2,10 @@ use Rattle.std.proofs.lemmas.Result.{err_from_is_err_and}
 use Rattle.q3_svmsg.proofs.Rows.{commands-next}
 use Rattle.q3_svmsg.proofs.writing.write_commands.Goals as goal
 
-pub returns-in_err-write_command : goal.returns-in_err-write_command
-returns-in_err-write_command c =
+pub returns-in_err-write_server_command : goal.returns-in_err-write_server_command
+returns-in_err-write_server_command c =
     let law = c.texts_are_written.ensures in
     let h = c.loop-command.invariant in
     let p = err_from_is_err_and c.from_residual.result c.from_residual.ensures.1 in
     let next = commands-next c.args.w.now.words c.loop-command.w.words c.args.commands.now c.loop-command.command-index c.command-item.result (law.words _ _ _ _ h) c.loop-command-test.true c.command-item.is in
-    rw (p.1, p.2) (law.stops _ _ _ _ _ _ _ _ h next c.in_err-write_command.ensures)
+    rw (p.1, p.2) (law.stops _ _ _ _ _ _ _ _ h next c.in_err-write_server_command.ensures)

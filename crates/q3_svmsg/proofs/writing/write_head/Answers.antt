@@ -1,4 +1,4 @@
-use Rattle.q3_svmsg.specs.Texts.{bytes_row}
+use Rattle.q3_strings.specs.Texts.{bytes_row}
 use Rattle.q3_svmsg.proofs.writing.write_head.Goals as goal
 
 pub returns : goal.returns
