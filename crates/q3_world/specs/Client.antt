@@ -6,7 +6,9 @@ use Rattle.q3_chan.specs.declared.side.Side.TheVariants.{Server}
 use Rattle.q3_chan.specs.declared.gatherer.Gathered.{Gathered}
 use Rattle.q3_chan.specs.declared.gatherer.Gathered.TheVariants as gathered
 use Rattle.q3_chan.specs.Gathering.{Gathering, Took, new_gathering, gathered as gathered_of}
+use Rattle.q3_bits.specs.ResultBind.{◌>>=◌}
 use Rattle.q3_svmsg.specs.declared.error.Illegible as cause
+use Rattle.q3_svmsg.specs.declared.error.Illegible.TheVariants as causes
 use Rattle.q3_svmsg.specs.Values as told
 use Rattle.q3_svmsg.specs.Values.{Told, Message}
 use Rattle.q3_svmsg.specs.Reading.{message_at}
@@ -40,12 +42,14 @@ pub record Taken : Type 0 where
 -- the newest snapshot behind the section of a message: its own, unless it was skipped or there is none
 abbrev pub newest_after : Option Snapshot → Told → Option Snapshot
 newest_after newest told.Nothing = newest
+newest_after newest (told.Game game) = newest
 newest_after newest (told.Snap base head entities) = Some (record { head = head; entities = entities })
 newest_after newest (told.Skipped base) = newest
 
 -- what became of it
 abbrev pub outcome_of : Told → SnapOutcome
 outcome_of told.Nothing = NoSnap
+outcome_of (told.Game game) = NoSnap
 outcome_of (told.Snap base head entities) = Accepted base
 outcome_of (told.Skipped base) = Skipped base NeverHeld
 
@@ -84,9 +88,15 @@ take_answer client gathered.Connectionless read = record { client = client; answ
 abbrev pub take_gathered : ClientState → Took → (ℕ → Result Message cause.Illegible) → Taken
 take_gathered client took read = take_answer (record client { gathering = took.gathering }) took.answer read
 
+-- the interim rule: until the stage of maps a message with a gamestate isn't legible, as of an operation that may not stand
+-- there
+abbrev pub without_game : Message → Told → Result Message cause.Illegible
+without_game message (told.Game game) = Err (causes.BadOp 2)
+without_game message section = Ok message
+
 -- what bytes are as a message of a number
 abbrev pub read_by : Profile → List ℕ → ℕ → Result Message cause.Illegible
-read_by profile message number = message_at profile no_bases number (bits_of message)
+read_by profile message number = message_at profile no_bases number (bits_of message) >>= λ read. without_game read read.section
 
 -- a client takes a datagram, by its bytes
 unfoldable pub take_at : ClientState → List ℕ → Taken

@@ -9,7 +9,7 @@ use Rattle.q3_chan.specs.declared.gatherer.Gathered.{Gathered}
 use Rattle.q3_chan.specs.declared.gatherer.Gathered.TheVariants.{Whole as CameWhole}
 use Rattle.q3_chan.specs.Gathering.{Took}
 use Rattle.q3_chan.specs.Tags.{tagged}
-use Rattle.q3_svmsg.specs.Values.{Told, Nothing, Snap, Skipped}
+use Rattle.q3_svmsg.specs.Values.{Told, Nothing, Game, Snap, Skipped}
 use Rattle.q3_world.specs.Message.{Snapshot, message_of}
 use Rattle.q3_world.specs.Server.{Built, Emission, Piece, places, emit_at, built_bytes}
 use Rattle.q3_world.specs.Client.{ClientState, Taken, take_gathered}
@@ -67,6 +67,7 @@ with_accepted histories c snapshot =
 abbrev pub snapshot_in : Told → Option Snapshot
 snapshot_in Nothing = None
 snapshot_in (Snap base head entities) = Some (record { head = head; entities = entities })
+snapshot_in (Game game) = None
 snapshot_in (Skipped base) = None
 
 -- the snapshot that a client accepted, if it did, is noted
