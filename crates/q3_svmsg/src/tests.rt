@@ -520,7 +520,13 @@ fn what_is_too_long_is_refused(rt: HostRuntime) -> Result<(), Fail> {
         Err(Illegible::Config(ConfigError::Full))
     );
     let letters = vec![in rt.alloc(); b'a'; 8_192]?;
-    let long = [&[0x00, 0x00, 0x00, 0x00, 0x02, 0x00, 0x00, 0x00, 0x00, 0x03, 0x02, 0x00], letters.as_slice()].concat(rt.alloc())?;
+    let long = [
+        &[
+            0x00, 0x00, 0x00, 0x00, 0x02, 0x00, 0x00, 0x00, 0x00, 0x03, 0x02, 0x00,
+        ],
+        letters.as_slice(),
+    ]
+    .concat(rt.alloc())?;
     assert_eq!(rt;
         read(&profile, &held, &long, &mut message),
         Err(Illegible::TextLong)

@@ -34,7 +34,7 @@ use Rattle.q3_world.specs.declared.server.Emitted.{Emitted}
 use Rattle.q3_world.specs.declared.server.Emitted.TheVariants as emitted
 use Rattle.q3_world.specs.Message.{no_bases, IsHeld, IsArea, IsBuilt}
 use Rattle.q3_world.specs.Server.{SlotState, ServerState, Built, Emission, places, slot_at, with_slot, with_player, with_entity, without_entity, next_message, built_bits, built_bytes, hand_out, emit_bits, emit_new, emit_slot, emission_at, emit_from, emit_at}
-use Rattle.q3_world.specs.Client.{ClientState, Taken, read_by, take_answer, take_gathered, take_at}
+use Rattle.q3_world.specs.Client.{ClientState, Taken, without_game, read_by, take_answer, take_gathered, take_at}
 use Rattle.q3_world.specs.Ends.{Ends, EndsStep, client_at, join, set_entity, remove_entity, set_player, set_area}
 use Rattle.q3_world.specs.Kept.{SentBytes, Kept, KeptStep, kept_ends, kept_serve, kept_taken, kept_arrive, kept_deliver, kept_step}
 use Rattle.q3_world.specs.World.{Tag, Step, Whole, no_message, history_at, with_ends, serve, named, arrive_taken, arrive, deliver, step}
@@ -250,6 +250,10 @@ quiet_client client gathered.BadFragment read is = absurd is
 quiet_client client gathered.Runt read is = absurd is
 quiet_client client gathered.Connectionless read is = absurd is
 
+-- a message that was built has no gamestate
+no_game : (profile : Profile) (number : ℕ) (message : Message) → IsBuilt profile number message → without_game message message.section ≡ Ok message
+no_game profile number message is = subst (λ (m : Message). without_game m m.section ≡ Ok m) (sym is.is) refl
+
 -- what comes whole is read as the message that was built
 taken_alike : (profile : Profile) (client : ClientState) (took : Took) (number : ℕ) (built : Built) → ReadsBack profile → IsBuilt profile number built → client.profile ≡ profile
     → PieceDoes client.gathering number (built_bytes profile built) took
@@ -257,7 +261,7 @@ taken_alike : (profile : Profile) (client : ClientState) (took : Took) (number :
 taken_alike profile client took number built reads is by does =
     elim does.either [
       | inl waits ↦ quiet_same (record client { gathering = took.gathering }) took.answer (read_by client.profile took.message) (λ n. Ok built) waits.quiet
-      | inr came ↦ rw (came.answer, came.message_is, by, reads number built is) refl
+      | inr came ↦ rw (came.answer, came.message_is, by, reads number built is, no_game profile number built is) refl
     ]
 
 -- what a datagram that was made does by its bytes it does by its tag

@@ -18,7 +18,7 @@ use Rattle.q3_svmsg.specs.declared.error.Illegible.{Illegible}
 use Rattle.q3_svmsg.specs.Values.{Base, Message}
 use Rattle.q3_svmsg.specs.Texts.{message_text}
 use Rattle.q3_svmsg.specs.Reading.{message_at}
-use Rattle.q3_svmsg.specs.Laws.{IsCommand, IsContext, IsMessage, WrittenIsRead}
+use Rattle.q3_svmsg.specs.Laws.{IsContext, IsMessage, WrittenIsRead}
 use Rattle.q3_world.specs.Message.{Snapshot, message_of, no_bases, IsBuilt}
 use Rattle.q3_world.specs.Server.{built_bits}
 use Rattle.q3_world.specs.MessageLaws.{BuiltIsRead}
@@ -71,7 +71,7 @@ built_is_message profile number message built =
     record {
       ack = lit< tt;
       few = omega arith;
-      commands = All-nil IsCommand;
+      commands = All-nil _;
       section = (
         record {
           number = omega (arith, fits, named);

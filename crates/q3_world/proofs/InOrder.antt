@@ -39,6 +39,7 @@ use Rattle.q3_world.proofs.OnePlace.{set_there}
 -- what a message does leaves what is gathered
 section_gathers : (client : ClientState) (number : ℕ) (section : Told) → (apply_section client number section).client.gathering ≡ client.gathering
 section_gathers client number told.Nothing = refl
+section_gathers client number (told.Game game) = refl
 section_gathers client number (told.Snap base head entities) = refl
 section_gathers client number (told.Skipped base) = refl
 
@@ -178,6 +179,7 @@ last_answer profile whole c n last tag client message at is_c found came is acce
   where
     same_section : (client : ClientState) (g : Gathering) (n : ℕ) (section : Told) → (apply_section (record client { gathering = g }) n section).answer ≡ (apply_section client n section).answer
     same_section client g n told.Nothing = refl
+    same_section client g n (told.Game game) = refl
     same_section client g n (told.Snap base head entities) = refl
     same_section client g n (told.Skipped base) = refl
 

@@ -215,6 +215,7 @@ kept_one kept event = refl
 
 snapshot_of : Told → Snapshot
 snapshot_of told.Nothing = record { head = empty_head; entities = [] }
+snapshot_of (told.Game game) = record { head = empty_head; entities = [] }
 snapshot_of (told.Snap base head entities) = record { head = head; entities = entities }
 snapshot_of (told.Skipped base) = record { head = empty_head; entities = [] }
 

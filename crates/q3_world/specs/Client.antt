@@ -6,7 +6,9 @@ use Rattle.q3_chan.specs.declared.side.Side.TheVariants.{Server}
 use Rattle.q3_chan.specs.declared.gatherer.Gathered.{Gathered}
 use Rattle.q3_chan.specs.declared.gatherer.Gathered.TheVariants as gathered
 use Rattle.q3_chan.specs.Gathering.{Gathering, Took, new_gathering, gathered as gathered_of}
+use Rattle.q3_bits.specs.ResultBind.{◌>>=◌}
 use Rattle.q3_svmsg.specs.declared.error.Illegible as cause
+use Rattle.q3_svmsg.specs.declared.error.Illegible.TheVariants as causes
 use Rattle.q3_svmsg.specs.Values as told
 use Rattle.q3_svmsg.specs.Values.{Told, Message}
 use Rattle.q3_svmsg.specs.Reading.{message_at}
@@ -52,6 +54,7 @@ accepts client number base snapshot = record {
 -- what the section of a message does to a client
 abbrev pub apply_section : ClientState → ℕ → Told → Taken
 apply_section client number told.Nothing = answers client (Applied number NoSnap)
+apply_section client number (told.Game game) = answers client (Applied number NoSnap)
 apply_section client number (told.Snap base head entities) = accepts client number base (record { head = head; entities = entities })
 apply_section client number (told.Skipped base) = answers client (Applied number (Skipped base NeverHeld))
 
@@ -78,9 +81,15 @@ take_answer client gathered.Connectionless read = answers client Connectionless
 abbrev pub take_gathered : ClientState → Took → (ℕ → Result Message cause.Illegible) → Taken
 take_gathered client took read = take_answer (record client { gathering = took.gathering }) took.answer read
 
+-- the interim rule: until the stage of maps a message with a gamestate isn't legible, as of an operation that may not stand
+-- there
+abbrev pub without_game : Message → Told → Result Message cause.Illegible
+without_game message (told.Game game) = Err (causes.BadOp 2)
+without_game message section = Ok message
+
 -- what bytes are as a message of a number
 abbrev pub read_by : Profile → List ℕ → ℕ → Result Message cause.Illegible
-read_by profile message number = message_at profile no_bases number (bits_of message)
+read_by profile message number = message_at profile no_bases number (bits_of message) >>= λ read. without_game read read.section
 
 -- a client takes a datagram, by its bytes
 unfoldable pub take_at : ClientState → List ℕ → Taken

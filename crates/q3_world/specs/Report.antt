@@ -6,14 +6,7 @@ use Rattle.q3_script.specs.declared.event.Event.{Event}
 use Rattle.q3_world.specs.Message.{Snapshot}
 use Rattle.q3_world.specs.declared.server.Emitted.{Emitted}
 use Rattle.q3_world.specs.declared.server.Emitted.TheVariants as emitted
-use Rattle.q3_bits.specs.declared.reader.ReadError.{ReadError}
-use Rattle.q3_bits.specs.declared.reader.ReadError.TheVariants as bits
-use Rattle.q3_fields.specs.declared.delta.DeltaError.{DeltaError}
-use Rattle.q3_fields.specs.declared.delta.DeltaError.TheVariants as deltas
-use Rattle.q3_entity.specs.declared.error.EntityError.{EntityError}
-use Rattle.q3_entity.specs.declared.error.EntityError.TheVariants as entities
-use Rattle.q3_svmsg.specs.declared.error.Illegible.{Illegible as IllegibleCause}
-use Rattle.q3_svmsg.specs.declared.error.Illegible.TheVariants as causes
+use Rattle.q3_svmsg.specs.Report.{cause_word, cause_number}
 use Rattle.q3_world.specs.declared.client.ClientTook.{ClientTook}
 use Rattle.q3_world.specs.declared.client.ClientTook.TheVariants.{Runt, Connectionless, Old, OutOfOrder, BadFragment, Partial, Illegible, Applied}
 use Rattle.q3_world.specs.declared.client.SnapOutcome.{SnapOutcome}
@@ -58,51 +51,7 @@ emitted_text (emitted.Snapshot number base bytes) datagram =
     concat (codes " snapshot " ∷ decimal number ∷ codes " base " ∷ decimal base ∷ codes " bytes " ∷ decimal bytes
     ∷ codes " datagram " ∷ decimal datagram ∷ codes "\n" ∷ [])
 
--- why a message isn't legible: a word, and for some causes a number behind it
-abbrev pub bits_word : ReadError → List ℕ
-bits_word bits.End = codes "end"
-bits_word bits.NoWord = codes "noword"
-
-abbrev pub player_word : DeltaError → List ℕ
-player_word (deltas.Bits e) = bits_word e
-player_word (deltas.Count count) = codes "count"
-
-abbrev pub entity_word : EntityError → List ℕ
-entity_word (entities.Bits e) = bits_word e
-entity_word (entities.Count count) = codes "count"
-entity_word (entities.Order number) = codes "order"
-entity_word entities.Many = codes "many"
-entity_word (entities.Removes number) = codes "removes"
-
-abbrev pub cause_word : IllegibleCause → List ℕ
-cause_word (causes.Bits e) = bits_word e
-cause_word (causes.BadOp byte) = codes "op"
-cause_word (causes.Entity e) = entity_word e
-cause_word (causes.Player e) = player_word e
-cause_word (causes.Area count) = codes "area"
-cause_word causes.TextLong = codes "text"
-cause_word causes.Commands = codes "commands"
-
-abbrev pub player_number : DeltaError → Option ℕ
-player_number (deltas.Bits e) = None
-player_number (deltas.Count count) = Some count
-
-abbrev pub entity_number : EntityError → Option ℕ
-entity_number (entities.Bits e) = None
-entity_number (entities.Count count) = Some count
-entity_number (entities.Order number) = Some number
-entity_number entities.Many = None
-entity_number (entities.Removes number) = Some number
-
-abbrev pub cause_number : IllegibleCause → Option ℕ
-cause_number (causes.Bits e) = None
-cause_number (causes.BadOp byte) = Some byte
-cause_number (causes.Entity e) = entity_number e
-cause_number (causes.Player e) = player_number e
-cause_number (causes.Area count) = Some count
-cause_number causes.TextLong = None
-cause_number causes.Commands = None
-
+-- the line of a message that isn't legible
 abbrev pub illegible_text : List ℕ → Option ℕ → List ℕ
 illegible_text word None = concat (codes " illegible " ∷ word ∷ codes "\n" ∷ [])
 illegible_text word (Some number) = concat (codes " illegible " ∷ word ∷ codes " " ∷ decimal number ∷ codes "\n" ∷ [])

@@ -114,6 +114,8 @@ impl Snapshots {
         }
         let snap = match into.section {
             Section::Nothing => SnapOutcome::NoSnap,
+            // the interim rule: there are no maps yet
+            Section::Game => return ClientTook::Illegible(Illegible::BadOp(2)),
             Section::Snap { base, held: true } => {
                 self.newest = Some(place);
                 SnapOutcome::Accepted { base }

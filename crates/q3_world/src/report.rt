@@ -4,18 +4,18 @@ ghost use Rattle.std.specs.Prelude.{◌≡◌, [], ◌∷◌, codes, decimal, op
 ghost use Rattle.std.specs.List.{concat, flat_map};
 ghost use Rattle.q3_io.specs.Faults.{HasCause};
 ghost use Rattle.q3_io.specs.Written.{Adds, NothingWaits};
-ghost use Rattle.q3_world.specs.Report.{lines_of, handed_in_text, slot_error_text, no_client_text, emitted_text, bits_word, player_word, entity_word, cause_word, player_number, entity_number, cause_number, illegible_text, outcome_text, took_text, area_text, start_text, entity_text, shown_text, head_text, snapshot_text};
+ghost use Rattle.q3_svmsg.specs.Report.{cause_word, cause_number};
+ghost use Rattle.q3_world.specs.Report.{lines_of, handed_in_text, slot_error_text, no_client_text, emitted_text, illegible_text, outcome_text, took_text, area_text, start_text, entity_text, shown_text, head_text, snapshot_text};
 ghost use Rattle.q3_world.specs.Views.{snapshot_of};
 
 use crate::answer::{Answer, Shown};
 use crate::client::{ClientTook, NoBase, SnapOutcome, SnapshotView};
 use crate::server::{Emitted, NoClient, SlotError};
 use arrayvec::ArrayVec;
-use q3_bits::ReadError;
-use q3_entity::{EntityError, EntityState, print_fields};
+use q3_entity::{EntityState, print_fields};
 use q3_io::{Failed, Piece, Sink, laws, print_all, print_hex};
-use q3_player::{PlayerError, SnapHead, print_words};
-use q3_svmsg::Illegible;
+use q3_player::{SnapHead, print_words};
+use q3_svmsg::{Illegible, cause_number, cause_word};
 
 /// Prints the lines of an answer, with the snapshot that is lent for it, and hands them on, or a front of them and
 /// answers `Failed`.
@@ -409,65 +409,6 @@ fn print_number<O: Sink>(number: u16, out: &mut O) -> Result<(), Failed>
         &[Piece::Text(b"+ entity "), Piece::Number(u64::from(number))],
         out,
     )
-}
-
-fn bits_word(e: ReadError) -> &'static [u8]
-    ensures { result.now ≡ bits_word e }
-{
-    match e {
-        ReadError::End => b"end",
-        ReadError::NoWord => b"noword",
-    }
-}
-
-fn player_word(e: PlayerError) -> &'static [u8]
-    ensures { result.now ≡ player_word e }
-{
-    match e {
-        PlayerError::Bits(e) => bits_word(e),
-        PlayerError::Count(_) => b"count",
-    }
-}
-
-fn entity_word(e: EntityError) -> &'static [u8]
-    ensures { result.now ≡ entity_word e }
-{
-    match e {
-        EntityError::Bits(e) => bits_word(e),
-        EntityError::Count(_) => b"count",
-        EntityError::Order(_) => b"order",
-        EntityError::Many => b"many",
-        EntityError::Removes(_) => b"removes",
-    }
-}
-
-fn cause_word(cause: Illegible) -> &'static [u8]
-    ensures { result.now ≡ cause_word cause }
-{
-    match cause {
-        Illegible::Bits(e) => bits_word(e),
-        Illegible::BadOp(_) => b"op",
-        Illegible::Entity(e) => entity_word(e),
-        Illegible::Player(e) => player_word(e),
-        Illegible::Area(_) => b"area",
-        Illegible::TextLong => b"text",
-        Illegible::Commands => b"commands",
-    }
-}
-
-/// The number that is printed behind the word of a cause.
-fn cause_number(cause: Illegible) -> Option<u32>
-    ensures { result ≡ cause_number cause }
-{
-    match cause {
-        Illegible::BadOp(byte) => Some(u32::from(byte)),
-        Illegible::Area(count) => Some(u32::from(count)),
-        Illegible::Player(PlayerError::Count(count)) => Some(u32::from(count)),
-        Illegible::Entity(EntityError::Count(count)) => Some(u32::from(count)),
-        Illegible::Entity(EntityError::Order(number)) => Some(u32::from(number)),
-        Illegible::Entity(EntityError::Removes(number)) => Some(u32::from(number)),
-        _ => None,
-    }
 }
 
 fn joined(outcome: Result<(), SlotError>) -> &'static [u8]
