@@ -91,7 +91,7 @@ abbrev pub field_delta : List (List Bool) → ℕ → ℕ → ℕ → ℕ → Li
 field_delta words key width from to =
     if from == to then field_bits words 1 0 else row_bits words ((1, 1) ∷ (hidden key width to, width) ∷ [])
 
--- fields, each behind the one before
+-- fields, each against the one that was
 unfoldable pub fields_bits : List (List Bool) → ℕ → List ℕ → List ℕ → List ℕ → List Bool
 fields_bits words key (width ∷ widths) (a ∷ from) (b ∷ to) = field_delta words key width a b ++ fields_bits words key widths from to
 fields_bits words key widths from to = []
@@ -129,6 +129,7 @@ field_over words key width from bits = do
     field ← field_at words width changed.1
     Ok (hidden key width field.0, field.1))
 
+-- fields, each over the one that was
 unfoldable pub fields_at : List (List Bool) → ℕ → List ℕ → List ℕ → List Bool → Result (List ℕ × List Bool) ReadError
 fields_at words key (width ∷ widths) (a ∷ from) bits = do
   field ← field_over words key width a bits

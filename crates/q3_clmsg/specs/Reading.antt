@@ -16,14 +16,16 @@ use Rattle.q3_clmsg.specs.declared.error.ClientIllegible.TheVariants.{Bits, BadO
 use Rattle.q3_clmsg.specs.Moves.{no_move, moves_at}
 use Rattle.q3_clmsg.specs.Values.{Message, empty_message}
 
--- the faults of the parts
+-- a fault of bits
 abbrev pub bits_read : {A : Type 0} → Result A ReadError → Result A ClientIllegible
 bits_read {A = A} r = result_map_both (λ (x : A). x) Bits r
 
+-- a fault of a string, as one of the message
 abbrev pub string_error : StringError → ClientIllegible
 string_error (strings.Bits e) = Bits e
 string_error strings.Long = TextLong
 
+-- a fault of a string
 abbrev pub strings_read : {A : Type 0} → Result A StringError → Result A ClientIllegible
 strings_read {A = A} r = result_map_both (λ (x : A). x) string_error r
 
