@@ -1,4 +1,4 @@
-//! Texts of messages, info strings, and numbers in decimal. Nothing here takes memory.
+//! Texts of messages, info strings, numbers in decimal, and texts that are cut at a byte. Nothing here takes memory.
 #![tactic(auto)]
 
 pub mod cut;
