@@ -2,8 +2,6 @@ pub mod Places
 pub mod Sizes
 pub mod Faults
 pub mod Kept
-pub mod Cuts
-pub mod Numerals
 pub mod Texts
 pub mod ReadTexts
 pub mod Stays

@@ -10,11 +10,12 @@ use Rattle.std.proofs.lemmas.List.{append_cancel_right}
 use Rattle.std.proofs.lemmas.List.Elements.{All-head, All-tail}
 use Rattle.std.proofs.lemmas.Slice.Eq.{bytes_eq-Decides}
 use Rattle.q3_bits.specs.OptionBind.{◌>>=◌}
+use Rattle.q3_text.specs.Cuts.{cut_at}
 use Rattle.q3_text.specs.Decimals.{number_at}
-use Rattle.q3_config.specs.Commands.{Word, Whole, First, Middle, Last, Change, spelled, change_text, cut_at, word_in, closed_in, quoted_in, change_in}
+use Rattle.q3_text.proofs.Cuts.{lacks, cut-spelled, cut-lacks, cut-again}
+use Rattle.q3_text.proofs.Numerals.{number_at-spelled, number_at-again, lacks-decimal}
+use Rattle.q3_config.specs.Commands.{Word, Whole, First, Middle, Last, Change, spelled, change_text, word_in, closed_in, quoted_in, change_in}
 use Rattle.q3_config.specs.Laws.{IsChange}
-use Rattle.q3_config.proofs.Cuts.{lacks, cut-spelled, cut-lacks, cut-again}
-use Rattle.q3_config.proofs.Numerals.{number_at-spelled, number_at-again, lacks-decimal}
 use Rattle.q3_config.proofs.Texts.{lacks-space}
 
 -- a text has a byte nowhere, so it lacks it

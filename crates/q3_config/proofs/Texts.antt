@@ -13,10 +13,10 @@ use Rattle.std.proofs.lemmas.Fmt.{digits_decimal}
 use Rattle.q3_text.specs.Texts.{most_bytes, translated, text_of, text_fault}
 use Rattle.q3_text.specs.Decimals.{is_digit}
 use Rattle.q3_text.proofs.Places.{none_passes}
+use Rattle.q3_text.proofs.Cuts.{lacks}
+use Rattle.q3_text.proofs.Numerals.{own, lacks-decimal}
 use Rattle.q3_config.specs.Strings.{places, is_config_byte}
 use Rattle.q3_config.specs.Commands.{Word, Whole, First, Middle, Last, spelled, piece_count, piece_size, change_text}
-use Rattle.q3_config.proofs.Cuts.{lacks}
-use Rattle.q3_config.proofs.Numerals.{own, lacks-decimal}
 
 -- ---- what stands in a text
 

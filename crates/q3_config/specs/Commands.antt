@@ -1,9 +1,10 @@
 -- Changes of config strings as texts of commands: `cs INDEX "TEXT"` and a newline, or the same in pieces.
-use Rattle.std.specs.Prelude.{ℕ, ◌+◌, ◌*◌, ◌/◌, ◌==◌, nat_lt, ◌||◌, if◌then◌else◌, List, [], ◌∷◌, length, take, drop, map, position, codes, decimal, Option, Some, None, option_map}
+use Rattle.std.specs.Prelude.{ℕ, ◌+◌, ◌*◌, ◌/◌, ◌==◌, nat_lt, ◌||◌, if◌then◌else◌, List, [], ◌∷◌, length, take, drop, map, codes, decimal, Option, Some, None}
 use Rattle.std.specs.List.{concat}
 use Rattle.std.specs.Str.{bytes_eq}
 use Rattle.q3_bits.specs.OptionBind.{◌>>=◌}
 use Rattle.q3_text.specs.Texts.{translated}
+use Rattle.q3_text.specs.Cuts.{cut_at}
 use Rattle.q3_text.specs.Decimals.{number_at}
 
 -- the four words: a whole change, and the first, a middle and the last piece of one
@@ -56,10 +57,6 @@ config_piece index text k = record {
 }
 
 -- ---- what comes in
-
--- what stands before and behind the first such byte, if there is one
-unfoldable pub cut_at : ℕ → List ℕ → Option (List ℕ × List ℕ)
-cut_at byte text = option_map (λ place. (take place text, drop (place + 1) text)) (position (λ other. other == byte) text)
 
 -- the word that is spelled
 unfoldable pub word_in : List ℕ → Option Word

@@ -1,13 +1,13 @@
 //! Changes of config strings as commands are read: the rule "config commands at the client". The four words are those of
 //! the engine's `CL_GetServerCommand` (cl_cgame.c); that the text has exactly this shape is this project's own.
 
-ghost use Rattle.std.specs.Prelude.{◌≡◌, ◌==◌, ◌<◌, ◌≤◌, length, position, option_map, IfSome};
+ghost use Rattle.std.specs.Prelude.{◌≡◌, ◌<◌, ◌≤◌, length, option_map, IfSome};
 ghost use Rattle.std.specs.Str.{bytes_eq};
 ghost use Rattle.q3_config.specs.Strings.{places};
-ghost use Rattle.q3_config.specs.Commands.{spelled, cut_at, word_in, quoted_in, change_in};
+ghost use Rattle.q3_config.specs.Commands.{spelled, word_in, quoted_in, change_in};
 ghost use Rattle.q3_config.specs.Parts.{meant, told};
 
-use q3_text::{Text, decimal_within};
+use q3_text::{Text, cut_at, decimal_within};
 
 /// What a command begins with: the word of a whole change, or of the first, a middle or the last piece of one.
 #[derive(Clone, Copy, Debug, PartialEq, Eq)]
@@ -56,30 +56,12 @@ pub(crate) fn change_of(text: &[u8]) -> Option<Change<'_>>
     ensures index { IfSome result (λ change. change.index < places) }
     ensures length { IfSome result (λ change. length change.text.now ≤ length text.now) }
 {
-    let (word, behind) = cut(text, b' ')?;
+    let (word, behind) = cut_at(text, b' ')?;
     let word = word_of(word)?;
-    let (index, behind) = cut(behind, b' ')?;
+    let (index, behind) = cut_at(behind, b' ')?;
     let index = decimal_within(index, 0, 1_023)?;
     let text = quoted(behind)?;
     Some(Change { word, index, text })
-}
-
-/// What stands before and behind the first such byte.
-#[tactic(auto, unfolding(crate::specs::Commands::cut_at))]
-fn cut(text: &[u8], byte: u8) -> Option<(&[u8], &[u8])>
-    ensures cut { option_map (λ parts. (parts.0.now, parts.1.now)) result ≡ cut_at byte text.now }
-    ensures before { IfSome result (λ parts. length parts.0.now ≤ length text.now) }
-    ensures behind { IfSome result (λ parts. length parts.1.now ≤ length text.now) }
-{
-    let place = place_of(byte, text)?;
-    Some((&text[..place], &text[place + 1..]))
-}
-
-/// The place of the first such byte in a text.
-fn place_of(byte: u8, text: &[u8]) -> Option<usize>
-    ensures { result ≡ position (λ other. other == byte) text.now }
-{
-    text.iter().position(|other| *other == byte)
 }
 
 /// The word that a text spells.
@@ -109,7 +91,7 @@ fn quoted(text: &[u8]) -> Option<&[u8]>
     let [b'"', text @ ..] = text else {
         return None;
     };
-    let (body, behind) = cut(text, b'"')?;
+    let (body, behind) = cut_at(text, b'"')?;
     if is(behind, b"") || is(behind, b"\n") {
         Some(body)
     } else {

@@ -6,12 +6,12 @@ use Rattle.std.proofs.lemmas.Option.{same_Some}
 use Rattle.std.proofs.lemmas.List.Folds.{list_all-append}
 use Rattle.q3_io.specs.declared.address.Address.{Address}
 use Rattle.q3_bits.specs.OptionBind.{◌>>=◌}
-use Rattle.q3_script.specs.Words.{cut}
+use Rattle.q3_text.specs.Cuts.{cut_at}
 use Rattle.q3_text.specs.Decimals.{number_at}
+use Rattle.q3_text.proofs.Cuts.{lacks, cut-spelled, cut-again}
+use Rattle.q3_text.proofs.Numerals.{number_at-spelled, number_at-again, lacks-decimal}
 use Rattle.q3_script.specs.Addresses.{host_of, address_at}
 use Rattle.q3_script.specs.Grammar.{SpellsAddress}
-use Rattle.q3_script.proofs.Cuts.{lacks, cut-spelled, cut-again}
-use Rattle.q3_script.proofs.Numerals.{number_at-spelled, number_at-again, lacks-decimal}
 
 -- the value of a step that found something
 pub bind_some : {A B : Type 0} (o : Option A) (f : A → Option B) (y : B) → (o >>= f) ≡ Some y → (x : A) × (o ≡ Some x) × (f x ≡ Some y)
@@ -42,13 +42,13 @@ abbrev in_a : List ℕ → List ℕ → List ℕ → List ℕ → List ℕ → O
 in_a a b c d port = number_at 0 255 a >>= λ a. in_b a b c d port
 
 abbrev in_third : List ℕ → List ℕ → List ℕ → List ℕ → Option Address
-in_third a b rest port = cut 46 rest >>= λ third. in_a a b third.0 third.1 port
+in_third a b rest port = cut_at 46 rest >>= λ third. in_a a b third.0 third.1 port
 
 abbrev in_second : List ℕ → List ℕ → List ℕ → Option Address
-in_second a rest port = cut 46 rest >>= λ second. in_third a second.0 second.1 port
+in_second a rest port = cut_at 46 rest >>= λ second. in_third a second.0 second.1 port
 
 abbrev in_first : List ℕ → List ℕ → Option Address
-in_first host port = cut 46 host >>= λ first. in_second first.0 first.1 port
+in_first host port = cut_at 46 host >>= λ first. in_second first.0 first.1 port
 
 -- the text of an address, grouped as it is cut
 regroup : (a b c d port : List ℕ) → a ++ codes "." ++ b ++ codes "." ++ c ++ codes "." ++ d ++ codes ":" ++ port ≡ (a ++ 46 ∷ (b ++ 46 ∷ (c ++ 46 ∷ d))) ++ 58 ∷ port
@@ -74,10 +74,10 @@ record Parts (word : List ℕ) (address : Address) : Type 0 where
   c : ℕ
   d : ℕ
   port : ℕ
-  at_colon : cut 58 word ≡ Some ends
-  at_first : cut 46 ends.0 ≡ Some first
-  at_second : cut 46 first.1 ≡ Some second
-  at_third : cut 46 second.1 ≡ Some third
+  at_colon : cut_at 58 word ≡ Some ends
+  at_first : cut_at 46 ends.0 ≡ Some first
+  at_second : cut_at 46 first.1 ≡ Some second
+  at_third : cut_at 46 second.1 ≡ Some third
   a_read : number_at 0 255 first.0 ≡ Some a
   b_read : number_at 0 255 second.0 ≡ Some b
   c_read : number_at 0 255 third.0 ≡ Some c
@@ -89,10 +89,10 @@ record Parts (word : List ℕ) (address : Address) : Type 0 where
 parts_of : (word : List ℕ) (address : Address) → address_at word ≡ Some address → Parts word address
 unfolding address_at
 parts_of word address e =
-    let ends = bind_some (cut 58 word) (λ ends. in_first ends.0 ends.1) address e in
-    let first = bind_some (cut 46 ends.0.0) (λ first. in_second first.0 first.1 ends.0.1) address ends.2 in
-    let second = bind_some (cut 46 first.0.1) (λ second. in_third first.0.0 second.0 second.1 ends.0.1) address first.2 in
-    let third = bind_some (cut 46 second.0.1) (λ third. in_a first.0.0 second.0.0 third.0 third.1 ends.0.1) address second.2 in
+    let ends = bind_some (cut_at 58 word) (λ ends. in_first ends.0 ends.1) address e in
+    let first = bind_some (cut_at 46 ends.0.0) (λ first. in_second first.0 first.1 ends.0.1) address ends.2 in
+    let second = bind_some (cut_at 46 first.0.1) (λ second. in_third first.0.0 second.0 second.1 ends.0.1) address first.2 in
+    let third = bind_some (cut_at 46 second.0.1) (λ third. in_a first.0.0 second.0.0 third.0 third.1 ends.0.1) address second.2 in
     let a = bind_some (number_at 0 255 first.0.0) (λ a. in_b a second.0.0 third.0.0 third.0.1 ends.0.1) address third.2 in
     let b = bind_some (number_at 0 255 second.0.0) (λ b. in_c a.0 b third.0.0 third.0.1 ends.0.1) address a.2 in
     let c = bind_some (number_at 0 255 third.0.0) (λ c. in_d a.0 b.0 c third.0.1 ends.0.1) address b.2 in

@@ -14,12 +14,14 @@ use Rattle.q3_player.specs.declared.state.PlayerState.{PlayerState}
 use Rattle.q3_script.specs.declared.cause.LineCause.{LineCause}
 use Rattle.q3_script.specs.declared.cause.LineCause.TheVariants as causes
 use Rattle.q3_bits.specs.OptionBind.{◌>>=◌}
-use Rattle.q3_script.specs.Words.{cut, behind}
+use Rattle.q3_script.specs.Words.{behind}
+use Rattle.q3_text.specs.Cuts.{cut_at}
 use Rattle.q3_text.specs.Decimals.{is_digit, number_at}
+use Rattle.q3_text.proofs.Cuts.{cut-spelled, cut-again}
+use Rattle.q3_text.proofs.Numerals.{own, number_at-spelled, number_at-again, lacks-decimal}
 use Rattle.q3_script.specs.Fields.{field_at, Fields, fields_at, entity_of, entity_at, player_of, player_at}
 use Rattle.q3_script.specs.Grammar.{field_words, AreFields, SpellsEntity, SpellsPlayer}
-use Rattle.q3_script.proofs.Cuts.{cut-spelled, cut-again, behind-spelled, behind-again}
-use Rattle.q3_script.proofs.Numerals.{own, number_at-spelled, number_at-again, lacks-decimal}
+use Rattle.q3_script.proofs.Prefixes.{behind-spelled, behind-again}
 use Rattle.q3_script.proofs.Addresses.{bind_some}
 
 -- ---- one field
@@ -47,8 +49,8 @@ was_field letter limit least word field text parts index value at_letter at_colo
 field_at-spelled : (letter : List ℕ) (limit least : ℕ) (word : List ℕ) (field : Change) → 1 ≤ limit → limit < 2 ^ 32 → field_at letter limit least word ≡ Some field → WasField letter limit least word field
 unfolding field_at
 field_at-spelled letter limit least word field some few e =
-    let text = bind_some (behind letter word) (λ text. cut 58 text >>= λ parts. number_at least (limit - 1) parts.0 >>= λ index. number_at 0 4294967295 parts.1 >>= λ value. Some (index, value)) field e in
-    let parts = bind_some (cut 58 text.0) (λ parts. number_at least (limit - 1) parts.0 >>= λ index. number_at 0 4294967295 parts.1 >>= λ value. Some (index, value)) field text.2 in
+    let text = bind_some (behind letter word) (λ text. cut_at 58 text >>= λ parts. number_at least (limit - 1) parts.0 >>= λ index. number_at 0 4294967295 parts.1 >>= λ value. Some (index, value)) field e in
+    let parts = bind_some (cut_at 58 text.0) (λ parts. number_at least (limit - 1) parts.0 >>= λ index. number_at 0 4294967295 parts.1 >>= λ value. Some (index, value)) field text.2 in
     let index = bind_some (number_at least (limit - 1) parts.0.0) (λ index. number_at 0 4294967295 parts.0.1 >>= λ value. Some (index, value)) field parts.2 in
     let value = bind_some (number_at 0 4294967295 parts.0.1) (λ value. Some (index.0, value)) field index.2 in
     let index_is = number_at-spelled least (limit - 1) parts.0.0 index.0 (omega arith) index.1 in
@@ -60,7 +62,7 @@ field_at-again : (letter : List ℕ) (limit least : ℕ) (field : Change) → li
 unfolding field_at
 field_at-again letter limit least field few lower upper small =
     let text : behind letter (letter ++ (decimal field.0 ++ 58 ∷ decimal field.1)) ≡ Some (decimal field.0 ++ 58 ∷ decimal field.1) = behind-again letter (decimal field.0 ++ 58 ∷ decimal field.1) in
-    let parts : cut 58 (decimal field.0 ++ 58 ∷ decimal field.1) ≡ Some (decimal field.0, decimal field.1) = cut-again 58 (decimal field.0) (decimal field.1) (lacks-decimal 58 field.0 refl (omega arith)) in
+    let parts : cut_at 58 (decimal field.0 ++ 58 ∷ decimal field.1) ≡ Some (decimal field.0, decimal field.1) = cut-again 58 (decimal field.0) (decimal field.1) (lacks-decimal 58 field.0 refl (omega arith)) in
     let index : number_at least (limit - 1) (decimal field.0) ≡ Some field.0 = number_at-again least (limit - 1) field.0 (omega arith) lower (omega arith) in
     let value : number_at 0 4294967295 (decimal field.1) ≡ Some field.1 = number_at-again 0 4294967295 field.1 (omega arith) (omega arith) (omega arith) in
     ap (field_at letter limit least) (regroup letter field.0 field.1) ∙ rw (text, parts, index, value) refl

@@ -1,7 +1,6 @@
-pub mod Cuts
+pub mod Prefixes
 pub mod Spaces
 pub mod Gather
-pub mod Numerals
 pub mod Addresses
 pub mod FieldWords
 pub mod Digits

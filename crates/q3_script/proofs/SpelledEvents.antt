@@ -29,7 +29,7 @@ use Rattle.q3_script.specs.Hex.{area_at}
 use Rattle.q3_script.specs.Fields.{values_of, player_of, entity_at, player_at}
 use Rattle.q3_script.specs.Lines.{last_entity, last_datagram, number_word, entity_word, client_word, client_line, entity_line, remove_line, player_line, area_line, time_line, serve_line, deliver_line, show_line, Table, replay_lines, line_in, line_at}
 use Rattle.q3_script.specs.Grammar.{AreFields, SpellsEntity, SpellsPlayer, SpellsEvent}
-use Rattle.q3_script.proofs.Numerals.{number_at-spelled, number_at-again}
+use Rattle.q3_text.proofs.Numerals.{number_at-spelled, number_at-again}
 use Rattle.q3_script.proofs.Addresses.{address_at-spelled, address_at-again}
 use Rattle.q3_script.proofs.FieldWords.{entity_at-spelled, entity_at-again, player_at-spelled, player_at-again}
 use Rattle.q3_script.proofs.HexWords.{area_at-spelled, area_at-again}

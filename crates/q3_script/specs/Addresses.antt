@@ -2,8 +2,8 @@
 use Rattle.std.specs.Prelude.{ℕ, ◌+◌, ◌*◌, List, Option, Some}
 use Rattle.q3_io.specs.declared.address.Address.{Address}
 use Rattle.q3_bits.specs.OptionBind.{◌>>=◌}
+use Rattle.q3_text.specs.Cuts.{cut_at}
 use Rattle.q3_text.specs.Decimals.{number_at}
-use Rattle.q3_script.specs.Words.{cut}
 
 -- the host that four numbers name
 abbrev pub host_of : ℕ → ℕ → ℕ → ℕ → ℕ
@@ -12,10 +12,10 @@ host_of a b c d = 16777216 * a + 65536 * b + 256 * c + d
 -- four numbers with dots between them, and behind a colon the port
 unfoldable pub address_at : List ℕ → Option Address
 address_at word = do
-  ends ← cut 58 word
-  first ← cut 46 ends.0
-  second ← cut 46 first.1
-  third ← cut 46 second.1
+  ends ← cut_at 58 word
+  first ← cut_at 46 ends.0
+  second ← cut_at 46 first.1
+  third ← cut_at 46 second.1
   a ← number_at 0 255 first.0
   b ← number_at 0 255 second.0
   c ← number_at 0 255 third.0

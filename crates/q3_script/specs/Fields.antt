@@ -8,14 +8,15 @@ use Rattle.q3_player.specs.State.{shorts_of}
 use Rattle.q3_script.specs.declared.cause.LineCause.{LineCause}
 use Rattle.q3_script.specs.declared.cause.LineCause.TheVariants as causes
 use Rattle.q3_bits.specs.OptionBind.{◌>>=◌}
-use Rattle.q3_script.specs.Words.{cut, behind}
+use Rattle.q3_script.specs.Words.{behind}
+use Rattle.q3_text.specs.Cuts.{cut_at}
 use Rattle.q3_text.specs.Decimals.{number_at}
 
 -- the index and the value in a word of this letter: the index is from least up to below the limit
 unfoldable pub field_at : List ℕ → ℕ → ℕ → List ℕ → Option Change
 field_at letter limit least word = do
   text ← behind letter word
-  parts ← cut 58 text
+  parts ← cut_at 58 text
   index ← number_at least (limit - 1) parts.0
   value ← number_at 0 4294967295 parts.1
   Some (index, value)

@@ -1,6 +1,6 @@
--- The words of a line, and texts that are cut at a byte.
-use Rattle.std.specs.Prelude.{ℕ, ◌+◌, ◌==◌, List, [], ◌∷◌, take, drop, length, Option, Some, None, option_map}
-use Rattle.std.specs.List.{slice_split, position}
+-- The words of a line, and what stands behind a prefix.
+use Rattle.std.specs.Prelude.{ℕ, ◌==◌, List, [], ◌∷◌, take, drop, length, Option, Some, None}
+use Rattle.std.specs.List.{slice_split}
 use Rattle.std.specs.Bool.{then_some}
 use Rattle.std.specs.Str.{bytes_eq}
 
@@ -23,10 +23,6 @@ abbrev pub only_of : List (List ℕ) → Option (List ℕ)
 only_of [] = None
 only_of (word ∷ []) = Some word
 only_of (word ∷ next ∷ words) = None
-
--- what stands before and behind the first such byte
-unfoldable pub cut : ℕ → List ℕ → Option (List ℕ × List ℕ)
-cut byte text = option_map (λ place. (take place text, drop (place + 1) text)) (position (λ other. other == byte) text)
 
 -- what stands behind a prefix
 unfoldable pub behind : List ℕ → List ℕ → Option (List ℕ)

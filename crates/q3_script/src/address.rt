@@ -3,9 +3,8 @@
 ghost use Rattle.std.specs.Prelude.{◌≡◌};
 ghost use Rattle.q3_script.specs.Addresses.{address_at};
 
-use crate::words::cut_at;
 use q3_io::Address;
-use q3_text::decimal_within;
+use q3_text::{cut_at, decimal_within};
 
 /// The address that a word spells.
 #[tactic(auto, unfolding(crate::specs::Addresses::address_at))]

@@ -6,11 +6,11 @@ ghost use Rattle.q3_script.specs.Words.{words_left};
 ghost use Rattle.q3_script.specs.Fields.{field_at, fields_at, entity_at, player_at};
 
 use crate::cause::LineCause;
-use crate::words::{behind, cut_at, next_word};
+use crate::words::{behind, next_word};
 use q3_entity::EntityState;
 use q3_player::PlayerState;
 use q3_player::state::shorts;
-use q3_text::decimal_within;
+use q3_text::{cut_at, decimal_within};
 
 /// The index and the value in a word of this letter: the index is from `least` up to below `limit`.
 #[tactic(auto, unfolding(crate::specs::Fields::field_at))]

@@ -1,15 +1,10 @@
-//! The words of a line, one after the other, and words that are cut at a byte.
+//! The words of a line, one after the other, and what stands behind a prefix.
 
-ghost use Rattle.std.specs.Prelude.{◌≡◌, ◌==◌, ◌∷◌, position, option_map};
+ghost use Rattle.std.specs.Prelude.{◌≡◌, ◌∷◌, option_map};
 ghost use Rattle.std.specs.Str.{bytes_eq};
-ghost use Rattle.q3_script.specs.Words.{words_of, words_left, next_of, only_of, cut, behind};
+ghost use Rattle.q3_script.specs.Words.{words_of, words_left, next_of, only_of, behind};
 
-/// The place of the first such byte in a text.
-fn place_of(byte: u8, text: &[u8]) -> Option<usize>
-    ensures { result ≡ position (λ other. other == byte) text.now }
-{
-    text.iter().position(|other| *other == byte)
-}
+use q3_text::place_of;
 
 /// The first word of a text, and what is left behind it: nothing, or a space and the next words.
 pub fn first_word(text: &[u8]) -> (&[u8], &[u8])
@@ -44,15 +39,6 @@ pub fn is(word: &[u8], text: &[u8]) -> bool
     ensures { result ≡ bytes_eq text.now word.now }
 {
     text == word
-}
-
-/// What stands before and behind the first such byte.
-#[tactic(auto, unfolding(crate::specs::Words::cut))]
-pub fn cut_at(text: &[u8], byte: u8) -> Option<(&[u8], &[u8])>
-    ensures { option_map (λ parts. (parts.0.now, parts.1.now)) result ≡ cut byte text.now }
-{
-    let place = place_of(byte, text)?;
-    Some((&text[..place], &text[place + 1..]))
 }
 
 /// What stands behind a prefix.

@@ -3,3 +3,5 @@ pub mod Places
 pub mod Translation
 pub mod Weights
 pub mod Pairs
+pub mod Cuts
+pub mod Numerals

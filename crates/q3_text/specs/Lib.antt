@@ -1,5 +1,6 @@
 pub mod Texts
 pub mod Keys
+pub mod Cuts
 pub mod Decimals
 pub mod Info
 pub mod Laws

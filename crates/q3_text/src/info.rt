@@ -1,8 +1,10 @@
 //! Info strings: keys and values that take turns, with a backslash before each.
 //! Keeps the rule "info strings and the server id", the engine's `Info_ValueForKey` (q_shared.c).
 
-ghost use Rattle.std.specs.Prelude.{◌≡◌, ◌<◌, ◌==◌, ◌∷◌, length, position, option_map, IfSome};
+ghost use Rattle.std.specs.Prelude.{◌≡◌, ◌<◌, ◌∷◌, length, option_map, IfSome};
 ghost use Rattle.q3_text.specs.Info.{behind_backslash, parts_of, parts_behind, info_of};
+
+use crate::cut::place_of;
 
 /// The value of the first pair with this key. The text may begin with a backslash; a last key with no backslash behind
 /// it has no value. Keys are compared byte by byte.
@@ -31,19 +33,12 @@ fn after_backslash(text: &[u8]) -> &[u8]
     }
 }
 
-/// The place of the first backslash.
-fn first_backslash(text: &[u8]) -> Option<usize>
-    ensures { result ≡ position (λ byte. byte == 92) text.now }
-{
-    text.iter().position(|byte| *byte == b'\\')
-}
-
 /// What stands before the first backslash, or the whole text, and what stands behind it.
 fn first_part(text: &[u8]) -> (&[u8], Option<&[u8]>)
     ensures parts { parts_of text.now ≡ result.0.now ∷ parts_behind (option_map (λ rest. rest.now) result.1) }
     ensures shorter { IfSome result.1 (λ rest. length rest.now < length text.now) }
 {
-    match first_backslash(text) {
+    match place_of(b'\\', text) {
         Some(place) => (&text[..place], Some(&text[place + 1..])),
         None => (text, None),
     }

@@ -83,3 +83,22 @@ fn decimals(rt: HostRuntime) {
     assert_eq!(rt; decimal_within(b"4294967295", 1, u32::MAX), Some(u32::MAX));
     assert_eq!(rt; decimal_within(b"0", 1, u32::MAX), None);
 }
+
+#[test]
+fn cuts_of_texts(rt: HostRuntime) {
+    let table = [
+        ("7:12:3", Some(("7", "12:3"))),
+        (":7", Some(("", "7"))),
+        ("7:", Some(("7", ""))),
+        ("712", None),
+        ("", None),
+    ];
+    for (text, wanted) in table {
+        assert_eq!(rt;
+            cut_at(text.as_bytes(), b':'),
+            wanted.map(|parts| (parts.0.as_bytes(), parts.1.as_bytes())),
+            "of {text}"
+        );
+    }
+    assert_eq!(rt; place_of(b':', b"7:12:3"), Some(1));
+}

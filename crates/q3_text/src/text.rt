@@ -1,9 +1,10 @@
 //! Texts: the strings of messages. Keeps the rule "strings and their translation", which is the engine's
 //! `MSG_WriteString` and `MSG_ReadString` (msg.c).
 
-ghost use Rattle.std.specs.Prelude.{◌≡◌, ◌==◌, [], position};
+ghost use Rattle.std.specs.Prelude.{◌≡◌, []};
 ghost use Rattle.q3_text.specs.Texts.{IsText, translated, text_of};
 
+use crate::cut::place_of;
 use arrayvec::ArrayVec;
 use std::marker::Model;
 
@@ -62,13 +63,6 @@ pub fn translate(byte: u8) -> u8
     }
 }
 
-/// The place of the first byte 0.
-fn first_zero(bytes: &[u8]) -> Option<usize>
-    ensures { result ≡ position (λ byte. byte == 0) bytes.now }
-{
-    bytes.iter().position(|byte| *byte == 0)
-}
-
 impl Text {
     /// The text with no bytes.
     pub fn new() -> Text
@@ -87,7 +81,7 @@ impl Text {
         if bytes.len() > MOST_BYTES {
             return Err(TextError::Long);
         }
-        if let Some(place) = first_zero(bytes) {
+        if let Some(place) = place_of(0, bytes) {
             return Err(TextError::Zero(place));
         }
         let mut kept = ArrayVec::new();

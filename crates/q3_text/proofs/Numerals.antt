@@ -8,7 +8,7 @@ use Rattle.std.proofs.lemmas.Option.{cond_some}
 use Rattle.std.proofs.lemmas.Fmt.{decimal-digits_value, digits_decimal, digits_value-decimal, decimal_nonempty, first_decimal, decimal_digit}
 use Rattle.std.proofs.lemmas.Str.Parse.{IsDigitsTest, IsNumeralModel, numerals_by_fold}
 use Rattle.q3_text.specs.Decimals.{is_digit, value_of, is_decimal, number_at}
-use Rattle.q3_script.proofs.Cuts.{lacks}
+use Rattle.q3_text.proofs.Cuts.{lacks}
 
 -- the digits of a decimal are those of std
 digits_test : IsDigitsTest (λ word. list_all is_digit word ≡ true)

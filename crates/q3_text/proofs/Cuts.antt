@@ -8,7 +8,7 @@ use Rattle.std.proofs.lemmas.Option.{same_Some}
 use Rattle.std.proofs.lemmas.List.Sums.{split_at_first, passes_at_first, fails_before_first}
 use Rattle.std.proofs.lemmas.List.Elements.{All-from_get_or}
 use Rattle.std.proofs.lemmas.List.{length-append, length-take-le, get_or-take}
-use Rattle.q3_config.specs.Commands.{cut_at}
+use Rattle.q3_text.specs.Cuts.{cut_at}
 
 -- a text without a byte
 abbrev pub lacks : ℕ → List ℕ → Bool
