@@ -18,7 +18,7 @@ use q3_text::{Text, decimal, info_value};
 use std::alloc::Global;
 use std::marker::Model;
 
-/// The index of the string that tells the server's settings, the engine's `CS_SYSTEMINFO` (bg_public.h).
+/// The index of the string that tells the server's settings, the engine's `CS_SYSTEMINFO` (q_shared.h).
 const SYSTEM_INFO: u32 = 1;
 
 /// 1,024 strings, each of at most 8,191 bytes and together of a size of at most 16,000, and the big text that is

@@ -111,6 +111,7 @@ legible_joined ends c client (Err e) = tt
 -- what a message does to a client
 legible_section : (datagram c number : ℕ) (client : ClientState) (section : Told) → IsLegible (delivered datagram c (apply_section client number section).answer).answer
 legible_section datagram c number client told.Nothing = tt
+legible_section datagram c number client (told.Game game) = tt
 legible_section datagram c number client (told.Snap base head entities) = tt
 legible_section datagram c number client (told.Skipped base) = tt
 

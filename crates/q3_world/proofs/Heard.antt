@@ -11,6 +11,7 @@ told_is : (client : ClientState) (number : ℕ) (section : Told)
     → ((apply_section client number section).client ≡ record client { accepted = newest_told client.accepted section })
     × ((apply_section client number section).answer ≡ took.Applied number (outcome_told section))
 told_is client number told.Nothing = (refl, refl)
+told_is client number (told.Game game) = (refl, refl)
 told_is client number (told.Snap base head entities) = (refl, refl)
 told_is client number (told.Skipped base) = (refl, refl)
 

@@ -23,6 +23,7 @@ snapshot_of view = record { head = view.head.now; entities = view.entities.now }
 -- the newest snapshot that two messages keep behind one that was read, and the answer
 abbrev pub newest_told : Option Snapshot → Told → Option Snapshot
 newest_told newest told.Nothing = newest
+newest_told newest (told.Game game) = newest
 newest_told newest (told.Snap base head entities) = Some (record { head = head; entities = entities })
 newest_told newest (told.Skipped base) = newest
 
@@ -32,6 +33,7 @@ newest_read newest (Err e) = newest
 
 abbrev pub outcome_told : Told → SnapOutcome
 outcome_told told.Nothing = NoSnap
+outcome_told (told.Game game) = NoSnap
 outcome_told (told.Snap base head entities) = Accepted base
 outcome_told (told.Skipped base) = Skipped base NeverHeld
 
