@@ -1,5 +1,6 @@
 -- What is written of a gamestate spells it.
-use Rattle.std.proofs.Common.{◌≡◌, ◌+◌, ◌<◌, ◌≤◌, ◌==◌, ℕ, zero, suc, Bool, true, false, nat_lt, List, [], ◌∷◌, ◌++◌, length, map, replicate, get_or, Option, Some, None, refl, sym, ap, subst, ◌∙◌, append_assoc, arith}
+use Rattle.std.proofs.Common.{◌≡◌, ◌+◌, ◌^◌, ◌<◌, ◌≤◌, ◌==◌, ℕ, zero, suc, Bool, true, false, nat_lt, List, [], ◌∷◌, ◌++◌, length, map, replicate, get_or, Option, Some, None, refl, sym, ap, subst, ◌∙◌, append_assoc, arith}
+use Rattle.std.proofs.Math.Pow.{pow_mono}
 use Rattle.std.specs.List.{All, sum_by}
 use Rattle.std.specs.Option.{IfSome}
 use Rattle.std.proofs.lemmas.Bool.Decides.{nat_tests}
@@ -208,7 +209,8 @@ baseline_spelled laws profile codec state low are normal =
     let none = laws.no_entity table state.number codec.entity in
     let entry = entity_delta words table zero state true in
     let spelled = laws.entry words table zero state codec.code codec.entity none.0 none.1 are in
-    let below : state.number < end_mark table = rw codec.numbers (omega (arith, low)) in
+    let wide : 2 ^ 10 ≤ 2 ^ table.number_bits = pow_mono codec.numbers in
+    let below : state.number < end_mark table = omega (arith, low, wide) in
     (entry, below, subst (λ (s : EntityState). SpellsEntry words table (replicate 64 0) (record { number = state.number; words = Some s.words }) entry) normal spelled, refl)
 
 lines_spelled : WasWritten → (profile : Profile) → IsCodec profile → (at : ℕ → Option EntityState) (k : ℕ) (lines : Lines) → k + length lines ≤ most_lines
