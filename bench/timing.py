@@ -23,6 +23,30 @@ def program():
     return named
 
 
+def build(folder, name, needs, words):
+    """Proves and builds the program NAME.txt beside this file, in a repository of its own with copies of the crates that
+    it stands on, and runs it once with these words: the built program."""
+    crate = folder / 'crates' / name
+    for need in needs:
+        shutil.copytree(TOP / 'crates' / need, folder / 'crates' / need)
+    (crate / 'src').mkdir(parents=True)
+    shutil.copy(TOP / f'bench/{name}.txt', crate / 'src/main.rt')
+    lines = [line for line in (TOP / 'crates.txt').read_text().splitlines() if line.split(':')[0] in needs]
+    (folder / 'crates.txt').write_text('\n'.join([*lines, f'{name}: {" ".join(needs)}']) + '\n')
+    shutil.copy(TOP / 'HANDLES', folder)
+    (crate / 'profile').write_text(REAL)
+    done = subprocess.run(['rt', 'run', '--', *words], cwd=crate, capture_output=True, text=True)
+    if done.returncode != 0:
+        sys.exit(f'rt run: status {done.returncode}\n{done.stdout}{done.stderr}')
+    return crate / 'out' / name
+
+
+def each_round(measure, rounds, words):
+    """What a round takes: a difference of two runs, so what a run takes once isn't in it."""
+    few, many = (measure([*words, str(times)]) for times in (rounds, 11 * rounds))
+    return (many - few) / (10 * rounds)
+
+
 def bits(byte):
     """The eight bits of a byte, least first."""
     return ''.join(str(byte >> place & 1) for place in range(8))
