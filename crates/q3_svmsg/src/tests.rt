@@ -209,6 +209,7 @@ fn gamestates_are_written_and_read(rt: HostRuntime) -> Result<(), Fail> {
     )?;
     let held = Held {
         player: PlayerState::zero(),
+        entity: entity(5, 7),
         baselines: Baselines::new(rt.alloc())?,
     };
     let mut message = ServerMessage::new(rt.alloc())?;
