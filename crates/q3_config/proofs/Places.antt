@@ -1,229 +1,180 @@
--- Strings one behind the other: where each stands, and what another string in its place leaves.
-use Rattle.std.proofs.Common.{◌≡◌, ℕ, zero, suc, ◌+◌, ◌-◌, ◌<◌, ◌≤◌, List, [], ◌∷◌, ◌++◌, length, get_or, set, take, drop, replicate, slice_range, refl, sym, ap, subst, ◌∙◌, arith, append_assoc, length-append, length-drop, length-take-le, zero-add, inl, inr}
+-- Where strings lie: what stays of them when bytes come behind, when one gets another place, and when all are copied.
+use Rattle.std.proofs.Common.{◌≡◌, ℕ, zero, suc, ◌+◌, ◌<◌, ◌≤◌, List, [], ◌∷◌, ◌++◌, length, get_or, set, take, drop, replicate, refl, sym, ap, subst, ◌∙◌, arith, length-append, length-drop, length-take-le, take_all}
 use Rattle.std.specs.List.{concat}
-use Rattle.std.proofs.lemmas.List.{take_at, drop_at, ext_get_or, length-set, set_split, set-get_or, append-nil}
+use Rattle.std.proofs.Math.Seq.{take-suc, take-suc-set, drop-append_seam, drop-cons}
+use Rattle.std.proofs.lemmas.List.{take-append-le, drop-append-le, take-append-drop, map-set, map-append, length-map, length-set, append-nil, drop-set-lt, get_or-drop, get_or-map}
 use Rattle.std.proofs.lemmas.List.Folds.{concat-append}
-use Rattle.std.proofs.lemmas.Bool.{ne_eqb, cases_lt}
-use Rattle.q3_config.specs.Table.{cut_from, strings_of, ends_from, start_at, LieBehind}
+use Rattle.std.proofs.lemmas.List.Elements.{All-head, All-tail, All-nil, All-cons, All-set, All-weaker, All-append, All-get_or, All-replicate}
+use Rattle.q3_config.specs.declared.table.Place.{Place}
+use Rattle.q3_config.specs.Table.{text_in, texts_in, LieWithin}
 
--- an end for each string
-length-ends_from : (start : ℕ) (texts : List (List ℕ)) → length (ends_from start texts) ≡ length texts
-unfolding ends_from
-length-ends_from start [] = refl
-length-ends_from start (text ∷ texts) = ap suc (length-ends_from (start + length text) texts)
+-- a place within bytes
+abbrev pub Within : List ℕ → Place → Type 0
+Within bytes place = place.start + place.length ≤ length bytes
 
--- a string between others
-middle : (bytes front text rest : List ℕ) (start : ℕ) → bytes ≡ front ++ (text ++ rest) → length front ≡ start → slice_range bytes start (start + length text) ≡ text
-middle bytes front text rest start whole is =
-    let size : start + length text - start ≡ length text = omega arith in
-    rw (whole, drop_at front (text ++ rest) start is, size) (take_at text rest (length text) refl)
+-- how many bytes its string has
+length-text_in : (bytes : List ℕ) (place : Place) → Within bytes place → length (text_in bytes place) ≡ place.length
+length-text_in bytes place within = length-take-le place.length (drop place.start bytes) (omega (arith, length-drop place.start bytes))
 
--- strings that lie one behind the other are cut where they end
-cut-again : (texts : List (List ℕ)) (front : List ℕ) (start : ℕ) → length front ≡ start → cut_from start (ends_from start texts) (front ++ concat texts) ≡ texts
-unfolding cut_from ends_from
-cut-again [] front start is = refl
-cut-again (text ∷ texts) front start is =
-    let longer : length (front ++ text) ≡ start + length text = omega (arith, length-append front text) in
-    let others : cut_from (start + length text) (ends_from (start + length text) texts) (front ++ (text ++ concat texts)) ≡ texts = rw (← append_assoc front text (concat texts)) (cut-again texts (front ++ text) (start + length text) longer) in
-    let first = middle (front ++ (text ++ concat texts)) front text (concat texts) start refl is in
+-- it stays the same when bytes come behind
+text_in-more : (bytes more : List ℕ) (place : Place) → Within bytes place → text_in (bytes ++ more) place ≡ text_in bytes place
+text_in-more bytes more place within =
+    ap (λ (bs : List ℕ). take place.length bs) (drop-append-le place.start bytes more (omega arith))
+    ∙ take-append-le place.length (drop place.start bytes) more (omega (arith, length-drop place.start bytes))
+
+-- and so do all
+texts_in-more : (bytes more : List ℕ) (places : List Place) → LieWithin bytes places → texts_in (bytes ++ more) places ≡ texts_in bytes places
+texts_in-more bytes more [] within = refl
+texts_in-more bytes more (place ∷ places) within =
+    let first = text_in-more bytes more place (All-head (Within bytes) place places within) in
+    let others = texts_in-more bytes more places (All-tail (Within bytes) place places within) in
     cc
 
--- bytes and ends of strings are theirs
-pub record Keeps (ends bytes : List ℕ) (texts : List (List ℕ)) : Type 0 where
-  pub lie : LieBehind ends bytes
-  pub same : strings_of ends bytes ≡ texts
+-- and lie within the bytes
+within-more : (bytes more : List ℕ) (places : List Place) → LieWithin bytes places → LieWithin (bytes ++ more) places
+within-more bytes more places within = All-weaker (Within bytes) (Within (bytes ++ more)) (λ place inside. omega (arith, length-append bytes more)) places within
 
-pub keeps : (ends bytes : List ℕ) (texts : List (List ℕ)) → ends ≡ ends_from 0 texts → bytes ≡ concat texts → Keeps ends bytes texts
-keeps ends bytes texts ends_are bytes_are =
-    let same : strings_of ends bytes ≡ texts = rw (ends_are, bytes_are) (cut-again texts [] 0 refl) in
-    record { lie = record { bytes_are = rw same (sym bytes_are); ends_are = rw same (sym ends_are) }; same = same }
+-- the place behind all bytes
+abbrev pub behind : List ℕ → ℕ → Place
+behind bytes n = record { start = length bytes; length = n }
 
--- how much stands up to the end of a string
-end_is : (texts : List (List ℕ)) (start i d : ℕ) → i < length texts → get_or (ends_from start texts) i d ≡ start + length (concat (take (suc i) texts))
-unfolding ends_from
-end_is [] start i d lt = absurd (omega arith)
-end_is (text ∷ texts) start zero d lt = omega (arith, length-append text [])
-end_is (text ∷ texts) start (suc i) d lt = omega (arith, length-append text (concat (take (suc i) texts)), end_is texts (start + length text) i d (omega arith))
+-- the string that is put there
+text_in-new : (bytes text : List ℕ) (n : ℕ) → n ≡ length text → text_in (bytes ++ text) (behind bytes n) ≡ text
+text_in-new bytes text n is = ap (λ (bs : List ℕ). take n bs) (drop-append_seam bytes text) ∙ take_all n text (omega arith)
 
--- the bytes up to the end of a string
-take_next : (texts : List (List ℕ)) (i : ℕ) → i < length texts → concat (take (suc i) texts) ≡ concat (take i texts) ++ get_or texts i []
-take_next [] i lt = absurd (omega arith)
-take_next (text ∷ texts) zero lt = append-nil text
-take_next (text ∷ texts) (suc i) lt = ap (λ (bs : List ℕ). text ++ bs) (take_next texts i (omega arith)) ∙ sym (append_assoc text (concat (take i texts)) (get_or texts i []))
+within-new : (bytes text : List ℕ) (n : ℕ) → n ≡ length text → Within (bytes ++ text) (behind bytes n)
+within-new bytes text n is = omega (arith, length-append bytes text)
 
-suc-sub-one : (i : ℕ) → suc i - 1 ≡ i
-suc-sub-one i = omega arith
+-- the strings at places
+pub record Lie (bytes : List ℕ) (places : List Place) (texts : List (List ℕ)) : Type 0 where
+  pub within : LieWithin bytes places
+  pub same : texts_in bytes places ≡ texts
 
--- where a string starts, so much stands before it
-start_is : (texts : List (List ℕ)) (i : ℕ) → i < length texts → start_at (ends_from 0 texts) i ≡ length (concat (take i texts))
-start_is texts zero lt = refl
-start_is texts (suc i) lt = rw (ne_eqb (suc i) 0 (omega arith), suc-sub-one i) (end_is texts 0 i 0 (omega arith) ∙ zero-add (length (concat (take (suc i) texts))))
+-- a string that is put behind all bytes, and its place there at an index
+pub put : (bytes : List ℕ) (places : List Place) (index : ℕ) (text : List ℕ) (n : ℕ) → LieWithin bytes places → n ≡ length text
+    → Lie (bytes ++ text) (set places index (behind bytes n)) (set (texts_in bytes places) index text)
+put bytes places index text n within is = record {
+  within = All-set (Within (bytes ++ text)) places index (behind bytes n) (within-new bytes text n is) (within-more bytes text places within);
+  same = map-set (λ place. text_in (bytes ++ text) place) places index (behind bytes n)
+      ∙ ap (λ (texts : List (List ℕ)). set texts index (text_in (bytes ++ text) (behind bytes n))) (texts_in-more bytes text places within)
+      ∙ ap (λ (other : List ℕ). set (texts_in bytes places) index other) (text_in-new bytes text n is);
+}
 
--- the bytes of strings with another at an index
-concat-set : (texts : List (List ℕ)) (i : ℕ) (text : List ℕ) → i < length texts → concat (set texts i text) ≡ concat (take i texts) ++ (text ++ concat (drop (suc i) texts))
-concat-set texts i text lt = ap concat (set_split texts i text lt) ∙ concat-append (take i texts) (text ∷ drop (suc i) texts)
-
--- and those of the strings themselves
-concat_at : (texts : List (List ℕ)) (i : ℕ) → i < length texts → concat texts ≡ concat (take i texts) ++ (get_or texts i [] ++ concat (drop (suc i) texts))
-concat_at texts i lt = ap concat (sym (set-get_or texts i [])) ∙ concat-set texts i (get_or texts i []) lt
-
--- the ends before a string stay where they are when another takes its place
-ends_before : (texts : List (List ℕ)) (start i k : ℕ) (text : List ℕ) → k < i → get_or (ends_from start (set texts i text)) k 0 ≡ get_or (ends_from start texts) k 0
-unfolding ends_from
-ends_before [] start i k text lt = refl
-ends_before (first ∷ texts) start zero k text lt = absurd (omega arith)
-ends_before (first ∷ texts) start (suc i) zero text lt = refl
-ends_before (first ∷ texts) start (suc i) (suc k) text lt = ends_before texts (start + length first) i k text (omega arith)
-
--- and those from it on move by the difference
-ends_behind : (texts : List (List ℕ)) (start i k : ℕ) (text : List ℕ) → i ≤ k → k < length texts → get_or (ends_from start (set texts i text)) k 0 + length (get_or texts i []) ≡ get_or (ends_from start texts) k 0 + length text
-unfolding ends_from
-ends_behind [] start i k text le lt = absurd (omega arith)
-ends_behind (first ∷ texts) start zero zero text le lt = omega arith
-ends_behind (first ∷ texts) start zero (suc k) text le lt = omega (arith, end_is texts (start + length text) k 0 (omega arith), end_is texts (start + length first) k 0 (omega arith))
-ends_behind (first ∷ texts) start (suc i) zero text le lt = absurd (omega arith)
-ends_behind (first ∷ texts) start (suc i) (suc k) text le lt = ends_behind texts (start + length first) i k text (omega arith) (omega arith)
-
--- an end from a string on has the string before it
-end_least : (texts : List (List ℕ)) (start i k : ℕ) → i ≤ k → k < length texts → length (get_or texts i []) ≤ get_or (ends_from start texts) k 0
-unfolding ends_from
-end_least [] start i k le lt = absurd (omega arith)
-end_least (first ∷ texts) start zero zero le lt = omega arith
-end_least (first ∷ texts) start zero (suc k) le lt = omega (arith, end_is texts (start + length first) k 0 (omega arith))
-end_least (first ∷ texts) start (suc i) zero le lt = absurd (omega arith)
-end_least (first ∷ texts) start (suc i) (suc k) le lt = end_least texts (start + length first) i k (omega arith) (omega arith)
-
--- no end is behind the last byte
-end_most : (texts : List (List ℕ)) (start k : ℕ) → k < length texts → get_or (ends_from start texts) k 0 ≤ start + length (concat texts)
-unfolding ends_from
-end_most [] start k lt = absurd (omega arith)
-end_most (first ∷ texts) start zero lt = omega (arith, length-append first (concat texts))
-end_most (first ∷ texts) start (suc k) lt = omega (arith, length-append first (concat texts), end_most texts (start + length first) k (omega arith))
-
--- a string for each end
-pub counted : (ends bytes : List ℕ) → LieBehind ends bytes → length (strings_of ends bytes) ≡ length ends
-counted ends bytes lie = sym (length-ends_from 0 (strings_of ends bytes)) ∙ ap (λ (es : List ℕ). length es) lie.ends_are
-
--- where a string starts, in the ends of strings that lie one behind the other
-starts : (ends bytes : List ℕ) (i : ℕ) → LieBehind ends bytes → i < length (strings_of ends bytes) → start_at ends i ≡ length (concat (take i (strings_of ends bytes)))
-starts ends bytes i lie lt = subst (λ (es : List ℕ). start_at es i ≡ length (concat (take i (strings_of ends bytes)))) lie.ends_are (start_is (strings_of ends bytes) i lt)
-
--- ends that are moved where another string takes the place of one
-ends_moved : (ends moved : List ℕ) (texts : List (List ℕ)) (text : List ℕ) (i : ℕ) → ends_from 0 texts ≡ ends → i < length texts → length moved ≡ length ends
-    → ((k : ℕ) → k < i → get_or moved k 0 ≡ get_or ends k 0)
-    → ((k : ℕ) → i ≤ k → k < length ends → get_or moved k 0 ≡ get_or ends k 0 - length (get_or texts i []) + length text)
-    → moved ≡ ends_from 0 (set texts i text)
-ends_moved ends moved texts text i are lt same before behind =
-    let count : length ends ≡ length texts = ap (λ (es : List ℕ). length es) (sym are) ∙ length-ends_from 0 texts in
-    let count_new : length (ends_from 0 (set texts i text)) ≡ length texts = length-ends_from 0 (set texts i text) ∙ length-set texts i text in
-    let at : (k : ℕ) → get_or (ends_from 0 texts) k 0 ≡ get_or ends k 0 = λ k. ap (λ (es : List ℕ). get_or es k 0) are in
-    ext_get_or 0 moved (ends_from 0 (set texts i text)) (omega arith) (λ k inside. elim (cases_lt k i) [
-      | inl below ↦ before k below ∙ sym (at k) ∙ sym (ends_before texts 0 i k text below)
-      | inr from ↦
-          let other = ends_behind texts 0 i k text from (omega arith) in
-          let least = end_least texts 0 i k from (omega arith) in
-          omega (arith, behind k from (omega arith), at k)
-    ])
-
--- where a string stands: its bytes, and which numbers the ends are
-pub record Stands (ends bytes : List ℕ) (i : ℕ) : Type 0 where
-  pub end : start_at ends i + length (get_or (strings_of ends bytes) i []) ≡ get_or ends i 0
-  pub within : get_or ends i 0 ≤ length bytes
-  pub text : take (get_or ends i 0 - start_at ends i) (drop (start_at ends i) bytes) ≡ get_or (strings_of ends bytes) i []
-  pub least : (k : ℕ) → i ≤ k → k < length ends → length (get_or (strings_of ends bytes) i []) ≤ get_or ends k 0
-  pub most : (k : ℕ) → k < length ends → get_or ends k 0 ≤ length bytes
-
-pub stands : (ends bytes : List ℕ) (i : ℕ) → LieBehind ends bytes → i < length ends → Stands ends bytes i
-stands ends bytes i lie inside =
-    let texts = strings_of ends bytes in
-    let text = get_or texts i [] in
-    let count : length texts ≡ length ends = counted ends bytes lie in
-    let lt : i < length texts = omega arith in
-    let start = starts ends bytes i lie lt in
-    let ended : get_or ends i 0 ≡ length (concat (take (suc i) texts)) = subst (λ (es : List ℕ). get_or es i 0 ≡ length (concat (take (suc i) texts))) lie.ends_are (end_is texts 0 i 0 lt ∙ zero-add (length (concat (take (suc i) texts)))) in
-    let next : concat (take (suc i) texts) ≡ concat (take i texts) ++ text = take_next texts i lt in
-    let end : start_at ends i + length text ≡ get_or ends i 0 = omega (arith, ap (λ (bs : List ℕ). length bs) next, length-append (concat (take i texts)) text) in
-    let whole : bytes ≡ concat (take i texts) ++ (text ++ concat (drop (suc i) texts)) = sym lie.bytes_are ∙ concat_at texts i lt in
-    let most : (k : ℕ) → k < length ends → get_or ends k 0 ≤ length bytes = λ k within. subst (λ (es : List ℕ). get_or es k 0 ≤ length bytes) lie.ends_are (let behind = end_most texts 0 k (omega arith) in omega (arith, ap (λ (bs : List ℕ). length bs) lie.bytes_are)) in
+-- a string that is put there behind others
+added : (bytes : List ℕ) (places : List Place) (texts : List (List ℕ)) (text : List ℕ) (n : ℕ) → Lie bytes places texts → n ≡ length text
+    → Lie (bytes ++ text) (places ++ (behind bytes n ∷ [])) (texts ++ (text ∷ []))
+added bytes places texts text n lie is =
+    let old : texts_in (bytes ++ text) places ≡ texts = texts_in-more bytes text places lie.within ∙ lie.same in
+    let new = text_in-new bytes text n is in
     record {
-      end = end;
-      within = most i (omega arith);
-      text = subst (λ (n : ℕ). slice_range bytes (start_at ends i) n ≡ text) end (middle bytes (concat (take i texts)) text (concat (drop (suc i) texts)) (start_at ends i) whole (sym start));
-      least = λ k le within. subst (λ (es : List ℕ). length text ≤ get_or es k 0) lie.ends_are (end_least texts 0 i k le (omega arith));
-      most = most;
+      within = All-append (Within (bytes ++ text)) places (behind bytes n ∷ []) (within-more bytes text places lie.within)
+          (All-cons (Within (bytes ++ text)) (behind bytes n) [] (within-new bytes text n is) (All-nil (Within (bytes ++ text))));
+      same = map-append (λ place. text_in (bytes ++ text) place) places (behind bytes n ∷ [])
+          ∙ ap (λ (front : List (List ℕ)). front ++ (text_in (bytes ++ text) (behind bytes n) ∷ [])) old
+          ∙ ap (λ (last : List ℕ). texts ++ (last ∷ [])) new;
     }
 
--- what stands before a string and behind it
-around : (bytes before text behind : List ℕ) (start : ℕ) → bytes ≡ before ++ (text ++ behind) → length before ≡ start
-    → (take start bytes ≡ before) × (drop (start + length text) bytes ≡ behind)
-around bytes before text behind start whole is = (
-  rw whole (take_at before (text ++ behind) start is),
-  rw (whole, ← append_assoc before text behind) (drop_at (before ++ text) behind (start + length text) (omega (arith, length-append before text))),
-)
+-- so many strings lie in other bytes, and no others; the places of those that are left are the old ones
+pub record Copied (bytes into : List ℕ) (old now : List Place) (k : ℕ) : Type 0 where
+  pub count : length now ≡ length old
+  pub whole : into ≡ concat (take k (texts_in bytes old))
+  pub lie : Lie into (take k now) (take k (texts_in bytes old))
+  pub left : drop k now ≡ drop k old
 
--- bytes taken out and others put there
-swapped : (bytes out new before old behind text : List ℕ) (start : ℕ) → bytes ≡ before ++ (old ++ behind) → length before ≡ start
-    → out ≡ take start bytes ++ drop (start + length old) bytes → new ≡ take start out ++ text ++ drop start out → new ≡ before ++ (text ++ behind)
-swapped bytes out new before old behind text start whole is out_is new_is =
-    let parts = around bytes before old behind start whole is in
-    let rest : out ≡ before ++ behind = rw (parts.0, parts.1) at out_is in
-    let front : take start out ≡ before = rw rest (take_at before behind start is) in
-    let end : drop start out ≡ behind = rw rest (drop_at before behind start is) in
-    let all : new ≡ before ++ text ++ behind = rw (front, end) at new_is in
-    all ∙ append_assoc before text behind
+pub begin : (bytes into : List ℕ) (old : List Place) → into ≡ [] → Copied bytes into old old 0
+begin bytes into old none = record {
+  count = refl;
+  whole = none;
+  lie = record { within = All-nil (Within into); same = refl };
+  left = refl;
+}
 
--- the bytes of a string are among all
-pub inside : (ends bytes : List ℕ) (i start count : ℕ) → LieBehind ends bytes → i < length ends → start ≡ start_at ends i → count ≡ length (get_or (strings_of ends bytes) i []) → start + count ≤ length bytes
-inside ends bytes i start count lie within start_is count_is = let at = stands ends bytes i lie within in omega arith
+-- the place of the next string is the old one
+next : (bytes into : List ℕ) (old now : List Place) (k : ℕ) (d : Place) → Copied bytes into old now k → get_or now k d ≡ get_or old k d
+next bytes into old now k d done =
+    let same : k ≡ k + 0 = omega arith in
+    ap (λ i. get_or now i d) same ∙ sym (get_or-drop k now 0 d) ∙ ap (λ (places : List Place). get_or places 0 d) done.left ∙ get_or-drop k old 0 d ∙ ap (λ i. get_or old i d) (sym same)
 
--- bytes that are taken out from between others
-pub length-out : (bytes out : List ℕ) (start count : ℕ) → start + count ≤ length bytes → out ≡ take start bytes ++ drop (start + count) bytes → (start ≤ length out) × (length out + count ≡ length bytes)
-length-out bytes out start count within is =
-    let size = ap (λ (bs : List ℕ). length bs) is in
-    let front = length-take-le start bytes (omega arith) in
-    let parts = length-append (take start bytes) (drop (start + count) bytes) in
-    let rest = length-drop (start + count) bytes in
-    (omega arith, omega arith)
+-- the places behind it
+drop_next : (places : List Place) (k : ℕ) (d : Place) → k < length places → drop 1 (drop k places) ≡ drop (suc k) places
+drop_next places k d lt = ap (λ (ps : List Place). drop 1 ps) (drop-cons places k d lt)
 
--- another string in the place of one: its bytes taken out, others put there, and the ends from it on moved
-pub replaced : (ends bytes out new moved text : List ℕ) (i start count : ℕ) → LieBehind ends bytes → i < length ends
-    → start ≡ start_at ends i → count ≡ length (get_or (strings_of ends bytes) i [])
-    → out ≡ take start bytes ++ drop (start + count) bytes
-    → new ≡ take start out ++ text ++ drop start out
-    → length moved ≡ length ends
-    → ((k : ℕ) → k < i → get_or moved k 0 ≡ get_or ends k 0)
-    → ((k : ℕ) → i ≤ k → k < length ends → get_or moved k 0 ≡ get_or ends k 0 - count + length text)
-    → Keeps moved new (set (strings_of ends bytes) i text)
-replaced ends bytes out new moved text i start count lie inside start_is count_is out_is new_is same before behind =
-    let texts = strings_of ends bytes in
-    let lt : i < length texts = omega (arith, counted ends bytes lie) in
-    let cut = rw count_is at out_is in
-    let at = starts ends bytes i lie lt in
-    let bytes_are : new ≡ concat (set texts i text) = swapped bytes out new (concat (take i texts)) (get_or texts i []) (concat (drop (suc i) texts)) text start (sym lie.bytes_are ∙ concat_at texts i lt) (sym (start_is ∙ at)) cut new_is ∙ sym (concat-set texts i text lt) in
-    let ends_are : moved ≡ ends_from 0 (set texts i text) = ends_moved ends moved texts text i lie.ends_are lt same before (λ k from within. behind k from within ∙ ap (λ n. get_or ends k 0 - n + length text) count_is) in
-    keeps moved new (set texts i text) ends_are bytes_are
+-- the strings up to it
+take_next : (bytes : List ℕ) (old : List Place) (k : ℕ) (d : Place) → k < length old → take (suc k) (texts_in bytes old) ≡ take k (texts_in bytes old) ++ (text_in bytes (get_or old k d) ∷ [])
+take_next bytes old k d lt =
+    take-suc (texts_in bytes old) k [] (omega (arith, length-map old (λ place. text_in bytes place)))
+    ∙ ap (λ (text : List ℕ). take k (texts_in bytes old) ++ (text ∷ [])) (get_or-map (λ place. text_in bytes place) old k d [] lt)
 
--- how many bytes there are then
-pub length-replaced : (ends bytes text : List ℕ) (i : ℕ) → LieBehind ends bytes → i < length ends
-    → length (concat (set (strings_of ends bytes) i text)) + length (get_or (strings_of ends bytes) i []) ≡ length bytes + length text
-length-replaced ends bytes text i lie inside =
-    let texts = strings_of ends bytes in
-    let lt : i < length texts = omega (arith, counted ends bytes lie) in
-    let before = concat (take i texts) in
-    let behind = concat (drop (suc i) texts) in
-    let old = ap (λ (bs : List ℕ). length bs) (sym lie.bytes_are ∙ concat_at texts i lt) in
-    let new = ap (λ (bs : List ℕ). length bs) (concat-set texts i text lt) in
-    omega (arith, length-append before (get_or texts i [] ++ behind), length-append (get_or texts i []) behind, length-append before (text ++ behind), length-append text behind)
+concat_next : (bytes : List ℕ) (old : List Place) (k : ℕ) (d : Place) → k < length old → concat (take (suc k) (texts_in bytes old)) ≡ concat (take k (texts_in bytes old)) ++ text_in bytes (get_or old k d)
+concat_next bytes old k d lt =
+    ap concat (take_next bytes old k d lt)
+    ∙ concat-append (take k (texts_in bytes old)) (text_in bytes (get_or old k d) ∷ [])
+    ∙ ap (λ (text : List ℕ). concat (take k (texts_in bytes old)) ++ text) (append-nil (text_in bytes (get_or old k d)))
 
-ends_from-empty : (n : ℕ) → ends_from 0 (replicate n []) ≡ replicate n 0
-unfolding ends_from
-ends_from-empty zero = refl
-ends_from-empty (suc n) = ap (λ (es : List ℕ). 0 ∷ es) (ends_from-empty n)
+-- the next string lies within the bytes, and has room behind those that are copied
+pub record HasNext (bytes into : List ℕ) (old : List Place) (place : Place) : Type 0 where
+  pub within : Within bytes place
+  pub fits : length into + place.length ≤ length (concat (texts_in bytes old))
 
-concat-empty : (n : ℕ) → concat (replicate n []) ≡ []
-concat-empty zero = refl
-concat-empty (suc n) = concat-empty n
+pub has_next : (bytes into : List ℕ) (old now : List Place) (k : ℕ) (d : Place) → LieWithin bytes old → Copied bytes into old now k → k < length old → HasNext bytes into old (get_or now k d)
+has_next bytes into old now k d within done lt =
+    let is = next bytes into old now k d done in
+    let inside : Within bytes (get_or old k d) = All-get_or (Within bytes) old k d lt within in
+    let texts = texts_in bytes old in
+    let front = ap (λ (bs : List ℕ). length bs) (concat_next bytes old k d lt) in
+    let all = ap (λ (ts : List (List ℕ)). length (concat ts)) (take-append-drop (suc k) texts) in
+    let parts = ap (λ (bs : List ℕ). length bs) (concat-append (take (suc k) texts) (drop (suc k) texts)) in
+    let fits : length into + (get_or old k d).length ≤ length (concat texts) = omega (
+      arith,
+      ap (λ (bs : List ℕ). length bs) done.whole,
+      length-text_in bytes (get_or old k d) inside,
+      length-append (concat (take k texts)) (text_in bytes (get_or old k d)),
+      length-append (concat (take (suc k) texts)) (concat (drop (suc k) texts)),
+    ) in
+    subst (λ (place : Place). HasNext bytes into old place) (sym is) (record { within = inside; fits = fits })
 
--- no bytes, and ends that are all 0, are empty strings
-pub emptied : (ends bytes : List ℕ) (n : ℕ) → ends ≡ replicate n 0 → bytes ≡ [] → Keeps ends bytes (replicate n [])
-emptied ends bytes n ends_are bytes_are = keeps ends bytes (replicate n []) (ends_are ∙ sym (ends_from-empty n)) (bytes_are ∙ sym (concat-empty n))
+-- it is copied
+copied : (bytes into new : List ℕ) (old now : List Place) (k : ℕ) (d : Place) → LieWithin bytes old → Copied bytes into old now k → k < length old
+    → new ≡ into ++ text_in bytes (get_or now k d) → Copied bytes new old (set now k (behind into (get_or now k d).length)) (suc k)
+copied bytes into new old now k d within done lt is =
+    let place = get_or now k d in
+    let inside : k < length now = (let count = done.count in omega arith) in
+    let same = next bytes into old now k d done in
+    let text = text_in bytes place in
+    let here = has_next bytes into old now k d within done lt in
+    let next_texts : take (suc k) (texts_in bytes old) ≡ take k (texts_in bytes old) ++ (text ∷ []) =
+    take_next bytes old k d lt ∙ ap (λ (p : Place). take k (texts_in bytes old) ++ (text_in bytes p ∷ [])) (sym same) in
+    let places : take (suc k) (set now k (behind into place.length)) ≡ take k now ++ (behind into place.length ∷ []) = take-suc-set now k (behind into place.length) inside in
+    let lie = added into (take k now) (take k (texts_in bytes old)) text place.length done.lie (sym (length-text_in bytes place here.within)) in
+    let moved : Lie (into ++ text) (take (suc k) (set now k (behind into place.length))) (take (suc k) (texts_in bytes old)) = rw (places, next_texts) lie in
+    record {
+      count = length-set now k (behind into place.length) ∙ done.count;
+      whole = is ∙ ap (λ (bs : List ℕ). bs ++ text) done.whole ∙ ap (λ (p : Place). concat (take k (texts_in bytes old)) ++ text_in bytes p) same ∙ sym (concat_next bytes old k d lt);
+      lie = subst (λ (bs : List ℕ). Lie bs (take (suc k) (set now k (behind into place.length))) (take (suc k) (texts_in bytes old))) (sym is) moved;
+      left = drop-set-lt (suc k) now k (behind into place.length) (omega arith) ∙ sym (drop_next now k d inside) ∙ ap (λ (ps : List Place). drop 1 ps) done.left ∙ drop_next old k d lt;
+    }
+
+pub more : (bytes into new : List ℕ) (old now : List Place) (k : ℕ) (d place : Place) → LieWithin bytes old → Copied bytes into old now k → k < length old
+    → new ≡ into ++ text_in bytes (get_or now k d) → place ≡ behind into (get_or now k d).length → Copied bytes new old (set now k place) (k + 1)
+more bytes into new old now k d place within done lt is place_is =
+    let next : suc k ≡ k + 1 = omega arith in
+    subst (λ (p : Place). Copied bytes new old (set now k p) (k + 1)) (sym place_is)
+    (subst (λ (n : ℕ). Copied bytes new old (set now k (behind into (get_or now k d).length)) n) next (copied bytes into new old now k d within done lt is))
+
+-- all are copied
+pub all : (bytes into : List ℕ) (old now : List Place) (k : ℕ) → Copied bytes into old now k → k ≡ length old → (into ≡ concat (texts_in bytes old)) × Lie into now (texts_in bytes old)
+all bytes into old now k done end =
+    let texts : take k (texts_in bytes old) ≡ texts_in bytes old = take_all k (texts_in bytes old) (omega (arith, length-map old (λ place. text_in bytes place))) in
+    let places : take k now ≡ now = take_all k now (let count = done.count in omega arith) in
+    (done.whole ∙ ap concat texts, subst (λ (ps : List Place). Lie into ps (texts_in bytes old)) places (subst (λ (ts : List (List ℕ)). Lie into (take k now) ts) texts done.lie))
+
+-- no bytes, and places that start at 0 and have none
+pub nowhere : (bytes : List ℕ) (places : List Place) (n : ℕ) → places ≡ replicate n (record { start = 0; length = 0 }) → Lie bytes places (replicate n [])
+nowhere bytes places n are = subst (λ (ps : List Place). Lie bytes ps (replicate n [])) (sym are) (record {
+  within = All-replicate (Within bytes) n (record { start = 0; length = 0 }) (omega arith);
+  same = empty n;
+})
+  where
+    empty : (n : ℕ) → texts_in bytes (replicate n (record { start = 0; length = 0 })) ≡ replicate n []
+    empty zero = refl
+    empty (suc n) = ap (λ (ts : List (List ℕ)). [] ∷ ts) (empty n)

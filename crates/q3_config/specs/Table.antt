@@ -1,26 +1,19 @@
--- How strings are kept: one behind the other in one piece of memory, with the place where each ends.
-use Rattle.std.specs.Prelude.{◌≡◌, ℕ, ◌+◌, ◌-◌, ◌==◌, if◌then◌else◌, List, [], ◌∷◌, length, slice_index, slice_range}
-use Rattle.std.specs.List.{concat}
+-- How strings are kept: each somewhere in one piece of memory, with the place where it lies.
+use Rattle.std.specs.Prelude.{ℕ, ◌+◌, ◌≤◌, List, length, map, take, drop, All}
+use Rattle.q3_config.specs.declared.table.Place.{Place}
 
--- strings that are cut from bytes: the first starts here, and each ends where the next starts
-unfoldable pub cut_from : ℕ → List ℕ → List ℕ → List (List ℕ)
-cut_from start [] bytes = []
-cut_from start (end ∷ ends) bytes = slice_range bytes start end ∷ cut_from end ends bytes
+-- how many bytes there is room for
+abbrev pub room : ℕ
+room = 32768
 
--- the strings of all the bytes
-abbrev pub strings_of : List ℕ → List ℕ → List (List ℕ)
-strings_of ends bytes = cut_from 0 ends bytes
+-- the string at a place
+abbrev pub text_in : List ℕ → Place → List ℕ
+text_in bytes place = take place.length (drop place.start bytes)
 
--- where each string ends, if the first starts here
-unfoldable pub ends_from : ℕ → List (List ℕ) → List ℕ
-ends_from start [] = []
-ends_from start (text ∷ texts) = (start + length text) ∷ ends_from (start + length text) texts
+-- the string at each place
+abbrev pub texts_in : List ℕ → List Place → List (List ℕ)
+texts_in bytes places = map (λ place. text_in bytes place) places
 
--- the bytes are those of the strings and no others, and the ends are theirs
-pub record LieBehind (ends bytes : List ℕ) : Type 0 where
-  pub bytes_are : concat (strings_of ends bytes) ≡ bytes
-  pub ends_are : ends_from 0 (strings_of ends bytes) ≡ ends
-
--- where the string at an index starts
-abbrev pub start_at : List ℕ → ℕ → ℕ
-start_at ends index = if index == 0 then 0 else slice_index ends (index - 1)
+-- each place lies within the bytes
+abbrev pub LieWithin : List ℕ → List Place → Type 0
+LieWithin bytes places = All (λ place. place.start + place.length ≤ length bytes) places

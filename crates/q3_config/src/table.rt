@@ -1,13 +1,15 @@
-//! The strings themselves, one behind the other in one piece of memory, as the engine's `gameState_t` has them (q_shared.h).
+//! The strings themselves. Each lies somewhere in one piece of memory, and a new one goes behind all others: so what it
+//! costs to set a string doesn't grow with the other strings. The engine's `gameState_t` (q_shared.h) has them one behind
+//! the other, and is made anew for each change.
 
-ghost use Rattle.std.specs.Prelude.{◌≡◌, ℕ, ◌+◌, ◌-◌, ◌≤◌, ◌<◌, ◌^◌, [], ◌++◌, length, map, take, drop, replicate, nat_le, slice_index, slice_index_or, slice_set, slice_range, vec_capacity, IfOk, Option};
+ghost use Rattle.std.specs.Prelude.{◌≡◌, ℕ, ◌+◌, ◌≤◌, ◌<◌, ◌^◌, [], ◌++◌, length, map, replicate, nat_le, slice_index_or, slice_set, vec_capacity, IfOk, Option};
 ghost use Rattle.std.specs.List.{concat};
 ghost use Rattle.std.specs.Str.{bytes_eq};
 ghost use Rattle.q3_text.specs.Texts.{translated};
-ghost use Rattle.q3_config.specs.Strings.{Pending, places, most_size, size_of, config_size, room_fault, set_fault, refused, after_set};
+ghost use Rattle.q3_config.specs.Strings.{Pending, places, longest_string, most_size, size_of, config_size, room_fault, set_fault, refused, after_set};
 ghost use Rattle.q3_config.specs.Changes.{make_change};
 ghost use Rattle.q3_config.specs.Parts.{strings_with, attempted};
-ghost use Rattle.q3_config.specs.Table.{strings_of, start_at, LieBehind};
+ghost use Rattle.q3_config.specs.Table.{room, text_in, texts_in, LieWithin};
 
 use crate::error::ConfigError;
 use crate::pending::LONGEST;
@@ -15,6 +17,7 @@ use q3_bits::NoMemory;
 use q3_text::translate;
 use std::alloc::Global;
 use std::marker::Model;
+use std::mem::swap;
 
 /// How many strings there are.
 pub(crate) const PLACES: usize = 1_024;
@@ -22,26 +25,46 @@ pub(crate) const PLACES: usize = 1_024;
 /// The greatest size: the bytes of each string that isn't empty and one more, and one for all.
 const MOST_SIZE: usize = 16_000;
 
-/// Strings by their index, with room for those of the greatest size.
+/// How many bytes there is room for: those of strings of the greatest size, and of as many texts that have others in
+/// their place by now.
+const ROOM: usize = 32_768;
+
+/// Where a string lies: at which byte it starts, and how many it has.
+#[derive(Clone, Copy)]
+pub(crate) struct Place {
+    pub start: usize,
+    pub length: usize,
+}
+
+/// Where a string lies that isn't set.
+const NOWHERE: Place = Place {
+    start: 0,
+    length: 0,
+};
+
+/// Strings by their index. The bytes of a string that has another in its place stay where they are, until there is no
+/// room for a new one: then all strings are copied into the spare bytes, which take the place of the bytes. After that
+/// more than half of the room is free, so it comes at most once for every 8,000 bytes that are set.
 #[derive(Drop)]
 pub(crate) struct Table {
     bytes: Vec<u8>,
-    ends: Vec<usize>,
+    spare: Vec<u8>,
+    places: Vec<Place>,
     size: usize,
 }
 
 impl Model for Table {
     ghost use Rattle.std.specs.Prelude.{◌≡◌, ◌≤◌, ℕ, List, vec_capacity};
     ghost use Rattle.q3_config.specs.Strings.{most_size, config_size};
-    ghost use Rattle.q3_config.specs.Table.{strings_of, LieBehind};
+    ghost use Rattle.q3_config.specs.Table.{room, texts_in, LieWithin};
 
     ghost Value = { List (List ℕ) };
 
-    ghost view = { λ t. strings_of t.ends.items t.bytes.items };
+    ghost view = { λ t. texts_in t.bytes.items t.places.items };
 
-    ghost invariant = { λ t. LieBehind t.ends.items t.bytes.items
-        × (t.size ≡ config_size (strings_of t.ends.items t.bytes.items))
-        × (t.size ≤ most_size) × (most_size ≤ vec_capacity t.bytes) };
+    ghost invariant = { λ t. LieWithin t.bytes.items t.places.items
+        × (t.size ≡ config_size (texts_in t.bytes.items t.places.items))
+        × (t.size ≤ most_size) × (room ≤ vec_capacity t.bytes) × (room ≤ vec_capacity t.spare) };
 }
 
 impl Table {
@@ -50,8 +73,9 @@ impl Table {
         ensures { IfOk result (λ made. made ≡ replicate places []) }
     {
         Ok(Table {
-            bytes: Vec::with_capacity(alloc, MOST_SIZE)?,
-            ends: vec![in alloc; 0; PLACES]?,
+            bytes: Vec::with_capacity(alloc, ROOM)?,
+            spare: Vec::with_capacity(alloc, ROOM)?,
+            places: vec![in alloc; NOWHERE; PLACES]?,
             size: 1,
         })
     }
@@ -81,7 +105,7 @@ impl Table {
         ensures { self.new ≡ replicate (length self.old) [] }
     {
         self.bytes.clear();
-        self.ends.fill(0);
+        self.places.fill(NOWHERE);
         self.size = 1;
     }
 
@@ -149,7 +173,7 @@ impl Table {
         requires { index < length self.now }
         ensures { result.now ≡ slice_index_or self.now index [] }
     {
-        text_at(&self.ends, &self.bytes, index)
+        text_at(&self.bytes, self.places[index])
     }
 
     /// Whether the strings with this one at an index are within the greatest size.
@@ -163,11 +187,18 @@ impl Table {
     /// Puts a text in the place of the string at an index, each byte translated.
     fn put(&mut self, index: usize, text: &[u8])
         requires index { index < length self.old }
+        requires short { length text.now ≤ longest_string }
         requires fits { config_size (slice_set self.old index (map translated text.now)) ≤ most_size }
         ensures { self.new ≡ slice_set self.old index (map translated text.now) }
     {
         self.size = self.size_with(index, text);
-        put_at(&mut self.bytes, &mut self.ends, index, text);
+        make_room(
+            &mut self.bytes,
+            &mut self.spare,
+            &mut self.places,
+            text.len(),
+        );
+        put_at(&mut self.bytes, &mut self.places, index, text);
     }
 
     /// The size of the strings with this one at an index.
@@ -202,58 +233,77 @@ fn size_of(text: &[u8]) -> usize
     if text.is_empty() { 0 } else { text.len() + 1 }
 }
 
-/// Where the string at an index starts: where the one before it ends.
-fn start_of(ends: &[usize], index: usize) -> usize
-    requires { index < length ends.now }
-    ensures { result ≡ start_at ends.now index }
+/// The string at a place.
+fn text_at(bytes: &[u8], place: Place) -> &[u8]
+    requires { place.start + place.length ≤ length bytes.now }
+    ensures { result.now ≡ text_in bytes.now place }
 {
-    if index == 0 { 0 } else { ends[index - 1] }
+    &bytes[place.start..][..place.length]
 }
 
-/// The string at an index.
-fn text_at<'a>(ends: &[usize], bytes: &'a [u8], index: usize) -> &'a [u8]
-    requires lie { LieBehind ends.now bytes.now }
-    requires index { index < length ends.now }
-    ensures { result.now ≡ slice_index_or (strings_of ends.now bytes.now) index [] }
+/// Sees to it that there is room for so many bytes.
+fn make_room(bytes: &mut Vec<u8>, spare: &mut Vec<u8>, places: &mut Vec<Place>, count: usize)
+    requires within { LieWithin bytes.old.items places.old.items }
+    requires few { length (concat (texts_in bytes.old.items places.old.items)) + count ≤ room }
+    requires bytes_room { room ≤ vec_capacity bytes.old }
+    requires spare_room { room ≤ vec_capacity spare.old }
+    ensures within { LieWithin bytes.new.items places.new.items }
+    ensures texts { texts_in bytes.new.items places.new.items ≡ texts_in bytes.old.items places.old.items }
+    ensures free { length bytes.new.items + count ≤ room }
+    ensures bytes_room { room ≤ vec_capacity bytes.new }
+    ensures spare_room { room ≤ vec_capacity spare.new }
 {
-    &bytes[start_of(ends, index)..ends[index]]
+    if bytes.len() + count > ROOM {
+        gather(bytes, spare, places);
+        swap(bytes, spare);
+    }
 }
 
-/// Takes bytes out from between others.
-fn remove(bytes: &mut Vec<u8>, start: usize, count: usize)
-    requires within { start + count ≤ length bytes.old.items }
-    ensures items { bytes.new.items ≡ take start bytes.old.items ++ drop (start + count) bytes.old.items }
-    ensures room { vec_capacity bytes.old ≤ vec_capacity bytes.new }
+/// Copies all strings, one behind the other, and says where each lies then.
+fn gather(bytes: &[u8], into: &mut Vec<u8>, places: &mut Vec<Place>)
+    requires within { LieWithin bytes.now places.old.items }
+    requires room { length (concat (texts_in bytes.now places.old.items)) ≤ vec_capacity into.old }
+    ensures within { LieWithin into.new.items places.new.items }
+    ensures texts { texts_in into.new.items places.new.items ≡ texts_in bytes.now places.old.items }
+    ensures bytes { into.new.items ≡ concat (texts_in bytes.now places.old.items) }
+    ensures room { vec_capacity into.old ≤ vec_capacity into.new }
 {
-    bytes[start..].rotate_left(count);
-    bytes.truncate(bytes.len() - count);
+    into.clear();
+    for place in places.iter_mut() {
+        *place = copy(bytes, into, *place);
+    }
+}
+
+/// Copies a string behind others, and says where it lies there.
+fn copy(bytes: &[u8], into: &mut Vec<u8>, place: Place) -> Place
+    requires within { place.start + place.length ≤ length bytes.now }
+    requires room { length into.old.items + place.length ≤ vec_capacity into.old }
+    ensures items { into.new.items ≡ into.old.items ++ text_in bytes.now place }
+    ensures place { result ≡ record { start = length into.old.items; length = place.length } }
+    ensures room { vec_capacity into.old ≤ vec_capacity into.new }
+{
+    let start = into.len();
+    let _ = into.extend_from_slice(text_at(bytes, place));
+    Place {
+        start,
+        length: place.length,
+    }
 }
 
 /// Puts a text in the place of the string at an index, each byte translated.
-fn put_at(bytes: &mut Vec<u8>, ends: &mut Vec<usize>, index: usize, text: &[u8])
-    requires lie { LieBehind ends.old.items bytes.old.items }
-    requires index { index < length ends.old.items }
-    requires room { length (concat (slice_set (strings_of ends.old.items bytes.old.items) index (map translated text.now))) ≤ vec_capacity bytes.old }
-    ensures lie { LieBehind ends.new.items bytes.new.items }
-    ensures strings { strings_of ends.new.items bytes.new.items ≡ slice_set (strings_of ends.old.items bytes.old.items) index (map translated text.now) }
-    ensures room { vec_capacity bytes.old ≤ vec_capacity bytes.new }
-{
-    let start = start_of(ends, index);
-    let old = text_at(ends, bytes, index).len();
-    remove(bytes, start, old);
-    insert(bytes, start, text);
-    shift(ends, index, old, text.len());
-}
-
-/// Puts a text between bytes, each byte translated.
-fn insert(bytes: &mut Vec<u8>, start: usize, text: &[u8])
-    requires within { start ≤ length bytes.old.items }
+fn put_at(bytes: &mut Vec<u8>, places: &mut Vec<Place>, index: usize, text: &[u8])
+    requires within { LieWithin bytes.old.items places.old.items }
+    requires index { index < length places.old.items }
     requires room { length bytes.old.items + length text.now ≤ vec_capacity bytes.old }
-    ensures items { bytes.new.items ≡ take start bytes.old.items ++ map translated text.now ++ drop start bytes.old.items }
+    ensures within { LieWithin bytes.new.items places.new.items }
+    ensures texts { texts_in bytes.new.items places.new.items ≡ slice_set (texts_in bytes.old.items places.old.items) index (map translated text.now) }
     ensures room { vec_capacity bytes.old ≤ vec_capacity bytes.new }
 {
+    places[index] = Place {
+        start: bytes.len(),
+        length: text.len(),
+    };
     extend(bytes, text);
-    bytes[start..].rotate_right(text.len());
 }
 
 /// Puts a text behind bytes, each byte translated.
@@ -264,18 +314,5 @@ fn extend(bytes: &mut Vec<u8>, text: &[u8])
 {
     for byte in text {
         let _ = bytes.push(translate(*byte));
-    }
-}
-
-/// Moves the ends from an index on, where the string there had `old` bytes and has `new`.
-fn shift(ends: &mut Vec<usize>, index: usize, old: usize, new: usize)
-    requires least { (k : ℕ) → index ≤ k → k < length ends.old.items → old ≤ slice_index ends.old.items k }
-    requires most { (k : ℕ) → k < length ends.old.items → slice_index ends.old.items k + new < 2 ^ 64 }
-    ensures length { length ends.new.items ≡ length ends.old.items }
-    ensures before { (k : ℕ) → k < index → slice_index ends.new.items k ≡ slice_index ends.old.items k }
-    ensures behind { (k : ℕ) → index ≤ k → k < length ends.old.items → slice_index ends.new.items k ≡ slice_index ends.old.items k - old + new }
-{
-    for place in index..ends.len() {
-        ends[place] = ends[place] - old + new;
     }
 }

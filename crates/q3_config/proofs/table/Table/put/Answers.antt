@@ -1,16 +1,7 @@
-use Rattle.std.proofs.Common.{ℕ, List, length, map, set, ap, arith}
-use Rattle.q3_text.specs.Texts.{translated}
-use Rattle.q3_config.specs.Table.{strings_of}
-use Rattle.q3_config.proofs.Places.{counted}
+use Rattle.std.proofs.Common.{arith}
+use Rattle.q3_config.specs.Table.{texts_in}
 use Rattle.q3_config.proofs.Sizes.{bytes-lt}
 use Rattle.q3_config.proofs.table.Table.put.Goals as goal
 
-pub put_at-requires-clause-index : goal.put_at-requires-clause-index
-put_at-requires-clause-index c =
-    omega (arith, c.requires.index, counted c.self.inside.ends.items c.self.inside.bytes.items c.self.invariant.0, ap (λ (texts : List (List ℕ)). length texts) c.self.view_is)
-
-pub put_at-requires-clause-room : goal.put_at-requires-clause-room
-put_at-requires-clause-room c =
-    let fits = rw (← c.self.view_is) at c.requires.fits in
-    let fewer = bytes-lt (set (strings_of c.self.inside.ends.items c.self.inside.bytes.items) c.args.index (map translated c.args.text.now)) in
-    omega (arith, c.self.invariant.3)
+pub make_room-requires-clause-few : goal.make_room-requires-clause-few
+make_room-requires-clause-few c = let fewer = bytes-lt (texts_in c.self.inside.bytes.items c.self.inside.places.items) in omega (arith, c.requires.short, c.self.invariant.1, c.self.invariant.2)

@@ -12,3 +12,7 @@ put-requires-clause-index c =
 pub put-requires-clause-fits : goal.put-requires-clause-fits
 put-requires-clause-fits c =
     (settable (strings_with None c.args.self.now) c.args.index c.args.text.now (none_refused _ (sym c.in_ok-check.was ∙ c.check.ensures None))).fits.room
+
+pub put-requires-clause-short : goal.put-requires-clause-short
+put-requires-clause-short c =
+    (settable (strings_with None c.args.self.now) c.args.index c.args.text.now (none_refused _ (sym c.in_ok-check.was ∙ c.check.ensures None))).fits.short
