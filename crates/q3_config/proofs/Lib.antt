@@ -7,3 +7,4 @@ pub mod ReadTexts
 pub mod Stays
 pub mod InPieces
 pub mod Makes
+pub mod TextBytes

@@ -1,8 +1,9 @@
 -- Laws of config strings and of the commands that change them.
-use Rattle.std.specs.Prelude.{◌≡◌, ◌≢◌, ◌⊎◌, ℕ, ◌<◌, ◌==◌, if◌then◌else◌, List, ◌++◌, length, map, codes, All, None, Some}
+use Rattle.std.specs.Prelude.{◌≡◌, ◌≢◌, ◌⊎◌, ℕ, ◌<◌, ◌==◌, if◌then◌else◌, List, ◌++◌, length, map, codes, Option, All, IfSome, None, Some}
 use Rattle.std.specs.List.{range_with_len}
-use Rattle.q3_text.specs.Texts.{IsText}
-use Rattle.q3_config.specs.Strings.{Strings, AreStrings, places, with_string, admit_fault}
+use Rattle.q3_text.specs.Texts.{IsText, IsTextByte}
+use Rattle.q3_config.specs.declared.error.ConfigError.{ConfigError}
+use Rattle.q3_config.specs.Strings.{Strings, AreStrings, places, no_strings, with_string, admit_fault, after_set}
 use Rattle.q3_config.specs.Commands.{Change, change_text, change_in, config_piece, piece_count}
 use Rattle.q3_config.specs.Changes.{after_command, after_commands}
 
@@ -38,3 +39,15 @@ PiecesMakeChange = (strings : Strings) (index : ℕ) (text : List ℕ) → AreSt
 -- strings stay within their limits, whatever a command does
 abbrev pub StringsStay : Type 0
 StringsStay = (strings : Strings) (text : List ℕ) → AreStrings strings → IsText text → AreStrings (after_command strings text).strings
+
+-- strings of bytes that a text may hold, and so is the text that is pending
+pub record HoldTexts (strings : Strings) : Type 0 where
+  pub each : All (All IsTextByte) strings.texts
+  pub pending : IfSome strings.pending (λ pending. All IsTextByte pending.text)
+
+-- strings are so at first, and stay so, whatever text without a byte 0 is set and whatever a command does
+pub record TextsStay : Type 0 where
+  pub none : HoldTexts no_strings
+  pub set : (strings : Strings) (index : ℕ) (text : List ℕ) (fault : Option ConfigError) → HoldTexts strings → All (λ byte. 0 < byte) text
+      → HoldTexts (after_set strings index text fault)
+  pub command : (strings : Strings) (text : List ℕ) → HoldTexts strings → IsText text → HoldTexts (after_command strings text).strings

@@ -1,6 +1,6 @@
 //! Laws of config strings and their commands, each the contract of a call that does nothing.
 
-ghost use Rattle.q3_config.specs.Laws.{SpelledIsRead, ReadIsSpelled, PiecesAreTexts, PiecesMakeChange, StringsStay};
+ghost use Rattle.q3_config.specs.Laws.{SpelledIsRead, ReadIsSpelled, PiecesAreTexts, PiecesMakeChange, StringsStay, TextsStay};
 
 /// What is spelled as a change is read as it.
 pub fn spelled_is_read()
@@ -25,4 +25,9 @@ pub fn pieces_make_change()
 /// Strings stay within their limits, whatever a command does.
 pub fn strings_stay()
     ensures { StringsStay }
+{}
+
+/// Strings of bytes that a text may hold stay so, whatever text without a byte 0 is set, and whatever a command does.
+pub fn texts_stay()
+    ensures { TextsStay }
 {}

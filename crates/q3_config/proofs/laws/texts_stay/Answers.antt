@@ -1,0 +1,5 @@
+use Rattle.q3_config.proofs.TextBytes.{texts-stay}
+use Rattle.q3_config.proofs.laws.texts_stay.Goals as goal
+
+pub returns : goal.returns
+returns c = texts-stay
