@@ -1,5 +1,6 @@
 use super::*;
 use q3_text::Text;
+use std::alloc::{AllocError, Global};
 use std::test::*;
 
 /// A text of a message.
@@ -54,6 +55,48 @@ fn strings_of_any_length(rt: HostRuntime) -> Result<(), Fail> {
         let front = long.get(..length).ok_or("so many bytes")?;
         assert_eq!(rt; configs.admit(index, front), answer);
         assert_eq!(rt; configs.set(index, front), answer);
+    }
+    Ok(())
+}
+
+/// So many letters, in the order of the alphabet, over and over.
+fn letters(alloc: Global, count: usize) -> Result<Vec<u8>, AllocError> {
+    let mut bytes = Vec::new(alloc);
+    for place in 0..count {
+        bytes.push(b'a' + (place % 26) as u8)?;
+    }
+    Ok(bytes)
+}
+
+/// Whether all strings are those of a list.
+fn are(configs: &Configs, list: &[&[u8]]) -> bool {
+    for index in 0..1_024 {
+        match list.get(index as usize) {
+            Some(text) if *text == configs.get(index) => {}
+            _ => return false,
+        }
+    }
+    true
+}
+
+/// Sets a string, and in a list too, and says whether all strings are those of the list then.
+fn set_both<'a>(configs: &mut Configs, list: &mut [&'a [u8]], index: u32, text: &'a [u8]) -> bool {
+    if let Some(place) = list.get_mut(index as usize) {
+        *place = text;
+    }
+    configs.set(index, text).is_ok() && are(configs, list)
+}
+
+#[test]
+fn strings_after_many_others(rt: HostRuntime) -> Result<(), Fail> {
+    let letters = letters(rt.alloc(), 2_000)?;
+    let indices = [0, 1, 2, 3, 511, 512, 1_022, 1_023];
+    let mut list = vec![in rt.alloc(); b"".as_slice(); 1_024]?;
+    let mut configs = Configs::new(rt.alloc())?;
+    for step in 0..160 {
+        let (from, length) = (step % 26, step * 389 % 1_900);
+        let text = letters.get(from..from + length).ok_or("so many bytes")?;
+        assert!(rt; set_both(&mut configs, &mut list, indices[step % 8], text));
     }
     Ok(())
 }
