@@ -9,7 +9,7 @@ use Rattle.std.proofs.lemmas.List.Elements.{All-head, All-tail, All-nil, All-set
 use Rattle.q3_text.specs.Texts.{translated, IsTextByte, IsText}
 use Rattle.q3_text.proofs.Translation.{IsText-translated}
 use Rattle.q3_config.specs.declared.error.ConfigError.{ConfigError}
-use Rattle.q3_config.specs.Strings.{Strings, Pending, places, longest_string, no_strings, string_at, with_string, set_fault, after_set}
+use Rattle.q3_config.specs.Strings.{Strings, Pending, places, longest_string, string_at, with_string, set_fault, after_set}
 use Rattle.q3_config.specs.Commands.{Word, Whole, First, Middle, Last, Change, spelled, change_in}
 use Rattle.q3_config.specs.Changes.{without_pending, with_pending, change_or, make_change, finish, go_on, after_change, after_shape, after_command}
 use Rattle.q3_config.specs.Laws.{HoldTexts, TextsStay}
