@@ -41,11 +41,7 @@ pub fn print_took<O: Sink>(c: u8, took: &ClientTook, out: &mut O) -> Result<(), 
 }
 
 /// Prints the line of a delivery of what isn't legible.
-fn print_illegible<O: Sink>(
-    c: u8,
-    cause: Illegible,
-    out: &mut O,
-) -> Result<(), Failed>
+fn print_illegible<O: Sink>(c: u8, cause: Illegible, out: &mut O) -> Result<(), Failed>
     ensures adds { Adds (O.written out.old) (O.written out.new)
         (concat (codes " client " ∷ decimal c ∷ illegible_text (cause_word cause) (cause_number cause) ∷ [])) result }
     ensures cause { HasCause (O.faults out.old) (O.faults out.new) result }
@@ -77,12 +73,7 @@ fn print_illegible<O: Sink>(
 }
 
 /// Prints the lines of a delivery of what was applied.
-fn print_applied<O: Sink>(
-    c: u8,
-    number: u32,
-    snap: SnapOutcome,
-    out: &mut O,
-) -> Result<(), Failed>
+fn print_applied<O: Sink>(c: u8, number: u32, snap: SnapOutcome, out: &mut O) -> Result<(), Failed>
     ensures adds { Adds (O.written out.old) (O.written out.new)
         (concat (codes " client " ∷ decimal c ∷ outcome_text number snap ∷ [])) result }
     ensures cause { HasCause (O.faults out.old) (O.faults out.new) result }

@@ -1,5 +1,5 @@
 -- How the server keeps a slot, and what each call does to it, with a client or with none.
-use Rattle.std.specs.Prelude.{ℕ, Option, Some, None, option_map, option_and_then, Result, Ok, Err}
+use Rattle.std.specs.Prelude.{Option, Some, None, option_map, Result, Ok, Err}
 use Rattle.q3_profile.specs.declared.profile.Profile.{Profile}
 use Rattle.q3_chan.specs.Sending.{Sending}
 use Rattle.q3_server.specs.declared.slot.Joined.{Joined}

@@ -2,8 +2,8 @@
 //! Keeps the rules "what the server sends", "fragmentation", by q3_chan, and "end of message numbers", which is this
 //! project's own.
 
-ghost use Rattle.std.specs.Prelude.{◌≡◌, ◌<◌, ◌≤◌, IfOk, length};
-ghost use Rattle.q3_server.specs.Server.{places, most_numbers, new_server, twin_of, add_client_at, set_time_at, set_entity_at, remove_entity_at, set_player_at, set_area_at, emit_at, HandsOut};
+ghost use Rattle.std.specs.Prelude.{◌≡◌, ◌<◌, ◌≤◌, None, IfOk, length, nat_lt, position, replicate};
+ghost use Rattle.q3_server.specs.Server.{places, most_numbers, new_server, is_of, add_client_at, set_time_at, set_entity_at, remove_entity_at, set_player_at, set_area_at, emit_at, HandsOut};
 
 use crate::entities::Map;
 use crate::slot::Slot;

@@ -1,6 +1,6 @@
 //! A place for a client at the server.
 
-ghost use Rattle.std.specs.Prelude.{◌≡◌, ◌+◌, ◌^◌, ◌<◌, ◌≤◌, [], None, Some, IfOk, length, option_map, take};
+ghost use Rattle.std.specs.Prelude.{◌≡◌, ◌+◌, ◌^◌, ◌<◌, ◌≤◌, [], None, Some, IfOk, length, option_map, take, true, is_some};
 ghost use Rattle.q3_chan.specs.Datagrams.{longest_message};
 ghost use Rattle.q3_entity.specs.Baselines.{no_lines};
 ghost use Rattle.q3_fields.specs.Kinds.{Layout, end_mark};

@@ -38,7 +38,10 @@ fn clients_join_by_slot_host_and_qport(rt: HostRuntime) -> Result<(), Fail> {
     assert_eq!(rt; join(&mut server, 1, 5000, 1, 27960), Ok(()));
     assert_eq!(rt; join(&mut server, 1, 5000, 1, 27960), Err(SlotError::Taken));
     assert_eq!(rt; join(&mut server, 3, 5000, 1, 27960), Err(SlotError::Range));
-    assert_eq!(rt; join(&mut server, 0, 5000, 1, 30000), Err(SlotError::Twin(1)));
+    assert_eq!(rt;
+        join(&mut server, 0, 5000, 1, 30000),
+        Err(SlotError::Twin(1))
+    );
     assert_eq!(rt; join(&mut server, 0, 5000, 2, 27960), Ok(()));
     assert_eq!(rt; join(&mut server, 2, 5001, 1, 27960), Ok(()));
     Ok(())

@@ -11,8 +11,8 @@ ghost use Rattle.q3_client.specs.Views.{snapshot_of};
 
 use crate::answer::{Answer, Shown};
 use arrayvec::ArrayVec;
-use q3_entity::{EntityState, print_fields};
 use q3_client::{ClientTook, SnapshotView, print_took};
+use q3_entity::{EntityState, print_fields};
 use q3_io::{Failed, Piece, Sink, laws, print_all, print_hex};
 use q3_player::{SnapHead, print_words};
 use q3_server::{NoClient, SlotError, print_emitted, print_slot_error};
@@ -97,11 +97,7 @@ fn print_lines<O: Sink>(
 }
 
 /// Prints the line of a client that joins.
-fn print_joined<O: Sink>(
-    c: u8,
-    outcome: Result<(), SlotError>,
-    out: &mut O,
-) -> Result<(), Failed>
+fn print_joined<O: Sink>(c: u8, outcome: Result<(), SlotError>, out: &mut O) -> Result<(), Failed>
     ensures adds { Adds (O.written out.old) (O.written out.new) (concat (codes "client " ∷ decimal c ∷ handed_in_text slot_error_text outcome ∷ [])) result }
     ensures cause { HasCause (O.faults out.old) (O.faults out.new) result }
 {
@@ -125,6 +121,16 @@ fn print_refused<O: Sink>(c: u8, error: SlotError, out: &mut O) -> Result<(), Fa
     ensures cause { HasCause (O.faults out.old) (O.faults out.new) result }
 {
     laws::texts_follow();
+    print_refusal(c, out)?;
+    print_slot_error(error, out)?;
+    out.write_all(b"\n")
+}
+
+/// Prints what stands in front of the reason.
+fn print_refusal<O: Sink>(c: u8, out: &mut O) -> Result<(), Failed>
+    ensures adds { Adds (O.written out.old) (O.written out.new) (concat (codes "client " ∷ decimal c ∷ codes " refused " ∷ [])) result }
+    ensures cause { HasCause (O.faults out.old) (O.faults out.new) result }
+{
     print_all(
         &[
             Piece::Text(b"client "),
@@ -132,9 +138,7 @@ fn print_refused<O: Sink>(c: u8, error: SlotError, out: &mut O) -> Result<(), Fa
             Piece::Text(b" refused "),
         ],
         out,
-    )?;
-    print_slot_error(error, out)?;
-    out.write_all(b"\n")
+    )
 }
 
 /// Prints the lines of a delivery to a client.
@@ -148,14 +152,19 @@ fn print_delivered<O: Sink>(
     ensures cause { HasCause (O.faults out.old) (O.faults out.new) result }
 {
     laws::texts_follow();
-    print_all(
-        &[
-            Piece::Text(b"deliver "),
-            Piece::Number(u64::from(datagram)),
-        ],
-        out,
-    )?;
+    print_deliver(datagram, out)?;
     print_took(c, took, out)
+}
+
+/// Prints what stands in front of the client.
+fn print_deliver<O: Sink>(datagram: u32, out: &mut O) -> Result<(), Failed>
+    ensures adds { Adds (O.written out.old) (O.written out.new) (concat (codes "deliver " ∷ decimal datagram ∷ [])) result }
+    ensures cause { HasCause (O.faults out.old) (O.faults out.new) result }
+{
+    print_all(
+        &[Piece::Text(b"deliver "), Piece::Number(u64::from(datagram))],
+        out,
+    )
 }
 
 /// Prints the lines of a `show`.
