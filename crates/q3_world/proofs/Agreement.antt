@@ -1,6 +1,6 @@
 -- A step by bytes is a step by tags.
 use Rattle.std.proofs.Common.{◌≡◌, ℕ, ◌+◌, ◌-◌, ◌<◌, ◌≤◌, Bool, false, List, length, map, Option, Some, None, Result, Ok, refl, sym, ap, subst, ◌∙◌, inl, inr, arith, lit<}
-use Rattle.std.specs.Prelude.{◌⊎◌, nat_le, nat_lt, slice_get, slice_set}
+use Rattle.std.specs.Prelude.{◌⊎◌, nat_le, nat_lt, position, slice_get, slice_set}
 use Rattle.std.specs.Option.{option_map}
 use Rattle.std.proofs.lemmas.List.{length-map, map_push, set-get_or}
 use Rattle.std.proofs.lemmas.Option.{slice_get-map, slice_get_within, get_or_from_slice_get}
@@ -34,7 +34,7 @@ use Rattle.q3_server.specs.declared.server.Emitted.{Emitted}
 use Rattle.q3_server.specs.declared.server.Emitted.TheVariants as emitted
 use Rattle.q3_client.specs.Client.{no_bases, ClientState, Taken, without_game, read_by, take_answer, take_gathered, take_at}
 use Rattle.q3_server.specs.Built.{IsHeld, IsArea, IsBuilt}
-use Rattle.q3_server.specs.Server.{SlotState, ServerState, Built, Emission, places, slot_at, with_slot, with_player, with_entity, without_entity, next_message, built_bits, built_bytes, hand_out, emit_bits, emit_new, emit_slot, emission_at, emit_from, emit_at}
+use Rattle.q3_server.specs.Server.{SlotState, ServerState, Built, Emission, places, is_of, slot_at, with_slot, with_player, with_entity, without_entity, next_message, built_bits, built_bytes, hand_out, emit_bits, emit_new, emit_slot, emission_at, emit_from, emit_at}
 use Rattle.q3_world.specs.Ends.{Ends, EndsStep, client_at, join, set_entity, remove_entity, set_player, set_area}
 use Rattle.q3_world.specs.Kept.{SentBytes, Kept, KeptStep, kept_ends, kept_serve, kept_taken, kept_arrive, kept_deliver, kept_step}
 use Rattle.q3_world.specs.World.{Tag, Step, Whole, no_message, history_at, with_ends, serve, named, arrive_taken, arrive, deliver, step}
@@ -95,7 +95,7 @@ holds_join : (profile : Profile) (whole : Whole) (c challenge qport dup : ℕ) (
     → Holds profile (record whole { ends = (join profile whole.ends c challenge qport dup address).ends })
 holds_join profile whole c challenge qport dup address cited lt holds =
     let slots = whole.ends.server.slots in
-    let within : leb (length slots) c ≡ false = lt-leb (length slots) c (omega (arith, lt, holds.facts.slots)) in
+    let within : nat_le (length slots) c ≡ false = lt-leb (length slots) c (omega (arith, lt, holds.facts.slots)) in
     rw within (elim (found_or (slot_at whole.ends.server c)) [
       | inl none ↦ rw none (elim (found_or (position (is_of address.host qport) slots)) [
         | inl alone ↦ rw alone (Holds-new profile whole c challenge qport dup address cited.sends cited.gathers cited.zero lt none holds)

@@ -7,7 +7,6 @@ use Rattle.q3_profile.specs.Profile.{IsCodec}
 use Rattle.q3_player.specs.State.{zero_player, normal_player}
 use Rattle.q3_player.specs.declared.state.PlayerState.{PlayerState}
 use Rattle.q3_io.specs.declared.address.Address.{Address}
-use Rattle.arrayvec.specs.ArrayVec.{ArrayVec}
 use Rattle.q3_chan.specs.declared.side.Side.TheVariants.{Server}
 use Rattle.q3_chan.specs.Datagrams.{piece_count, datagram}
 use Rattle.q3_chan.specs.Sending.{UnderWay, next_of}

@@ -1,15 +1,14 @@
 -- Entities as the server holds them.
-use Rattle.std.proofs.Common.{◌≡◌, ℕ, ◌<◌, ◌≤◌, eqb, List, [], length, take, sym, subst, arith}
+use Rattle.std.proofs.Common.{ℕ, ◌<◌, eqb, List, [], take, arith}
 use Rattle.std.specs.Prelude.{not}
 use Rattle.std.proofs.lemmas.List.Elements.{All-nil, All-take, All-filter}
-use Rattle.std.proofs.lemmas.List.{length-take}
 use Rattle.q3_fields.specs.States.{AreWords}
-use Rattle.q3_fields.specs.Kinds.{Layout, end_mark}
+use Rattle.q3_fields.specs.Kinds.{end_mark}
 use Rattle.q3_profile.specs.declared.profile.Profile.{Profile}
 use Rattle.q3_entity.specs.declared.state.EntityState.{EntityState}
-use Rattle.q3_entity.specs.Entities.{IsNormal, RiseFrom, IsList, most_entities}
+use Rattle.q3_entity.specs.Entities.{IsNormal}
 use Rattle.q3_server.specs.Built.{AreHeld}
-use Rattle.q3_server.specs.Server.{most_numbers, with_entity, without_entity}
+use Rattle.q3_server.specs.Server.{with_entity, without_entity}
 use Rattle.q3_server.proofs.Rising.{rise_take, put_rises, put_all, without_rises}
 
 abbrev IsWords : EntityState → Type 0
