@@ -116,3 +116,8 @@ HasSnap section against number = ⊥
 abbrev pub HasText : Section → Option Base → ℕ → Type 0
 HasText sections.Game against number = Unit {0}
 HasText section against number = HasSnap section against number
+
+-- a snapshot: what is said of it, and its entities by rising number
+pub record Snapshot : Type 0 where
+  pub head : SnapHead
+  pub entities : List EntityState

@@ -1,10 +1,10 @@
 -- A step by bytes is a step by tags.
 use Rattle.std.proofs.Common.{◌≡◌, ℕ, ◌+◌, ◌-◌, ◌<◌, ◌≤◌, Bool, false, List, length, map, Option, Some, None, Result, Ok, refl, sym, ap, subst, ◌∙◌, inl, inr, arith, lit<}
-use Rattle.std.specs.Prelude.{◌⊎◌, nat_le, nat_lt, slice_get, slice_set}
+use Rattle.std.specs.Prelude.{◌⊎◌, nat_le, nat_lt, position, slice_get, slice_set}
 use Rattle.std.specs.Option.{option_map}
 use Rattle.std.proofs.lemmas.List.{length-map, map_push, set-get_or}
 use Rattle.std.proofs.lemmas.Option.{slice_get-map, slice_get_within, get_or_from_slice_get}
-use Rattle.std.proofs.lemmas.Bool.{cases_Bool, leb-false, ltb-false}
+use Rattle.std.proofs.lemmas.Bool.{cases_Bool, leb-false, ltb-false, lt-leb}
 use Rattle.q3_bits.specs.Bits.{bits_of, message_bytes, message_length}
 use Rattle.q3_bits.specs.Laws.{MessageIsBytes}
 use Rattle.q3_profile.specs.declared.profile.Profile.{Profile}
@@ -30,11 +30,11 @@ use Rattle.q3_chan.specs.Sending.{UnderWay}
 use Rattle.q3_chan.specs.Gathering.{Took, gathered as gathered_of}
 use Rattle.q3_chan.specs.Tags.{tagged, IsQuiet, PieceDoes}
 use Rattle.q3_chan.specs.Laws.{IsSendable, SentIsTagged, TaggedDoes, Gathers, EndsGather, EndsSend}
-use Rattle.q3_world.specs.declared.server.Emitted.{Emitted}
-use Rattle.q3_world.specs.declared.server.Emitted.TheVariants as emitted
-use Rattle.q3_world.specs.Message.{no_bases, IsHeld, IsArea, IsBuilt}
-use Rattle.q3_world.specs.Server.{SlotState, ServerState, Built, Emission, places, slot_at, with_slot, with_player, with_entity, without_entity, next_message, built_bits, built_bytes, hand_out, emit_bits, emit_new, emit_slot, emission_at, emit_from, emit_at}
-use Rattle.q3_world.specs.Client.{ClientState, Taken, without_game, read_by, take_answer, take_gathered, take_at}
+use Rattle.q3_server.specs.declared.server.Emitted.{Emitted}
+use Rattle.q3_server.specs.declared.server.Emitted.TheVariants as emitted
+use Rattle.q3_client.specs.Client.{no_bases, ClientState, Taken, without_game, read_by, take_answer, take_gathered, take_at}
+use Rattle.q3_server.specs.Built.{IsHeld, IsArea, IsBuilt}
+use Rattle.q3_server.specs.Server.{SlotState, ServerState, Built, Emission, places, is_of, slot_at, with_slot, with_player, with_entity, without_entity, next_message, built_bits, built_bytes, hand_out, emit_bits, emit_new, emit_slot, emission_at, emit_from, emit_at}
 use Rattle.q3_world.specs.Ends.{Ends, EndsStep, client_at, join, set_entity, remove_entity, set_player, set_area}
 use Rattle.q3_world.specs.Kept.{SentBytes, Kept, KeptStep, kept_ends, kept_serve, kept_taken, kept_arrive, kept_deliver, kept_step}
 use Rattle.q3_world.specs.World.{Tag, Step, Whole, no_message, history_at, with_ends, serve, named, arrive_taken, arrive, deliver, step}
@@ -94,10 +94,15 @@ found_or (Some x) = inr (x, refl)
 holds_join : (profile : Profile) (whole : Whole) (c challenge qport dup : ℕ) (address : Address) → Cited profile → c < places → Holds profile whole
     → Holds profile (record whole { ends = (join profile whole.ends c challenge qport dup address).ends })
 holds_join profile whole c challenge qport dup address cited lt holds =
-    elim (found_or (slot_at whole.ends.server c)) [
-      | inl none ↦ rw none (Holds-new profile whole c challenge qport dup address cited.sends cited.gathers cited.zero lt none holds)
+    let slots = whole.ends.server.slots in
+    let within : nat_le (length slots) c ≡ false = lt-leb (length slots) c (omega (arith, lt, holds.facts.slots)) in
+    rw within (elim (found_or (slot_at whole.ends.server c)) [
+      | inl none ↦ rw none (elim (found_or (position (is_of address.host qport) slots)) [
+        | inl alone ↦ rw alone (Holds-new profile whole c challenge qport dup address cited.sends cited.gathers cited.zero lt none holds)
+        | inr twin ↦ rw twin.1 holds
+      ])
       | inr found ↦ rw found.1 holds
-    ]
+    ])
 
 holds_player : (profile : Profile) (whole : Whole) (c : ℕ) (player : PlayerState) → IsHeld profile (normal_player profile.player.kinds player) → c < places → Holds profile whole
     → Holds profile (record whole { ends = (set_player whole.ends c player).ends })
@@ -114,7 +119,7 @@ holds_area : (profile : Profile) (whole : Whole) (c : ℕ) (area : ArrayVec ℕ)
 holds_area profile whole c area is lt holds =
     elim (found_or (slot_at whole.ends.server c)) [
       | inl none ↦ rw none holds
-      | inr found ↦ rw found.1 (Holds-area profile whole c found.0 area lt found.1 is holds)
+      | inr found ↦ rw found.1 (Holds-area profile whole c found.0 area.items lt found.1 is holds)
     ]
 
 holds_entity : (profile : Profile) (whole : Whole) (state : EntityState) → Cited profile → state.number ≤ 1022 → AreWords 64 state.words → Holds profile whole

@@ -15,12 +15,13 @@ use Rattle.q3_entity.specs.declared.state.EntityState.{EntityState}
 use Rattle.q3_entity.specs.Entities.{normal_entity, IsNormal, AreNormal}
 use Rattle.q3_entity.specs.Baselines.{most_lines, no_lines, set_at, AreLines}
 use Rattle.q3_svmsg.specs.declared.error.Illegible.{Illegible}
-use Rattle.q3_svmsg.specs.Values.{Base, Message}
+use Rattle.q3_svmsg.specs.Values.{Base, Message, Snapshot}
 use Rattle.q3_svmsg.specs.Texts.{message_text}
 use Rattle.q3_svmsg.specs.Reading.{message_at}
 use Rattle.q3_svmsg.specs.Laws.{IsContext, IsMessage, WrittenIsRead}
-use Rattle.q3_world.specs.Message.{Snapshot, message_of, no_bases, IsBuilt}
-use Rattle.q3_world.specs.Server.{built_bits}
+use Rattle.q3_client.specs.Client.{no_bases}
+use Rattle.q3_server.specs.Built.{message_of, IsBuilt}
+use Rattle.q3_server.specs.Server.{built_bits}
 use Rattle.q3_world.specs.MessageLaws.{BuiltIsRead}
 
 -- no baseline is set

@@ -16,13 +16,15 @@ use Rattle.q3_chan.specs.Datagrams.{sequence_end, piece_count, datagram}
 use Rattle.q3_chan.specs.Sending.{UnderWay, started, next_of}
 use Rattle.q3_chan.specs.Gathering.{Gathering}
 use Rattle.q3_chan.specs.Laws.{IsSendable, Gathers, EndsGather, EndsSend}
-use Rattle.q3_world.specs.Message.{Snapshot, IsHeld, IsArea, AreHeld, IsBuilt}
-use Rattle.q3_world.specs.Server.{MapState, SlotState, Built, new_slot, next_snapshot, next_message, built_bytes}
-use Rattle.q3_world.specs.Client.{ClientState, new_client}
+use Rattle.q3_svmsg.specs.Values.{Snapshot}
+use Rattle.q3_server.specs.Built.{IsHeld, IsArea, AreHeld, IsBuilt}
+use Rattle.q3_server.specs.Server.{MapState, SlotState, Built, new_slot, next_snapshot, next_message, built_bytes}
+use Rattle.q3_client.specs.Client.{ClientState, new_client}
 use Rattle.q3_world.specs.World.{History, no_history, no_message, built_at}
 use Rattle.q3_world.specs.StandsFor.{messages_of, AreEnds, IsClient, WasBuilt, number_of_newest, Rise, AreJoined}
 use Rattle.q3_world.proofs.Growth.{was_built_more, each_more, history_after, history_heard, messages_stay}
-use Rattle.q3_world.proofs.Held.{AreHeld-take, few_taken}
+use Rattle.q3_world.proofs.Held.{AreHeld-take}
+use Rattle.q3_server.proofs.Rising.{few_taken}
 
 -- ---- presence
 

@@ -2,7 +2,7 @@
 use Rattle.std.proofs.Common.{◌≡◌, ℕ, ◌-◌, ◌<◌, List, length, get_or, set, slice_get, Option, None, refl, ap, ◌∙◌}
 use Rattle.std.proofs.lemmas.List.{set-get_or}
 use Rattle.std.proofs.lemmas.Option.{slice_get_read, get_or_from_slice_get}
-use Rattle.q3_world.specs.Client.{ClientState}
+use Rattle.q3_client.specs.Client.{ClientState}
 use Rattle.q3_world.specs.Ends.{client_at}
 use Rattle.q3_world.specs.Kept.{SentBytes, Kept, kept_arrive, kept_deliver}
 

@@ -7,14 +7,14 @@ use Rattle.q3_profile.specs.Profile.{IsCodec}
 use Rattle.q3_player.specs.State.{zero_player, normal_player}
 use Rattle.q3_player.specs.declared.state.PlayerState.{PlayerState}
 use Rattle.q3_io.specs.declared.address.Address.{Address}
-use Rattle.arrayvec.specs.ArrayVec.{ArrayVec}
 use Rattle.q3_chan.specs.declared.side.Side.TheVariants.{Server}
 use Rattle.q3_chan.specs.Datagrams.{piece_count, datagram}
 use Rattle.q3_chan.specs.Sending.{UnderWay, next_of}
 use Rattle.q3_chan.specs.Laws.{IsSendable, EndsGather, EndsSend}
-use Rattle.q3_world.specs.Message.{Snapshot, IsHeld, IsArea, AreHeld, IsBuilt}
-use Rattle.q3_world.specs.Server.{MapState, SlotState, Built, places, slot_at, with_slot, new_slot, with_player, with_area, built_bytes}
-use Rattle.q3_world.specs.Client.{ClientState, new_client}
+use Rattle.q3_svmsg.specs.Values.{Snapshot}
+use Rattle.q3_server.specs.Built.{IsHeld, IsArea, AreHeld, IsBuilt}
+use Rattle.q3_server.specs.Server.{MapState, SlotState, Built, places, slot_at, with_slot, new_slot, with_player, with_area, built_bytes}
+use Rattle.q3_client.specs.Client.{ClientState, new_client}
 use Rattle.q3_world.specs.Ends.{client_at, with_client}
 use Rattle.q3_world.specs.World.{Tag, History, Whole, no_history, no_message, history_at, built_at, histories_after, accepted_after, named, opening}
 use Rattle.q3_world.specs.StandsFor.{AreEnds, IsClient, IsSent, Facts, AreJoined, IsJoined, AllJoined, WasBuilt}
@@ -169,12 +169,12 @@ Holds-player profile whole c slot player lt found held holds =
     holds_slot profile whole c slot (with_player profile slot player) lt found
     (λ client ends. AreEnds-given profile slot client (history_at whole.histories c) (normal_player profile.player.kinds player) slot.area held ends.area ends) holds
 
-pub Holds-area : (profile : Profile) (whole : Whole) (c : ℕ) (slot : SlotState) (area : ArrayVec ℕ) → c < places
-    → slot_at whole.ends.server c ≡ Some slot → IsArea area.items → Holds profile whole
+pub Holds-area : (profile : Profile) (whole : Whole) (c : ℕ) (slot : SlotState) (area : List ℕ) → c < places
+    → slot_at whole.ends.server c ≡ Some slot → IsArea area → Holds profile whole
     → Holds profile (with_new_slot whole c (with_area slot area))
 Holds-area profile whole c slot area lt found is holds =
     holds_slot profile whole c slot (with_area slot area) lt found
-    (λ client ends. AreEnds-given profile slot client (history_at whole.histories c) slot.player area ends.player is ends) holds
+    (λ client ends. AreEnds-given profile slot client (history_at whole.histories c) slot.player (record { items = area }) ends.player is ends) holds
 
 -- ---- a datagram was handed out
 

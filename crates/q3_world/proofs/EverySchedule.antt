@@ -14,23 +14,22 @@ use Rattle.q3_script.specs.declared.event.Event.TheVariants as events
 use Rattle.q3_script.specs.Grammar.{IsReplayEvent}
 use Rattle.q3_entity.specs.Laws.{NormalIsNormal as EntityNormalIsNormal}
 use Rattle.q3_svmsg.specs.Values as told
-use Rattle.q3_svmsg.specs.Values.{Told, Message}
+use Rattle.q3_svmsg.specs.Values.{Told, Message, Snapshot}
 use Rattle.q3_chan.specs.declared.gatherer.Gathered.{Gathered}
 use Rattle.q3_chan.specs.declared.gatherer.Gathered.TheVariants as gathered
 use Rattle.q3_chan.specs.declared.gatherer.Gathered.TheVariants.{Whole as CameWhole}
 use Rattle.q3_chan.specs.Gathering.{Took, gathered as gathered_of}
 use Rattle.q3_chan.specs.Tags.{tagged, IsQuiet}
 use Rattle.q3_chan.specs.Laws.{SentIsTagged, TaggedDoes, EndsGather, EndsSend}
-use Rattle.q3_world.specs.declared.client.SnapOutcome.{SnapOutcome}
-use Rattle.q3_world.specs.declared.client.SnapOutcome.TheVariants.{Accepted}
-use Rattle.q3_world.specs.declared.server.SlotError.{SlotError}
-use Rattle.q3_world.specs.declared.client.ClientTook.TheVariants.{Applied}
-use Rattle.q3_world.specs.declared.client.ClientTook.{ClientTook}
+use Rattle.q3_client.specs.declared.client.SnapOutcome.{SnapOutcome}
+use Rattle.q3_client.specs.declared.client.SnapOutcome.TheVariants.{Accepted}
+use Rattle.q3_server.specs.declared.server.SlotError.{SlotError}
+use Rattle.q3_client.specs.declared.client.ClientTook.TheVariants.{Applied}
+use Rattle.q3_client.specs.declared.client.ClientTook.{ClientTook}
 use Rattle.q3_world.specs.declared.answer.Answer.TheVariants.{Unknown, Deliver}
-use Rattle.q3_world.specs.Message.{Snapshot}
 use Rattle.q3_world.specs.MessageLaws.{BuiltIsRead}
-use Rattle.q3_world.specs.Server.{MapState, SlotState, Built, places, slot_at, add_client_at, built_bytes}
-use Rattle.q3_world.specs.Client.{ClientState, Taken, new_client, apply_section, apply_message, take_answer, take_gathered}
+use Rattle.q3_server.specs.Server.{MapState, SlotState, Built, places, slot_at, add_client_at, built_bytes}
+use Rattle.q3_client.specs.Client.{ClientState, Taken, new_client, apply_section, apply_message, take_answer, take_gathered}
 use Rattle.q3_world.specs.Ends.{Ends, Answered, unknown, delivered, client_at, with_client, newest, joined}
 use Rattle.q3_world.specs.Kept.{SentBytes, Kept, KeptStep, opening_kept, kept_step, kept_after, kept_answers}
 use Rattle.q3_world.specs.World.{Tag, Step, Whole, History, history_at, opening, step, after, answers, deliver, arrive, named}

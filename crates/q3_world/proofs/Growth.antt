@@ -5,8 +5,8 @@ use Rattle.std.proofs.lemmas.Bool.{cases_eq, cases_lt}
 use Rattle.q3_profile.specs.declared.profile.Profile.{Profile}
 use Rattle.q3_chan.specs.declared.side.Side.TheVariants.{Server}
 use Rattle.q3_chan.specs.Datagrams.{piece_count, datagram}
-use Rattle.q3_world.specs.Message.{Snapshot}
-use Rattle.q3_world.specs.Server.{Built, places, built_bytes}
+use Rattle.q3_svmsg.specs.Values.{Snapshot}
+use Rattle.q3_server.specs.Server.{Built, places, built_bytes}
 use Rattle.q3_world.specs.World.{Tag, History, no_history, no_message, history_at, built_at, with_built, with_accepted, histories_after, accepted_after}
 use Rattle.q3_world.specs.StandsFor.{IsSent, WasBuilt, messages_of}
 use Rattle.q3_world.proofs.OnePlace.{set_there, OnlyAt, OnlyAt-set, OnlyAt-same}

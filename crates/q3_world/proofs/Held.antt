@@ -1,16 +1,15 @@
 -- Entities as the server holds them.
-use Rattle.std.proofs.Common.{◌≡◌, ℕ, ◌<◌, ◌≤◌, eqb, List, [], length, take, sym, subst, arith}
+use Rattle.std.proofs.Common.{ℕ, ◌<◌, eqb, List, [], take, arith}
 use Rattle.std.specs.Prelude.{not}
 use Rattle.std.proofs.lemmas.List.Elements.{All-nil, All-take, All-filter}
-use Rattle.std.proofs.lemmas.List.{length-take}
 use Rattle.q3_fields.specs.States.{AreWords}
-use Rattle.q3_fields.specs.Kinds.{Layout, end_mark}
+use Rattle.q3_fields.specs.Kinds.{end_mark}
 use Rattle.q3_profile.specs.declared.profile.Profile.{Profile}
 use Rattle.q3_entity.specs.declared.state.EntityState.{EntityState}
-use Rattle.q3_entity.specs.Entities.{IsNormal, RiseFrom, IsList, most_entities}
-use Rattle.q3_world.specs.Message.{AreHeld}
-use Rattle.q3_world.specs.Server.{most_numbers, with_entity, without_entity}
-use Rattle.q3_world.proofs.Entities.{rise_take, put_rises, put_all, without_rises}
+use Rattle.q3_entity.specs.Entities.{IsNormal}
+use Rattle.q3_server.specs.Built.{AreHeld}
+use Rattle.q3_server.specs.Server.{with_entity, without_entity}
+use Rattle.q3_server.proofs.Rising.{rise_take, put_rises, put_all, without_rises}
 
 abbrev IsWords : EntityState → Type 0
 IsWords entity = AreWords 64 entity.words
@@ -25,17 +24,6 @@ AreHeld-take profile count entities held =
       rise = rise_take (end_mark profile.entity) 0 count entities held.rise;
       states = All-take IsWords count entities held.states;
       normal = All-take (IsNormal profile.entity) count entities held.normal;
-    }
-
-pub few_taken : {X : Type 0} (count : ℕ) (xs : List X) → length (take count xs) ≤ count
-few_taken count xs = omega (arith, length-take count xs)
-
--- the lowest of entities whose numbers rise are a list of every table with such numbers
-pub lowest_are : (entities : List EntityState) → RiseFrom most_numbers 0 entities → (table : Layout) → end_mark table ≡ most_numbers → IsList table (take most_entities entities)
-lowest_are entities rise table e =
-    record {
-      rise = subst (λ (limit : ℕ). RiseFrom limit 0 (take most_entities entities)) (sym e) (rise_take most_numbers 0 most_entities entities rise);
-      few = few_taken most_entities entities;
     }
 
 -- one more, in normal form

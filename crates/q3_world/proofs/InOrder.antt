@@ -8,7 +8,7 @@ use Rattle.q3_script.specs.declared.event.Event.{Event}
 use Rattle.q3_script.specs.declared.event.Event.TheVariants as events
 use Rattle.q3_script.specs.Grammar.{IsReplayEvent}
 use Rattle.q3_svmsg.specs.Values as told
-use Rattle.q3_svmsg.specs.Values.{Told, Message}
+use Rattle.q3_svmsg.specs.Values.{Told, Message, Snapshot}
 use Rattle.q3_chan.specs.declared.gatherer.Gathered.{Gathered}
 use Rattle.q3_chan.specs.declared.gatherer.Gathered.TheVariants as gathered
 use Rattle.q3_chan.specs.declared.gatherer.Gathered.TheVariants.{Whole as CameWhole}
@@ -16,12 +16,12 @@ use Rattle.q3_chan.specs.Datagrams.{last_index}
 use Rattle.q3_chan.specs.Gathering.{Gathering, Took}
 use Rattle.q3_chan.specs.Tags.{tagged, tagged_all}
 use Rattle.q3_chan.specs.Laws.{PiecesAreTagged}
-use Rattle.q3_world.specs.declared.client.SnapOutcome.TheVariants.{Accepted}
-use Rattle.q3_world.specs.declared.client.ClientTook.TheVariants.{Applied}
-use Rattle.q3_world.specs.declared.client.ClientTook.{ClientTook}
-use Rattle.q3_world.specs.Message.{Snapshot, message_of}
-use Rattle.q3_world.specs.Server.{Built, places, built_bytes}
-use Rattle.q3_world.specs.Client.{ClientState, Taken, apply_section, apply_message, take_answer, take_gathered}
+use Rattle.q3_client.specs.declared.client.SnapOutcome.TheVariants.{Accepted}
+use Rattle.q3_client.specs.declared.client.ClientTook.TheVariants.{Applied}
+use Rattle.q3_client.specs.declared.client.ClientTook.{ClientTook}
+use Rattle.q3_server.specs.Built.{message_of}
+use Rattle.q3_server.specs.Server.{Built, places, built_bytes}
+use Rattle.q3_client.specs.Client.{ClientState, Taken, apply_section, apply_message, take_answer, take_gathered}
 use Rattle.q3_world.specs.Ends.{client_at, with_client, delivered}
 use Rattle.q3_world.specs.Kept.{Kept, KeptStep, kept_step}
 use Rattle.q3_world.specs.World.{Tag, Whole, History, history_at, built_at, accepted_after, named, arrive_taken, step, after, opening}

@@ -2,8 +2,8 @@
 use Rattle.std.proofs.Common.{◌≡◌, ℕ, ◌<◌, List, length, get_or, set, Option, None, refl, sym, subst, inl, inr, arith}
 use Rattle.std.proofs.lemmas.List.{get_or-set_same, get_or-set_other, length-set}
 use Rattle.std.proofs.lemmas.Bool.{cases_eq}
-use Rattle.q3_world.specs.Server.{SlotState, places}
-use Rattle.q3_world.specs.Client.{ClientState}
+use Rattle.q3_server.specs.Server.{SlotState, places}
+use Rattle.q3_client.specs.Client.{ClientState}
 use Rattle.q3_world.specs.World.{History, no_history}
 
 -- what stands at a place where it was put

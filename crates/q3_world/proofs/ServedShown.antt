@@ -16,14 +16,14 @@ use Rattle.q3_script.specs.declared.event.Event.TheVariants as events
 use Rattle.q3_script.specs.Grammar.{IsReplayEvent}
 use Rattle.q3_player.specs.Heads.{empty_head}
 use Rattle.q3_svmsg.specs.Values as told
-use Rattle.q3_svmsg.specs.Values.{Told, Message}
+use Rattle.q3_svmsg.specs.Values.{Told, Message, Snapshot}
 use Rattle.q3_chan.specs.Datagrams.{sequence_end, longest_message, piece_count, last_index}
 use Rattle.q3_chan.specs.Sending.{Sending, UnderWay, IsIdle, left_of, next_of}
-use Rattle.q3_world.specs.declared.client.SnapOutcome.TheVariants.{Accepted}
-use Rattle.q3_world.specs.declared.server.Emitted.TheVariants as emitted
-use Rattle.q3_world.specs.Message.{Snapshot, message_of}
-use Rattle.q3_world.specs.Server.{MapState, SlotState, SlotEmission, Built, places, slot_at, next_snapshot, next_message, built_bits, built_bytes, hand_out, emit_slot, emission_at, emit_at}
-use Rattle.q3_world.specs.Client.{ClientState}
+use Rattle.q3_client.specs.declared.client.SnapOutcome.TheVariants.{Accepted}
+use Rattle.q3_server.specs.declared.server.Emitted.TheVariants as emitted
+use Rattle.q3_server.specs.Built.{message_of}
+use Rattle.q3_server.specs.Server.{MapState, SlotState, SlotEmission, Built, places, slot_at, next_snapshot, next_message, built_bits, built_bytes, hand_out, emit_slot, emission_at, emit_at}
+use Rattle.q3_client.specs.Client.{ClientState}
 use Rattle.q3_world.specs.Ends.{client_at}
 use Rattle.q3_world.specs.Kept.{Kept, opening_kept, kept_step, kept_after}
 use Rattle.q3_world.specs.World.{Tag, Whole, History, no_message, history_at, built_at, serve, step, after, opening}

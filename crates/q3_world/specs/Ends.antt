@@ -5,16 +5,16 @@ use Rattle.q3_player.specs.declared.state.PlayerState.{PlayerState}
 use Rattle.arrayvec.specs.ArrayVec.{ArrayVec}
 use Rattle.q3_entity.specs.declared.state.EntityState.{EntityState}
 use Rattle.q3_io.specs.declared.address.Address.{Address}
-use Rattle.q3_world.specs.Message.{Snapshot}
-use Rattle.q3_world.specs.declared.server.Emitted.{Emitted}
-use Rattle.q3_world.specs.declared.client.ClientTook.{ClientTook}
-use Rattle.q3_world.specs.declared.server.SlotError.{SlotError}
+use Rattle.q3_svmsg.specs.Values.{Snapshot}
+use Rattle.q3_server.specs.declared.server.Emitted.{Emitted}
+use Rattle.q3_client.specs.declared.client.ClientTook.{ClientTook}
+use Rattle.q3_server.specs.declared.server.SlotError.{SlotError}
 use Rattle.q3_world.specs.declared.answer.Answer.{Answer}
 use Rattle.q3_world.specs.declared.answer.Answer.TheVariants.{Client, Entity, Remove, Time, Player, Area, Serve, Unknown, Deliver, Show}
 use Rattle.q3_world.specs.declared.answer.Shown.{Shown}
 use Rattle.q3_world.specs.declared.answer.Shown.TheVariants as shown
-use Rattle.q3_world.specs.Server.{ServerState, places, new_server, add_client_at, set_time_at, set_entity_at, remove_entity_at, set_player_at, set_area_at}
-use Rattle.q3_world.specs.Client.{ClientState, new_client}
+use Rattle.q3_server.specs.Server.{ServerState, places, new_server, add_client_at, set_time_at, set_entity_at, remove_entity_at, set_player_at, set_area_at}
+use Rattle.q3_client.specs.Client.{ClientState, new_client}
 
 -- the server, and each client at its place
 pub record Ends : Type 0 where
@@ -31,7 +31,7 @@ with_client ends c client = record ends { clients = slice_set ends.clients c (So
 
 -- a server and no client
 abbrev pub new_ends : Profile → Ends
-new_ends profile = record { server = new_server profile; clients = replicate places None }
+new_ends profile = record { server = new_server profile places; clients = replicate places None }
 
 -- an answer, and the snapshot that is printed with it
 pub record Answered : Type 0 where
@@ -96,7 +96,7 @@ set_player ends c player =
 
 abbrev pub set_area : Ends → ℕ → ArrayVec ℕ → EndsStep
 set_area ends c area =
-    let given = set_area_at ends.server c area in
+    let given = set_area_at ends.server c area.items in
     record { ends = record ends { server = given.server }; answer = Area c given.answer }
 
 -- what a client shows

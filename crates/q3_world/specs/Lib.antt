@@ -1,8 +1,4 @@
-pub mod Message
-pub mod Server
 pub mod MessageLaws
-pub mod Client
-pub mod Views
 pub mod Ends
 pub mod Kept
 pub mod World

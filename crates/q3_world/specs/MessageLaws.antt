@@ -5,8 +5,9 @@ use Rattle.q3_profile.specs.Profile.{IsCodec}
 use Rattle.q3_bits.specs.Bits.{bits_of, message_bytes}
 use Rattle.q3_svmsg.specs.Values.{Message}
 use Rattle.q3_svmsg.specs.Reading.{message_at}
-use Rattle.q3_world.specs.Message.{IsBuilt, no_bases}
-use Rattle.q3_world.specs.Server.{built_bits}
+use Rattle.q3_client.specs.Client.{no_bases}
+use Rattle.q3_server.specs.Built.{IsBuilt}
+use Rattle.q3_server.specs.Server.{built_bits}
 
 -- a message that was built is read back from its bytes, whole
 abbrev pub BuiltIsRead : Type 0

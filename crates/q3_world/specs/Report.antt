@@ -1,21 +1,11 @@
 -- The report of a replay: the lines of each event's answer.
-use Rattle.std.specs.Prelude.{ℕ, List, [], ◌∷◌, codes, decimal, Option, Some, None, Result, Ok, Err}
+use Rattle.std.specs.Prelude.{ℕ, List, [], ◌∷◌, codes, decimal, Option, Some, Result, Ok, Err}
 use Rattle.std.specs.List.{concat, flat_map}
 use Rattle.q3_profile.specs.declared.profile.Profile.{Profile}
 use Rattle.q3_script.specs.declared.event.Event.{Event}
-use Rattle.q3_world.specs.Message.{Snapshot}
-use Rattle.q3_world.specs.declared.server.Emitted.{Emitted}
-use Rattle.q3_world.specs.declared.server.Emitted.TheVariants as emitted
-use Rattle.q3_svmsg.specs.Report.{cause_word, cause_number}
-use Rattle.q3_world.specs.declared.client.ClientTook.{ClientTook}
-use Rattle.q3_world.specs.declared.client.ClientTook.TheVariants.{Runt, Connectionless, Old, OutOfOrder, BadFragment, Partial, Illegible, Applied}
-use Rattle.q3_world.specs.declared.client.SnapOutcome.{SnapOutcome}
-use Rattle.q3_world.specs.declared.client.SnapOutcome.TheVariants.{NoSnap, Accepted, Skipped}
-use Rattle.q3_world.specs.declared.client.NoBase.{NoBase}
-use Rattle.q3_world.specs.declared.client.NoBase.TheVariants.{NeverHeld}
-use Rattle.q3_world.specs.declared.server.NoClient.{NoClient}
-use Rattle.q3_world.specs.declared.server.SlotError.{SlotError}
-use Rattle.q3_world.specs.declared.server.SlotError.TheVariants.{Taken}
+use Rattle.q3_svmsg.specs.Values.{Snapshot}
+use Rattle.q3_server.specs.Report.{slot_error_text, no_client_text, serve_text}
+use Rattle.q3_client.specs.Report.{client_text}
 use Rattle.q3_world.specs.declared.answer.Shown.{Shown}
 use Rattle.q3_world.specs.declared.answer.Shown.TheVariants as shown
 use Rattle.q3_world.specs.declared.answer.Answer.{Answer}
@@ -32,52 +22,6 @@ use Rattle.q3_world.specs.World.{opening, answers}
 abbrev pub handed_in_text : {E : Type 0} → (E → List ℕ) → Result (Unit {0}) E → List ℕ
 handed_in_text error_text (Ok x) = codes " ok\n"
 handed_in_text error_text (Err e) = concat (codes " refused " ∷ error_text e ∷ codes "\n" ∷ [])
-
--- why a client can't join
-abbrev pub slot_error_text : SlotError → List ℕ
-slot_error_text Taken = codes "taken"
-
--- no such client was added
-abbrev pub no_client_text : NoClient → List ℕ
-no_client_text e = codes "noclient"
-
--- what stands behind `serve C`
-abbrev pub emitted_text : Emitted → ℕ → List ℕ
-emitted_text emitted.NoClient datagram = codes " noclient\n"
-emitted_text (emitted.Fragment number) datagram = concat (codes " fragment " ∷ decimal number ∷ codes " datagram " ∷ decimal datagram ∷ codes "\n" ∷ [])
-emitted_text emitted.SequenceEnd datagram = codes " sequenceend\n"
-emitted_text emitted.Overlong datagram = codes " overlong\n"
-emitted_text (emitted.Snapshot number base bytes) datagram =
-    concat (codes " snapshot " ∷ decimal number ∷ codes " base " ∷ decimal base ∷ codes " bytes " ∷ decimal bytes
-    ∷ codes " datagram " ∷ decimal datagram ∷ codes "\n" ∷ [])
-
--- the line of a message that isn't legible
-abbrev pub illegible_text : List ℕ → Option ℕ → List ℕ
-illegible_text word None = concat (codes " illegible " ∷ word ∷ codes "\n" ∷ [])
-illegible_text word (Some number) = concat (codes " illegible " ∷ word ∷ codes " " ∷ decimal number ∷ codes "\n" ∷ [])
-
--- why a snapshot was skipped
-abbrev pub no_base_text : NoBase → List ℕ
-no_base_text NeverHeld = codes " neverheld\n"
-
--- what stands behind `deliver D client C` where a message was applied: with no snapshot, its number alone
-abbrev pub outcome_text : ℕ → SnapOutcome → List ℕ
-outcome_text number NoSnap = concat (codes " applied " ∷ decimal number ∷ codes "\n" ∷ [])
-outcome_text number (Accepted base) =
-    concat (codes " applied " ∷ decimal number ∷ codes "\n+ accepted " ∷ decimal number ∷ codes " base " ∷ decimal base ∷ codes "\n" ∷ [])
-outcome_text number (Skipped base cause) =
-    concat (codes " applied " ∷ decimal number ∷ codes "\n+ skipped " ∷ decimal number ∷ codes " base " ∷ decimal base ∷ no_base_text cause ∷ [])
-
--- what stands behind `deliver D client C`
-abbrev pub took_text : ClientTook → List ℕ
-took_text Runt = codes " runt\n"
-took_text Connectionless = codes " connectionless\n"
-took_text Old = codes " old\n"
-took_text OutOfOrder = codes " outoforder\n"
-took_text BadFragment = codes " badfragment\n"
-took_text Partial = codes " partial\n"
-took_text (Illegible cause) = illegible_text (cause_word cause) (cause_number cause)
-took_text (Applied number snap) = outcome_text number snap
 
 -- area bytes: two digits each, and `-` for none
 abbrev pub area_text : List ℕ → List ℕ
@@ -117,10 +61,9 @@ lines_of (Remove number) lent = concat (codes "remove " ∷ decimal number ∷ c
 lines_of Time lent = codes "time ok\n"
 lines_of (Player c outcome) lent = concat (codes "player " ∷ decimal c ∷ handed_in_text no_client_text outcome ∷ [])
 lines_of (Area c outcome) lent = concat (codes "area " ∷ decimal c ∷ handed_in_text no_client_text outcome ∷ [])
-lines_of (Serve c emission datagram) lent = concat (codes "serve " ∷ decimal c ∷ emitted_text emission datagram ∷ [])
+lines_of (Serve c emission datagram) lent = serve_text c emission datagram
 lines_of (Unknown datagram) lent = concat (codes "deliver " ∷ decimal datagram ∷ codes " unknown\n" ∷ [])
-lines_of (Deliver datagram c took) lent =
-    concat (codes "deliver " ∷ decimal datagram ∷ codes " client " ∷ decimal c ∷ took_text took ∷ [])
+lines_of (Deliver datagram c took) lent = concat (codes "deliver " ∷ decimal datagram ∷ client_text c took ∷ [])
 lines_of (Show c what) lent = concat (codes "show " ∷ decimal c ∷ shown_text what lent ∷ [])
 
 -- the lines of an answer, with what is printed with it

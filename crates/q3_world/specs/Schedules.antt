@@ -6,18 +6,18 @@ use Rattle.q3_profile.specs.Profile.{IsCodec}
 use Rattle.q3_script.specs.declared.event.Event.{Event}
 use Rattle.q3_script.specs.declared.event.Event.TheVariants as events
 use Rattle.q3_script.specs.Grammar.{IsReplayEvent}
-use Rattle.q3_world.specs.Message.{Snapshot}
-use Rattle.q3_world.specs.declared.client.SnapOutcome.{SnapOutcome}
-use Rattle.q3_world.specs.declared.client.SnapOutcome.TheVariants.{Accepted}
-use Rattle.q3_world.specs.declared.client.ClientTook.TheVariants.{Runt, Connectionless, BadFragment, Illegible, Applied}
+use Rattle.q3_svmsg.specs.Values.{Snapshot}
+use Rattle.q3_client.specs.declared.client.SnapOutcome.{SnapOutcome}
+use Rattle.q3_client.specs.declared.client.SnapOutcome.TheVariants.{Accepted}
+use Rattle.q3_client.specs.declared.client.ClientTook.TheVariants.{Runt, Connectionless, BadFragment, Illegible, Applied}
 use Rattle.q3_chan.specs.declared.gatherer.Gathered.TheVariants.{Whole as CameWhole}
 use Rattle.q3_chan.specs.Datagrams.{sequence_end, longest_message, piece_count, last_index}
 use Rattle.q3_chan.specs.Sending.{IsIdle}
 use Rattle.q3_chan.specs.Gathering.{gathered}
 use Rattle.q3_world.specs.declared.answer.Answer.{Answer}
 use Rattle.q3_world.specs.declared.answer.Answer.TheVariants.{Deliver}
-use Rattle.q3_world.specs.Server.{MapState, SlotState, Built, places, slot_at, next_snapshot, next_message, built_bytes}
-use Rattle.q3_world.specs.Client.{ClientState}
+use Rattle.q3_server.specs.Server.{MapState, SlotState, Built, places, slot_at, next_snapshot, next_message, built_bytes}
+use Rattle.q3_client.specs.Client.{ClientState}
 use Rattle.q3_world.specs.Ends.{Ends, client_at, newest, delivered}
 use Rattle.q3_world.specs.Kept.{SentBytes, Kept, opening_kept, kept_step, kept_after, kept_answers}
 use Rattle.q3_world.specs.World.{Tag, Whole, History, history_at, built_at, opening, step, after, answers}

@@ -7,9 +7,10 @@ use Rattle.q3_profile.specs.Profile.{IsCodec}
 use Rattle.q3_chan.specs.declared.side.Side.TheVariants.{Server}
 use Rattle.q3_chan.specs.Datagrams.{piece_count, datagram}
 use Rattle.q3_chan.specs.Laws.{IsSendable, Gathers, Sends}
-use Rattle.q3_world.specs.Message.{Snapshot, message_of, IsHeld, IsArea, AreHeld, IsBuilt}
-use Rattle.q3_world.specs.Server.{MapState, SlotState, Built, places, slot_at, built_bytes}
-use Rattle.q3_world.specs.Client.{ClientState}
+use Rattle.q3_svmsg.specs.Values.{Snapshot}
+use Rattle.q3_server.specs.Built.{message_of, IsHeld, IsArea, AreHeld, IsBuilt}
+use Rattle.q3_server.specs.Server.{MapState, SlotState, Built, places, slot_at, built_bytes}
+use Rattle.q3_client.specs.Client.{ClientState}
 use Rattle.q3_world.specs.Ends.{client_at}
 use Rattle.q3_world.specs.Kept.{SentBytes, Kept}
 use Rattle.q3_world.specs.World.{Tag, History, Whole, no_history, history_at, built_at}

@@ -1,7 +1,7 @@
 //! What each event answered.
 
-use crate::client::ClientTook;
-use crate::server::{Emitted, NoClient, SlotError};
+use q3_client::ClientTook;
+use q3_server::{Emitted, NoClient, SlotError};
 
 /// What a client shows.
 #[derive(Clone, Copy, Debug, PartialEq, Eq)]

@@ -4,18 +4,18 @@ ghost use Rattle.std.specs.Prelude.{◌≡◌, [], ◌∷◌, codes, decimal, op
 ghost use Rattle.std.specs.List.{concat, flat_map};
 ghost use Rattle.q3_io.specs.Faults.{HasCause};
 ghost use Rattle.q3_io.specs.Written.{Adds, NothingWaits};
-ghost use Rattle.q3_svmsg.specs.Report.{cause_word, cause_number};
-ghost use Rattle.q3_world.specs.Report.{lines_of, handed_in_text, slot_error_text, no_client_text, emitted_text, illegible_text, outcome_text, took_text, area_text, start_text, entity_text, shown_text, head_text, snapshot_text};
-ghost use Rattle.q3_world.specs.Views.{snapshot_of};
+ghost use Rattle.q3_server.specs.Report.{slot_error_text, no_client_text};
+ghost use Rattle.q3_client.specs.Report.{client_text};
+ghost use Rattle.q3_world.specs.Report.{lines_of, handed_in_text, area_text, start_text, entity_text, shown_text, head_text, snapshot_text};
+ghost use Rattle.q3_client.specs.Views.{snapshot_of};
 
 use crate::answer::{Answer, Shown};
-use crate::client::{ClientTook, NoBase, SnapOutcome, SnapshotView};
-use crate::server::{Emitted, NoClient, SlotError};
 use arrayvec::ArrayVec;
+use q3_client::{ClientTook, SnapshotView, print_took};
 use q3_entity::{EntityState, print_fields};
 use q3_io::{Failed, Piece, Sink, laws, print_all, print_hex};
 use q3_player::{SnapHead, print_words};
-use q3_svmsg::{Illegible, cause_number, cause_word};
+use q3_server::{NoClient, SlotError, print_emitted, print_slot_error};
 
 /// Prints the lines of an answer, with the snapshot that is lent for it, and hands them on, or a front of them and
 /// answers `Failed`.
@@ -44,14 +44,7 @@ fn print_lines<O: Sink>(
     ensures cause { HasCause (O.faults out.old) (O.faults out.new) result }
 {
     match answer {
-        Answer::Client { c, outcome } => print_all(
-            &[
-                Piece::Text(b"client "),
-                Piece::Number(u64::from(*c)),
-                Piece::Text(joined(*outcome)),
-            ],
-            out,
-        ),
+        Answer::Client { c, outcome } => print_joined(*c, *outcome, out),
         Answer::Entity { number } => print_all(
             &[
                 Piece::Text(b"entity "),
@@ -98,204 +91,80 @@ fn print_lines<O: Sink>(
             emitted,
             datagram,
         } => print_emitted(*c, emitted, *datagram, out),
-        Answer::Deliver { datagram, c, took } => print_took(*datagram, *c, took, out),
+        Answer::Deliver { datagram, c, took } => print_delivered(*datagram, *c, took, out),
         Answer::Show { c, shown } => print_shown(*c, *shown, lent, out),
     }
 }
 
-/// Prints the line of a `serve`.
-fn print_emitted<O: Sink>(
-    c: u8,
-    emitted: &Emitted,
-    datagram: u32,
-    out: &mut O,
-) -> Result<(), Failed>
-    ensures adds { Adds (O.written out.old) (O.written out.new) (concat (codes "serve " ∷ decimal c ∷ emitted_text emitted.now datagram ∷ [])) result }
+/// Prints the line of a client that joins.
+fn print_joined<O: Sink>(c: u8, outcome: Result<(), SlotError>, out: &mut O) -> Result<(), Failed>
+    ensures adds { Adds (O.written out.old) (O.written out.new) (concat (codes "client " ∷ decimal c ∷ handed_in_text slot_error_text outcome ∷ [])) result }
     ensures cause { HasCause (O.faults out.old) (O.faults out.new) result }
 {
-    let word: &[u8] = match emitted {
-        Emitted::Snapshot {
-            number,
-            base,
-            bytes,
-        } => {
-            return print_all(
-                &[
-                    Piece::Text(b"serve "),
-                    Piece::Number(u64::from(c)),
-                    Piece::Text(b" snapshot "),
-                    Piece::Number(u64::from(*number)),
-                    Piece::Text(b" base "),
-                    Piece::Number(u64::from(*base)),
-                    Piece::Text(b" bytes "),
-                    Piece::Number(*bytes as u64),
-                    Piece::Text(b" datagram "),
-                    Piece::Number(u64::from(datagram)),
-                    Piece::Text(b"\n"),
-                ],
-                out,
-            );
-        }
-        Emitted::Fragment { number } => {
-            return print_all(
-                &[
-                    Piece::Text(b"serve "),
-                    Piece::Number(u64::from(c)),
-                    Piece::Text(b" fragment "),
-                    Piece::Number(u64::from(*number)),
-                    Piece::Text(b" datagram "),
-                    Piece::Number(u64::from(datagram)),
-                    Piece::Text(b"\n"),
-                ],
-                out,
-            );
-        }
-        Emitted::NoClient => b" noclient\n",
-        Emitted::SequenceEnd => b" sequenceend\n",
-        Emitted::Overlong => b" overlong\n",
-    };
+    match outcome {
+        Ok(()) => print_all(
+            &[
+                Piece::Text(b"client "),
+                Piece::Number(u64::from(c)),
+                Piece::Text(b" ok\n"),
+            ],
+            out,
+        ),
+        Err(error) => print_refused(c, error, out),
+    }
+}
+
+/// Prints the line of a client that can't join.
+fn print_refused<O: Sink>(c: u8, error: SlotError, out: &mut O) -> Result<(), Failed>
+    ensures adds { Adds (O.written out.old) (O.written out.new)
+        (concat (codes "client " ∷ decimal c ∷ concat (codes " refused " ∷ slot_error_text error ∷ codes "\n" ∷ []) ∷ [])) result }
+    ensures cause { HasCause (O.faults out.old) (O.faults out.new) result }
+{
+    laws::texts_follow();
+    print_refusal(c, out)?;
+    print_slot_error(error, out)?;
+    out.write_all(b"\n")
+}
+
+/// Prints what stands in front of the reason.
+fn print_refusal<O: Sink>(c: u8, out: &mut O) -> Result<(), Failed>
+    ensures adds { Adds (O.written out.old) (O.written out.new) (concat (codes "client " ∷ decimal c ∷ codes " refused " ∷ [])) result }
+    ensures cause { HasCause (O.faults out.old) (O.faults out.new) result }
+{
     print_all(
         &[
-            Piece::Text(b"serve "),
+            Piece::Text(b"client "),
             Piece::Number(u64::from(c)),
-            Piece::Text(word),
+            Piece::Text(b" refused "),
         ],
         out,
     )
 }
 
 /// Prints the lines of a delivery to a client.
-fn print_took<O: Sink>(datagram: u32, c: u8, took: &ClientTook, out: &mut O) -> Result<(), Failed>
-    ensures adds { Adds (O.written out.old) (O.written out.new)
-        (concat (codes "deliver " ∷ decimal datagram ∷ codes " client " ∷ decimal c ∷ took_text took.now ∷ [])) result }
-    ensures cause { HasCause (O.faults out.old) (O.faults out.new) result }
-{
-    let word: &[u8] = match took {
-        ClientTook::Applied { number, snap } => {
-            return print_applied(datagram, c, *number, *snap, out);
-        }
-        ClientTook::Illegible(cause) => return print_illegible(datagram, c, *cause, out),
-        ClientTook::Runt => b" runt\n",
-        ClientTook::Connectionless => b" connectionless\n",
-        ClientTook::Old => b" old\n",
-        ClientTook::OutOfOrder => b" outoforder\n",
-        ClientTook::BadFragment => b" badfragment\n",
-        ClientTook::Partial => b" partial\n",
-    };
-    print_all(
-        &[
-            Piece::Text(b"deliver "),
-            Piece::Number(u64::from(datagram)),
-            Piece::Text(b" client "),
-            Piece::Number(u64::from(c)),
-            Piece::Text(word),
-        ],
-        out,
-    )
-}
-
-/// Prints the line of a delivery of what isn't legible.
-fn print_illegible<O: Sink>(
+fn print_delivered<O: Sink>(
     datagram: u32,
     c: u8,
-    cause: Illegible,
+    took: &ClientTook,
     out: &mut O,
 ) -> Result<(), Failed>
-    ensures adds { Adds (O.written out.old) (O.written out.new)
-        (concat (codes "deliver " ∷ decimal datagram ∷ codes " client " ∷ decimal c ∷ illegible_text (cause_word cause) (cause_number cause) ∷ [])) result }
+    ensures adds { Adds (O.written out.old) (O.written out.new) (concat (codes "deliver " ∷ decimal datagram ∷ client_text c took.now ∷ [])) result }
     ensures cause { HasCause (O.faults out.old) (O.faults out.new) result }
 {
-    let Some(number) = cause_number(cause) else {
-        return print_all(
-            &[
-                Piece::Text(b"deliver "),
-                Piece::Number(u64::from(datagram)),
-                Piece::Text(b" client "),
-                Piece::Number(u64::from(c)),
-                Piece::Text(b" illegible "),
-                Piece::Text(cause_word(cause)),
-                Piece::Text(b"\n"),
-            ],
-            out,
-        );
-    };
-    print_all(
-        &[
-            Piece::Text(b"deliver "),
-            Piece::Number(u64::from(datagram)),
-            Piece::Text(b" client "),
-            Piece::Number(u64::from(c)),
-            Piece::Text(b" illegible "),
-            Piece::Text(cause_word(cause)),
-            Piece::Text(b" "),
-            Piece::Number(u64::from(number)),
-            Piece::Text(b"\n"),
-        ],
-        out,
-    )
+    laws::texts_follow();
+    print_deliver(datagram, out)?;
+    print_took(c, took, out)
 }
 
-/// Prints the lines of a delivery of what was applied.
-fn print_applied<O: Sink>(
-    datagram: u32,
-    c: u8,
-    number: u32,
-    snap: SnapOutcome,
-    out: &mut O,
-) -> Result<(), Failed>
-    ensures adds { Adds (O.written out.old) (O.written out.new)
-        (concat (codes "deliver " ∷ decimal datagram ∷ codes " client " ∷ decimal c ∷ outcome_text number snap ∷ [])) result }
+/// Prints what stands in front of the client.
+fn print_deliver<O: Sink>(datagram: u32, out: &mut O) -> Result<(), Failed>
+    ensures adds { Adds (O.written out.old) (O.written out.new) (concat (codes "deliver " ∷ decimal datagram ∷ [])) result }
     ensures cause { HasCause (O.faults out.old) (O.faults out.new) result }
 {
-    match snap {
-        SnapOutcome::NoSnap => print_all(
-            &[
-                Piece::Text(b"deliver "),
-                Piece::Number(u64::from(datagram)),
-                Piece::Text(b" client "),
-                Piece::Number(u64::from(c)),
-                Piece::Text(b" applied "),
-                Piece::Number(u64::from(number)),
-                Piece::Text(b"\n"),
-            ],
-            out,
-        ),
-        SnapOutcome::Accepted { base } => print_all(
-            &[
-                Piece::Text(b"deliver "),
-                Piece::Number(u64::from(datagram)),
-                Piece::Text(b" client "),
-                Piece::Number(u64::from(c)),
-                Piece::Text(b" applied "),
-                Piece::Number(u64::from(number)),
-                Piece::Text(b"\n+ accepted "),
-                Piece::Number(u64::from(number)),
-                Piece::Text(b" base "),
-                Piece::Number(u64::from(base)),
-                Piece::Text(b"\n"),
-            ],
-            out,
-        ),
-        SnapOutcome::Skipped {
-            base,
-            cause: NoBase::NeverHeld,
-        } => print_all(
-            &[
-                Piece::Text(b"deliver "),
-                Piece::Number(u64::from(datagram)),
-                Piece::Text(b" client "),
-                Piece::Number(u64::from(c)),
-                Piece::Text(b" applied "),
-                Piece::Number(u64::from(number)),
-                Piece::Text(b"\n+ skipped "),
-                Piece::Number(u64::from(number)),
-                Piece::Text(b" base "),
-                Piece::Number(u64::from(base)),
-                Piece::Text(b" neverheld\n"),
-            ],
-            out,
-        ),
-    }
+    print_all(
+        &[Piece::Text(b"deliver "), Piece::Number(u64::from(datagram))],
+        out,
+    )
 }
 
 /// Prints the lines of a `show`.
@@ -409,15 +278,6 @@ fn print_number<O: Sink>(number: u16, out: &mut O) -> Result<(), Failed>
         &[Piece::Text(b"+ entity "), Piece::Number(u64::from(number))],
         out,
     )
-}
-
-fn joined(outcome: Result<(), SlotError>) -> &'static [u8]
-    ensures { result.now ≡ handed_in_text slot_error_text outcome }
-{
-    match outcome {
-        Ok(()) => b" ok\n",
-        Err(SlotError::Taken) => b" refused taken\n",
-    }
 }
 
 fn given(outcome: Result<(), NoClient>) -> &'static [u8]

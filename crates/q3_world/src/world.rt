@@ -5,29 +5,29 @@ ghost use Rattle.q3_profile.specs.declared.profile.Profile.{Profile as ProfileVa
 ghost use Rattle.q3_profile.specs.Profile.{IsProfile};
 ghost use Rattle.q3_script.specs.Grammar.{IsReplayEvent};
 ghost use Rattle.q3_io.specs.Written.{NothingWaits};
-ghost use Rattle.q3_world.specs.Server.{places, most_numbers, emit_at};
+ghost use Rattle.q3_server.specs.Server.{places, most_numbers, emit_at};
 ghost use Rattle.q3_world.specs.Ends.{answered, lent, newest, client_at, shown_of, join, set_time, set_entity, remove_entity, set_player, set_area};
 ghost use Rattle.q3_world.specs.Kept.{most_datagrams, kept_step, kept_ends, kept_serve, kept_deliver};
 ghost use Rattle.q3_world.specs.World.{Whole, opening, step as step_of};
 ghost use Rattle.q3_world.specs.StandsFor.{StandsFor};
-ghost use Rattle.q3_world.specs.Views.{snapshot_of};
+ghost use Rattle.q3_client.specs.Views.{snapshot_of};
 ghost use Rattle.q3_world.specs.Report.{answer_text};
 ghost use Rattle.q3_world.specs.Outcome.{TakesMemory, Prints, HasStepCause};
 
 use crate::answer::{Answer, Shown};
-use crate::client::{Client, SnapshotView};
 use crate::laws;
 use crate::places::empty_places;
 use crate::report::print_answer;
-use crate::server::Server;
 use arrayvec::ArrayVec;
 use q3_bits::NoMemory;
-use q3_chan::{DATAGRAM_ROOM, Datagram, Sender, Side};
+use q3_chan::{DATAGRAM_ROOM, Datagram};
+use q3_client::{Client, SnapshotView};
 use q3_entity::EntityState;
 use q3_io::{Address, Failed, Files, Sink};
 use q3_player::PlayerState;
 use q3_profile::Profile;
 use q3_script::Event;
+use q3_server::{MOST_SLOTS, Server};
 use std::alloc::Global;
 use std::marker::Model;
 
@@ -49,7 +49,7 @@ struct Sent {
 
 impl Model for Sent {
     ghost use Rattle.std.specs.Prelude.{◌<◌};
-    ghost use Rattle.q3_world.specs.Server.{places};
+    ghost use Rattle.q3_server.specs.Server.{places};
     ghost use Rattle.q3_world.specs.Kept.{SentBytes};
 
     ghost Value = { SentBytes };
@@ -71,7 +71,7 @@ pub struct World {
 
 impl Model for World {
     ghost use Rattle.std.specs.Prelude.{◌≡◌, length};
-    ghost use Rattle.q3_world.specs.Server.{places};
+    ghost use Rattle.q3_server.specs.Server.{places};
     ghost use Rattle.q3_world.specs.Kept.{Kept};
 
     ghost Value = { Kept };
@@ -94,7 +94,7 @@ impl World {
         Ok(World {
             alloc,
             profile: profile.copy()?,
-            server: Server::new(alloc, profile)?,
+            server: Server::new(alloc, profile, MOST_SLOTS)?,
             clients: empty_places(alloc)?,
             datagrams: Vec::new(alloc),
         })
@@ -165,7 +165,7 @@ impl World {
         }
     }
 
-    /// A client joins, at both ends. Its memory is taken first.
+    /// A client joins, at both ends. The memory of its own end is taken first.
     fn join(
         &mut self,
         c: u8,
@@ -180,8 +180,7 @@ impl World {
         ensures err { OnErr result (self.new ≡ self.old) }
     {
         let client = Client::new(self.alloc, &self.profile, challenge, qport, dup)?;
-        let sender = Sender::new(self.alloc, Side::Server, 0)?;
-        let outcome = self.server.add_client(c, challenge, qport, address, sender);
+        let outcome = self.server.add_client(c, challenge, qport, address);
         if outcome.is_ok() {
             self.clients[c as usize] = Some(client);
         }

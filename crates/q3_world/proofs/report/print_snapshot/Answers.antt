@@ -3,7 +3,7 @@ use Rattle.std.specs.List.{flat_map}
 use Rattle.std.proofs.lemmas.Result.{err_from_is_err_and}
 use Rattle.q3_player.specs.Report.{player_text}
 use Rattle.q3_world.specs.Report.{entity_text}
-use Rattle.q3_world.specs.Views.{snapshot_of}
+use Rattle.q3_client.specs.Views.{snapshot_of}
 use Rattle.q3_world.proofs.Printing.{show_in_parts}
 use Rattle.q3_world.proofs.report.print_snapshot.Goals as goal
 

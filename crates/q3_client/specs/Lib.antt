@@ -1,0 +1,3 @@
+pub mod Client
+pub mod Views
+pub mod Report

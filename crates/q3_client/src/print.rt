@@ -1,0 +1,124 @@
+//! Prints what a client's take answers, as reports have it.
+
+ghost use Rattle.std.specs.Prelude.{◌≡◌, [], ◌∷◌, codes, decimal};
+ghost use Rattle.std.specs.List.{concat};
+ghost use Rattle.q3_io.specs.Faults.{HasCause};
+ghost use Rattle.q3_io.specs.Written.{Adds};
+ghost use Rattle.q3_svmsg.specs.Report.{cause_word, cause_number};
+ghost use Rattle.q3_client.specs.Report.{illegible_text, outcome_text, client_text};
+
+use crate::client::{ClientTook, NoBase, SnapOutcome};
+use q3_io::{Failed, Piece, Sink, print_all};
+use q3_svmsg::{Illegible, cause_number, cause_word};
+
+/// Prints what stands behind `deliver D`, or `arrive`, where a client took a datagram: the rest of that line, and the line
+/// of the snapshot. `Failed` comes where the sink failed, behind a front of it.
+pub fn print_took<O: Sink>(c: u8, took: &ClientTook, out: &mut O) -> Result<(), Failed>
+    ensures adds { Adds (O.written out.old) (O.written out.new)
+        (client_text c took.now) result }
+    ensures cause { HasCause (O.faults out.old) (O.faults out.new) result }
+{
+    let word: &[u8] = match took {
+        ClientTook::Applied { number, snap } => {
+            return print_applied(c, *number, *snap, out);
+        }
+        ClientTook::Illegible(cause) => return print_illegible(c, *cause, out),
+        ClientTook::Runt => b" runt\n",
+        ClientTook::Connectionless => b" connectionless\n",
+        ClientTook::Old => b" old\n",
+        ClientTook::OutOfOrder => b" outoforder\n",
+        ClientTook::BadFragment => b" badfragment\n",
+        ClientTook::Partial => b" partial\n",
+    };
+    print_all(
+        &[
+            Piece::Text(b" client "),
+            Piece::Number(u64::from(c)),
+            Piece::Text(word),
+        ],
+        out,
+    )
+}
+
+/// Prints the line of a delivery of what isn't legible.
+fn print_illegible<O: Sink>(c: u8, cause: Illegible, out: &mut O) -> Result<(), Failed>
+    ensures adds { Adds (O.written out.old) (O.written out.new)
+        (concat (codes " client " ∷ decimal c ∷ illegible_text (cause_word cause) (cause_number cause) ∷ [])) result }
+    ensures cause { HasCause (O.faults out.old) (O.faults out.new) result }
+{
+    let Some(number) = cause_number(cause) else {
+        return print_all(
+            &[
+                Piece::Text(b" client "),
+                Piece::Number(u64::from(c)),
+                Piece::Text(b" illegible "),
+                Piece::Text(cause_word(cause)),
+                Piece::Text(b"\n"),
+            ],
+            out,
+        );
+    };
+    print_all(
+        &[
+            Piece::Text(b" client "),
+            Piece::Number(u64::from(c)),
+            Piece::Text(b" illegible "),
+            Piece::Text(cause_word(cause)),
+            Piece::Text(b" "),
+            Piece::Number(u64::from(number)),
+            Piece::Text(b"\n"),
+        ],
+        out,
+    )
+}
+
+/// Prints the lines of a delivery of what was applied.
+fn print_applied<O: Sink>(c: u8, number: u32, snap: SnapOutcome, out: &mut O) -> Result<(), Failed>
+    ensures adds { Adds (O.written out.old) (O.written out.new)
+        (concat (codes " client " ∷ decimal c ∷ outcome_text number snap ∷ [])) result }
+    ensures cause { HasCause (O.faults out.old) (O.faults out.new) result }
+{
+    match snap {
+        SnapOutcome::NoSnap => print_all(
+            &[
+                Piece::Text(b" client "),
+                Piece::Number(u64::from(c)),
+                Piece::Text(b" applied "),
+                Piece::Number(u64::from(number)),
+                Piece::Text(b"\n"),
+            ],
+            out,
+        ),
+        SnapOutcome::Accepted { base } => print_all(
+            &[
+                Piece::Text(b" client "),
+                Piece::Number(u64::from(c)),
+                Piece::Text(b" applied "),
+                Piece::Number(u64::from(number)),
+                Piece::Text(b"\n+ accepted "),
+                Piece::Number(u64::from(number)),
+                Piece::Text(b" base "),
+                Piece::Number(u64::from(base)),
+                Piece::Text(b"\n"),
+            ],
+            out,
+        ),
+        SnapOutcome::Skipped {
+            base,
+            cause: NoBase::NeverHeld,
+        } => print_all(
+            &[
+                Piece::Text(b" client "),
+                Piece::Number(u64::from(c)),
+                Piece::Text(b" applied "),
+                Piece::Number(u64::from(number)),
+                Piece::Text(b"\n+ skipped "),
+                Piece::Number(u64::from(number)),
+                Piece::Text(b" base "),
+                Piece::Number(u64::from(base)),
+                Piece::Text(b" neverheld\n"),
+            ],
+            out,
+        ),
+    }
+}

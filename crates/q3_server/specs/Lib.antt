@@ -1,0 +1,4 @@
+pub mod Built
+pub mod Server
+pub mod Slots
+pub mod Report

@@ -1,0 +1,240 @@
+-- The server's end: what the game handed in for all clients, and a slot for each of them. Each call gives the server
+-- after it, and its answer.
+use Rattle.std.specs.Prelude.{◌≡◌, ℕ, ◌<◌, ◌+◌, ◌==◌, ◌&&◌, if◌then◌else◌, Bool, false, not, position, List, [], ◌∷◌, length, replicate, take, nat_le, nat_lt, Option, Some, None, slice_set, slice_index_or, Result, Ok, Err}
+use Rattle.std.specs.List.{filter}
+use Rattle.arrayvec.specs.ArrayVec.{ArrayVec}
+use Rattle.q3_profile.specs.declared.profile.Profile.{Profile}
+use Rattle.q3_bits.specs.Bits.{message_bytes, message_length}
+use Rattle.q3_player.specs.declared.state.PlayerState.{PlayerState}
+use Rattle.q3_player.specs.State.{zero_player, normal_player}
+use Rattle.q3_entity.specs.declared.state.EntityState.{EntityState}
+use Rattle.q3_entity.specs.Entities.{normal_entity, most_entities}
+use Rattle.q3_entity.specs.Baselines.{no_lines}
+use Rattle.q3_svmsg.specs.Values.{Message, Snapshot}
+use Rattle.q3_svmsg.specs.Texts.{message_text}
+use Rattle.q3_io.specs.declared.address.Address.{Address}
+use Rattle.q3_server.specs.declared.server.Emitted.{Emitted}
+use Rattle.q3_server.specs.declared.server.Emitted.TheVariants as emitted
+use Rattle.q3_server.specs.declared.server.NoClient.{NoClient}
+use Rattle.q3_server.specs.declared.server.SlotError.{SlotError}
+use Rattle.q3_server.specs.declared.server.SlotError.TheVariants.{Range, Taken, Twin}
+use Rattle.q3_chan.specs.declared.side.Side.TheVariants.{Server}
+use Rattle.q3_chan.specs.Datagrams.{sequence_end, longest_message}
+use Rattle.q3_chan.specs.Sending.{Sending, UnderWay, new_sending, started, next_of}
+use Rattle.q3_server.specs.Built.{message_of}
+
+-- how many clients there may be
+abbrev pub places : ℕ
+places = 16
+
+-- how many numbers entities may have: 0 to 1022
+abbrev pub most_numbers : ℕ
+most_numbers = 1023
+
+-- what the game handed in for all clients: the time, and the entities in normal form, by rising number
+pub record MapState : Type 0 where
+  pub time : ℕ
+  pub entities : List EntityState
+
+-- a client at the server: how it joined and from where, what is being sent to it, its player in normal form, and its area
+-- bytes
+pub record SlotState : Type 0 where
+  pub challenge : ℕ
+  pub address : Address
+  pub qport : ℕ
+  pub sending : Sending
+  pub player : PlayerState
+  pub area : ArrayVec ℕ
+
+-- the server: by which profile, what the game handed in, and each client's slot at its place
+pub record ServerState : Type 0 where
+  pub profile : Profile
+  pub map : MapState
+  pub slots : List (Option SlotState)
+
+-- the whole value of a message that was begun
+abbrev pub Built : Type 0
+Built = Message
+
+-- a client's slot, by its place
+abbrev pub slot_at : ServerState → ℕ → Option SlotState
+slot_at server c = slice_index_or server.slots c None
+
+-- the server with this slot at a place
+abbrev pub with_slot : ServerState → ℕ → SlotState → ServerState
+with_slot server c slot = record server { slots = slice_set server.slots c (Some slot) }
+
+-- a server of so many slots with no client and no entity, at the time 0
+abbrev pub new_server : Profile → ℕ → ServerState
+new_server profile slots = record { profile = profile; map = record { time = 0; entities = [] }; slots = replicate slots None }
+
+-- ---- what the game hands in
+
+-- the server after something was handed in, and the answer
+pub record Handed (E : Type 0) : Type 0 where
+  pub server : ServerState
+  pub answer : Result (Unit {0}) E
+
+-- a client that just joined
+abbrev pub new_slot : ℕ → ℕ → Address → SlotState
+new_slot challenge qport address =
+    record { challenge = challenge; address = address; qport = qport; sending = new_sending Server 0; player = zero_player; area = record { items = [] } }
+
+-- whether a slot's client has this host and qport
+abbrev pub is_of : ℕ → ℕ → Option SlotState → Bool
+is_of host qport None = false
+is_of host qport (Some slot) = slot.address.host == host && slot.qport == qport
+
+-- a client joins, unless another has its host and qport: the one in the least such slot is its twin
+abbrev pub add_apart : ServerState → ℕ → SlotState → Option ℕ → Handed SlotError
+add_apart server c slot (Some twin) = record { server = server; answer = Err (Twin twin) }
+add_apart server c slot None = record { server = with_slot server c slot; answer = Ok tt }
+
+-- a client takes over a place, unless there is one
+abbrev pub add_to : ServerState → ℕ → SlotState → Option SlotState → Handed SlotError
+add_to server c slot (Some old) = record { server = server; answer = Err Taken }
+add_to server c slot None = add_apart server c slot (position (is_of slot.address.host slot.qport) server.slots)
+
+-- a client joins, in a slot that the server has and that has none
+abbrev pub add_client_at : ServerState → ℕ → ℕ → ℕ → Address → Handed SlotError
+add_client_at server c challenge qport address =
+    if nat_le (length server.slots) c then record { server = server; answer = Err Range }
+    else add_to server c (new_slot challenge qport address) (slot_at server c)
+
+-- the time, in milliseconds
+abbrev pub set_time_at : ServerState → ℕ → ServerState
+set_time_at server time = record server { map = record server.map { time = time } }
+
+-- the entity put at its place, where its number rises, for the one that has its number
+unfoldable pub with_entity : EntityState → List EntityState → List EntityState
+with_entity entity [] = entity ∷ []
+with_entity entity (first ∷ others) =
+    if nat_lt first.number entity.number then first ∷ with_entity entity others
+    else (if first.number == entity.number then entity ∷ others else entity ∷ first ∷ others)
+
+-- the entities but that of a number
+abbrev pub without_entity : ℕ → List EntityState → List EntityState
+without_entity number entities = filter (λ entity. not (entity.number == number)) entities
+
+-- the whole state of an entity, in the normal form of the profile's table
+abbrev pub set_entity_at : ServerState → EntityState → ServerState
+set_entity_at server state =
+    record server { map = record server.map { entities = with_entity (normal_entity server.profile.entity state) server.map.entities } }
+
+-- an entity is there no more; where there was none, nothing changes
+abbrev pub remove_entity_at : ServerState → ℕ → ServerState
+remove_entity_at server number =
+    record server { map = record server.map { entities = without_entity number server.map.entities } }
+
+-- the slot with another player, in the normal form of the profile's table
+abbrev pub with_player : Profile → SlotState → PlayerState → SlotState
+with_player profile slot player = record slot { player = normal_player profile.player.kinds player }
+
+-- the slot with other area bytes
+abbrev pub with_area : SlotState → List ℕ → SlotState
+with_area slot area = record slot { area = record { items = area } }
+
+-- a change for the client at a place, if there is one
+abbrev pub give : ServerState → ℕ → (SlotState → SlotState) → Option SlotState → Handed NoClient
+give server c change None = record { server = server; answer = Err (record {}) }
+give server c change (Some slot) = record { server = with_slot server c (change slot); answer = Ok tt }
+
+-- the player of a client
+abbrev pub set_player_at : ServerState → ℕ → PlayerState → Handed NoClient
+set_player_at server c player = give server c (λ slot. with_player server.profile slot player) (slot_at server c)
+
+-- the area bytes of a client
+abbrev pub set_area_at : ServerState → ℕ → List ℕ → Handed NoClient
+set_area_at server c area = give server c (λ slot. with_area slot area) (slot_at server c)
+
+-- ---- messages
+
+-- the snapshot that goes to a slot next: of more than 256 entities those of the lowest numbers
+abbrev pub next_snapshot : MapState → SlotState → Snapshot
+next_snapshot map slot =
+    record {
+      head = record { number = slot.sending.number + 1; time = map.time; flags = 0; area = slot.area; player = slot.player };
+      entities = take most_entities map.entities;
+    }
+
+-- the message that goes to a slot next
+abbrev pub next_message : MapState → SlotState → Built
+next_message map slot = message_of (next_snapshot map slot)
+
+-- the bits of a message: there is no base, and there are no baselines
+abbrev pub built_bits : Profile → Built → List Bool
+built_bits profile built = message_text profile no_lines None built
+
+-- and its bytes
+abbrev pub built_bytes : Profile → Built → List ℕ
+built_bytes profile built = message_bytes (built_bits profile built)
+
+-- a datagram that is handed out: the number of the message, which of its pieces it carries, and its bytes
+pub record Piece : Type 0 where
+  pub number : ℕ
+  pub index : ℕ
+  pub bytes : List ℕ
+
+-- what an emit of a slot gives: the slot after it, the answer, the message that it began, and the datagram that it hands out
+pub record SlotEmission : Type 0 where
+  pub slot : SlotState
+  pub answer : Emitted
+  pub began : Option Built
+  pub piece : Option Piece
+
+-- no message was begun, and nothing is handed out
+abbrev pub nothing : SlotState → Emitted → SlotEmission
+nothing slot answer = record { slot = slot; answer = answer; began = None; piece = None }
+
+-- the piece at an index of the message under way is handed out
+abbrev pub hand_out : SlotState → ℕ → Emitted → Option Built → SlotEmission
+hand_out slot index answer began = record {
+  slot = record slot { sending = (next_of slot.sending).sending };
+  answer = answer;
+  began = began;
+  piece = Some (record { number = slot.sending.number; index = index; bytes = (next_of slot.sending).datagram });
+}
+
+-- a message of these bits is begun, unless it is too long, and its first piece is handed out
+abbrev pub emit_bits : SlotState → Built → List Bool → SlotEmission
+emit_bits slot built bits =
+    if nat_lt longest_message (message_length (length bits)) then nothing slot emitted.Overlong
+    else hand_out (record slot { sending = started slot.sending (message_bytes bits) }) 0
+    (emitted.Snapshot (slot.sending.number + 1) 0 (message_length (length bits))) (Some built)
+
+-- the next message of a slot, unless message numbers have ended
+abbrev pub emit_new : Profile → MapState → SlotState → SlotEmission
+emit_new profile map slot =
+    if nat_le sequence_end (slot.sending.number + 1) then nothing slot emitted.SequenceEnd
+    else emit_bits slot (next_message map slot) (built_bits profile (next_message map slot))
+
+-- what is left of a message goes before another is begun
+abbrev pub emit_slot : Profile → MapState → SlotState → Option UnderWay → SlotEmission
+emit_slot profile map slot None = emit_new profile map slot
+emit_slot profile map slot (Some left) = hand_out slot left.next (emitted.Fragment slot.sending.number) None
+
+-- what an emit of the server gives
+pub record Emission : Type 0 where
+  pub server : ServerState
+  pub answer : Emitted
+  pub began : Option Built
+  pub piece : Option Piece
+
+-- the emission of a slot in its place
+abbrev pub emission_at : ServerState → ℕ → SlotEmission → Emission
+emission_at server c emission =
+    record { server = with_slot server c emission.slot; answer = emission.answer; began = emission.began; piece = emission.piece }
+
+-- an emission for the client at a place, if there is one
+abbrev pub emit_from : ServerState → ℕ → Option SlotState → Emission
+emit_from server c None = record { server = server; answer = emitted.NoClient; began = None; piece = None }
+emit_from server c (Some slot) = emission_at server c (emit_slot server.profile server.map slot slot.sending.under_way)
+
+-- the server makes a datagram for a client
+unfoldable pub emit_at : ServerState → ℕ → Emission
+emit_at server c = emit_from server c (slot_at server c)
+
+-- what an emission hands out stands in a buffer: nothing, or the datagram's bytes, which aren't none
+abbrev pub HandsOut : Option Piece → List ℕ → Type 0
+HandsOut None bytes = bytes ≡ []
+HandsOut (Some piece) bytes = (bytes ≡ piece.bytes) × (0 < length bytes)

@@ -1,0 +1,12 @@
+//! The server's end.
+#![tactic(auto)]
+
+mod entities;
+pub mod print;
+pub mod server;
+mod slot;
+#[cfg(test)]
+mod tests;
+
+pub use print::{print_emitted, print_slot_error};
+pub use server::{Emitted, MOST_SLOTS, NoClient, Server, SlotError};

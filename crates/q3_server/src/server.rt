@@ -1,0 +1,225 @@
+//! The server's end: pure state, one call an event.
+//! Keeps the rules "what the server sends", "fragmentation", by q3_chan, and "end of message numbers", which is this
+//! project's own.
+
+ghost use Rattle.std.specs.Prelude.{◌≡◌, ◌<◌, ◌≤◌, None, IfOk, length, nat_lt, position, replicate};
+ghost use Rattle.q3_server.specs.Server.{places, most_numbers, new_server, is_of, add_client_at, set_time_at, set_entity_at, remove_entity_at, set_player_at, set_area_at, emit_at, HandsOut};
+
+use crate::entities::Map;
+use crate::slot::Slot;
+use q3_bits::NoMemory;
+use q3_chan::{Datagram, LONGEST_MESSAGE};
+use q3_entity::{Baselines, EntityState};
+use q3_io::Address;
+use q3_player::PlayerState;
+use q3_profile::Profile;
+use q3_svmsg::ServerMessage;
+use std::alloc::Global;
+use std::marker::Model;
+
+/// How many slots a server may have.
+pub const MOST_SLOTS: u8 = 16;
+
+/// No such client was added.
+#[derive(Clone, Copy, Debug, PartialEq, Eq)]
+pub struct NoClient;
+
+/// Why a client can't join.
+#[derive(Clone, Copy, Debug, PartialEq, Eq)]
+pub enum SlotError {
+    /// The server has no such slot.
+    Range,
+    /// The slot has a client.
+    Taken,
+    /// The client in this slot, and in none below it, has the same host and qport.
+    Twin(u8),
+}
+
+/// What the server's emit answers.
+#[derive(Clone, Copy, Debug, PartialEq, Eq)]
+pub enum Emitted {
+    /// No such client was added.
+    NoClient,
+    /// A datagram with a further piece of the message of this number.
+    Fragment {
+        number: u32,
+    },
+    /// Message numbers have ended.
+    SequenceEnd,
+    /// The message has more than 16,384 bytes; its number is used again.
+    Overlong,
+    /// A datagram with a snapshot, or its first piece: its message's number, the number of the base, 0 for none, and the
+    /// message's length.
+    Snapshot {
+        number: u32,
+        base: u32,
+        bytes: usize,
+    },
+}
+
+/// The server: a copy of the profile, what the game handed in, and a slot for each client; and places where a message is
+/// put together and written. After `new` no call takes memory.
+#[derive(Drop)]
+pub struct Server {
+    profile: Profile,
+    map: Map,
+    slots: Vec<Slot>,
+    baselines: Baselines,
+    message: ServerMessage,
+    buffer: Vec<u8>,
+}
+
+impl Model for Server {
+    ghost use Rattle.std.specs.Prelude.{◌≡◌, ◌≤◌, length};
+    ghost use Rattle.q3_entity.specs.Baselines.{no_lines};
+    ghost use Rattle.q3_chan.specs.Datagrams.{longest_message};
+    ghost use Rattle.q3_server.specs.Server.{ServerState, places};
+
+    ghost Value = { ServerState };
+
+    ghost view = { λ s. record { profile = s.profile; map = s.map; slots = s.slots.items } };
+
+    ghost invariant = { λ s. (length s.slots.items ≤ places) × (s.baselines ≡ no_lines)
+        × (length s.buffer.items ≡ longest_message) };
+}
+
+impl Server {
+    /// A server with 1 to 16 slots and no client, at the time 0. `Err` is want of memory.
+    pub fn new(alloc: Global, profile: &Profile, slots: u8) -> Result<Server, NoMemory>
+        requires some { 1 ≤ slots }
+        requires most { slots ≤ places }
+        ensures { IfOk result (λ server. server ≡ new_server profile.now slots) }
+    {
+        Ok(Server {
+            profile: profile.copy()?,
+            map: Map::new(alloc)?,
+            slots: empty_slots(alloc, slots)?,
+            baselines: Baselines::new(alloc)?,
+            message: ServerMessage::new(alloc)?,
+            buffer: vec![in alloc; 0; LONGEST_MESSAGE]?,
+        })
+    }
+
+    /// Whether the server has such a slot.
+    fn has(&self, slot: u8) -> bool
+        ensures { result ≡ nat_lt slot (length self.now.slots) }
+    {
+        (slot as usize) < self.slots.len()
+    }
+
+    /// A client joins in a slot, from an address. In this order, `Range` comes exactly where the server has no such slot,
+    /// `Taken` exactly where the slot has a client, and `Twin` exactly where a client has this host and qport; it carries
+    /// the least slot of such a client.
+    pub fn add_client(
+        &mut self,
+        slot: u8,
+        challenge: u32,
+        qport: u16,
+        from: Address,
+    ) -> Result<(), SlotError>
+        ensures { add_client_at self.old slot challenge qport from ≡ record { server = self.new; answer = result } }
+    {
+        if !self.has(slot) {
+            return Err(SlotError::Range);
+        }
+        if self.slots[slot as usize].is_taken() {
+            return Err(SlotError::Taken);
+        }
+        if let Some(twin) = twin_of(&self.slots, from.host, qport) {
+            return Err(SlotError::Twin(twin));
+        }
+        self.slots[slot as usize].join(challenge, qport, from);
+        Ok(())
+    }
+
+    /// The time, in milliseconds.
+    pub fn set_time(&mut self, time: u32)
+        ensures { self.new ≡ set_time_at self.old time }
+    {
+        self.map.set_time(time);
+    }
+
+    /// Takes over the state of an entity, whose number is at most 1022.
+    pub fn set_entity(&mut self, state: &EntityState)
+        requires { state.now.number < most_numbers }
+        ensures { self.new ≡ set_entity_at self.old state.now }
+    {
+        self.map.set_entity(&self.profile.entity, state);
+    }
+
+    /// Takes an entity away. An absent one changes nothing.
+    pub fn remove_entity(&mut self, number: u16)
+        ensures { self.new ≡ remove_entity_at self.old number }
+    {
+        self.map.remove_entity(number);
+    }
+
+    /// Takes over the player of a client. `NoClient` comes exactly where no client was added in the slot.
+    pub fn set_player(&mut self, slot: u8, player: &PlayerState) -> Result<(), NoClient>
+        ensures { set_player_at self.old slot player.now ≡ record { server = self.new; answer = result } }
+    {
+        if !self.has(slot) {
+            return Err(NoClient);
+        }
+        self.slots[slot as usize].set_player(&self.profile, player)
+    }
+
+    /// Takes over the area bytes of a client, at most 32. `NoClient` comes exactly where no client was added in the slot.
+    pub fn set_area(&mut self, slot: u8, area: &[u8]) -> Result<(), NoClient>
+        requires { length area.now ≤ 32 }
+        ensures { set_area_at self.old slot area.now ≡ record { server = self.new; answer = result } }
+    {
+        if !self.has(slot) {
+            return Err(NoClient);
+        }
+        self.slots[slot as usize].set_area(area)
+    }
+
+    /// Makes the next datagram for a client: it is empty where nothing is handed out. `NoClient` comes exactly where no
+    /// client was added in the slot.
+    #[tactic(auto, unfolding(crate::specs::Server::emit_at))]
+    pub fn emit(&mut self, slot: u8, out: &mut Datagram) -> Emitted
+        ensures server { self.new ≡ (emit_at self.old slot).server }
+        ensures answer { result ≡ (emit_at self.old slot).answer }
+        ensures piece { HandsOut (emit_at self.old slot).piece out.new.items }
+    {
+        out.clear();
+        if !self.has(slot) {
+            return Emitted::NoClient;
+        }
+        self.slots[slot as usize].emit(
+            &self.profile,
+            &self.map,
+            &self.baselines,
+            &mut self.message,
+            &mut self.buffer,
+            out,
+        )
+    }
+}
+
+/// Slots with no client. `Err` is want of memory.
+fn empty_slots(alloc: Global, count: u8) -> Result<Vec<Slot>, NoMemory>
+    ensures { IfOk result (λ made. made.items ≡ replicate count None) }
+{
+    let mut made = Vec::with_capacity(alloc, count as usize)?;
+    for _ in 0..count {
+        made.push(Slot::new(alloc)?)?;
+    }
+    Ok(made)
+}
+
+/// The least slot whose client has this host and qport.
+fn twin_of(slots: &[Slot], host: u32, qport: u16) -> Option<u8>
+    requires { length slots.now ≤ places }
+    ensures { result ≡ position (is_of host qport) slots.now }
+{
+    let place = place_of(slots, host, qport)?;
+    Some(place as u8)
+}
+
+fn place_of(slots: &[Slot], host: u32, qport: u16) -> Option<usize>
+    ensures { result ≡ position (is_of host qport) slots.now }
+{
+    slots.iter().position(|slot| slot.is_of(host, qport))
+}

@@ -1,0 +1,218 @@
+//! A place for a client at the server.
+
+ghost use Rattle.std.specs.Prelude.{◌≡◌, ◌+◌, ◌^◌, ◌<◌, ◌≤◌, [], None, Some, IfOk, length, option_map, take, true, is_some};
+ghost use Rattle.q3_chan.specs.Datagrams.{longest_message};
+ghost use Rattle.q3_entity.specs.Baselines.{no_lines};
+ghost use Rattle.q3_fields.specs.Kinds.{Layout, end_mark};
+ghost use Rattle.q3_entity.specs.Entities.{most_entities, IsList};
+ghost use Rattle.q3_player.specs.State.{normal_player};
+ghost use Rattle.q3_svmsg.specs.Values.{told_of};
+ghost use Rattle.q3_server.specs.Server.{most_numbers, is_of, new_slot, with_player, with_area, next_message, HandsOut};
+ghost use Rattle.q3_server.specs.Slots.{slot_of, given, slot_after, answer_of, piece_of};
+
+use crate::entities::Map;
+use crate::server::{Emitted, NoClient};
+use arrayvec::ArrayVec;
+use q3_bits::NoMemory;
+use q3_chan::{Datagram, SEQUENCE_END, Sender, Side};
+use q3_entity::Baselines;
+use q3_io::Address;
+use q3_player::PlayerState;
+use q3_profile::Profile;
+use q3_svmsg::{Section, ServerMessage, write_snap};
+use std::alloc::Global;
+use std::marker::Model;
+
+/// How a client joined and from where, and what the game handed in for it alone.
+#[derive(Drop)]
+pub(crate) struct Joined {
+    pub challenge: u32,
+    pub address: Address,
+    pub qport: u16,
+    pub player: PlayerState,
+    pub area: ArrayVec<u8, 32>,
+}
+
+/// A sender, and the client that it sends to, once one has joined.
+#[derive(Drop)]
+pub(crate) struct Slot {
+    sender: Sender,
+    client: Option<Joined>,
+}
+
+impl Model for Slot {
+    ghost use Rattle.std.specs.Prelude.{◌≡◌, ◌<◌, Option, option_map, MatchOption, ⊤};
+    ghost use Rattle.q3_chan.specs.Datagrams.{sequence_end};
+    ghost use Rattle.q3_chan.specs.declared.side.Side.TheVariants.{Server};
+    ghost use Rattle.q3_chan.specs.Sending.{new_sending};
+    ghost use Rattle.q3_server.specs.Server.{SlotState};
+    ghost use Rattle.q3_server.specs.Slots.{slot_of};
+
+    ghost Value = { Option SlotState };
+
+    ghost view = { λ s. option_map (slot_of s.sender) s.client };
+
+    ghost invariant = { λ s. (s.sender.number < sequence_end)
+        × MatchOption s.client (s.sender ≡ new_sending Server 0) (λ client. ⊤) };
+}
+
+impl Joined {
+    /// Takes over the player, in normal form.
+    fn set_player(&mut self, profile: &Profile, player: &PlayerState)
+        ensures { self.new ≡ record self.old { player = normal_player profile.now.player.kinds player.now } }
+    {
+        self.player = player.normal(&profile.player);
+    }
+
+    /// Takes over the area bytes.
+    fn set_area(&mut self, area: &[u8])
+        requires { length area.now ≤ 32 }
+        ensures { self.new ≡ record self.old { area = record { items = area.now } } }
+    {
+        copy_area(area, &mut self.area);
+    }
+
+    /// Makes the message that this sender sends to the client next.
+    fn fill(&self, sender: &Sender, map: &Map, message: &mut ServerMessage)
+        requires { sender.now.number + 1 < 2 ^ 32 }
+        ensures told { told_of message.new ≡ next_message map.now (slot_of sender.now self.now) }
+        ensures section { message.new.section ≡ Section.Snap 0 true }
+        ensures entities { message.new.entities.value.items ≡ take most_entities map.now.entities }
+        ensures list { (table : Layout) → end_mark table ≡ most_numbers → IsList table (take most_entities map.now.entities) }
+    {
+        message.ack = 0;
+        message.commands.clear();
+        message.section = Section::Snap {
+            base: 0,
+            held: true,
+        };
+        message.head.number = sender.number() + 1;
+        message.head.time = map.time();
+        message.head.flags = 0;
+        copy_area(&self.area, &mut message.head.area);
+        message.head.player = self.player;
+        map.copy_lowest(&mut message.entities);
+    }
+}
+
+impl Slot {
+    /// A place with no client. `Err` is want of memory.
+    pub fn new(alloc: Global) -> Result<Slot, NoMemory>
+        ensures { IfOk result (λ slot. slot ≡ None) }
+    {
+        Ok(Slot {
+            sender: Sender::new(alloc, Side::Server, 0)?,
+            client: None,
+        })
+    }
+
+    /// Whether a client has joined.
+    pub fn is_taken(&self) -> bool
+        ensures { result ≡ is_some self.now }
+    {
+        self.client.is_some()
+    }
+
+    /// Whether the client has this host and qport.
+    pub fn is_of(&self, host: u32, qport: u16) -> bool
+        ensures { result ≡ is_of host qport self.now }
+    {
+        match &self.client {
+            Some(client) => client.address.host == host && client.qport == qport,
+            None => false,
+        }
+    }
+
+    /// A client joins, from an address.
+    pub fn join(&mut self, challenge: u32, qport: u16, address: Address)
+        requires { self.old ≡ None }
+        ensures { self.new ≡ Some (new_slot challenge qport address) }
+    {
+        self.client = Some(Joined {
+            challenge,
+            address,
+            qport,
+            player: PlayerState::zero(),
+            area: ArrayVec::new(),
+        });
+    }
+
+    /// Takes over the client's player, in normal form.
+    pub fn set_player(&mut self, profile: &Profile, player: &PlayerState) -> Result<(), NoClient>
+        ensures slot { self.new ≡ option_map (λ slot. with_player profile.now slot player.now) self.old }
+        ensures answer { result ≡ given self.old }
+    {
+        let Some(client) = &mut self.client else {
+            return Err(NoClient);
+        };
+        client.set_player(profile, player);
+        Ok(())
+    }
+
+    /// Takes over the client's area bytes.
+    pub fn set_area(&mut self, area: &[u8]) -> Result<(), NoClient>
+        requires { length area.now ≤ 32 }
+        ensures slot { self.new ≡ option_map (λ slot. with_area slot area.now) self.old }
+        ensures answer { result ≡ given self.old }
+    {
+        let Some(client) = &mut self.client else {
+            return Err(NoClient);
+        };
+        client.set_area(area);
+        Ok(())
+    }
+
+    /// Hands out what is left of a message, or begins the next, with a whole snapshot, and hands out its first piece.
+    pub fn emit(
+        &mut self,
+        profile: &Profile,
+        map: &Map,
+        baselines: &Baselines,
+        message: &mut ServerMessage,
+        buffer: &mut [u8],
+        out: &mut Datagram,
+    ) -> Emitted
+        requires out { out.old.items ≡ [] }
+        requires lines { baselines.now ≡ no_lines }
+        requires buffer { length buffer.old ≡ longest_message }
+        ensures slot { self.new ≡ slot_after profile.now map.now self.old }
+        ensures answer { result ≡ answer_of profile.now map.now self.old }
+        ensures piece { HandsOut (piece_of profile.now map.now self.old) out.new.items }
+        ensures buffer { length buffer.new ≡ longest_message }
+    {
+        let Some(client) = &self.client else {
+            return Emitted::NoClient;
+        };
+        if !self.sender.idle() {
+            self.sender.next(out);
+            return Emitted::Fragment {
+                number: self.sender.number(),
+            };
+        }
+        let number = self.sender.number() + 1;
+        if number >= SEQUENCE_END {
+            return Emitted::SequenceEnd;
+        }
+        client.fill(&self.sender, map, message);
+        // the entities' numbers are below the end mark
+        prove!(profile.entity.end() == 1023);
+        let Ok(bytes) = write_snap(profile, message, baselines, None, buffer) else {
+            return Emitted::Overlong;
+        };
+        self.sender.start(&buffer[..bytes]);
+        self.sender.next(out);
+        Emitted::Snapshot {
+            number,
+            base: 0,
+            bytes,
+        }
+    }
+}
+
+fn copy_area(from: &[u8], into: &mut ArrayVec<u8, 32>)
+    requires { length from.now ≤ 32 }
+    ensures { into.new.items ≡ from.now }
+{
+    into.clear();
+    into.try_extend_from_slice(from).unwrap();
+}
