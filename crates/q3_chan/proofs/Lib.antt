@@ -9,3 +9,4 @@ pub mod Outcomes
 pub mod AnyBytes
 pub mod Cutting
 pub mod Handing
+pub mod Senders

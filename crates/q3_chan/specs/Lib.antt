@@ -4,3 +4,4 @@ pub mod Gathering
 pub mod Buffers
 pub mod Tags
 pub mod Laws
+pub mod Senders

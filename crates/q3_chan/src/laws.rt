@@ -2,6 +2,7 @@
 //! calling it.
 
 ghost use Rattle.q3_chan.specs.Laws.{PiecesAreWhole, HandsOutAll, SentIsTagged, TaggedDoes, PiecesAreTagged, FirstArePartial, PiecesComeWhole, FirstComePartial, GatheredIsOne, WholeArePieces, EndsGather, EndsSend};
+ghost use Rattle.q3_chan.specs.Senders.{QportIsTold};
 
 /// The pieces of a message, one behind the other, are the message.
 pub fn pieces_are_whole()
@@ -57,4 +58,9 @@ pub fn ends_gather()
 /// each piece that is handed out.
 pub fn ends_send()
     ensures { EndsSend }
+{}
+
+/// A datagram that a client sent tells its qport.
+pub fn qport_is_told()
+    ensures { QportIsTold }
 {}

@@ -6,6 +6,7 @@ pub mod gatherer;
 mod header;
 pub mod laws;
 mod limits;
+pub mod qport;
 pub mod sender;
 pub mod side;
 #[cfg(test)]
@@ -13,5 +14,6 @@ mod tests;
 
 pub use gatherer::{Gathered, Gatherer};
 pub use limits::{DATAGRAM_ROOM, FRAGMENT_SIZE, LONGEST_MESSAGE, SEQUENCE_END};
+pub use qport::{NoQport, qport_of};
 pub use sender::{Datagram, Sender};
 pub use side::Side;

@@ -3,7 +3,7 @@
 ghost use Rattle.std.specs.Prelude.{◌≡◌, ◌≤◌, length, IfOk};
 ghost use Rattle.std.specs.Vec.{vec_len};
 
-use crate::{Datagram, Gathered, Gatherer, SEQUENCE_END, Sender, Side};
+use crate::{Datagram, Gathered, Gatherer, NoQport, SEQUENCE_END, Sender, Side, qport_of};
 use std::alloc::{AllocError, Global};
 use std::process::Abort;
 use std::test::*;
@@ -194,5 +194,27 @@ fn longest_message_comes_whole(rt: HostRuntime) -> Result<(), Fail> {
     };
     assert_eq!(rt; gatherer.take(out.as_slice(), into), whole);
     assert_eq!(rt; &*into, message.as_slice());
+    Ok(())
+}
+
+#[test]
+fn datagrams_tell_their_qport(rt: HostRuntime) -> Result<(), Fail> {
+    let table: [(&[u8], Result<u16, NoQport>); 9] = [
+        (&[], Err(NoQport::Runt)),
+        (&[1, 0, 0], Err(NoQport::Runt)),
+        (&[255, 255, 255, 255], Err(NoQport::Connectionless)),
+        (&[1, 0, 0, 0], Err(NoQport::Runt)),
+        (&[1, 0, 0, 0, 0x88], Err(NoQport::Runt)),
+        (&[1, 0, 0, 0, 0x88, 0x13], Ok(5_000)),
+        (&[7, 0, 0, 0x80, 0x88, 0x13, 0x14, 0x05], Err(NoQport::Runt)),
+        (
+            &[7, 0, 0, 0x80, 0x88, 0x13, 0x14, 0x05, 0xc8],
+            Err(NoQport::Runt),
+        ),
+        (&[7, 0, 0, 0x80, 0x88, 0x13, 0x14, 0x05, 0xc8, 0], Ok(5_000)),
+    ];
+    for (bytes, qport) in table {
+        assert!(rt; qport_of(bytes) == qport);
+    }
     Ok(())
 }

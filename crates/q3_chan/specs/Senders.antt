@@ -1,0 +1,25 @@
+-- Which client a datagram came from.
+use Rattle.std.specs.Prelude.{◌≡◌, ℕ, ◌^◌, ◌<◌, nat_lt, if◌then◌else◌, List, length, drop, Result, Ok, Err}
+use Rattle.byteorder.specs.Endian.{little_number}
+use Rattle.q3_chan.specs.declared.qport.NoQport.{NoQport}
+use Rattle.q3_chan.specs.declared.qport.NoQport.TheVariants.{Runt, Connectionless}
+use Rattle.q3_chan.specs.declared.side.Side.TheVariants.{Client}
+use Rattle.q3_chan.specs.Datagrams.{sequence_end, piece_count, is_fragment, header_length, datagram}
+use Rattle.q3_chan.specs.Gathering.{is_connectionless}
+use Rattle.q3_chan.specs.Laws.{IsSendable}
+
+-- the qport behind the number of a client's message
+abbrev pub qport_in : List ℕ → ℕ
+qport_in bytes = little_number 2 (drop 4 bytes)
+
+-- the qport of a client's datagram, or why it has none
+unfoldable pub qport_of : List ℕ → Result ℕ NoQport
+qport_of bytes =
+    if nat_lt (length bytes) 4 then Err Runt else
+    if is_connectionless bytes then Err Connectionless else
+    if nat_lt (length bytes) (header_length Client (is_fragment bytes)) then Err Runt else Ok (qport_in bytes)
+
+-- a client's datagram tells its qport
+abbrev pub QportIsTold : Type 0
+QportIsTold = (qport number index : ℕ) (message : List ℕ) → qport < 2 ^ 16 → number < sequence_end → IsSendable message
+    → index < piece_count (length message) → qport_of (datagram Client qport number message index) ≡ Ok qport
