@@ -12,34 +12,28 @@ use std::alloc::{AllocError, Global};
 use std::process::Abort;
 use std::test::*;
 
-/// What gamestates are read with, and into.
+/// Into what gamestates are read.
 #[derive(Drop)]
 struct Places {
-    profile: Profile,
     configs: Configs,
     baselines: Baselines,
     string: Box<BigString>,
 }
 
-fn make_places(alloc: Global, entity: Table, player: Table) -> Result<Places, NoMemory> {
-    Ok(Places {
-        profile: Profile {
-            code: Code::plain(alloc)?,
-            entity,
-            player,
-            server_ring: 4096,
-            parse_ring: 8192,
-            protocol: 68,
-            mark: 0,
-        },
-        configs: Configs::new(alloc)?,
-        baselines: Baselines::new(alloc)?,
-        string: Box::new(alloc, BigString::new())?,
+fn profile_of(alloc: Global, entity: Table, player: Table) -> Result<Profile, NoMemory> {
+    Ok(Profile {
+        code: Code::plain(alloc)?,
+        entity,
+        player,
+        server_ring: 4096,
+        parse_ring: 8192,
+        protocol: 68,
+        mark: 0,
     })
 }
 
-fn start(rt: &impl Abort, alloc: Global) -> Places {
-    make_places(
+fn profile(rt: &impl Abort, alloc: Global) -> Profile {
+    profile_of(
         alloc,
         Table::of(&[0, 8, -16]).expect(rt, "a table"),
         Table::of(&[0, 16]).expect(rt, "a table"),
@@ -47,37 +41,45 @@ fn start(rt: &impl Abort, alloc: Global) -> Places {
     .expect(rt, "memory")
 }
 
+fn new_places(rt: &impl Abort, alloc: Global) -> Places {
+    Places {
+        configs: Configs::new(alloc).expect(rt, "memory"),
+        baselines: Baselines::new(alloc).expect(rt, "memory"),
+        string: Box::new(alloc, BigString::new()).expect(rt, "memory"),
+    }
+}
+
 /// Reads what is behind the operation.
-fn read(places: &mut Places, bytes: &[u8]) -> Result<Numbers, GamestateError> {
-    let mut r = Reader::new(&places.profile.code, bytes);
+fn read(profile: &Profile, bytes: &[u8], into: &mut Places) -> Result<Numbers, GamestateError> {
+    let mut r = Reader::new(&profile.code, bytes);
     read_gamestate(
         &mut r,
-        &places.profile,
-        &mut places.configs,
-        &mut places.baselines,
-        &mut places.string,
+        profile,
+        &mut into.configs,
+        &mut into.baselines,
+        &mut into.string,
     )
 }
 
 /// Writes a gamestate for so many bytes of room.
-fn write<'a>(places: &'a Places, numbers: Numbers, room: usize) -> Result<Writer<'a>, Overflow>
+fn write<'a>(
+    profile: &'a Profile,
+    numbers: Numbers,
+    places: &Places,
+    room: usize,
+) -> Result<Writer<'a>, Overflow>
     requires some { 1 ≤ room }
     requires most { room ≤ 16384 }
 {
-    let mut w = Writer::new(&places.profile.code, room);
-    write_gamestate(
-        &mut w,
-        &places.profile,
-        numbers,
-        &places.configs,
-        &places.baselines,
-    )?;
+    let mut w = Writer::new(&profile.code, room);
+    write_gamestate(&mut w, profile, numbers, &places.configs, &places.baselines)?;
     Ok(w)
 }
 
 #[test]
 fn one_string_is_written_and_read(rt: HostRuntime) -> Result<(), Fail> {
-    let mut places = start(&rt, rt.alloc());
+    let profile = profile(&rt, rt.alloc());
+    let mut places = new_places(&rt, rt.alloc());
     let numbers = Numbers {
         command: 7,
         slot: 2,
@@ -89,19 +91,22 @@ fn one_string_is_written_and_read(rt: HostRuntime) -> Result<(), Fail> {
         0x00, 0x00, 0x00,
     ];
     assert_eq!(rt; places.configs.set(1, b"\\sv_serverid\\1"), Ok(()));
-    assert!(rt; write(&places, numbers, 32).is_err());
+    assert!(rt; write(&profile, numbers, &places, 32).is_err());
     assert_eq!(rt;
-        write(&places, numbers, 33).expect(&rt, "room").bytes(),
+        write(&profile, numbers, &places, 33)
+            .expect(&rt, "room")
+            .bytes(),
         bytes.as_slice()
     );
-    assert_eq!(rt; read(&mut places, &bytes[1..]), Ok(numbers));
+    assert_eq!(rt; read(&profile, &bytes[1..], &mut places), Ok(numbers));
     assert_eq!(rt; places.configs.server_id(), Some(1));
     Ok(())
 }
 
 #[test]
 fn later_settings_stand_for_earlier(rt: HostRuntime) -> Result<(), Fail> {
-    let mut places = start(&rt, rt.alloc());
+    let profile = profile(&rt, rt.alloc());
+    let mut places = new_places(&rt, rt.alloc());
     assert_eq!(rt; places.configs.set(2, b"b"), Ok(()));
     let bytes = [
         0x07, 0x00, 0x00, 0x00, 0x03, 0x01, 0x00, 0x61, 0x00, 0x03, 0x01, 0x00, 0x73, 0x76, 0x5f,
@@ -113,7 +118,7 @@ fn later_settings_stand_for_earlier(rt: HostRuntime) -> Result<(), Fail> {
         slot: 2,
         feed: 77,
     };
-    assert_eq!(rt; read(&mut places, &bytes), Ok(numbers));
+    assert_eq!(rt; read(&profile, &bytes, &mut places), Ok(numbers));
     assert_eq!(rt; places.configs.get(1), b"sv_serverid\\2".as_slice());
     assert_eq!(rt; places.configs.size(), 15);
     assert_eq!(rt; places.baselines.get(5).words[1], 7);
@@ -159,9 +164,10 @@ fn faults() -> [(&'static [u8], GamestateError); 11] {
 
 #[test]
 fn first_fault_in_reading_order(rt: HostRuntime) -> Result<(), Fail> {
-    let mut places = start(&rt, rt.alloc());
+    let profile = profile(&rt, rt.alloc());
+    let mut places = new_places(&rt, rt.alloc());
     for (bytes, fault) in faults() {
-        assert_eq!(rt; read(&mut places, bytes), Err(fault));
+        assert_eq!(rt; read(&profile, bytes, &mut places), Err(fault));
     }
     Ok(())
 }
@@ -182,16 +188,23 @@ fn letters(alloc: Global, first: usize, second: usize) -> Result<Vec<u8>, AllocE
 
 #[test]
 fn long_strings_are_refused(rt: HostRuntime) -> Result<(), Fail> {
-    let mut places = start(&rt, rt.alloc());
+    let profile = profile(&rt, rt.alloc());
+    let mut places = new_places(&rt, rt.alloc());
     let most = letters(rt.alloc(), 8_191, 7_806).expect(&rt, "memory");
-    assert_eq!(rt; read(&mut places, &most), Err(GamestateError::NoServerId));
+    assert_eq!(rt;
+        read(&profile, &most, &mut places),
+        Err(GamestateError::NoServerId)
+    );
     assert_eq!(rt; places.configs.size(), 16_000);
     let full = letters(rt.alloc(), 8_191, 7_807).expect(&rt, "memory");
     assert_eq!(rt;
-        read(&mut places, &full),
+        read(&profile, &full, &mut places),
         Err(GamestateError::Config(ConfigError::Full))
     );
     let long = letters(rt.alloc(), 8_192, 0).expect(&rt, "memory");
-    assert_eq!(rt; read(&mut places, &long), Err(GamestateError::TextLong));
+    assert_eq!(rt;
+        read(&profile, &long, &mut places),
+        Err(GamestateError::TextLong)
+    );
     Ok(())
 }

@@ -86,7 +86,7 @@ fn entity(number: u16, word: u32) -> EntityState
 }
 
 /// A snapshot that is held: field 1 of its player is 9, and that of its entity 5 is 7.
-fn held(rt: &impl Abort, alloc: Global) -> Held {
+fn new_held(rt: &impl Abort, alloc: Global) -> Held {
     let mut player = PlayerState::zero();
     player.words[1] = 9;
     Held {
@@ -151,7 +151,7 @@ fn snapshot_of_one_entity_is_written(rt: HostRuntime) -> Result<(), Fail> {
 #[test]
 fn commands_are_read(rt: HostRuntime) -> Result<(), Fail> {
     let profile = profile(&rt, rt.alloc());
-    let held = held(&rt, rt.alloc());
+    let held = new_held(&rt, rt.alloc());
     let mut message = empty(&rt, rt.alloc());
     assert_eq!(rt; message.section, Section::Nothing);
     assert_eq!(rt;
@@ -206,7 +206,7 @@ fn distances() -> [(u8, Section, u32, usize); 4] {
 #[test]
 fn snapshots_are_read(rt: HostRuntime) -> Result<(), Fail> {
     let profile = profile(&rt, rt.alloc());
-    let held = held(&rt, rt.alloc());
+    let held = new_held(&rt, rt.alloc());
     let mut message = empty(&rt, rt.alloc());
     for (distance, section, word, count) in distances() {
         let bytes = [
@@ -235,7 +235,7 @@ fn write(profile: &Profile, message: &ServerMessage, into: &mut [u8]) -> Result<
 #[test]
 fn gamestate_is_written_and_read(rt: HostRuntime) -> Result<(), Fail> {
     let profile = profile(&rt, rt.alloc());
-    let held = held(&rt, rt.alloc());
+    let held = new_held(&rt, rt.alloc());
     let mut message = empty(&rt, rt.alloc());
     message.section = Section::Game;
     message.command = 7;
@@ -295,7 +295,7 @@ fn fill_baselines(message: &mut ServerMessage, from: u16, to: u16, word: u32)
 #[test]
 fn longest_gamestate_is_written_and_read(rt: HostRuntime) -> Result<(), Fail> {
     let profile = profile(&rt, rt.alloc());
-    let held = held(&rt, rt.alloc());
+    let held = new_held(&rt, rt.alloc());
     let mut message = empty(&rt, rt.alloc());
     message.section = Section::Game;
     fill_strings(&rt, rt.alloc(), &mut message);
@@ -392,7 +392,7 @@ fn faults() -> [(&'static [u8], Illegible); 27] {
 #[test]
 fn first_fault_in_reading_order(rt: HostRuntime) -> Result<(), Fail> {
     let profile = profile(&rt, rt.alloc());
-    let held = held(&rt, rt.alloc());
+    let held = new_held(&rt, rt.alloc());
     let mut message = empty(&rt, rt.alloc());
     for (bytes, fault) in faults() {
         assert_eq!(rt; read(&profile, &held, bytes, &mut message), Err(fault));
@@ -428,7 +428,7 @@ fn bits_that_begin_no_word_are_refused(rt: HostRuntime) -> Result<(), Fail> {
     profile.code = code_of(rt.alloc(), &texts(rt.alloc()).expect(&rt, "memory")).expect(
         &rt, "a code",
     );
-    let held = held(&rt, rt.alloc());
+    let held = new_held(&rt, rt.alloc());
     let mut message = empty(&rt, rt.alloc());
     assert_eq!(rt;
         read_ack(&profile.code, &[0x00, 0x00]),
@@ -474,7 +474,7 @@ fn crowd<'a>(code: &'a Code, count: u32) -> Result<Writer<'a>, Overflow>
 #[test]
 fn what_is_too_long_is_refused(rt: HostRuntime) -> Result<(), Fail> {
     let profile = profile(&rt, rt.alloc());
-    let held = held(&rt, rt.alloc());
+    let held = new_held(&rt, rt.alloc());
     let mut message = empty(&rt, rt.alloc());
     let command = b"\x05\x01\0\0\0\0";
     let most = repeated(rt.alloc(), b"\0\0\0\0", command, 64, b"\x08\0").expect(&rt, "memory");
