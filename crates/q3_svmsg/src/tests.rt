@@ -1,10 +1,10 @@
 //! Messages with bytes worked by hand, by the plain code, entity widths 0, 8, -16 and player widths 0, 16.
 
-ghost use Rattle.std.specs.Prelude.{◌≡◌, ◌≤◌, ◌<◌, length, All, IfOk, slice_index_or};
+ghost use Rattle.std.specs.Prelude.{◌≡◌, ◌≤◌, length, IfOk};
 
 use super::*;
 use q3_bits::{Code, CodeError, NoMemory, Overflow, ReadError, Writer};
-use q3_config::ConfigError;
+use q3_config::{ConfigError, Configs};
 use q3_entity::{Baselines, EntityError, EntityState, Run};
 use q3_fields::Table;
 use q3_player::{PlayerError, PlayerState};
@@ -267,25 +267,19 @@ fn longest(rt: &impl Abort, alloc: Global) -> Vec<u8>
 }
 
 /// Strings of the greatest size, 16,000: an id, one of 8,191 bytes, and one of 7,791.
-fn fill_strings(rt: &impl Abort, alloc: Global, message: &mut ServerMessage)
-    ensures { message.new.section ≡ message.old.section }
-{
+fn fill_strings(rt: &impl Abort, alloc: Global, configs: &mut Configs) {
     let text = vec![in alloc; b'a'; 8_191].expect(rt, "memory");
-    message
-        .configs
-        .set(1, b"\\sv_serverid\\1")
-        .expect(rt, "room");
-    message.configs.set(2, &text).expect(rt, "room");
-    message.configs.set(3, &text[..7_791]).expect(rt, "room");
+    configs.set(1, b"\\sv_serverid\\1").expect(rt, "room");
+    configs.set(2, &text).expect(rt, "room");
+    configs.set(3, &text[..7_791]).expect(rt, "room");
 }
 
 /// Baselines of these numbers, whose field 1 has this word.
-fn fill_baselines(message: &mut ServerMessage, from: u16, to: u16, word: u32)
+fn fill_baselines(baselines: &mut Baselines, from: u16, to: u16, word: u32)
     requires { to ≤ 1023 }
-    ensures { message.new.section ≡ message.old.section }
 {
     for number in from..to {
-        message.baselines.set(&entity(number, word));
+        baselines.set(&entity(number, word));
     }
 }
 
@@ -298,9 +292,9 @@ fn longest_gamestate_is_written_and_read(rt: HostRuntime) -> Result<(), Fail> {
     let held = new_held(&rt, rt.alloc());
     let mut message = empty(&rt, rt.alloc());
     message.section = Section::Game;
-    fill_strings(&rt, rt.alloc(), &mut message);
-    fill_baselines(&mut message, 0, 5, 7);
-    fill_baselines(&mut message, 5, 138, 0);
+    fill_strings(&rt, rt.alloc(), &mut message.configs);
+    fill_baselines(&mut message.baselines, 0, 5, 7);
+    fill_baselines(&mut message.baselines, 5, 138, 0);
     let mut into = longest(&rt, rt.alloc());
     assert_eq!(rt; write(&profile, &message, &mut into), Ok(16_384));
     let mut other = empty(&rt, rt.alloc());
@@ -312,7 +306,7 @@ fn longest_gamestate_is_written_and_read(rt: HostRuntime) -> Result<(), Fail> {
         (other.baselines.is_set(137), other.baselines.is_set(138)),
         (true, false)
     );
-    fill_baselines(&mut message, 4, 139, 0);
+    fill_baselines(&mut message.baselines, 4, 139, 0);
     assert_eq!(rt; write(&profile, &message, &mut into), Err(Overflow));
     Ok(())
 }
