@@ -3,6 +3,7 @@ use Rattle.std.proofs.Common.{◌≡◌, ◌<◌, ◌≤◌, ℕ, Bool, true, fa
 use Rattle.std.specs.List.{All}
 use Rattle.std.proofs.lemmas.Bool.{cases_Bool}
 use Rattle.std.proofs.lemmas.Bool.Decides.{nat_tests}
+use Rattle.std.proofs.lemmas.List.{length-append}
 use Rattle.q3_bits.specs.ResultBind.{bind_ok, map_err_ok}
 use Rattle.q3_bits.specs.Words.{IsCode, row_bits}
 use Rattle.q3_bits.specs.Laws.{PutIsRead, ReadWasPut}
@@ -11,7 +12,7 @@ use Rattle.q3_strings.specs.Texts.{bytes_row}
 use Rattle.q3_strings.specs.Reading.{bytes_after, command_after}
 use Rattle.q3_strings.specs.Spelling.{SpellsCommand}
 use Rattle.q3_strings.specs.Rows.{row-none, row-last}
-use Rattle.q3_strings.specs.Laws.{BytesWerePut, BytesAreRead, CommandReadIsSpelled, CommandSpelledIsRead}
+use Rattle.q3_strings.specs.Laws.{IsCommand, BytesWerePut, BytesAreRead, CommandReadIsSpelled, CommandSpelledIsRead}
 use Rattle.q3_svmsg.specs.declared.error.Illegible.TheVariants.{Bits, Area}
 use Rattle.q3_svmsg.specs.Reading.{field_read, bits_read, strings_read, string_error, commands_after, area_after}
 use Rattle.q3_svmsg.proofs.Fields.{field_was}
@@ -53,6 +54,7 @@ pub record ReadCommand (words : List (List Bool)) (commands : List Command) (bit
   pub few : length commands < 64
   pub command : Command
   pub all : found.0 ≡ commands ++ command ∷ []
+  pub is : IsCommand command
   pub text : List Bool
   pub spells : SpellsCommand words command text
   pub parts : bits ≡ text ++ found.1
@@ -70,8 +72,15 @@ command_was_spelled law words code commands bits found e =
           let same : (commands ++ read.0.0 ∷ [], read.0.1) ≡ found = cc in
           let few : length commands < 64 = grind (arith, nat_tests) in
           subst (ReadCommand words commands bits) {x = (commands ++ read.0.0 ∷ [], read.0.1)} same
-          (record { few = few; command = read.0.0; all = refl; text = was.1; spells = was.3; parts = was.2 })
+          (record { few = few; command = read.0.0; all = refl; is = was.0; text = was.1; spells = was.3; parts = was.2 })
     ]
+
+-- what is behind it is no longer
+pub command_shorter : CommandReadIsSpelled → (words : List (List Bool)) → IsCode words → (commands : List Command) (bits : List Bool) (more : List Command) (rest : List Bool)
+    → Ok (more, rest) ≡ commands_after words commands bits → length rest ≤ length bits
+command_shorter law words code commands bits more rest e =
+    let read = command_was_spelled law words code commands bits (more, rest) (sym e) in
+    omega (arith, ap length read.parts, length-append read.text rest)
 
 pub command_is_read : CommandSpelledIsRead → (words : List (List Bool)) → IsCode words → (commands : List Command) (command : Command) (text rest : List Bool) → length commands < 64
     → SpellsCommand words command text → commands_after words commands (text ++ rest) ≡ Ok (commands ++ command ∷ [], rest)

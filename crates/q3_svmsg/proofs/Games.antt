@@ -1,47 +1,43 @@
--- The text of a gamestate, part by part.
-use Rattle.std.proofs.Common.{◌≡◌, ◌+◌, ◌-◌, ◌<◌, ◌≤◌, ℕ, suc, Bool, true, List, [], ◌∷◌, ◌++◌, length, Option, Some, None, unwrap_or, refl, sym, ap, ◌∙◌, arith}
-use Rattle.std.specs.List.{flat_map, range_with_len}
-use Rattle.std.specs.Option.{is_some}
-use Rattle.q3_bits.specs.Words.{row_bits}
-use Rattle.q3_strings.specs.Texts.{string_bits}
-use Rattle.q3_fields.specs.Kinds.{Layout}
-use Rattle.q3_entity.specs.declared.state.EntityState.{EntityState}
-use Rattle.q3_entity.specs.Entities.{zero_entity}
-use Rattle.q3_entity.specs.Delta.{entity_delta}
+-- The section with a gamestate: its text, what is read of it, and what is spelled so.
+use Rattle.std.proofs.Common.{◌≡◌, ℕ, Bool, List, Ok, None, refl, subst, arith, inl}
+use Rattle.q3_bits.specs.ResultBind.{bind_ok, map_err_ok}
 use Rattle.q3_entity.specs.Baselines.{Lines}
 use Rattle.q3_profile.specs.declared.profile.Profile.{Profile}
-use Rattle.q3_svmsg.specs.Values.{Gamestate, Game, Message}
-use Rattle.q3_svmsg.specs.Texts.{config_bits, baseline_bits, numbered, section_bits, message_text}
-
--- a config string that isn't empty
-pub config-some : (words : List (List Bool)) (index : ℕ) (text : List ℕ) → 0 < length text
-    → config_bits words index text ≡ row_bits words ((3, 8) ∷ (index, 16) ∷ []) ++ string_bits words text
-config-some words index [] some = absurd (omega (arith, some))
-config-some words index (byte ∷ text) some = refl
-
--- a baseline that is set
-pub baseline-some : (words : List (List Bool)) (table : Layout) (line : Option EntityState) (state zero : EntityState) → is_some line ≡ true → state ≡ unwrap_or line zero
-    → baseline_bits words table line ≡ row_bits words ((4, 8) ∷ []) ++ entity_delta words table (zero_entity state.number) state true
-baseline-some words table None state zero some is = absurd cc
-baseline-some words table (Some line) state zero some is = ap (λ (state : EntityState). row_bits words ((4, 8) ∷ []) ++ entity_delta words table (zero_entity state.number) state true) (sym is)
-
--- the text of the next number, and of the others
-pub numbered-next : (k limit : ℕ) (text : ℕ → List Bool) (first : List Bool) → k < limit → first ≡ text k
-    → numbered (limit - k) k text ≡ first ++ numbered (limit - (k + 1)) (k + 1) text
-unfolding numbered
-numbered-next k limit text first more is =
-    let one : limit - k ≡ suc (limit - (k + 1)) = omega arith in
-    ap (λ (n : ℕ). flat_map text (range_with_len k n)) one ∙ ap (λ (first : List Bool). first ++ flat_map text (range_with_len (k + 1) (limit - (k + 1)))) (sym is)
-
--- past the last there is none
-pub numbered-end : (k limit : ℕ) (text : ℕ → List Bool) → limit ≤ k → numbered (limit - k) k text ≡ []
-unfolding numbered
-numbered-end k limit text past =
-    let none : limit - k ≡ 0 = omega arith in
-    ap (λ (n : ℕ). flat_map text (range_with_len k n)) none
+use Rattle.q3_profile.specs.Profile.{IsCodec}
+use Rattle.q3_gamestate.specs.Values.{Gamestate}
+use Rattle.q3_gamestate.specs.Reading.{gamestate_after}
+use Rattle.q3_gamestate.specs.Spelling.{SpellsGamestate}
+use Rattle.q3_gamestate.specs.Laws.{ReadIsSpelled, SpelledIsRead}
+use Rattle.q3_svmsg.specs.Values.{Context, Told, Game, Message}
+use Rattle.q3_svmsg.specs.Texts.{section_bits, message_text}
+use Rattle.q3_svmsg.specs.Reading.{game_error, game_read, game_after}
+use Rattle.q3_svmsg.proofs.SectionSpelled.{ReadSection, TakenSection}
 
 -- the text of a gamestate depends on no baselines but its own
 pub game_text : (profile : Profile) (lines other : Lines) (message : Message) (game : Gamestate) → message.section ≡ Game game
     → message_text profile lines None message ≡ message_text profile other None message
 unfolding message_text section_bits
 game_text profile lines other message game is = rw is refl
+
+pub game_was_spelled : ReadIsSpelled → (profile : Profile) (context : Context) (number : ℕ) (bits : List Bool) (found : Told × List Bool) → IsCodec profile → game_after profile bits ≡ Ok found
+    → ReadSection profile context number 2 bits found
+unfolding game_after
+game_was_spelled law profile context number bits found codec e =
+    let game = bind_ok (game_read (gamestate_after profile bits)) (λ game. Ok (Game game.0, game.1)) found e in
+    let made = game.2 in
+    let same : (Game game.0.0, game.0.1) ≡ found = cc in
+    let was = law profile game.0.0 bits game.0.1 codec (map_err_ok game_error (gamestate_after profile bits) game.0 game.1) in
+    subst (ReadSection profile context number 2 bits) {x = (Game game.0.0, game.0.1)} same (record {
+      text = was.1;
+      spells = was.3;
+      is = λ low. was.0;
+      number_is = tt;
+      parts = was.2;
+    })
+
+pub game_is_read : SpelledIsRead → (profile : Profile) (context : Context) (number : ℕ) (game : Gamestate) (text rest : List Bool) → IsCodec profile → SpellsGamestate profile game text
+    → TakenSection profile context number (Game game) text rest
+unfolding game_after
+game_is_read law profile context number game text rest codec s =
+    let read = law profile game text rest codec s in
+    record { operation = 2; fits = omega arith; bits = read.0; parts = read.1; reads = inl (refl, rw read.2 refl) }

@@ -1,15 +1,11 @@
 pub mod Below
 pub mod Fields
 pub mod Turns
-pub mod Rows
-pub mod Games
-pub mod Settings
 pub mod Held
 pub mod CommandsSpelled
 pub mod SectionSpelled
-pub mod GameSpelled
+pub mod Games
 pub mod MessageSpelled
 pub mod MessageRead
-pub mod GameWritten
 pub mod WrittenSpelled
 pub mod Skipped

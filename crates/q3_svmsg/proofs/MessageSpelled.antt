@@ -1,28 +1,28 @@
--- What is read as a message was spelled so.
+-- What is read as a message is well formed, and was spelled so.
 use Rattle.std.proofs.Common.{◌≡◌, ◌<◌, ◌≤◌, ◌^◌, ℕ, zero, suc, Bool, true, eqb, cond, List, [], ◌∷◌, ◌++◌, length, replicate, Ok, Err, refl, sym, ap, subst, ◌∙◌, append_assoc, arith, inl, inr}
+use Rattle.std.specs.List.{All}
 use Rattle.std.proofs.lemmas.Bool.{cases_Bool, eqb-true}
 use Rattle.std.proofs.lemmas.List.{length-append, append-nil}
+use Rattle.std.proofs.lemmas.List.Elements.{All-nil, All-cons}
 use Rattle.q3_bits.specs.ResultBind.{◌>>=◌, bind_ok}
 use Rattle.q3_bits.specs.Words.{IsCode, row_bits}
 use Rattle.q3_bits.specs.Laws.{ReadWasPut}
 use Rattle.q3_text.specs.declared.text.Command.{Command}
+use Rattle.q3_strings.specs.Commands.{nops_bits, SpellsCommands}
+use Rattle.q3_strings.specs.Rows.{row-none, row-empty}
+use Rattle.q3_strings.specs.Laws.{IsCommand, NopIsSpelled}
 use Rattle.q3_profile.specs.declared.profile.Profile.{Profile}
 use Rattle.q3_profile.specs.Profile.{IsCodec}
 use Rattle.q3_svmsg.specs.declared.error.Illegible.TheVariants.{BadOp}
 use Rattle.q3_svmsg.specs.Values.{Context, Told, Nothing, Message}
-use Rattle.q3_svmsg.specs.Reading.{field_read, commands_after, gamestate_after, section_after, ending_after, operations_after, message_after}
-use Rattle.q3_svmsg.specs.Spelling.{SpellsCommands, SpellsSection}
-use Rattle.q3_svmsg.specs.Laws.{IsContext, ReadIsSpelled}
-use Rattle.q3_strings.specs.Rows.{row-none, row-behind}
+use Rattle.q3_svmsg.specs.Reading.{field_read, commands_after, game_after, section_after, ending_after, operations_after, message_after}
+use Rattle.q3_svmsg.specs.Spelling.{SpellsSection}
+use Rattle.q3_svmsg.specs.Laws.{IsContext, HasNumber, IsReadTold, ReadIsSpelled}
 use Rattle.q3_svmsg.proofs.Below.{WasRead}
 use Rattle.q3_svmsg.proofs.Fields.{field_was}
 use Rattle.q3_svmsg.proofs.CommandsSpelled.{ReadCommand, command_was_spelled}
 use Rattle.q3_svmsg.proofs.SectionSpelled.{ReadSection, section_was_spelled}
-use Rattle.q3_svmsg.proofs.GameSpelled.{game_was_spelled}
-
--- so many nops
-abbrev pub nops : List (List Bool) → ℕ → List Bool
-nops words count = row_bits words (replicate count (1, 8))
+use Rattle.q3_svmsg.proofs.Games.{game_was_spelled}
 
 -- the end
 abbrev pub end : List (List Bool) → List Bool
@@ -33,7 +33,7 @@ end words = row_bits words ((8, 8) ∷ [])
 -- an ending that was read
 record ReadEnding (words : List (List Bool)) (bits : List Bool) (found : Unit {0} × List Bool) : Type 0 where
   count : ℕ
-  parts : bits ≡ nops words count ++ (end words ++ found.1)
+  parts : bits ≡ nops_bits words count ++ (end words ++ found.1)
 
 ending_was_spelled : ReadWasPut → (words : List (List Bool)) → IsCode words → (turns : ℕ) (bits : List Bool) (found : Unit {0} × List Bool) → ending_after words turns bits ≡ Ok found
     → ReadEnding words bits found
@@ -79,39 +79,12 @@ record ReadOperations (profile : Profile) (context : Context) (number : ℕ) (me
   ack : found.0.ack ≡ message.ack
   all : found.0.commands ≡ message.commands ++ added
   few : length found.0.commands ≤ 64
-  of_commands : SpellsCommands profile.code added commands
+  each : All IsCommand added
+  is : number < 2 ^ 32 → IsReadTold profile context found.0.section
+  number_is : HasNumber number found.0.section
+  of_commands : SpellsCommands profile.code 5 added commands
   of_section : SpellsSection profile context number found.0.section section
-  parts : bits ≡ commands ++ (nops profile.code count ++ (section ++ (nops profile.code behind ++ (end profile.code ++ found.1))))
-
--- the commands and the nops behind them, with a nop in front
-record NopBefore (words : List (List Bool)) (added : List Command) (commands : List Bool) (count : ℕ) : Type 0 where
-  text : List Bool
-  more : ℕ
-  spells : SpellsCommands words added text
-  parts : (rest : List Bool) → row_bits words ((1, 8) ∷ []) ++ (commands ++ (nops words count ++ rest)) ≡ text ++ (nops words more ++ rest)
-
-nop_before : (words : List (List Bool)) (added : List Command) (commands : List Bool) (count : ℕ) → SpellsCommands words added commands → NopBefore words added commands count
-nop_before words [] commands count s = record {
-  text = [];
-  more = suc count;
-  spells = refl;
-  parts = λ rest.
-      ap (λ (text : List Bool). row_bits words ((1, 8) ∷ []) ++ (text ++ (nops words count ++ rest))) s
-      ∙ sym (row-behind words 1 8 (replicate count (1, 8)) rest);
-}
-nop_before words (command ∷ added) commands count (before, first, others, whole, are_nops, of_command, of_others) =
-    let one = row_bits words ((1, 8) ∷ []) in
-    record {
-      text = (one ++ before) ++ first ++ others;
-      more = count;
-      spells = (one ++ before, first, others, refl, (suc are_nops.0, one_more before are_nops.0 are_nops.1), of_command, of_others);
-      parts = λ rest. ap (λ (text : List Bool). one ++ (text ++ (nops words count ++ rest))) whole ∙ simp append_assoc;
-    }
-  where
-    one_more : (before : List Bool) (k : ℕ) → before ≡ nops words k → row_bits words ((1, 8) ∷ []) ++ before ≡ nops words (suc k)
-    one_more before k is =
-        ap (λ (text : List Bool). row_bits words ((1, 8) ∷ []) ++ text) (is ∙ sym (append-nil (nops words k)))
-        ∙ sym (row-behind words 1 8 (replicate k (1, 8)) []) ∙ append-nil (nops words (suc k))
+  parts : bits ≡ commands ++ (nops_bits profile.code count ++ (section ++ (nops_bits profile.code behind ++ (end profile.code ++ found.1))))
 
 -- the end
 read_end : (profile : Profile) (context : Context) (number : ℕ) (message : Message) (bits rest : List Bool) → message.section ≡ Nothing → length message.commands ≤ 64
@@ -127,30 +100,36 @@ read_end profile context number message bits rest none few is =
       ack = refl;
       all = sym (append-nil message.commands);
       few = few;
+      each = All-nil IsCommand;
+      is = λ low. subst (IsReadTold profile context) (sym none) tt;
+      number_is = subst (HasNumber number) (sym none) tt;
       of_commands = refl;
       of_section = subst (λ told. SpellsSection profile context number told []) (sym none) refl;
       parts = is ∙ row-none words (end words ++ rest) ∙ row-none words (row_bits words [] ++ (end words ++ rest));
     }
 
 -- a nop
-read_nop : (profile : Profile) (context : Context) (number : ℕ) (message : Message) (bits left : List Bool) (found : Message × List Bool) → bits ≡ row_bits profile.code ((1, 8) ∷ []) ++ left
+read_nop : NopIsSpelled → (profile : Profile) (context : Context) (number : ℕ) (message : Message) (bits left : List Bool) (found : Message × List Bool) → bits ≡ row_bits profile.code ((1, 8) ∷ []) ++ left
     → ReadOperations profile context number message left found → ReadOperations profile context number message bits found
-read_nop profile context number message bits left found is read =
+read_nop law profile context number message bits left found is read =
     let words = profile.code in
-    let before = nop_before words read.added read.commands read.count read.of_commands in
+    let before = law words 5 read.added read.commands read.count read.of_commands in
     record {
       added = read.added;
-      commands = before.text;
-      count = before.more;
+      commands = before.0;
+      count = before.1;
       section = read.section;
       behind = read.behind;
       ack = read.ack;
       all = read.all;
       few = read.few;
-      of_commands = before.spells;
+      each = read.each;
+      is = read.is;
+      number_is = read.number_is;
+      of_commands = before.2;
       of_section = read.of_section;
       parts = is ∙ ap (λ (left : List Bool). row_bits words ((1, 8) ∷ []) ++ left) read.parts
-          ∙ before.parts (read.section ++ (nops words read.behind ++ (end words ++ found.1)));
+          ∙ before.3 (read.section ++ (nops_bits words read.behind ++ (end words ++ found.1)));
     }
 
 -- a command
@@ -161,7 +140,7 @@ read_command profile context number message bits left commands found is command 
     let words = profile.code in
     let operation = row_bits words ((5, 8) ∷ []) in
     let first = operation ++ command.text in
-    let others = nops words read.count ++ (read.section ++ (nops words read.behind ++ (end words ++ found.1))) in
+    let others = nops_bits words read.count ++ (read.section ++ (nops_bits words read.behind ++ (end words ++ found.1))) in
     record {
       added = command.command ∷ read.added;
       commands = first ++ read.commands;
@@ -171,7 +150,10 @@ read_command profile context number message bits left commands found is command 
       ack = read.ack;
       all = read.all ∙ ap (λ (all : List Command). all ++ read.added) command.all ∙ append_assoc message.commands (command.command ∷ []) read.added;
       few = read.few;
-      of_commands = ([], first, read.commands, refl, (0, no_nop), (command.text, command.spells, refl), read.of_commands);
+      each = All-cons IsCommand command.command read.added command.is read.each;
+      is = read.is;
+      number_is = read.number_is;
+      of_commands = ([], command.text, read.commands, refl, (0, row-empty words), command.spells, read.of_commands);
       of_section = read.of_section;
       parts =
           is
@@ -180,9 +162,6 @@ read_command profile context number message bits left commands found is command 
           ∙ sym (append_assoc operation command.text (read.commands ++ others))
           ∙ sym (append_assoc first read.commands others);
     }
-  where
-    no_nop : [] ≡ nops profile.code 0
-    no_nop = row-none profile.code [] ∙ append-nil (nops profile.code 0)
 
 -- the section, and what is behind it
 read_section : (profile : Profile) (context : Context) (number operation : ℕ) (message : Message) (bits left : List Bool) (section : Told × List Bool) (ending : Unit {0} × List Bool)
@@ -190,7 +169,7 @@ read_section : (profile : Profile) (context : Context) (number operation : ℕ) 
     → ReadOperations profile context number message bits (record message { section = section.0 }, ending.1)
 read_section profile context number operation message bits left section ending few is read behind =
     let words = profile.code in
-    let others = read.text ++ (nops words behind.count ++ (end words ++ ending.1)) in
+    let others = read.text ++ (nops_bits words behind.count ++ (end words ++ ending.1)) in
     record {
       added = [];
       commands = [];
@@ -200,6 +179,9 @@ read_section profile context number operation message bits left section ending f
       ack = refl;
       all = sym (append-nil message.commands);
       few = few;
+      each = All-nil IsCommand;
+      is = read.is;
+      number_is = read.number_is;
       of_commands = refl;
       of_section = read.spells;
       parts = is ∙ read.parts ∙ ap (λ (left : List Bool). read.text ++ left) behind.parts ∙ row-none words others;
@@ -237,7 +219,7 @@ operations_were_spelled laws profile context number codec is (suc turns) message
     let on_command = λ (left : List Bool).
     commands_after words message.commands left >>= λ commands. operations_after profile context number turns (record message { commands = commands.0 }) commands.1 in
     let on_game = λ (left : List Bool).
-    gamestate_after profile left >>= λ section. (ending_after words (length section.1) section.1 >>= λ ending. Ok (record message { section = section.0 }, ending.1)) in
+    game_after profile left >>= λ section. (ending_after words (length section.1) section.1 >>= λ ending. Ok (record message { section = section.0 }, ending.1)) in
     let on_section = λ (left : List Bool).
     section_after profile context number left >>= λ section. (ending_after words (length section.1) section.1 >>= λ ending. Ok (record message { section = section.0 }, ending.1)) in
     let operation = bind_ok (field_read words 8 bits)
@@ -258,7 +240,7 @@ operations_were_spelled laws profile context number codec is (suc turns) message
           let next = rw more at operation.2 in
           elim (cases_Bool (eqb operation.0.0 1)) [
             | inl nop ↦
-                read_nop profile context number message bits left found (front 1 nop)
+                read_nop laws.nop profile context number message bits left found (front 1 nop)
                 (operations_were_spelled laws profile context number codec is turns message left found none few (rw nop at next))
             | inr other ↦
                 let next' = rw other at next in
@@ -274,10 +256,10 @@ operations_were_spelled laws profile context number codec is (suc turns) message
                       let next'' = rw last at next' in
                       elim (cases_Bool (eqb operation.0.0 2)) [
                         | inl game ↦
-                            let section = bind_ok (gamestate_after profile left)
+                            let section = bind_ok (game_after profile left)
                             (λ section. ending_after words (length section.1) section.1 >>= λ ending. Ok (record message { section = section.0 }, ending.1)) found (rw game at next'') in
                             read_last profile context number 2 message bits left section.0 found few (front 2 game)
-                            (game_was_spelled laws profile context number left section.0 codec section.1)
+                            (game_was_spelled laws.game profile context number left section.0 codec section.1)
                             (ending_behind laws.put words code message section.0 found section.2)
                         | inr only ↦
                             let snapshot_or = rw only at next'' in
@@ -304,20 +286,22 @@ message_was_spelled laws profile context number message bits rest codec is e =
     let was = field_was laws.put words 32 bits ack.0 codec.code ack.1 in
     let read = operations_were_spelled laws profile context number codec is (length ack.0.1) (start ack.0.0) ack.0.1 (message, rest) refl (omega arith) ack.2 in
     let section = read.section in
-    let behind = nops words read.behind in (
-      row_bits words ((message.ack, 32) ∷ []) ++ read.commands ++ nops words read.count ++ section ++ behind ++ end words,
+    let behind = nops_bits words read.behind in
+    let low = subst (λ (n : ℕ). n < 2 ^ 32) (sym read.ack) was.fits in (
+      λ fits. record { ack = low; few = read.few; commands = subst (All IsCommand) (sym read.all) read.each; section = read.is fits; number_is = read.number_is },
+      row_bits words ((message.ack, 32) ∷ []) ++ read.commands ++ nops_bits words read.count ++ section ++ behind ++ end words,
       was.row [] ack.0.1 (row-none words ack.0.1)
           ∙ ap (λ (n : ℕ). row_bits words ((n, 32) ∷ []) ++ ack.0.1) (sym read.ack)
           ∙ ap (λ (left : List Bool). row_bits words ((message.ack, 32) ∷ []) ++ left) read.parts
           ∙ simp append_assoc,
       record {
-        ack = subst (λ (n : ℕ). n < 2 ^ 32) (sym read.ack) was.fits;
+        ack = low;
         few = read.few;
         commands = read.commands;
-        nops = nops words read.count;
+        nops = nops_bits words read.count;
         section = section;
         behind = behind;
-        of_commands = subst (λ (commands : List Command). SpellsCommands words commands read.commands) (sym read.all) read.of_commands;
+        of_commands = subst (λ (commands : List Command). SpellsCommands words 5 commands read.commands) (sym read.all) read.of_commands;
         of_nops = (read.count, refl);
         of_section = read.of_section;
         of_behind = (read.behind, refl);

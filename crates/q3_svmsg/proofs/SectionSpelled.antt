@@ -1,19 +1,21 @@
 -- A snapshot: what is read was spelled so, and what is spelled so is read.
-use Rattle.std.proofs.Common.{◌≡◌, ◌⊎◌, ◌<◌, ℕ, zero, suc, Bool, List, [], ◌∷◌, ◌++◌, length, Option, Some, None, IsSome, Ok, refl, sym, ap, subst, ◌∙◌, append_assoc, arith, inl, inr, Result, Err}
+use Rattle.std.proofs.Common.{◌≡◌, ◌⊎◌, ◌<◌, ◌^◌, ◌-◌, ◌==◌, ◌&&◌, not, nat_lt, if◌then◌else◌, ℕ, zero, suc, Bool, true, false, List, [], ◌∷◌, ◌++◌, length, Option, Some, None, IsSome, Ok, refl, sym, ap, subst, ◌∙◌, append_assoc, arith, inl, inr}
+use Rattle.std.proofs.lemmas.Bool.{cases_Bool}
+use Rattle.std.proofs.lemmas.Bool.Decides.{nat_tests}
 use Rattle.q3_bits.specs.ResultBind.{◌>>=◌, bind_ok, map_err_ok}
 use Rattle.q3_bits.specs.Words.{row_bits}
 use Rattle.q3_bits.specs.Laws.{PutIsRead, ReadWasPut}
 use Rattle.q3_strings.specs.Texts.{bytes_row}
 use Rattle.q3_strings.specs.Rows.{row-behind, row-first}
 use Rattle.q3_strings.specs.Laws.{BytesWerePut, BytesAreRead}
-use Rattle.q3_fields.specs.declared.delta.DeltaError.{DeltaError}
 use Rattle.q3_player.specs.declared.state.PlayerState.{PlayerState}
 use Rattle.q3_player.specs.declared.head.SnapHead.{SnapHead}
-use Rattle.q3_player.specs.State.{IsState, zero_player}
+use Rattle.q3_player.specs.State.{IsState, IsNormal, zero_player}
 use Rattle.q3_player.specs.Delta.{player_at}
 use Rattle.q3_player.specs.Spelling.{SpellsPlayer}
 use Rattle.q3_player.specs.Laws as player
 use Rattle.q3_entity.specs.declared.state.EntityState.{EntityState}
+use Rattle.q3_entity.specs.Entities.{AreNormal}
 use Rattle.q3_entity.specs.Baselines.{Lines, AreLines}
 use Rattle.q3_entity.specs.Lists.{list_after, list_skipped}
 use Rattle.q3_entity.specs.Spelling.{SpellsList, SpellsSkipped}
@@ -21,10 +23,10 @@ use Rattle.q3_entity.specs.Laws as entity
 use Rattle.q3_profile.specs.declared.profile.Profile.{Profile}
 use Rattle.q3_profile.specs.Profile.{IsCodec}
 use Rattle.q3_svmsg.specs.declared.error.Illegible.TheVariants.{Player, Entity}
-use Rattle.q3_svmsg.specs.Values.{Base, base_player, base_entities, number_of_base, Context, Told, Snap, Skipped}
+use Rattle.q3_svmsg.specs.Values.{Base, base_player, base_entities, number_of_base, IsNamed, Context, Told, Snap, Skipped}
 use Rattle.q3_svmsg.specs.Reading.{player_read, entities_read, field_read, held_base, snapshot_after, snapshot_skipped, against_base, area_after, section_after}
 use Rattle.q3_svmsg.specs.Spelling.{SpellsHead, SpellsSnapshot, SpellsSkippedSnapshot, SpellsSection}
-use Rattle.q3_svmsg.specs.Laws.{IsContext}
+use Rattle.q3_svmsg.specs.Laws.{IsHead, AreEntities, IsContext, HasNumber, IsReadTold}
 use Rattle.q3_svmsg.proofs.Fields.{field_was}
 use Rattle.q3_svmsg.proofs.Turns.{ReadsSection}
 use Rattle.q3_svmsg.proofs.CommandsSpelled.{area_was_spelled, area_is_read}
@@ -46,6 +48,9 @@ record ReadStates (profile : Profile) (lines : Lines) (against : Option Base) (b
   to : PlayerState
   entities : List EntityState
   told : found.0 ≡ Snap base (record head { player = to }) entities
+  normal : IsNormal profile.player.kinds to
+  are : AreEntities profile entities
+  normal_entities : AreNormal profile.entity entities
   text : List Bool
   spells : SpellsStates profile lines against to entities text
   parts : bits ≡ text ++ found.1
@@ -75,6 +80,9 @@ states_were_spelled player_law list_law profile lines against base head bits fou
       to = player.0.0;
       entities = entities.0.0;
       told = refl;
+      normal = to.1 from.normal;
+      are = record { list = list.4.list; states = list.0 };
+      normal_entities = list.1 from.normal_entities;
       text = to.2 ++ list.2;
       spells = record { player = to.2; list = list.2; state = to.0; of_player = to.4; of_list = list.4; whole = refl };
       parts = both_parts bits to.2 list.2 player.0.1 entities.0.1 to.3 list.3;
@@ -142,6 +150,8 @@ over_is_read zero_is player_law list_law profile to player list rest codec state
 pub record ReadSection (profile : Profile) (context : Context) (number operation : ℕ) (bits : List Bool) (found : Told × List Bool) : Type 0 where
   pub text : List Bool
   pub spells : SpellsSection profile context number found.0 text
+  pub is : number < 2 ^ 32 → IsReadTold profile context found.0
+  pub number_is : HasNumber number found.0
   pub parts : row_bits profile.code ((operation, 8) ∷ []) ++ bits ≡ text ++ found.1
 
 -- what stands behind a head that was read
@@ -149,15 +159,39 @@ record ReadBehind (profile : Profile) (context : Context) (number distance : ℕ
   text : List Bool
   spells : (front : List Bool) → ((to : PlayerState) → SpellsHead profile.code number distance (record head { player = to }) front)
       → SpellsSection profile context number found.0 (front ++ text)
+  is : IsHead head → head.number ≡ number → IsReadTold profile context found.0
+  number_is : head.number ≡ number → HasNumber number found.0
   parts : bits ≡ text ++ found.1
 
 is_some : (o : Option Base) (base : Base) → o ≡ Some base → IsSome o
 is_some o base e = subst (λ (o : Option Base). IsSome o) (sym e) refl
 
+-- a base at no distance is none
+pub none_named : (number : ℕ) → number_of_base number 0 ≡ 0
+none_named number = some (nat_lt 0 number)
+  where
+    some : (b : Bool) → (if b && false then number - 0 else 0) ≡ 0
+    some true = refl
+    some false = refl
+
+-- a base that was found at a distance is named
+base_named : (context : Context) (number distance : ℕ) (against : Option Base) → distance < 256 → held_base context (number_of_base number distance) ≡ against → (distance ≡ 0) ⊎ IsSome against
+    → IsNamed against number (number_of_base number distance)
+base_named context number distance None near held (inl none) = ap (number_of_base number) none ∙ none_named number
+base_named context number distance None near held (inr some) = absurd cc
+base_named context number distance (Some base) near held may =
+    elim (cases_Bool (nat_lt distance number && not (distance == 0))) [
+      | inl test ↦
+          let below : distance < number = grind (arith, nat_tests, test) in
+          let some : 0 < distance = grind (arith, nat_tests, test) in
+          rw test (omega (arith, below), omega (arith, below, some), omega (arith, near, below))
+      | inr test ↦ absurd (let wrong = rw test at held in cc)
+    ]
+
 held_is_spelled : (profile : Profile) (context : Context) (number distance : ℕ) (against : Option Base) (head : SnapHead) (bits : List Bool) (found : Told × List Bool)
-    → held_base context (number_of_base number distance) ≡ against → (distance ≡ 0) ⊎ IsSome (held_base context (number_of_base number distance))
+    → distance < 256 → held_base context (number_of_base number distance) ≡ against → (distance ≡ 0) ⊎ IsSome (held_base context (number_of_base number distance))
     → ReadStates profile context.lines against (number_of_base number distance) head bits found → ReadBehind profile context number distance head bits found
-held_is_spelled profile context number distance against head bits found held may read =
+held_is_spelled profile context number distance against head bits found near held may read =
     let base = number_of_base number distance in
     let states = subst (λ (o : Option Base). SpellsStates profile context.lines o read.to read.entities read.text) (sym held) read.spells in
     record {
@@ -176,23 +210,34 @@ held_is_spelled profile context number distance against head bits found held may
             of_list = states.of_list;
             whole = ap (λ (text : List Bool). front ++ text) states.whole ∙ sym (append_assoc front states.player states.list);
           });
+      is = λ is_head under.
+          subst (IsReadTold profile context) (sym read.told) (
+            (
+              record { number = is_head.number; time = is_head.time; flags = is_head.flags; area = is_head.area; short = is_head.short; player = states.state },
+              read.are,
+              subst (λ (n : ℕ). IsNamed (held_base context base) n base) (sym under) (base_named context number distance (held_base context base) near refl may),
+            ),
+            read.normal,
+            read.normal_entities,
+          );
+      number_is = λ under. subst (HasNumber number) (sym read.told) under;
       parts = read.parts;
     }
 
 behind_was_spelled : player.ZeroIsNormal → player.ReadIsSpelled → entity.ListReadIsSpelled → entity.SkippedIsSpelled → (profile : Profile) (context : Context) (number distance : ℕ)
-    (against : Option Base) (head : SnapHead) (bits : List Bool) (found : Told × List Bool) → IsCodec profile → IsContext profile context
+    (against : Option Base) (head : SnapHead) (bits : List Bool) (found : Told × List Bool) → distance < 256 → IsCodec profile → IsContext profile context
     → held_base context (number_of_base number distance) ≡ against → against_base profile context distance (number_of_base number distance) against head bits ≡ Ok found
     → ReadBehind profile context number distance head bits found
-behind_was_spelled zero_is player_law list_law skip_law profile context number distance (Some base) head bits found codec is held e =
-    held_is_spelled profile context number distance (Some base) head bits found held (inr (is_some (held_base context (number_of_base number distance)) base held))
+behind_was_spelled zero_is player_law list_law skip_law profile context number distance (Some base) head bits found near codec is held e =
+    held_is_spelled profile context number distance (Some base) head bits found near held (inr (is_some (held_base context (number_of_base number distance)) base held))
     (states_were_spelled player_law list_law profile context.lines (Some base) (number_of_base number distance) head bits found codec is.lines
     (held_is_normal profile context codec is zero_is (number_of_base number distance) (Some base) held) e)
-behind_was_spelled zero_is player_law list_law skip_law profile context number zero None head bits found codec is held e =
-    held_is_spelled profile context number 0 None head bits found held (inl refl)
+behind_was_spelled zero_is player_law list_law skip_law profile context number zero None head bits found near codec is held e =
+    held_is_spelled profile context number 0 None head bits found near held (inl refl)
     (states_were_spelled player_law list_law profile context.lines None (number_of_base number 0) head bits found codec is.lines
     (held_is_normal profile context codec is zero_is (number_of_base number 0) None held) e)
-behind_was_spelled zero_is player_law list_law skip_law profile context number (suc near) None head bits found codec is held e =
-    let distance = suc near in
+behind_was_spelled zero_is player_law list_law skip_law profile context number (suc less) None head bits found near codec is held e =
+    let distance = suc less in
     let base = number_of_base number distance in
     let over = bind_ok (snapshot_skipped profile bits) (λ skipped. Ok (Skipped base, skipped.1)) found e in
     let made = over.2 in
@@ -215,6 +260,8 @@ behind_was_spelled zero_is player_law list_law skip_law profile context number (
         of_list = read.of_list;
         whole = sym (append_assoc front read.player read.list);
       };
+      is = λ is_head under. held;
+      number_is = λ under. tt;
       parts = read.parts;
     })
 
@@ -240,7 +287,7 @@ section_was_spelled put bytes zero_is player_law list_law skip_law profile conte
     let area_was = area_was_spelled put bytes words code flags.0.1 area.0 area.1 in
     let snap = head time.0.0 flags.0.0 area.0.0 in
     let behind = behind_was_spelled zero_is player_law list_law skip_law profile context number distance.0.0 (held_base context (number_of_base number distance.0.0)) snap area.0.1 found
-    codec is refl area.2 in
+    distance_was.fits codec is refl area.2 in
     let count = (length area.0.0, 8) ∷ [] in
     let fields = (time.0.0, 32) ∷ (distance.0.0, 8) ∷ (flags.0.0, 8) ∷ count in
     let front = row_bits words ((7, 8) ∷ fields) ++ bytes_row words area.0.0 in
@@ -255,6 +302,16 @@ section_was_spelled put bytes zero_is player_law list_law skip_law profile conte
         short = area_was.short;
         text = refl;
       });
+      is = λ low.
+          behind.is (record {
+            number = low;
+            time = time_was.fits;
+            flags = flags_was.fits;
+            area = area_was.each;
+            short = area_was.short;
+            player = (zero_is profile.player.kinds codec.player.kinds).0;
+          }) refl;
+      number_is = behind.number_is refl;
       parts =
           ap (λ (bits : List Bool). row_bits words ((7, 8) ∷ []) ++ bits)
           (time_was.row ((distance.0.0, 8) ∷ (flags.0.0, 8) ∷ count) (bytes_row words area.0.0 ++ area.0.1)

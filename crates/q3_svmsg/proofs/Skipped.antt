@@ -1,5 +1,5 @@
 -- What is read against a base is skipped where that base isn't held.
-use Rattle.std.proofs.Common.{◌≡◌, ◌-◌, ◌<◌, ◌&&◌, ℕ, zero, suc, Bool, true, false, nat_lt, if◌then◌else◌, List, [], ◌++◌, Option, None, refl, sym, ap, subst, ◌∙◌, arith}
+use Rattle.std.proofs.Common.{◌≡◌, ◌<◌, ℕ, zero, suc, Bool, List, [], ◌++◌, Option, None, refl, sym, ap, subst, ◌∙◌, arith}
 use Rattle.std.proofs.lemmas.List.{append-nil}
 use Rattle.q3_bits.specs.ResultBind.{left_of, left_ok}
 use Rattle.q3_player.specs.declared.state.PlayerState.{PlayerState}
@@ -19,6 +19,7 @@ use Rattle.q3_svmsg.specs.Reading.{held_base, message_after}
 use Rattle.q3_svmsg.specs.Spelling.{SpellsSnapshot, SpellsSkippedSnapshot, SpellsSection, SpellsMessage}
 use Rattle.q3_svmsg.specs.Laws.{IsContext, ReadIsSpelled, SpelledIsRead, ReadIsSkipped}
 use Rattle.q3_svmsg.proofs.Held.{IsFrom, held_is_normal}
+use Rattle.q3_svmsg.proofs.SectionSpelled.{none_named}
 
 -- a text that reads with nothing behind it is all that was read
 all_read : (text read : List Bool) → text ++ [] ≡ read ++ [] → read ≡ text
@@ -49,13 +50,6 @@ list_over spelled skipped was profile lines against entities text codec are from
     subst (SpellsSkipped words table) (all_read text is.0 is.1) is.2
 
 -- a base that is named is at a distance
-none_named : (number : ℕ) → number_of_base number 0 ≡ 0
-none_named number = some (nat_lt 0 number)
-  where
-    some : (b : Bool) → (if b && false then number - 0 else 0) ≡ 0
-    some true = refl
-    some false = refl
-
 at_distance : (number base distance : ℕ) → base ≡ number_of_base number distance → 0 < base → 0 < distance
 at_distance number base zero named some = absurd (omega (arith, named, none_named number, some))
 at_distance number base (suc distance) named some = omega arith
@@ -88,8 +82,8 @@ pub message_is_skipped : player.ZeroIsNormal → player.SpelledIsRead → player
     → ReadIsSpelled → SpelledIsRead → ReadIsSkipped
 message_is_skipped zero_is spelled alike read list_law skip_law skipped_law was_spelled is_read profile context other number base head entities message bits rest codec is is' section some none e =
     let found = was_spelled profile context number message bits rest codec is e in
-    let text = found.0 in
-    let s = found.2 in
+    let text = found.1 in
+    let s = found.3 in
     let of_snapshot : SpellsSnapshot profile context number base head entities s.section = subst (λ (told : Told). SpellsSection profile context number told s.section) section s.of_section in
     let skipped : Message = record message { section = Skipped base } in
     let spells : SpellsMessage profile other number skipped text = record {
@@ -105,4 +99,4 @@ message_is_skipped zero_is spelled alike read list_law skip_law skipped_law was_
       of_behind = s.of_behind;
       whole = s.whole;
     } in
-    ap (λ (bits : List Bool). message_after profile other number bits) found.1 ∙ is_read profile other number skipped text rest codec is' spells
+    ap (λ (bits : List Bool). message_after profile other number bits) found.2 ∙ is_read profile other number skipped text rest codec is' spells

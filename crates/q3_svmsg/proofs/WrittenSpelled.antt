@@ -1,44 +1,20 @@
 -- What is written of a message spells it.
-use Rattle.std.proofs.Common.{◌≡◌, ◌⊎◌, ◌+◌, ◌-◌, ◌<◌, ◌==◌, ◌&&◌, ℕ, zero, suc, Bool, true, false, nat_lt, if◌then◌else◌, List, [], ◌∷◌, Option, Some, None, IsSome, refl, sym, ap, ◌∙◌, arith, inl, inr}
-use Rattle.std.specs.List.{All, flat_map}
+use Rattle.std.proofs.Common.{◌≡◌, ◌⊎◌, ◌+◌, ◌-◌, ◌<◌, ◌==◌, ◌&&◌, ℕ, zero, suc, Bool, true, false, nat_lt, if◌then◌else◌, [], Option, Some, None, IsSome, refl, sym, ap, ◌∙◌, arith, inl, inr}
 use Rattle.std.proofs.lemmas.Bool.Decides.{nat_tests}
 use Rattle.std.proofs.lemmas.List.{append-nil}
-use Rattle.std.proofs.lemmas.List.Elements.{All-head, All-tail}
-use Rattle.q3_bits.specs.Words.{row_bits}
-use Rattle.q3_text.specs.declared.text.Command.{Command}
-use Rattle.q3_strings.specs.Texts.{command_bits}
-use Rattle.q3_strings.specs.Rows.{row-none}
-use Rattle.q3_strings.specs.Laws.{IsCommand, CommandIsSpelled}
+use Rattle.q3_strings.specs.Commands.{commands_bits}
+use Rattle.q3_strings.specs.Rows.{row-empty}
 use Rattle.q3_player.specs.Delta.{player_delta}
 use Rattle.q3_entity.specs.Lists.{list_text}
 use Rattle.q3_profile.specs.declared.profile.Profile.{Profile}
 use Rattle.q3_profile.specs.Profile.{IsCodec}
 use Rattle.q3_svmsg.specs.Values.{Base, base_player, base_entities, Context, Told, Nothing, Game, Snap, Skipped, IsNamed, distance_to, number_of_base}
-use Rattle.q3_svmsg.specs.Texts.{server_command_bits, head_bits, snapshot_bits, section_bits, message_text}
+use Rattle.q3_svmsg.specs.Texts.{head_bits, snapshot_bits, section_bits, message_text}
 use Rattle.q3_svmsg.specs.Reading.{held_base}
-use Rattle.q3_svmsg.specs.Spelling.{SpellsCommands, SpellsSection}
+use Rattle.q3_svmsg.specs.Spelling.{SpellsSection}
 use Rattle.q3_svmsg.specs.Laws.{IsContext, IsTold, HasNumber, base_in, normal_told, WrittenIsSpelled}
 use Rattle.q3_svmsg.proofs.Below.{WasWritten}
-use Rattle.q3_svmsg.proofs.GameWritten.{game_is_spelled}
 use Rattle.q3_svmsg.proofs.Held.{held_is_normal}
-
--- ---- commands
-
-no_nop : (words : List (List Bool)) → [] ≡ row_bits words []
-no_nop words = row-none words [] ∙ append-nil (row_bits words [])
-
-commands_are_spelled : CommandIsSpelled → (words : List (List Bool)) (commands : List Command) → All IsCommand commands → SpellsCommands words commands (flat_map (server_command_bits words) commands)
-commands_are_spelled law words [] each = refl
-commands_are_spelled law words (command ∷ commands) each =
-    let is = All-head IsCommand command commands each in (
-      [],
-      server_command_bits words command,
-      flat_map (server_command_bits words) commands,
-      refl,
-      (0, no_nop words),
-      (command_bits words command, law words command is, refl),
-      commands_are_spelled law words commands (All-tail IsCommand command commands each),
-    )
 
 -- ---- the section
 
@@ -72,7 +48,7 @@ section_is_spelled : WasWritten → (profile : Profile) (context : Context) (num
     → SpellsSection profile context number (normal_told profile told) (section_bits profile context.lines (base_in context told) told)
 unfolding section_bits snapshot_bits
 section_is_spelled below profile context number Nothing codec is_context is has_number = refl
-section_is_spelled below profile context number (Game game) codec is_context is has_number = game_is_spelled below profile game codec is
+section_is_spelled below profile context number (Game game) codec is_context is has_number = below.game profile game codec is
 section_is_spelled below profile context number (Snap base head entities) codec is_context is has_number =
     let words = profile.code in
     let against = held_base context base in
@@ -107,7 +83,7 @@ pub message_is_spelled : WasWritten → WrittenIsSpelled
 unfolding message_text
 message_is_spelled below profile context number message codec is_context is =
     let words = profile.code in
-    let commands = flat_map (server_command_bits words) message.commands in
+    let commands = commands_bits words 5 message.commands in
     let section = section_bits profile context.lines (base_in context message.section) message.section in
     record {
       ack = is.ack;
@@ -116,9 +92,9 @@ message_is_spelled below profile context number message codec is_context is =
       nops = [];
       section = section;
       behind = [];
-      of_commands = commands_are_spelled below.command words message.commands is.commands;
-      of_nops = (0, no_nop words);
+      of_commands = below.commands words 5 message.commands is.commands;
+      of_nops = (0, row-empty words);
       of_section = section_is_spelled below profile context number message.section codec is_context is.section is.number_is;
-      of_behind = (0, no_nop words);
+      of_behind = (0, row-empty words);
       whole = simp append-nil;
     }

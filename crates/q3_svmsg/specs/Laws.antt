@@ -1,8 +1,6 @@
 -- Laws of a server's messages.
-use Rattle.std.specs.Prelude.{◌≡◌, ℕ, ◌^◌, ◌<◌, ◌≤◌, Bool, List, ◌++◌, length, map, Option, Some, None, All, IsSome, Ok}
-use Rattle.q3_text.specs.Texts.{IsTextByte}
+use Rattle.std.specs.Prelude.{◌≡◌, ℕ, ◌^◌, ◌<◌, ◌≤◌, Bool, List, ◌++◌, length, map, Option, Some, None, All, Ok}
 use Rattle.q3_strings.specs.Laws.{IsCommand}
-use Rattle.q3_config.specs.Strings.{AreStrings, server_id}
 use Rattle.q3_player.specs.declared.head.SnapHead.{SnapHead}
 use Rattle.q3_player.specs.State.{IsState, IsNormal, normal_player}
 use Rattle.q3_entity.specs.declared.state.EntityState.{EntityState}
@@ -10,7 +8,8 @@ use Rattle.q3_entity.specs.Entities.{normal_entity, IsList, AreStates, AreNormal
 use Rattle.q3_entity.specs.Baselines.{AreLines}
 use Rattle.q3_profile.specs.declared.profile.Profile.{Profile}
 use Rattle.q3_profile.specs.Profile.{IsCodec}
-use Rattle.q3_svmsg.specs.Values.{Base, IsNamed, Context, Gamestate, Told, Nothing, Game, Snap, Skipped, Message}
+use Rattle.q3_gamestate.specs.Laws.{IsGamestate}
+use Rattle.q3_svmsg.specs.Values.{Base, IsNamed, Context, Told, Nothing, Game, Snap, Skipped, Message}
 use Rattle.q3_svmsg.specs.Texts.{message_text}
 use Rattle.q3_svmsg.specs.Spelling.{SpellsMessage}
 use Rattle.q3_svmsg.specs.Reading.{held_base, message_after}
@@ -41,17 +40,6 @@ pub record IsContext (profile : Profile) (context : Context) : Type 0 where
   pub bases : (number : ℕ) (base : Base) → context.base number ≡ Some base → IsBase profile base
   pub lines : AreLines profile.entity context.lines
 
--- a gamestate as an end may send it: texts that a string can carry, baselines in normal form, and a server id
-pub record IsGamestate (profile : Profile) (game : Gamestate) : Type 0 where
-  pub command : game.command < 2 ^ 32
-  pub slot : game.slot < 2 ^ 32
-  pub feed : game.feed < 2 ^ 32
-  pub strings : AreStrings game.strings
-  pub texts : All (All IsTextByte) game.strings.texts
-  pub pending : game.strings.pending ≡ None
-  pub lines : AreLines profile.entity game.lines
-  pub id : IsSome (server_id game.strings)
-
 -- a message with a gamestate, with a snapshot, or with no section
 abbrev pub IsTold : Profile → Context → Told → Type 0
 IsTold profile context Nothing = Unit {0}
@@ -70,6 +58,21 @@ pub record IsMessage (profile : Profile) (context : Context) (number : ℕ) (mes
   pub few : length message.commands ≤ 64
   pub commands : All IsCommand message.commands
   pub section : IsTold profile context message.section
+  pub number_is : HasNumber number message.section
+
+-- a section that was read: one that an end may send, its states in normal form; or a snapshot whose base isn't held
+abbrev pub IsReadTold : Profile → Context → Told → Type 0
+IsReadTold profile context (Snap base head entities) =
+    IsTold profile context (Snap base head entities) × IsNormal profile.player.kinds head.player × AreNormal profile.entity entities
+IsReadTold profile context (Skipped base) = held_base context base ≡ None
+IsReadTold profile context told = IsTold profile context told
+
+-- a message that was read under a number
+pub record IsRead (profile : Profile) (context : Context) (number : ℕ) (message : Message) : Type 0 where
+  pub ack : message.ack < 2 ^ 32
+  pub few : length message.commands ≤ 64
+  pub commands : All IsCommand message.commands
+  pub section : IsReadTold profile context message.section
   pub number_is : HasNumber number message.section
 
 -- the base that a section is written against
@@ -97,11 +100,11 @@ WrittenIsSpelled = (profile : Profile) (context : Context) (number : ℕ) (messa
     → SpellsMessage profile context number (record message { section = normal_told profile message.section })
     (message_text profile context.lines (base_in context message.section) message)
 
--- what is read as a message was spelled so
+-- what is read as a message is well formed, its states in normal form, and was spelled so
 abbrev pub ReadIsSpelled : Type 0
 ReadIsSpelled = (profile : Profile) (context : Context) (number : ℕ) (message : Message) (bits rest : List Bool) → IsCodec profile
     → IsContext profile context → message_after profile context number bits ≡ Ok (message, rest)
-    → (text : List Bool) × (bits ≡ text ++ rest) × SpellsMessage profile context number message text
+    → (number < 2 ^ 32 → IsRead profile context number message) × (text : List Bool) × (bits ≡ text ++ rest) × SpellsMessage profile context number message text
 
 -- what is spelled so is read, with whatever follows it: so where a reader refuses, no front of the bits is spelled so
 abbrev pub SpelledIsRead : Type 0

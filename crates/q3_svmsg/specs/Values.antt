@@ -7,8 +7,8 @@ use Rattle.q3_player.specs.State.{zero_player}
 use Rattle.q3_entity.specs.declared.state.EntityState.{EntityState}
 use Rattle.q3_fields.specs.Kinds.{Layout}
 use Rattle.q3_entity.specs.Entities.{IsList, run_of}
-use Rattle.q3_config.specs.Strings.{Strings}
 use Rattle.q3_entity.specs.Baselines.{Lines}
+use Rattle.q3_gamestate.specs.Values.{Gamestate, gamestate_of}
 use Rattle.q3_svmsg.specs.declared.message.Section.{Section}
 use Rattle.q3_svmsg.specs.declared.message.Section.TheVariants as sections
 use Rattle.q3_svmsg.specs.declared.message.ServerMessage.{ServerMessage}
@@ -33,15 +33,6 @@ pub record Context : Type 0 where
   pub base : ℕ → Option Base
   pub lines : Lines
 
--- a gamestate: the number of the last server command issued, the config strings, the baselines, the client's slot, and the
--- checksum feed
-pub record Gamestate : Type 0 where
-  pub command : ℕ
-  pub strings : Strings
-  pub lines : Lines
-  pub slot : ℕ
-  pub feed : ℕ
-
 -- a message's section: none; a gamestate; a snapshot, with the number of its base, 0 for none; or a snapshot whose base
 -- isn't held and of which nothing is kept
 pub data Told : Type 0 where
@@ -65,13 +56,8 @@ section_of (sections.Snap base false) game head entities = Skipped base
 
 -- the gamestate for which a message has room
 abbrev pub game_of : ServerMessage → Gamestate
-game_of message = record {
-  command = message.command;
-  strings = message.configs;
-  lines = message.baselines;
-  slot = message.slot;
-  feed = message.feed;
-}
+game_of message =
+    gamestate_of (record { command = message.command; slot = message.slot; feed = message.feed }) message.configs message.baselines
 
 abbrev pub told_of : ServerMessage → Message
 told_of message = record {

@@ -1,12 +1,13 @@
 //! Why a server's message isn't legible.
 
 ghost use Rattle.std.specs.Prelude.{◌≡◌};
-ghost use Rattle.q3_svmsg.specs.declared.error.Illegible.TheVariants.{Bits, Entity, Player, Config};
-ghost use Rattle.q3_svmsg.specs.Reading.{string_error};
+ghost use Rattle.q3_svmsg.specs.declared.error.Illegible.TheVariants.{Bits, Entity, Player};
+ghost use Rattle.q3_svmsg.specs.Reading.{string_error, game_error};
 
 use q3_bits::ReadError;
 use q3_config::ConfigError;
 use q3_entity::EntityError;
+use q3_gamestate::GamestateError;
 use q3_player::PlayerError;
 use q3_strings::StringError;
 
@@ -57,14 +58,6 @@ impl From<PlayerError> for Illegible {
     }
 }
 
-impl From<ConfigError> for Illegible {
-    ghost from_gives = { λ e f. f ≡ Config e };
-
-    fn from(e: ConfigError) -> Illegible {
-        Illegible::Config(e)
-    }
-}
-
 impl From<StringError> for Illegible {
     ghost from_gives = { λ e f. f ≡ string_error e };
 
@@ -72,6 +65,21 @@ impl From<StringError> for Illegible {
         match e {
             StringError::Bits(e) => Illegible::Bits(e),
             StringError::Long => Illegible::TextLong,
+        }
+    }
+}
+
+impl From<GamestateError> for Illegible {
+    ghost from_gives = { λ e f. f ≡ game_error e };
+
+    fn from(e: GamestateError) -> Illegible {
+        match e {
+            GamestateError::Bits(e) => Illegible::Bits(e),
+            GamestateError::BadOp(operation) => Illegible::BadOp(operation),
+            GamestateError::TextLong => Illegible::TextLong,
+            GamestateError::Config(e) => Illegible::Config(e),
+            GamestateError::Entity(e) => Illegible::Entity(e),
+            GamestateError::NoServerId => Illegible::NoServerId,
         }
     }
 }

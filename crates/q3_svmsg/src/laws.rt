@@ -4,6 +4,7 @@ ghost use Rattle.q3_svmsg.specs.Laws.{WrittenIsSpelled, ReadIsSpelled, SpelledIs
 
 use q3_bits::laws as bits;
 use q3_entity::laws as entity;
+use q3_gamestate::laws as gamestate;
 use q3_player::laws as player;
 use q3_strings::laws as strings;
 
@@ -11,28 +12,25 @@ use q3_strings::laws as strings;
 pub fn written_is_spelled()
     ensures { WrittenIsSpelled }
 {
-    strings::string_is_spelled();
-    strings::command_is_spelled();
+    strings::commands_are_spelled();
+    gamestate::written_is_spelled();
     player::zero_is_normal();
     player::normal_is_normal();
     player::written_is_spelled();
-    entity::zero_is_normal();
-    entity::forced_is_spelled();
     entity::list_is_spelled();
 }
 
-/// What is read as a message was spelled so.
+/// What is read as a message is well formed, its states in normal form, and was spelled so.
 pub fn read_is_spelled()
     ensures { ReadIsSpelled }
 {
     bits::read_was_put();
     strings::bytes_were_put();
-    strings::string_read_is_spelled();
     strings::command_read_is_spelled();
+    strings::nop_is_spelled();
+    gamestate::read_is_spelled();
     player::zero_is_normal();
     player::read_is_spelled();
-    entity::zero_is_normal();
-    entity::entry_read_is_spelled();
     entity::list_read_is_spelled();
     entity::skipped_is_spelled();
 }
@@ -42,14 +40,12 @@ pub fn spelled_is_read()
     ensures { SpelledIsRead }
 {
     bits::put_is_read();
-    bits::read_was_put();
+    strings::turns_are_taken();
     strings::bytes_are_read();
-    strings::string_spelled_is_read();
     strings::command_spelled_is_read();
+    gamestate::spelled_is_read();
     player::zero_is_normal();
     player::spelled_is_read();
-    entity::zero_is_normal();
-    entity::entry_spelled_is_read();
     entity::list_spelled_is_read();
     entity::spelled_is_skipped();
 }

@@ -3,8 +3,6 @@
 
 pub mod bases;
 pub mod error;
-mod game_reading;
-mod game_writing;
 pub mod laws;
 pub mod message;
 mod operations;

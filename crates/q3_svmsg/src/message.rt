@@ -6,6 +6,7 @@ use arrayvec::ArrayVec;
 use q3_bits::NoMemory;
 use q3_config::Configs;
 use q3_entity::{Baselines, List};
+use q3_gamestate::BigString;
 use q3_player::SnapHead;
 use q3_text::Command;
 use std::alloc::Global;
@@ -20,9 +21,6 @@ pub enum Section {
     /// its end.
     Snap { base: u32, held: bool },
 }
-
-/// A config string that is read.
-pub(crate) type BigString = ArrayVec<u8, 8_191>;
 
 /// A message of the server, with room for 64 commands, one gamestate and one snapshot.
 // The lists and the string lie on the heap: `new` takes their memory, and no later call takes any.

@@ -7,20 +7,22 @@ ghost use Rattle.q3_bits.specs.Words.{IsCode};
 ghost use Rattle.q3_bits.specs.Streams.{Reads, holding};
 ghost use Rattle.q3_player.specs.State.{zero_player};
 ghost use Rattle.q3_entity.specs.Entities.{Rises};
-ghost use Rattle.q3_svmsg.specs.Values.{Base, Gamestate, Message, base_of, base_player, base_entities, number_of_base, told_of, section_of, HasList};
-ghost use Rattle.q3_svmsg.specs.Reading.{ack_at, area_after, held_base, snapshot_after, snapshot_skipped, against_base, section_after, ending_after, operations_after, commands_after, message_at, telling};
+ghost use Rattle.q3_gamestate.specs.Values.{Gamestate};
+ghost use Rattle.q3_svmsg.specs.Values.{Base, Game, Message, base_of, base_player, base_entities, number_of_base, game_of, told_of, section_of, HasList};
+ghost use Rattle.q3_svmsg.specs.Reading.{ack_at, area_after, game_after, held_base, snapshot_after, snapshot_skipped, against_base, section_after, ending_after, operations_after, commands_after, message_at, telling};
 
 use crate::bases::{BaseView, Bases, base_or};
 use crate::error::Illegible;
-use crate::game_reading::read_gamestate;
 use crate::message::{Section, ServerMessage};
-use crate::operations::{EOF, GAMESTATE, NOP, SERVER_COMMAND, SNAPSHOT};
+use crate::operations::{NOP, SERVER_COMMAND, SNAPSHOT};
 use arrayvec::ArrayVec;
-use q3_bits::{Code, ReadError, Reader, laws};
+use q3_bits::{Code, ReadError, Reader};
 use q3_entity::{Baselines, List, read_list, skip_list};
+use q3_gamestate::operations::{EOF, GAMESTATE};
+use q3_gamestate::read_gamestate;
 use q3_player::{PlayerState, SnapHead, read_player};
 use q3_profile::Profile;
-use q3_strings::{laws as strings, read_bytes, read_command};
+use q3_strings::{laws, read_bytes, read_command};
 use q3_text::Command;
 
 /// Reads the number of the last client command that the server executed, and answers how many bits it takes.
@@ -160,13 +162,32 @@ fn read_section<B: Bases>(
     read_against(r, profile, distance, base, bases, head, entities)
 }
 
+/// Reads a gamestate behind its operation, into its places.
+#[tactic(auto, unfolding(crate::specs::Reading::game_after))]
+fn read_game(r: &mut Reader, profile: &Profile, into: &mut ServerMessage) -> Result<(), Illegible>
+    ensures reads { Reads r.old r.new (game_after (record profile.now { code = r.old.words }) r.old.left) (holding (Game (game_of into.new)) result) }
+    ensures ack { into.new.ack ≡ into.old.ack }
+    ensures commands { into.new.commands ≡ into.old.commands }
+{
+    let numbers = read_gamestate(
+        r,
+        profile,
+        &mut into.configs,
+        &mut into.baselines,
+        &mut into.string,
+    )?;
+    into.command = numbers.command;
+    into.slot = numbers.slot;
+    into.feed = numbers.feed;
+    Ok(())
+}
+
 /// Reads what is behind the section: nops, and the end.
 fn read_ending(r: &mut Reader) -> Result<(), Illegible>
     requires { IsCode r.old.words }
     ensures { Reads r.old r.new (ending_after r.old.words (length r.old.left) r.old.left) result }
 {
-    laws::read_was_put();
-    laws::ends_cut_short();
+    laws::turns_are_taken();
     loop {
         let operation = r.get(8)?;
         if operation == EOF {
@@ -192,14 +213,13 @@ fn read_operations<B: Bases>(
         (holding (told_of into.new) result) }
     ensures list { OnOk result (HasList profile.now.entity (told_of into.new).section) }
 {
-    laws::read_was_put();
-    laws::ends_cut_short();
-    strings::command_read_is_spelled();
+    laws::turns_are_taken();
+    laws::command_read_is_spelled();
     loop {
         match r.get(8)? {
             NOP => {}
             GAMESTATE => {
-                read_gamestate(r, profile, into)?;
+                read_game(r, profile, into)?;
                 into.section = Section::Game;
                 return read_ending(r);
             }

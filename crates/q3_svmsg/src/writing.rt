@@ -2,23 +2,23 @@
 //! `SV_SendClientSnapshot`, `SV_SendClientGameState` and `SV_WriteSnapshotToClient`.
 
 ghost use Rattle.std.specs.Prelude.{◌≡◌, ◌≤◌, length, None, option_map};
-ghost use Rattle.std.specs.List.{flat_map};
 ghost use Rattle.q3_bits.specs.Streams.{Writes, Fills};
 ghost use Rattle.q3_entity.specs.Baselines.{Lines};
 ghost use Rattle.q3_entity.specs.Entities.{IsList};
-ghost use Rattle.q3_svmsg.specs.Values.{HasSnap, HasText, HasList, base_of, base_entities, distance_to, told_of};
-ghost use Rattle.q3_svmsg.specs.Texts.{server_command_bits, head_bits, snapshot_bits, section_bits, message_text};
+ghost use Rattle.q3_svmsg.specs.Values.{HasSnap, HasText, HasList, base_of, base_entities, distance_to, game_of, told_of};
+ghost use Rattle.q3_gamestate.specs.Values.{gamestate_of};
+ghost use Rattle.q3_svmsg.specs.Texts.{head_bits, snapshot_bits, section_bits, message_text};
 
 use crate::bases::{BaseView, base_or};
-use crate::game_writing::write_gamestate;
 use crate::message::{Section, ServerMessage};
-use crate::operations::{EOF, SERVER_COMMAND, SNAPSHOT};
+use crate::operations::{SERVER_COMMAND, SNAPSHOT};
 use q3_bits::{Overflow, Writer, laws};
 use q3_entity::{Baselines, EntityState, write_list};
+use q3_gamestate::operations::EOF;
+use q3_gamestate::{Numbers, write_gamestate};
 use q3_player::{PlayerState, SnapHead, write_player};
 use q3_profile::Profile;
-use q3_strings::{write_bytes, write_command};
-use q3_text::Command;
+use q3_strings::{write_bytes, write_commands};
 
 /// Writes a message with a snapshot to the front of a buffer of 1 to 16,384 bytes, and answers how many bytes it has;
 /// those behind it stay. The message's section names its base exactly where one is given, at most 255 below the head's
@@ -91,7 +91,7 @@ fn write_message(
 {
     laws::texts_are_written();
     w.put_all(&[(message.ack, 32)])?;
-    write_commands(w, &message.commands)?;
+    write_commands(w, SERVER_COMMAND as u8, &message.commands)?;
     write_section(w, profile, message, baselines, base)?;
     w.put_all(&[(EOF, 8)])
 }
@@ -111,7 +111,13 @@ fn write_section(
     ensures { Writes w.old w.new (section_bits (record profile.now { code = w.old.words }) baselines.now (option_map base_of base.entry) (told_of message.now).section) result }
 {
     match message.section {
-        Section::Game => write_gamestate(w, profile, message),
+        Section::Game => write_gamestate(
+            w,
+            profile,
+            numbers_of(message),
+            &message.configs,
+            &message.baselines,
+        ),
         Section::Snap {
             base: number,
             held: true,
@@ -125,6 +131,17 @@ fn write_section(
             &message.entities,
         ),
         _ => unreachable!(),
+    }
+}
+
+/// The numbers of a message's gamestate.
+fn numbers_of(message: &ServerMessage) -> Numbers
+    ensures { gamestate_of result message.now.configs message.now.baselines ≡ game_of message.now }
+{
+    Numbers {
+        command: message.command,
+        slot: message.slot,
+        feed: message.feed,
     }
 }
 
@@ -178,26 +195,4 @@ fn distance(number: u32, base: u32) -> u32
         return 0;
     }
     number - base
-}
-
-/// Writes commands.
-fn write_commands(w: &mut Writer, commands: &[Command]) -> Result<(), Overflow>
-    ensures { Writes w.old w.new (flat_map (server_command_bits w.old.words) commands.now) result }
-{
-    laws::texts_are_written();
-    // what stands there fits the room
-    prove!(w.length() > 0);
-    for command in commands {
-        write_server_command(w, command)?;
-    }
-    Ok(())
-}
-
-/// Writes a command: the operation, its number, and its string.
-fn write_server_command(w: &mut Writer, command: &Command) -> Result<(), Overflow>
-    ensures { Writes w.old w.new (server_command_bits w.old.words command.now) result }
-{
-    laws::texts_are_written();
-    w.put_all(&[(SERVER_COMMAND, 8)])?;
-    write_command(w, command)
 }

@@ -6,12 +6,11 @@ returns c =
     message_was_spelled (record {
       put = c.read_was_put.ensures;
       bytes = c.bytes_were_put.ensures;
-      string = c.string_read_is_spelled.ensures;
       command = c.command_read_is_spelled.ensures;
+      nop = c.nop_is_spelled.ensures;
+      game = c.read_is_spelled.ensures;
       no_player = c.zero_is_normal.ensures;
-      player = c.read_is_spelled.ensures;
-      no_entity = c.zero_is_normal-2.ensures;
-      entry = c.entry_read_is_spelled.ensures;
+      player = c.read_is_spelled-2.ensures;
       list = c.list_read_is_spelled.ensures;
       skipped = c.skipped_is_spelled.ensures;
     })

@@ -5,14 +5,12 @@ pub returns : goal.returns
 returns c =
     message_is_read (record {
       put = c.put_is_read.ensures;
-      was_put = c.read_was_put.ensures;
+      turns = c.turns_are_taken.ensures;
       bytes = c.bytes_are_read.ensures;
-      string = c.string_spelled_is_read.ensures;
       command = c.command_spelled_is_read.ensures;
+      game = c.spelled_is_read.ensures;
       no_player = c.zero_is_normal.ensures;
-      player = c.spelled_is_read.ensures;
-      no_entity = c.zero_is_normal-2.ensures;
-      entry = c.entry_spelled_is_read.ensures;
+      player = c.spelled_is_read-2.ensures;
       list = c.list_spelled_is_read.ensures;
       skipped = c.spelled_is_skipped.ensures;
     })

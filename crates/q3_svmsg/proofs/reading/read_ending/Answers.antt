@@ -1,7 +1,7 @@
 use Rattle.std.proofs.Common.{◌≡◌, ◌∙◌, ◌==◌, false, sym, arith}
 use Rattle.std.proofs.lemmas.Result.{err_from_is_err_and}
 use Rattle.std.proofs.lemmas.Bool.Decides.{nat_tests}
-use Rattle.q3_svmsg.proofs.Turns.{byte_shorter, turn, ending_fault, ending_done, ending_nop, ending_bad}
+use Rattle.q3_svmsg.proofs.Turns.{ending_fault, ending_done, ending_nop, ending_bad}
 use Rattle.q3_svmsg.proofs.reading.read_ending.Goals as goal
 
 pub returns-in_err-operation : goal.returns-in_err-operation
@@ -11,7 +11,7 @@ returns-in_err-operation c =
     let words = c.args.r.now.words in
     let read = rw h.words at c.in_err-operation.ensures.reads.value in
     rw (p.1, p.2) (record {
-      value = sym (ending_fault words c.ends_cut_short.ensures c.requires c.loop-operation.r.left c.in_err-operation.field-0.0 h.turns read h.enough) ∙ h.reads;
+      value = sym (ending_fault words c.turns_are_taken.ensures c.requires c.loop-operation.r.left c.in_err-operation.field-0.0 h.turns read h.enough) ∙ h.reads;
       words = c.in_err-operation.ensures.reads.words ∙ h.words;
       place = c.in_err-operation.ensures.reads.place ∙ h.place;
     })
@@ -20,7 +20,7 @@ pub loop-operation-smaller : goal.loop-operation-smaller
 loop-operation-smaller c =
     let h = c.loop-operation.invariant in
     let read = rw h.words at c.in_ok-operation.ensures.reads.value in
-    byte_shorter c.args.r.now.words c.read_was_put.ensures c.requires c.loop-operation.r.left c.get.new.self.left c.in_ok-operation.operation (sym read)
+    c.turns_are_taken.ensures.shorter c.args.r.now.words c.loop-operation.r.left c.get.new.self.left c.in_ok-operation.operation c.requires (sym read)
 
 pub loop-operation-preserved : goal.loop-operation-preserved
 loop-operation-preserved c =
@@ -28,7 +28,7 @@ loop-operation-preserved c =
     let words = c.args.r.now.words in
     let nop : c.in_ok-operation.operation ≡ 1 = omega (arith, c.if-operation-ne-NOP.false) in
     let read = rw (h.words, nop) at c.in_ok-operation.ensures.reads.value in
-    let one = turn words c.read_was_put.ensures c.requires c.loop-operation.r.left c.get.new.self.left 1 h.turns read h.enough in
+    let one = c.turns_are_taken.ensures.turn words c.loop-operation.r.left c.get.new.self.left 1 h.turns c.requires read h.enough in
     record {
       words = c.in_ok-operation.ensures.reads.words ∙ h.words;
       place = c.in_ok-operation.ensures.reads.place ∙ h.place;
@@ -42,7 +42,7 @@ returns-then-operation-eq-EOF c =
     let h = c.loop-operation.invariant in
     let words = c.args.r.now.words in
     let read = rw (h.words, c.if-operation-eq-EOF.true) at c.in_ok-operation.ensures.reads.value in
-    let one = turn words c.read_was_put.ensures c.requires c.loop-operation.r.left c.get.new.self.left 8 h.turns read h.enough in
+    let one = c.turns_are_taken.ensures.turn words c.loop-operation.r.left c.get.new.self.left 8 h.turns c.requires read h.enough in
     record {
       value = sym (ending_done words c.loop-operation.r.left c.get.new.self.left h.turns one.left read one.is) ∙ h.reads;
       words = c.in_ok-operation.ensures.reads.words ∙ h.words;
@@ -55,7 +55,7 @@ returns-then-operation-ne-NOP c =
     let words = c.args.r.now.words in
     let byte = c.in_ok-operation.operation in
     let read = rw h.words at c.in_ok-operation.ensures.reads.value in
-    let one = turn words c.read_was_put.ensures c.requires c.loop-operation.r.left c.get.new.self.left byte h.turns read h.enough in
+    let one = c.turns_are_taken.ensures.turn words c.loop-operation.r.left c.get.new.self.left byte h.turns c.requires read h.enough in
     let not_end : (byte == 8) ≡ false = grind (arith, nat_tests) in
     let not_nop : (byte == 1) ≡ false = grind (arith, nat_tests) in
     record {

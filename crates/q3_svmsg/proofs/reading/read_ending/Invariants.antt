@@ -1,6 +1,6 @@
 use Rattle.std.proofs.Common.{length}
 use Rattle.q3_svmsg.specs.Reading.{ending_after}
-use Rattle.q3_svmsg.proofs.Turns.{HasTurned}
+use Rattle.q3_strings.specs.Turns.{HasTurned}
 use Rattle.q3_svmsg.proofs.reading.read_ending.Given as goal
 
 abbrev pub invariant-loop-operation : goal.invariant-loop-operation

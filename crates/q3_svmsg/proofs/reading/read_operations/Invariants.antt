@@ -1,7 +1,7 @@
 use Rattle.std.proofs.Common.{length}
 use Rattle.q3_svmsg.specs.Values.{told_of, HasList}
 use Rattle.q3_svmsg.specs.Reading.{operations_after}
-use Rattle.q3_svmsg.proofs.Turns.{HasTurned}
+use Rattle.q3_strings.specs.Turns.{HasTurned}
 use Rattle.q3_svmsg.proofs.reading.read_operations.Given as goal
 
 abbrev pub invariant-loop-r : goal.invariant-loop-r

@@ -1,0 +1,30 @@
+-- What a gamestate says, as plain data.
+use Rattle.std.specs.Prelude.{ℕ, Result, Ok, Err}
+use Rattle.q3_config.specs.Strings.{Strings}
+use Rattle.q3_entity.specs.Baselines.{Lines}
+use Rattle.q3_gamestate.specs.declared.numbers.Numbers.{Numbers}
+use Rattle.q3_gamestate.specs.declared.error.GamestateError.{GamestateError}
+
+-- a gamestate: the number of the last server command issued, the config strings, the baselines, the client's slot, and the
+-- checksum feed
+pub record Gamestate : Type 0 where
+  pub command : ℕ
+  pub strings : Strings
+  pub lines : Lines
+  pub slot : ℕ
+  pub feed : ℕ
+
+-- the gamestate of numbers, strings and baselines
+abbrev pub gamestate_of : Numbers → Strings → Lines → Gamestate
+gamestate_of numbers strings lines = record {
+  command = numbers.command;
+  strings = strings;
+  lines = lines;
+  slot = numbers.slot;
+  feed = numbers.feed;
+}
+
+-- the answer of a reader that leaves strings and baselines in their places
+abbrev pub with_settings : Strings → Lines → Result Numbers GamestateError → Result Gamestate GamestateError
+with_settings strings lines (Ok numbers) = Ok (gamestate_of numbers strings lines)
+with_settings strings lines (Err e) = Err e

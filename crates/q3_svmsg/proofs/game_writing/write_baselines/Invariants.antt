@@ -1,9 +1,0 @@
-use Rattle.std.proofs.Common.{◌-◌}
-use Rattle.q3_bits.specs.Streams.{HasWritten}
-use Rattle.q3_entity.specs.Baselines.{most_lines, set_at}
-use Rattle.q3_svmsg.specs.Texts.{baseline_bits, numbered}
-use Rattle.q3_svmsg.proofs.game_writing.write_baselines.Given as goal
-
--- those below a number were written
-abbrev pub invariant-loop-number : goal.invariant-loop-number
-invariant-loop-number l = HasWritten l.fn.w l.w (numbered (most_lines - l.number) l.number (λ number. baseline_bits l.fn.w.words l.table (set_at l.baselines number))) (numbered most_lines 0 (λ number. baseline_bits l.fn.w.words l.table (set_at l.baselines number)))
