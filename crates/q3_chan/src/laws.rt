@@ -24,8 +24,8 @@ pub fn tagged_does()
     ensures { TaggedDoes }
 {}
 
-/// Where all pieces of a newer message but the last arrived in order, with the last it comes whole; and if nothing of it was
-/// gathered before, the others are partial.
+/// Where all pieces of a newer message but the last arrived in order, with nothing between them, with the last it comes
+/// whole; and if nothing of it was gathered before, the others are partial.
 pub fn pieces_are_tagged()
     ensures whole { PiecesAreTagged }
     ensures partial { FirstArePartial }

@@ -21,6 +21,9 @@ empty n is = record {
   pending = tt;
 }
 
+pub none-are : AreStrings no_strings
+none-are = empty places refl
+
 pub no_strings-are : (texts : List (List ℕ)) (pending : Option Pending) → texts ≡ replicate places [] → pending ≡ None → AreStrings (strings_with pending texts)
 no_strings-are texts pending texts_are none = subst (λ (p : Option Pending). AreStrings (strings_with p texts)) (sym none) (subst (λ (ts : List (List ℕ)). AreStrings (strings_with None ts)) (sym texts_are) (empty places refl))
 

@@ -1,4 +1,4 @@
--- Strings stay within their limits, whatever a command does.
+-- Strings stay within their limits, whatever is set and whatever a command does.
 use Rattle.std.proofs.Common.{◌≡◌, ℕ, ◌<◌, ◌≤◌, ◌++◌, ◌∷◌, eqb, ltb, List, length, Option, Some, None, inl, inr, refl, ap, arith, length-append}
 use Rattle.std.specs.Fmt.{decimal}
 use Rattle.std.proofs.lemmas.Bool.{cases_Bool, ltb-false}
@@ -6,7 +6,9 @@ use Rattle.q3_text.specs.Texts.{IsText}
 use Rattle.q3_config.specs.Strings.{Strings, Pending, AreStrings, places, longest_string}
 use Rattle.q3_config.specs.Commands.{Word, Whole, First, Middle, Last, Change, spelled, change_in}
 use Rattle.q3_config.specs.Changes.{without_pending, finish, go_on, after_change, after_shape, after_command}
-use Rattle.q3_config.proofs.Kept.{pending-stays, without_pending-stays, make_change-stays}
+use Rattle.q3_config.specs.Laws.{StringsStay}
+use Rattle.q3_config.proofs.Faults.{after_set-stays}
+use Rattle.q3_config.proofs.Kept.{none-are, pending-stays, without_pending-stays, make_change-stays}
 use Rattle.q3_config.proofs.ReadTexts.{parts_of}
 
 finish-stays : (strings : Strings) (word : Word) (index : ℕ) (text : List ℕ) → AreStrings strings → index < places → length text ≤ longest_string → AreStrings (finish strings word index text).strings
@@ -43,6 +45,9 @@ after_shape-stays strings text (Some change) is are is_text =
     let few = is_text.short in
     after_change-stays strings change.word change.index change.text are parts.fine.index (omega (arith, length-body (spelled change.word) (decimal change.index) change.text parts.end))
 
-pub strings-stay : (strings : Strings) (text : List ℕ) → AreStrings strings → IsText text → AreStrings (after_command strings text).strings
+after_command-stays : (strings : Strings) (text : List ℕ) → AreStrings strings → IsText text → AreStrings (after_command strings text).strings
 unfolding after_command
-strings-stay strings text are is_text = after_shape-stays strings text (change_in text) refl are is_text
+after_command-stays strings text are is_text = after_shape-stays strings text (change_in text) refl are is_text
+
+pub strings-stay : StringsStay
+strings-stay = record { none = none-are; set = after_set-stays; command = after_command-stays }

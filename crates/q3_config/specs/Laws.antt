@@ -3,7 +3,7 @@ use Rattle.std.specs.Prelude.{◌≡◌, ◌≢◌, ◌⊎◌, ℕ, ◌<◌, ◌
 use Rattle.std.specs.List.{range_with_len}
 use Rattle.q3_text.specs.Texts.{IsText, IsTextByte}
 use Rattle.q3_config.specs.declared.error.ConfigError.{ConfigError}
-use Rattle.q3_config.specs.Strings.{Strings, AreStrings, places, no_strings, with_string, admit_fault, after_set}
+use Rattle.q3_config.specs.Strings.{Strings, AreStrings, places, no_strings, with_string, set_fault, admit_fault, after_set}
 use Rattle.q3_config.specs.Commands.{Change, change_text, change_in, config_piece, piece_count}
 use Rattle.q3_config.specs.Changes.{after_command, after_commands}
 
@@ -36,9 +36,11 @@ PiecesMakeChange = (strings : Strings) (index : ℕ) (text : List ℕ) → AreSt
     → after_commands strings (piece_texts index text)
     ≡ record (with_string strings index text) { pending = if piece_count (length text) == 1 then strings.pending else None }
 
--- strings stay within their limits, whatever a command does
-abbrev pub StringsStay : Type 0
-StringsStay = (strings : Strings) (text : List ℕ) → AreStrings strings → IsText text → AreStrings (after_command strings text).strings
+-- strings are within their limits at first, and stay so, whatever is set and whatever a command does
+pub record StringsStay : Type 0 where
+  pub none : AreStrings no_strings
+  pub set : (strings : Strings) (index : ℕ) (text : List ℕ) → AreStrings strings → AreStrings (after_set strings index text (set_fault strings index text))
+  pub command : (strings : Strings) (text : List ℕ) → AreStrings strings → IsText text → AreStrings (after_command strings text).strings
 
 -- strings of bytes that a text may hold, and so is the text that is pending
 pub record HoldTexts (strings : Strings) : Type 0 where

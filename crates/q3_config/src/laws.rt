@@ -22,7 +22,7 @@ pub fn pieces_make_change()
     ensures { PiecesMakeChange }
 {}
 
-/// Strings stay within their limits, whatever a command does.
+/// Strings are within their limits at first, and stay so, whatever is set and whatever a command does.
 pub fn strings_stay()
     ensures { StringsStay }
 {}

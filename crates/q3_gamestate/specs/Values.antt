@@ -1,7 +1,7 @@
 -- What a gamestate says, as plain data.
 use Rattle.std.specs.Prelude.{ℕ, Result, Ok, Err}
-use Rattle.q3_config.specs.Strings.{Strings}
-use Rattle.q3_entity.specs.Baselines.{Lines}
+use Rattle.q3_config.specs.Strings.{Strings, no_strings}
+use Rattle.q3_entity.specs.Baselines.{Lines, no_lines}
 use Rattle.q3_gamestate.specs.declared.numbers.Numbers.{Numbers}
 use Rattle.q3_gamestate.specs.declared.error.GamestateError.{GamestateError}
 
@@ -13,6 +13,10 @@ pub record Gamestate : Type 0 where
   pub lines : Lines
   pub slot : ℕ
   pub feed : ℕ
+
+-- the gamestate with nothing in it
+abbrev pub empty_gamestate : Gamestate
+empty_gamestate = record { command = 0; strings = no_strings; lines = no_lines; slot = 0; feed = 0 }
 
 -- the gamestate of numbers, strings and baselines
 abbrev pub gamestate_of : Numbers → Strings → Lines → Gamestate

@@ -48,11 +48,13 @@ pub struct ServerMessage {
 
 impl ServerMessage {
     ghost use Rattle.q3_player.specs.Heads.{empty_head};
-    ghost use Rattle.q3_svmsg.specs.Values.{told_of, empty_message};
+    ghost use Rattle.q3_gamestate.specs.Values.{empty_gamestate};
+    ghost use Rattle.q3_svmsg.specs.Values.{told_of, game_of, empty_message};
 
     /// A message with nothing in it. `Err` is want of memory.
     pub fn new(alloc: Global) -> Result<ServerMessage, NoMemory>
         ensures told { IfOk result (λ made. told_of made ≡ empty_message) }
+        ensures game { IfOk result (λ made. game_of made ≡ empty_gamestate) }
         ensures head { IfOk result (λ made. made.head ≡ empty_head) }
         ensures entities { IfOk result (λ made. made.entities.value.items ≡ []) }
     {

@@ -96,8 +96,8 @@ pub fn newer_is_accepted()
     bits::message_holds_bits();
 }
 
-/// Whatever came before, where all pieces of a message arrive in order, whose number is above every number that its client
-/// has taken, its snapshot is accepted with the last.
+/// Whatever came before, where all pieces of a message arrive in order, with nothing between them, whose number is above
+/// every number that its client has taken, its snapshot is accepted with the last.
 pub fn in_order_is_accepted()
     ensures { InOrderIsAccepted }
 {
