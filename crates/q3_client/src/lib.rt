@@ -6,6 +6,8 @@ pub mod client;
 mod moves;
 pub mod print;
 pub mod snapshots;
+#[cfg(test)]
+mod tests;
 
 pub use client::{Client, ClientTook, MoveError, NoBase, Sent, SnapOutcome};
 pub use print::{print_sent, print_took};
