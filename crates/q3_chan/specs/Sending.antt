@@ -1,5 +1,5 @@
 -- What an end that sends keeps: the message under way, and which of its pieces goes next.
-use Rattle.std.specs.Prelude.{◌≡◌, ℕ, zero, suc, ◌+◌, nat_lt, if◌then◌else◌, List, [], ◌∷◌, length, Option, Some, None}
+use Rattle.std.specs.Prelude.{◌≡◌, ℕ, zero, suc, ◌+◌, ◌<◌, nat_lt, if◌then◌else◌, List, [], ◌∷◌, length, Option, Some, None}
 use Rattle.q3_chan.specs.declared.side.Side.{Side}
 use Rattle.q3_chan.specs.Datagrams.{piece_count, datagram}
 
@@ -56,3 +56,16 @@ handed_out (suc count) s = (next_of s).datagram ∷ handed_out count (next_of s)
 unfoldable pub behind : ℕ → Sending → Sending
 behind zero s = s
 behind (suc count) s = behind count (next_of s).sending
+
+-- ---- what an end hands out
+
+-- a datagram that is handed out: the number of the message, which of its pieces it carries, and its bytes
+pub record Piece : Type 0 where
+  pub number : ℕ
+  pub index : ℕ
+  pub bytes : List ℕ
+
+-- what an emission hands out stands in a buffer: nothing, or the datagram's bytes, which aren't none
+abbrev pub HandsOut : Option Piece → List ℕ → Type 0
+HandsOut None bytes = bytes ≡ []
+HandsOut (Some piece) bytes = (bytes ≡ piece.bytes) × (0 < length bytes)

@@ -1,3 +1,5 @@
 pub mod Client
 pub mod Views
+pub mod Moves
+pub mod Sending
 pub mod Report

@@ -1,11 +1,13 @@
--- What a client's take answers, as reports print it.
+-- What a client's end answers, as reports print it.
 use Rattle.std.specs.Prelude.{ℕ, List, [], ◌∷◌, codes, decimal, Option, Some, None}
 use Rattle.std.specs.List.{concat}
 use Rattle.q3_svmsg.specs.Report.{cause_word, cause_number}
 use Rattle.q3_client.specs.declared.client.ClientTook.{ClientTook}
-use Rattle.q3_client.specs.declared.client.ClientTook.TheVariants.{Runt, Connectionless, Old, OutOfOrder, BadFragment, Partial, Illegible, Applied}
+use Rattle.q3_client.specs.declared.client.ClientTook.TheVariants.{Dropped, Runt, Connectionless, Old, OutOfOrder, BadFragment, Partial, Illegible, Applied}
 use Rattle.q3_client.specs.declared.client.SnapOutcome.{SnapOutcome}
 use Rattle.q3_client.specs.declared.client.SnapOutcome.TheVariants.{NoSnap, Accepted, Skipped}
+use Rattle.q3_client.specs.declared.client.Sent.{Sent}
+use Rattle.q3_client.specs.declared.client.Sent.TheVariants as sent
 use Rattle.q3_client.specs.declared.client.NoBase.{NoBase}
 use Rattle.q3_client.specs.declared.client.NoBase.TheVariants.{NeverHeld}
 
@@ -28,6 +30,7 @@ outcome_text number (Skipped base cause) =
 
 -- what stands behind ` client C`
 abbrev pub took_text : ClientTook → List ℕ
+took_text (Dropped cause) = codes " dropped\n"
 took_text Runt = codes " runt\n"
 took_text Connectionless = codes " connectionless\n"
 took_text Old = codes " old\n"
@@ -40,3 +43,16 @@ took_text (Applied number snap) = outcome_text number snap
 -- what stands behind `deliver D`
 abbrev pub client_text : ℕ → ClientTook → List ℕ
 client_text c took = concat (codes " client " ∷ decimal c ∷ took_text took ∷ [])
+
+-- what stands behind `send C`
+abbrev pub sent_text : Sent → ℕ → List ℕ
+sent_text (sent.Dropped cause) datagram = codes " dropped\n"
+sent_text (sent.Fragment number) datagram = concat (codes " fragment " ∷ decimal number ∷ codes " datagram " ∷ decimal datagram ∷ codes "\n" ∷ [])
+sent_text sent.SequenceEnd datagram = codes " sequenceend\n"
+sent_text sent.Overlong datagram = codes " overlong\n"
+sent_text (sent.Message number bytes) datagram =
+    concat (codes " message " ∷ decimal number ∷ codes " bytes " ∷ decimal bytes ∷ codes " datagram " ∷ decimal datagram ∷ codes "\n" ∷ [])
+
+-- the line of a `send`
+abbrev pub send_text : ℕ → Sent → ℕ → List ℕ
+send_text c answer datagram = concat (codes "send " ∷ decimal c ∷ sent_text answer datagram ∷ [])

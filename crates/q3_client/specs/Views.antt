@@ -1,5 +1,5 @@
 -- What the program's types hold and lend of a snapshot.
-use Rattle.std.specs.Prelude.{ℕ, Option, Some, Result, Ok, Err}
+use Rattle.std.specs.Prelude.{ℕ, Bool, true, false, Option, Some, Result, Ok, Err}
 use Rattle.q3_svmsg.specs.declared.message.ServerMessage.{ServerMessage}
 use Rattle.q3_svmsg.specs.declared.error.Illegible.{Illegible}
 use Rattle.q3_svmsg.specs.Values as told
@@ -39,3 +39,17 @@ outcome_told (told.Skipped base) = Skipped base NeverHeld
 abbrev pub answer_read : ℕ → Result Message Illegible → ClientTook
 answer_read number (Ok message) = took.Applied number (outcome_told message.section)
 answer_read number (Err e) = took.Illegible e
+
+-- whether the newest message's snapshot was accepted, once a take answered this
+abbrev pub was_accepted : SnapOutcome → Bool
+was_accepted (Accepted base) = true
+was_accepted outcome = false
+
+abbrev pub delta_after : Bool → ClientTook → Bool
+delta_after delta (took.Applied number snap) = was_accepted snap
+delta_after delta answer = delta
+
+-- why a client was dropped, if it was, once a take answered this
+abbrev pub dropped_after : Option Illegible → ClientTook → Option Illegible
+dropped_after dropped (took.Illegible cause) = Some cause
+dropped_after dropped answer = dropped

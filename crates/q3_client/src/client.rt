@@ -1,16 +1,26 @@
 //! A client's end: pure state, one call an event.
-//! Keeps the rule "what a receiver answers", by q3_chan.
+//! Keeps the rules "what a receiver answers" and "fragmentation", by q3_chan, "layout of a client message" and "move
+//! section", by q3_clmsg, "which moves may be issued", "which moves a message carries", and "end of message numbers", which
+//! is this project's own.
 
 ghost use Rattle.std.specs.Prelude.{◌≡◌, IfOk, option_map};
+ghost use Rattle.q3_chan.specs.Sending.{HandsOut};
+ghost use Rattle.q3_clmsg.specs.Values.{said_of};
 ghost use Rattle.q3_client.specs.Client.{new_client, take_at};
-ghost use Rattle.q3_client.specs.Views.{snapshot_of};
+ghost use Rattle.q3_client.specs.Moves.{most_moves, add_move_at, carried};
+ghost use Rattle.q3_client.specs.Sending.{message_with, emit_at};
+ghost use Rattle.q3_client.specs.Views.{snapshot_of, delta_after, dropped_after};
 
 use crate::bases::NoBases;
+use crate::moves::{Issued, MOST_MOVES, carry, is_issuable};
 use crate::snapshots::{SnapshotView, Snapshots};
+use circular_buffer::HeapCircularBuffer;
 use q3_bits::NoMemory;
-use q3_chan::{Gathered, Gatherer, LONGEST_MESSAGE, Side};
+use q3_chan::{Datagram, Gathered, Gatherer, LONGEST_MESSAGE, SEQUENCE_END, Sender, Side};
+use q3_clmsg::{ClientMessage, Move, message_key, write_client_message};
 use q3_profile::Profile;
 use q3_svmsg::Illegible;
+use q3_text::Text;
 use std::alloc::Global;
 use std::marker::Model;
 
@@ -35,6 +45,8 @@ pub enum SnapOutcome {
 /// What a client's take answers.
 #[derive(Clone, Copy, Debug, PartialEq, Eq)]
 pub enum ClientTook {
+    /// A message before wasn't legible, the first of them for this cause; nothing is taken any more.
+    Dropped(Illegible),
     /// The datagram has fewer bytes than its header.
     Runt,
     /// It begins with four bytes of 255.
@@ -47,13 +59,39 @@ pub enum ClientTook {
     BadFragment,
     /// A piece that isn't the last of its message.
     Partial,
+    /// The message isn't legible. The client is dropped.
     Illegible(Illegible),
     /// The message was applied: its number, and what became of its snapshot.
     Applied { number: u32, snap: SnapOutcome },
 }
 
-/// A client: a copy of the profile, what it gathers, a place for the bytes of a message that came whole, and the newest
-/// snapshot. After `new` no call takes memory.
+/// Why a move can't be issued.
+#[derive(Clone, Copy, Debug, PartialEq, Eq)]
+pub enum MoveError {
+    /// Its time isn't above that of the last move issued, which is this, in milliseconds.
+    NotLater(u32),
+    /// Forward, right or up is -128, or the time is 2^31 or above.
+    Range,
+}
+
+/// What a client's emit answers.
+#[derive(Clone, Copy, Debug, PartialEq, Eq)]
+pub enum Sent {
+    /// A message wasn't legible, the first of them for this cause; nothing is sent any more.
+    Dropped(Illegible),
+    /// A datagram with a further piece of the message of this number.
+    Fragment { number: u32 },
+    /// Message numbers have ended.
+    SequenceEnd,
+    /// The message has more than 16,384 bytes; its number is used again.
+    Overlong,
+    /// A datagram with a message, or its first piece: the message's number and its length.
+    Message { number: u32, bytes: usize },
+}
+
+/// A client: a copy of the profile, what it gathers, a place for the bytes of a message that came whole, the newest
+/// snapshot, what it sends, the moves that it issued, and places where a message is put together and written. After `new`
+/// no call takes memory.
 #[derive(Drop)]
 pub struct Client {
     profile: Profile,
@@ -64,13 +102,21 @@ pub struct Client {
     whole: Vec<u8>,
     bases: NoBases,
     snapshots: Snapshots,
+    delta: bool,
+    dropped: Option<Illegible>,
+    sender: Sender,
+    moves: HeapCircularBuffer<Issued>,
+    last_time: u32,
+    message: ClientMessage,
+    buffer: Vec<u8>,
 }
 
 impl Model for Client {
-    ghost use Rattle.std.specs.Prelude.{◌≡◌, length};
-    ghost use Rattle.q3_chan.specs.Datagrams.{longest_message};
+    ghost use Rattle.std.specs.Prelude.{◌≡◌, ◌<◌, length};
+    ghost use Rattle.q3_chan.specs.Datagrams.{longest_message, sequence_end};
     ghost use Rattle.q3_entity.specs.Baselines.{no_lines};
     ghost use Rattle.q3_client.specs.Client.{ClientState};
+    ghost use Rattle.q3_client.specs.Moves.{most_moves};
 
     ghost Value = { ClientState };
 
@@ -81,13 +127,20 @@ impl Model for Client {
       dup = c.dup;
       gathering = c.gatherer;
       accepted = c.snapshots;
+      delta = c.delta;
+      dropped = c.dropped;
+      sending = c.sender;
+      moves = c.moves.items;
+      last_time = c.last_time;
     } };
 
-    ghost invariant = { λ c. (c.bases.lines ≡ no_lines) × (length c.whole.items ≡ longest_message) };
+    ghost invariant = { λ c. (c.bases.lines ≡ no_lines) × (length c.whole.items ≡ longest_message)
+        × (length c.buffer.items ≡ longest_message) × (c.sender.number < sequence_end)
+        × (c.moves.capacity ≡ most_moves) };
 }
 
 impl Client {
-    /// A client that has taken nothing. It repeats `dup` old moves. `Err` is want of memory.
+    /// A client that has taken nothing. Each message repeats the moves of `dup` messages before it. `Err` is want of memory.
     pub fn new(
         alloc: Global,
         profile: &Profile,
@@ -106,15 +159,26 @@ impl Client {
             whole: vec![in alloc; 0; LONGEST_MESSAGE]?,
             bases: NoBases::new(alloc)?,
             snapshots: Snapshots::new(alloc)?,
+            delta: false,
+            dropped: None,
+            sender: Sender::new(alloc, Side::Client, qport)?,
+            moves: HeapCircularBuffer::with_capacity(alloc, MOST_MOVES)?,
+            last_time: 0,
+            message: ClientMessage::new(alloc)?,
+            buffer: vec![in alloc; 0; LONGEST_MESSAGE]?,
         })
     }
 
-    /// Takes a datagram, any bytes. A message that came whole is read; one that isn't legible changes nothing else.
+    /// Takes a datagram, any bytes. A message that came whole is read; by one that isn't legible the client is dropped, and
+    /// nothing else changes. `Dropped` comes exactly where it was dropped before, and nothing changes then.
     #[tactic(auto, using(crate::proofs::Heard::read_is), unfolding(crate::specs::Client::take_at))]
     pub fn take(&mut self, datagram: &[u8]) -> ClientTook
         ensures client { self.new ≡ (take_at self.old datagram.now).client }
         ensures answer { result ≡ (take_at self.old datagram.now).answer }
     {
+        if let Some(cause) = self.dropped {
+            return ClientTook::Dropped(cause);
+        }
         let (number, length) = match self.gatherer.take(datagram, &mut self.whole) {
             Gathered::Whole { number, length } => (number, length),
             Gathered::Partial => return ClientTook::Partial,
@@ -124,8 +188,74 @@ impl Client {
             Gathered::Runt => return ClientTook::Runt,
             Gathered::Connectionless => return ClientTook::Connectionless,
         };
-        self.snapshots
-            .read(&self.profile, &self.bases, number, &self.whole[..length])
+        let took = self
+            .snapshots
+            .read(&self.profile, &self.bases, number, &self.whole[..length]);
+        self.delta = took.delta_after(self.delta);
+        self.dropped = took.dropped_after(self.dropped);
+        took
+    }
+
+    /// Issues a move: the messages that are begun next carry it. `Err` is the first of: `NotLater` exactly where its time
+    /// isn't above that of the last move issued, or 0 before the first; `Range` exactly where forward, right or up is -128,
+    /// or the time is 2^31 or above.
+    pub fn add_move(&mut self, one: &Move) -> Result<(), MoveError>
+        ensures { add_move_at self.old one.now ≡ record { client = self.new; answer = result } }
+    {
+        if one.time <= self.last_time {
+            return Err(MoveError::NotLater(self.last_time));
+        }
+        if !is_issuable(one) {
+            return Err(MoveError::Range);
+        }
+        self.moves.push_back(Issued {
+            begun: self.sender.number(),
+            one: *one,
+        });
+        self.last_time = one.time;
+        Ok(())
+    }
+
+    /// Makes the next datagram for the server: it is empty where nothing is handed out. `Dropped` comes exactly where the
+    /// client was dropped.
+    #[tactic(auto, unfolding(crate::specs::Sending::emit_at))]
+    pub fn emit(&mut self, out: &mut Datagram) -> Sent
+        ensures client { self.new ≡ (emit_at self.old).client }
+        ensures answer { result ≡ (emit_at self.old).answer }
+        ensures piece { HandsOut (emit_at self.old).piece out.new.items }
+    {
+        out.clear();
+        if let Some(cause) = self.dropped {
+            return Sent::Dropped(cause);
+        }
+        if !self.sender.idle() {
+            self.sender.next(out);
+            return Sent::Fragment {
+                number: self.sender.number(),
+            };
+        }
+        let number = self.sender.number() + 1;
+        if number >= SEQUENCE_END {
+            return Sent::SequenceEnd;
+        }
+        let acknowledged = self.gatherer.taken();
+        let message = &mut self.message;
+        fill(
+            message,
+            acknowledged,
+            self.delta,
+            &self.moves,
+            number,
+            self.dup,
+        );
+        let key = message_key(0, acknowledged, &Text::new());
+        let Ok(bytes) = write_client_message(&self.profile.code, message, key, &mut self.buffer)
+        else {
+            return Sent::Overlong;
+        };
+        self.sender.start(&self.buffer[..bytes]);
+        self.sender.next(out);
+        Sent::Message { number, bytes }
     }
 
     /// The newest snapshot accepted.
@@ -134,4 +264,46 @@ impl Client {
     {
         self.snapshots.newest()
     }
+}
+
+impl ClientTook {
+    /// Whether the newest message's snapshot was accepted, once a take answered this.
+    fn delta_after(self, delta: bool) -> bool
+        ensures { result ≡ delta_after delta self }
+    {
+        match self {
+            ClientTook::Applied { snap, .. } => matches!(snap, SnapOutcome::Accepted { .. }),
+            _ => delta,
+        }
+    }
+
+    /// Why a client was dropped, if it was, once a take answered this.
+    fn dropped_after(self, dropped: Option<Illegible>) -> Option<Illegible>
+        ensures { result ≡ dropped_after dropped self }
+    {
+        match self {
+            ClientTook::Illegible(cause) => Some(cause),
+            _ => dropped,
+        }
+    }
+}
+
+/// Puts the message of a number together, with the moves that it carries.
+fn fill(
+    message: &mut ClientMessage,
+    acknowledged: u32,
+    delta: bool,
+    moves: &HeapCircularBuffer<Issued>,
+    number: u32,
+    dup: u8,
+)
+    requires { moves.now.capacity ≡ most_moves }
+    ensures { said_of message.new ≡ message_with acknowledged delta (carried number dup moves.now.items) }
+{
+    message.id = 0;
+    message.acknowledged = acknowledged;
+    message.command = 0;
+    message.commands.clear();
+    carry(moves, number, dup, &mut message.moves);
+    message.delta = delta && !message.moves.is_empty();
 }

@@ -3,9 +3,12 @@
 
 mod bases;
 pub mod client;
+mod moves;
 pub mod print;
 pub mod snapshots;
+#[cfg(test)]
+mod tests;
 
-pub use client::{Client, ClientTook, NoBase, SnapOutcome};
-pub use print::print_took;
+pub use client::{Client, ClientTook, MoveError, NoBase, Sent, SnapOutcome};
+pub use print::{print_sent, print_took};
 pub use snapshots::SnapshotView;

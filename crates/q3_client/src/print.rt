@@ -1,13 +1,13 @@
-//! Prints what a client's take answers, as reports have it.
+//! Prints what a client's end answers, as reports have it.
 
 ghost use Rattle.std.specs.Prelude.{◌≡◌, [], ◌∷◌, codes, decimal};
 ghost use Rattle.std.specs.List.{concat};
 ghost use Rattle.q3_io.specs.Faults.{HasCause};
 ghost use Rattle.q3_io.specs.Written.{Adds};
 ghost use Rattle.q3_svmsg.specs.Report.{cause_word, cause_number};
-ghost use Rattle.q3_client.specs.Report.{illegible_text, outcome_text, client_text};
+ghost use Rattle.q3_client.specs.Report.{illegible_text, outcome_text, client_text, send_text};
 
-use crate::client::{ClientTook, NoBase, SnapOutcome};
+use crate::client::{ClientTook, NoBase, Sent, SnapOutcome};
 use q3_io::{Failed, Piece, Sink, print_all};
 use q3_svmsg::{Illegible, cause_number, cause_word};
 
@@ -23,6 +23,7 @@ pub fn print_took<O: Sink>(c: u8, took: &ClientTook, out: &mut O) -> Result<(), 
             return print_applied(c, *number, *snap, out);
         }
         ClientTook::Illegible(cause) => return print_illegible(c, *cause, out),
+        ClientTook::Dropped(_) => b" dropped\n",
         ClientTook::Runt => b" runt\n",
         ClientTook::Connectionless => b" connectionless\n",
         ClientTook::Old => b" old\n",
@@ -121,4 +122,55 @@ fn print_applied<O: Sink>(c: u8, number: u32, snap: SnapOutcome, out: &mut O) ->
             out,
         ),
     }
+}
+
+/// Prints the line of a `send`. The datagram's number is used where one was handed out. `Failed` comes where the sink
+/// failed, behind a front of the line.
+pub fn print_sent<O: Sink>(c: u8, answer: &Sent, datagram: u32, out: &mut O) -> Result<(), Failed>
+    ensures adds { Adds (O.written out.old) (O.written out.new) (send_text c answer.now datagram) result }
+    ensures cause { HasCause (O.faults out.old) (O.faults out.new) result }
+{
+    let word: &[u8] = match answer {
+        Sent::Message { number, bytes } => {
+            return print_all(
+                &[
+                    Piece::Text(b"send "),
+                    Piece::Number(u64::from(c)),
+                    Piece::Text(b" message "),
+                    Piece::Number(u64::from(*number)),
+                    Piece::Text(b" bytes "),
+                    Piece::Number(*bytes as u64),
+                    Piece::Text(b" datagram "),
+                    Piece::Number(u64::from(datagram)),
+                    Piece::Text(b"\n"),
+                ],
+                out,
+            );
+        }
+        Sent::Fragment { number } => {
+            return print_all(
+                &[
+                    Piece::Text(b"send "),
+                    Piece::Number(u64::from(c)),
+                    Piece::Text(b" fragment "),
+                    Piece::Number(u64::from(*number)),
+                    Piece::Text(b" datagram "),
+                    Piece::Number(u64::from(datagram)),
+                    Piece::Text(b"\n"),
+                ],
+                out,
+            );
+        }
+        Sent::Dropped(_) => b" dropped\n",
+        Sent::SequenceEnd => b" sequenceend\n",
+        Sent::Overlong => b" overlong\n",
+    };
+    print_all(
+        &[
+            Piece::Text(b"send "),
+            Piece::Number(u64::from(c)),
+            Piece::Text(word),
+        ],
+        out,
+    )
 }

@@ -20,7 +20,7 @@ use Rattle.q3_server.specs.declared.server.SlotError.{SlotError}
 use Rattle.q3_server.specs.declared.server.SlotError.TheVariants.{Range, Taken, Twin}
 use Rattle.q3_chan.specs.declared.side.Side.TheVariants.{Server}
 use Rattle.q3_chan.specs.Datagrams.{sequence_end, longest_message}
-use Rattle.q3_chan.specs.Sending.{Sending, UnderWay, new_sending, started, next_of}
+use Rattle.q3_chan.specs.Sending.{Sending, UnderWay, Piece, new_sending, started, next_of}
 use Rattle.q3_server.specs.Built.{message_of}
 
 -- how many clients there may be
@@ -169,12 +169,6 @@ built_bits profile built = message_text profile no_lines None built
 abbrev pub built_bytes : Profile → Built → List ℕ
 built_bytes profile built = message_bytes (built_bits profile built)
 
--- a datagram that is handed out: the number of the message, which of its pieces it carries, and its bytes
-pub record Piece : Type 0 where
-  pub number : ℕ
-  pub index : ℕ
-  pub bytes : List ℕ
-
 -- what an emit of a slot gives: the slot after it, the answer, the message that it began, and the datagram that it hands out
 pub record SlotEmission : Type 0 where
   pub slot : SlotState
@@ -233,8 +227,3 @@ emit_from server c (Some slot) = emission_at server c (emit_slot server.profile 
 -- the server makes a datagram for a client
 unfoldable pub emit_at : ServerState → ℕ → Emission
 emit_at server c = emit_from server c (slot_at server c)
-
--- what an emission hands out stands in a buffer: nothing, or the datagram's bytes, which aren't none
-abbrev pub HandsOut : Option Piece → List ℕ → Type 0
-HandsOut None bytes = bytes ≡ []
-HandsOut (Some piece) bytes = (bytes ≡ piece.bytes) × (0 < length bytes)

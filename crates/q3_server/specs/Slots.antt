@@ -1,12 +1,12 @@
 -- How the server keeps a slot, and what each call does to it, with a client or with none.
 use Rattle.std.specs.Prelude.{Option, Some, None, option_map, Result, Ok, Err}
 use Rattle.q3_profile.specs.declared.profile.Profile.{Profile}
-use Rattle.q3_chan.specs.Sending.{Sending}
+use Rattle.q3_chan.specs.Sending.{Sending, Piece}
 use Rattle.q3_server.specs.declared.slot.Joined.{Joined}
 use Rattle.q3_server.specs.declared.server.Emitted.{Emitted}
 use Rattle.q3_server.specs.declared.server.Emitted.TheVariants as emitted
 use Rattle.q3_server.specs.declared.server.NoClient.{NoClient}
-use Rattle.q3_server.specs.Server.{MapState, SlotState, SlotEmission, Piece, emit_slot}
+use Rattle.q3_server.specs.Server.{MapState, SlotState, SlotEmission, emit_slot}
 
 -- what is being sent to a client, and what is kept of it beside that
 abbrev pub slot_of : Sending → Joined → SlotState

@@ -3,7 +3,8 @@
 //! project's own.
 
 ghost use Rattle.std.specs.Prelude.{◌≡◌, ◌<◌, ◌≤◌, None, IfOk, length, nat_lt, position, replicate};
-ghost use Rattle.q3_server.specs.Server.{places, most_numbers, new_server, is_of, add_client_at, set_time_at, set_entity_at, remove_entity_at, set_player_at, set_area_at, emit_at, HandsOut};
+ghost use Rattle.q3_server.specs.Server.{places, most_numbers, new_server, is_of, add_client_at, set_time_at, set_entity_at, remove_entity_at, set_player_at, set_area_at, emit_at};
+ghost use Rattle.q3_chan.specs.Sending.{HandsOut};
 
 use crate::entities::Map;
 use crate::slot::Slot;

@@ -7,7 +7,8 @@ ghost use Rattle.q3_fields.specs.Kinds.{Layout, end_mark};
 ghost use Rattle.q3_entity.specs.Entities.{most_entities, IsList};
 ghost use Rattle.q3_player.specs.State.{normal_player};
 ghost use Rattle.q3_svmsg.specs.Values.{told_of};
-ghost use Rattle.q3_server.specs.Server.{most_numbers, is_of, new_slot, with_player, with_area, next_message, HandsOut};
+ghost use Rattle.q3_server.specs.Server.{most_numbers, is_of, new_slot, with_player, with_area, next_message};
+ghost use Rattle.q3_chan.specs.Sending.{HandsOut};
 ghost use Rattle.q3_server.specs.Slots.{slot_of, given, slot_after, answer_of, piece_of};
 
 use crate::entities::Map;

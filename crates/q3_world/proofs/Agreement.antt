@@ -1,5 +1,5 @@
 -- A step by bytes is a step by tags.
-use Rattle.std.proofs.Common.{◌≡◌, ℕ, ◌+◌, ◌-◌, ◌<◌, ◌≤◌, Bool, false, List, length, map, Option, Some, None, Result, Ok, refl, sym, ap, subst, ◌∙◌, inl, inr, arith, lit<}
+use Rattle.std.proofs.Common.{◌≡◌, ℕ, ◌+◌, ◌-◌, ◌<◌, ◌≤◌, Bool, true, false, List, length, map, Option, Some, None, Result, Ok, refl, sym, ap, subst, ◌∙◌, inl, inr, arith, lit<}
 use Rattle.std.specs.Prelude.{◌⊎◌, nat_le, nat_lt, position, slice_get, slice_set}
 use Rattle.std.specs.Option.{option_map}
 use Rattle.std.proofs.lemmas.List.{length-map, map_push, set-get_or}
@@ -32,7 +32,7 @@ use Rattle.q3_chan.specs.Tags.{tagged, IsQuiet, PieceDoes}
 use Rattle.q3_chan.specs.Laws.{IsSendable, SentIsTagged, TaggedDoes, Gathers, EndsGather, EndsSend}
 use Rattle.q3_server.specs.declared.server.Emitted.{Emitted}
 use Rattle.q3_server.specs.declared.server.Emitted.TheVariants as emitted
-use Rattle.q3_client.specs.Client.{no_bases, ClientState, Taken, without_game, read_by, take_answer, take_gathered, take_at}
+use Rattle.q3_client.specs.Client.{no_bases, ClientState, Taken, without_game, read_by, take_answer, take_gathered, take_unless, take_at}
 use Rattle.q3_server.specs.Built.{IsHeld, IsArea, IsBuilt}
 use Rattle.q3_server.specs.Server.{SlotState, ServerState, Built, Emission, places, is_of, slot_at, with_slot, with_player, with_entity, without_entity, next_message, built_bits, built_bytes, hand_out, emit_bits, emit_new, emit_slot, emission_at, emit_from, emit_at}
 use Rattle.q3_world.specs.Ends.{Ends, EndsStep, client_at, join, set_entity, remove_entity, set_player, set_area}
@@ -41,7 +41,7 @@ use Rattle.q3_world.specs.World.{Tag, Step, Whole, no_message, history_at, with_
 use Rattle.q3_world.specs.StandsFor.{AreEnds, IsSent, WasBuilt, messages_of, StandsFor, bytes_of}
 use Rattle.q3_world.proofs.Growth.{history_after}
 use Rattle.q3_world.proofs.Clients.{at_number, slot_begun, AreEnds-begun, AreJoined-gathered, AreJoined-accepted}
-use Rattle.q3_world.proofs.Events.{Holds, with_new_slot, Holds-new, Holds-player, Holds-area, Holds-map, Holds-handed, handed_tag, Holds-taken, client_from, client_joined, tag_was_built, names_built, client_by}
+use Rattle.q3_world.proofs.Events.{Holds, with_new_slot, Holds-new, Holds-player, Holds-area, Holds-map, Holds-handed, handed_tag, Holds-taken, client_from, client_joined, tag_was_built, names_built, client_by, client_legible}
 use Rattle.q3_world.proofs.Held.{AreHeld-put, AreHeld-without}
 
 -- ---- what is cited of the layers below
@@ -315,12 +315,12 @@ holds_piece profile whole c number n client took built lt found does gathers is 
     elim does.either [
       | inl waits ↦
           let same = quiet_client (record client { gathering = g }) took.answer (λ n. Ok built) waits.quiet in
-          rw (same.0, same.1) (Holds-taken profile whole c client (record client { gathering = g }) None lt found refl does.side
+          rw (same.0, same.1) (Holds-taken profile whole c client (record client { gathering = g }) None lt found refl does.side refl
           (λ slot joins. AreJoined-gathered profile whole.ends.server.map slot client (history_at whole.histories c) g waits.taken gathers joins) holds)
       | inr came ↦
           let newer = came.newer in
           let number_is = is.number in
-          rw (came.answer, is.is) (Holds-taken profile whole c client (record client { gathering = g; accepted = Some is.snapshot }) (Some is.snapshot) lt found refl does.side
+          rw (came.answer, is.is) (Holds-taken profile whole c client (record client { gathering = g; accepted = Some is.snapshot; delta = true }) (Some is.snapshot) lt found refl does.side refl
           (λ slot joins. AreJoined-accepted profile whole.ends.server.map slot client (history_at whole.histories c) g is.snapshot (came.taken ∙ sym number_is) gathers was
           (omega (arith, newer, number_is)) joins) holds)
     ]
@@ -332,10 +332,10 @@ is_sent profile whole k tag at holds =
     (holds.facts.sent k tag (slice_get_within whole.sent k tag at))
 
 -- a client takes a datagram by what its bytes do
-taken_by_bytes : (client : ClientState) (bytes : List ℕ) (took : Took) → gathered_of client.gathering bytes ≡ took
+taken_by_bytes : (client : ClientState) (bytes : List ℕ) (took : Took) → client.dropped ≡ None → gathered_of client.gathering bytes ≡ took
     → take_at client bytes ≡ take_gathered client took (read_by client.profile took.message)
 unfolding take_at
-taken_by_bytes client bytes took e = rw e refl
+taken_by_bytes client bytes took legible e = ap (λ (dropped : Option Illegible). take_unless client bytes dropped) legible ∙ rw e refl
 
 delivered_to : (profile : Profile) (whole : Whole) (number : ℕ) (tag : Tag) (found : Option ClientState) → Cited profile
     → IsSent profile whole.histories tag → client_at whole.ends tag.client ≡ found → Holds profile whole
@@ -349,7 +349,7 @@ delivered_to profile whole number tag (Some client) cited is at holds =
     let does = cited.does client.gathering tag.number (built_bytes profile built) tag.index in
     record {
       same = ap (λ (t : Taken). kept_taken (kept_of profile whole) number tag.client t)
-          (taken_by_bytes client tag.bytes took (tag_is profile whole tag client cited is at holds) ∙ taken_alike profile client took tag.number built cited.reads was_built by does);
+          (taken_by_bytes client tag.bytes took (client_legible profile whole tag.client client is.client at holds) (tag_is profile whole tag client cited is at holds) ∙ taken_alike profile client took tag.number built cited.reads was_built by does);
       holds = holds_piece profile whole tag.client number tag.number client took built is.client at does (tag_gathers profile whole tag client cited is at holds) was_built (names_built profile whole tag is was_built) holds;
     }
 

@@ -1,5 +1,5 @@
 -- What holds of one client, and stays so.
-use Rattle.std.proofs.Common.{◌≡◌, ℕ, zero, suc, ◌+◌, ◌-◌, ◌^◌, ◌<◌, ◌≤◌, List, [], ◌∷◌, ◌++◌, length, get_or, Option, Some, None, refl, sym, ap, subst, ◌∙◌, inl, inr, arith}
+use Rattle.std.proofs.Common.{◌≡◌, ℕ, zero, suc, ◌+◌, ◌-◌, ◌^◌, ◌<◌, ◌≤◌, List, [], ◌∷◌, ◌++◌, length, get_or, true, Option, Some, None, refl, sym, ap, subst, ◌∙◌, inl, inr, arith}
 use Rattle.std.specs.List.{last_or}
 use Rattle.std.proofs.lemmas.List.{length_push, get_or_append_left, get_or_push}
 use Rattle.std.proofs.lemmas.List.Elements.{All-nil}
@@ -66,6 +66,7 @@ AreEnds-new profile challenge qport dup address chan first =
       sendable = λ k d lt. absurd (omega (arith, lt));
       by = refl;
       from = refl;
+      legible = refl;
     }
 
 -- another player and other area bytes
@@ -83,6 +84,7 @@ AreEnds-given profile slot client history player area held is ends =
       sendable = ends.sendable;
       by = ends.by;
       from = ends.from;
+      legible = ends.legible;
     }
 
 -- the message that goes to a slot next is built
@@ -131,6 +133,7 @@ AreEnds-begun profile map slot client history chan time entities fits sendable e
       sendable = each_more (λ (k : ℕ) (b : Built). IsSendable (built_bytes profile b)) history.built next ends.sendable sendable;
       by = ends.by;
       from = ends.from;
+      legible = ends.legible;
     }
 
 -- ---- a piece is handed out
@@ -153,6 +156,7 @@ AreEnds-handed profile slot client history chan ends =
       sendable = ends.sendable;
       by = ends.by;
       from = ends.from;
+      legible = ends.legible;
     }
 
 -- the bytes of the message under a number
@@ -179,8 +183,8 @@ handed_bytes profile slot left client history chan e ends =
 -- ---- another state of the client
 
 pub AreEnds-client : (profile : Profile) (slot : SlotState) (client next : ClientState) (history : History) (heard : Option Snapshot)
-    → next.profile ≡ profile → next.gathering.side ≡ Server → AreEnds profile slot client history → AreEnds profile slot next (history_heard history heard)
-AreEnds-client profile slot client next history None by from ends =
+    → next.profile ≡ profile → next.gathering.side ≡ Server → next.dropped ≡ None → AreEnds profile slot client history → AreEnds profile slot next (history_heard history heard)
+AreEnds-client profile slot client next history None by from legible ends =
     record {
       begun = ends.begun;
       side = ends.side;
@@ -192,8 +196,9 @@ AreEnds-client profile slot client next history None by from ends =
       sendable = ends.sendable;
       by = by;
       from = from;
+      legible = legible;
     }
-AreEnds-client profile slot client next history (Some snapshot) by from ends =
+AreEnds-client profile slot client next history (Some snapshot) by from legible ends =
     record {
       begun = ends.begun;
       side = ends.side;
@@ -205,6 +210,7 @@ AreEnds-client profile slot client next history (Some snapshot) by from ends =
       sendable = ends.sendable;
       by = by;
       from = from;
+      legible = legible;
     }
 
 -- ---- what joins the ends
@@ -286,7 +292,7 @@ AreJoined-gathered profile map slot client history g taken gathers joined =
 pub AreJoined-accepted : (profile : Profile) (map : MapState) (slot : SlotState) (client : ClientState) (history : History) (g : Gathering) (snapshot : Snapshot)
     → g.taken ≡ snapshot.head.number → Gathers (messages_of profile history.built) (length history.built) g
     → WasBuilt history.built snapshot → client.gathering.taken < snapshot.head.number → AreJoined profile map slot client history
-    → AreJoined profile map slot (record client { gathering = g; accepted = Some snapshot }) (record history { accepted = history.accepted ++ snapshot ∷ [] })
+    → AreJoined profile map slot (record client { gathering = g; accepted = Some snapshot; delta = true }) (record history { accepted = history.accepted ++ snapshot ∷ [] })
 AreJoined-accepted profile map slot client history g snapshot taken gathers was newer joined =
     let newest = ap number_of_newest joined.newest in
     let below = joined.below in

@@ -1,5 +1,5 @@
 -- Every list of events: what holds after it, and what it answers.
-use Rattle.std.proofs.Common.{◌≡◌, ℕ, ◌-◌, ◌^◌, ◌<◌, ◌≤◌, List, [], ◌∷◌, length, get_or, Option, Some, None, Result, Ok, Err, refl, sym, ap, subst, ◌∙◌, inl, inr, arith}
+use Rattle.std.proofs.Common.{◌≡◌, ℕ, ◌-◌, ◌^◌, ◌<◌, ◌≤◌, List, [], ◌∷◌, length, get_or, true, Option, Some, None, Result, Ok, Err, refl, sym, ap, subst, ◌∙◌, inl, inr, arith}
 use Rattle.std.specs.Prelude.{◌⊎◌, slice_get}
 use Rattle.std.specs.List.{AllByRecursion, last_or}
 use Rattle.std.specs.Option.{option_map}
@@ -354,7 +354,7 @@ applied_arrive does_so profile whole number c n snap tag (Some client) at is hol
       | inl waits ↦ λ e. absurd (quiet_applies now took.answer named_is n snap waits.quiet
           (same_delivered number tag.client c (take_answer now took.answer (λ k. Ok named_is)).answer (Applied n snap) e).1)
       | inr came ↦
-          let next = record now { accepted = Some built.snapshot } in
+          let next = record now { accepted = Some built.snapshot; delta = true } in
           let does_so : take_answer now took.answer (λ k. Ok named_is) ≡ record { client = next; answer = Applied tag.number (Accepted 0); heard = Some built.snapshot } =
           ap (λ (a : Gathered). take_answer now a (λ k. Ok named_is)) came.answer
           ∙ ap (λ (m : Message). apply_message now tag.number m) built.is in

@@ -4,7 +4,8 @@ use Rattle.std.specs.Prelude.{slice_get}
 use Rattle.std.proofs.lemmas.List.{length_push}
 use Rattle.q3_script.specs.declared.event.Event.{Event}
 use Rattle.q3_script.specs.declared.event.Event.TheVariants as events
-use Rattle.q3_server.specs.Server.{Piece, emit_at}
+use Rattle.q3_chan.specs.Sending.{Piece}
+use Rattle.q3_server.specs.Server.{emit_at}
 use Rattle.q3_client.specs.Client.{ClientState}
 use Rattle.q3_world.specs.Ends.{client_at}
 use Rattle.q3_world.specs.Kept.{SentBytes, Kept, datagrams_after, kept_arrive, kept_deliver, kept_step}

@@ -34,6 +34,7 @@ pub record AreEnds (profile : Profile) (slot : SlotState) (client : ClientState)
   pub sendable : (k : ℕ) (d : Built) → k < length history.built → IsSendable (built_bytes profile (slice_index_or history.built k d))
   pub by : client.profile ≡ profile
   pub from : client.gathering.side ≡ Server
+  pub legible : client.dropped ≡ None
 
 -- a client is at both ends or at none
 abbrev pub IsClient : Profile → Option SlotState → Option ClientState → History → Type 0

@@ -8,7 +8,8 @@ use Rattle.q3_script.specs.declared.event.Event.TheVariants as events
 use Rattle.q3_chan.specs.Tags.{tagged}
 use Rattle.q3_svmsg.specs.Values.{Snapshot}
 use Rattle.q3_server.specs.Built.{message_of}
-use Rattle.q3_server.specs.Server.{Built, Emission, Piece, places, emit_at, built_bytes}
+use Rattle.q3_chan.specs.Sending.{Piece}
+use Rattle.q3_server.specs.Server.{Built, Emission, places, emit_at, built_bytes}
 use Rattle.q3_client.specs.Client.{ClientState, Taken, take_gathered}
 use Rattle.q3_world.specs.Ends.{Ends, EndsStep, Answered, answered, client_at, with_client, new_ends, served, unknown, delivered, join, set_time, set_entity, remove_entity, set_player, set_area, show}
 

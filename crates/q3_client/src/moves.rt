@@ -1,0 +1,57 @@
+//! The moves that a client issued, and which of them a message carries.
+//! Keeps the rules "which moves may be issued" and "which moves a message carries", the engine's `CL_WritePacket`
+//! (cl_input.c).
+
+ghost use Rattle.std.specs.Prelude.{◌≡◌};
+ghost use Rattle.q3_client.specs.Moves.{most_moves, is_issuable, is_carried, carried};
+
+use arrayvec::ArrayVec;
+use circular_buffer::HeapCircularBuffer;
+use q3_clmsg::Move;
+
+/// How many of the newest moves a client keeps, and how many a message may carry.
+pub(crate) const MOST_MOVES: usize = 32;
+
+/// A move that was issued.
+#[derive(Clone, Copy, Debug, PartialEq, Eq)]
+pub(crate) struct Issued {
+    /// How many messages were begun before it.
+    pub begun: u32,
+    pub one: Move,
+}
+
+/// Whether a move may be issued: none of forward, right and up is -128, and its time is below 2^31.
+pub(crate) fn is_issuable(one: &Move) -> bool
+    ensures { result ≡ is_issuable one.now }
+{
+    one.forward != -128 && one.right != -128 && one.up != -128 && one.time < 1 << 31
+}
+
+impl Issued {
+    /// Whether the message of a number carries the move, where each message repeats the moves of `dup` messages before it.
+    fn is_carried(&self, number: u32, dup: u8) -> bool
+        ensures { result ≡ is_carried number dup self.now }
+    {
+        u64::from(number) <= u64::from(self.begun) + u64::from(dup) + 1
+    }
+}
+
+/// Copies the moves that the message of a number carries, the oldest first.
+pub(crate) fn carry(
+    moves: &HeapCircularBuffer<Issued>,
+    number: u32,
+    dup: u8,
+    into: &mut ArrayVec<Move, 32>,
+)
+    requires { moves.now.capacity ≡ most_moves }
+    ensures { into.new.items ≡ carried number dup moves.now.items }
+{
+    // they fit the room, since a ring holds no more than it has room for
+    prove!(moves.len() <= MOST_MOVES);
+    into.clear();
+    for issued in moves.iter() {
+        if issued.is_carried(number, dup) {
+            into.push(issued.one);
+        }
+    }
+}
