@@ -41,6 +41,7 @@ pub enum ServerTook {
 }
 
 /// What a take ran of a client's message: the moves, by rising time.
+#[derive(Drop)]
 pub struct Heard {
     pub moves: ArrayVec<Move, 32>,
 }
