@@ -1,4 +1,5 @@
 pub mod Built
 pub mod Server
 pub mod Slots
+pub mod Taking
 pub mod Report

@@ -18,8 +18,9 @@ use Rattle.q3_server.specs.declared.server.Emitted.TheVariants as emitted
 use Rattle.q3_server.specs.declared.server.NoClient.{NoClient}
 use Rattle.q3_server.specs.declared.server.SlotError.{SlotError}
 use Rattle.q3_server.specs.declared.server.SlotError.TheVariants.{Range, Taken, Twin}
-use Rattle.q3_chan.specs.declared.side.Side.TheVariants.{Server}
+use Rattle.q3_chan.specs.declared.side.Side.TheVariants.{Server, Client}
 use Rattle.q3_chan.specs.Datagrams.{sequence_end, longest_message}
+use Rattle.q3_chan.specs.Gathering.{Gathering, new_gathering}
 use Rattle.q3_chan.specs.Sending.{Sending, UnderWay, Piece, new_sending, started, next_of}
 use Rattle.q3_server.specs.Built.{message_of}
 
@@ -36,13 +37,15 @@ pub record MapState : Type 0 where
   pub time : ℕ
   pub entities : List EntityState
 
--- a client at the server: how it joined and from where, what is being sent to it, its player in normal form, and its area
--- bytes
+-- a client at the server: how it joined and from where, what is being sent to it, what was gathered of what it sends, the
+-- time of its last move that was run, 0 for none, its player in normal form, and its area bytes
 pub record SlotState : Type 0 where
   pub challenge : ℕ
   pub address : Address
   pub qport : ℕ
   pub sending : Sending
+  pub gathering : Gathering
+  pub last_run : ℕ
   pub player : PlayerState
   pub area : ArrayVec ℕ
 
@@ -77,8 +80,16 @@ pub record Handed (E : Type 0) : Type 0 where
 
 -- a client that just joined
 abbrev pub new_slot : ℕ → ℕ → Address → SlotState
-new_slot challenge qport address =
-    record { challenge = challenge; address = address; qport = qport; sending = new_sending Server 0; player = zero_player; area = record { items = [] } }
+new_slot challenge qport address = record {
+  challenge = challenge;
+  address = address;
+  qport = qport;
+  sending = new_sending Server 0;
+  gathering = new_gathering Client;
+  last_run = 0;
+  player = zero_player;
+  area = record { items = [] };
+}
 
 -- whether a slot's client has this host and qport
 abbrev pub is_of : ℕ → ℕ → Option SlotState → Bool

@@ -1,20 +1,30 @@
 -- How the server keeps a slot, and what each call does to it, with a client or with none.
-use Rattle.std.specs.Prelude.{Option, Some, None, option_map, Result, Ok, Err}
+use Rattle.std.specs.Prelude.{ℕ, List, [], Option, Some, None, option_map, Result, Ok, Err}
 use Rattle.q3_profile.specs.declared.profile.Profile.{Profile}
+use Rattle.q3_io.specs.declared.address.Address.{Address}
 use Rattle.q3_chan.specs.Sending.{Sending, Piece}
+use Rattle.q3_chan.specs.Gathering.{Gathering}
+use Rattle.q3_clmsg.specs.declared.moves.Move.{Move}
+use Rattle.q3_clmsg.specs.declared.error.ClientIllegible.{ClientIllegible}
+use Rattle.q3_clmsg.specs.Values.{Message}
 use Rattle.q3_server.specs.declared.slot.Joined.{Joined}
 use Rattle.q3_server.specs.declared.server.Emitted.{Emitted}
 use Rattle.q3_server.specs.declared.server.Emitted.TheVariants as emitted
 use Rattle.q3_server.specs.declared.server.NoClient.{NoClient}
 use Rattle.q3_server.specs.Server.{MapState, SlotState, SlotEmission, emit_slot}
+use Rattle.q3_server.specs.declared.taking.ServerTook.{ServerTook}
+use Rattle.q3_server.specs.declared.taking.ServerTook.TheVariants as took
+use Rattle.q3_server.specs.Taking.{last_run_of, runs, take_slot}
 
--- what is being sent to a client, and what is kept of it beside that
-abbrev pub slot_of : Sending → Joined → SlotState
-slot_of sending client = record {
+-- what is being sent to a client, what was gathered of what it sends, and what is kept of it beside that
+abbrev pub slot_of : Sending → Gathering → Joined → SlotState
+slot_of sending gathering client = record {
   challenge = client.challenge;
   address = client.address;
   qport = client.qport;
   sending = sending;
+  gathering = gathering;
+  last_run = client.last_run;
   player = client.player;
   area = client.area;
 }
@@ -39,3 +49,28 @@ answer_of profile map (Some slot) = (emission_of profile map slot).answer
 abbrev pub piece_of : Profile → MapState → Option SlotState → Option Piece
 piece_of profile map None = None
 piece_of profile map (Some slot) = (emission_of profile map slot).piece
+
+-- the slot after a datagram, the answer, and the moves that were run
+abbrev pub slot_behind : Profile → ℕ → Address → List ℕ → Option SlotState → Option SlotState
+slot_behind profile c from datagram found = option_map (λ slot. (take_slot profile c from datagram slot).slot) found
+
+abbrev pub took_of : Profile → ℕ → Address → List ℕ → Option SlotState → ServerTook
+took_of profile c from datagram None = took.Stranger
+took_of profile c from datagram (Some slot) = (take_slot profile c from datagram slot).answer
+
+abbrev pub moves_of : Profile → ℕ → Address → List ℕ → Option SlotState → List Move
+moves_of profile c from datagram None = []
+moves_of profile c from datagram (Some slot) = (take_slot profile c from datagram slot).moves
+
+-- the time of the last move run behind what was read, the answer, and the moves that were run
+abbrev pub last_run_read : ℕ → Result Message ClientIllegible → ℕ
+last_run_read last (Ok message) = last_run_of last message.moves
+last_run_read last (Err cause) = last
+
+abbrev pub took_read : ℕ → ℕ → Result Message ClientIllegible → ServerTook
+took_read c number (Ok message) = took.Ran c number
+took_read c number (Err cause) = took.Illegible c cause
+
+abbrev pub moves_read : ℕ → Result Message ClientIllegible → List Move
+moves_read last (Ok message) = runs last message.moves
+moves_read last (Err cause) = []

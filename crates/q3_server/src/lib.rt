@@ -5,8 +5,10 @@ mod entities;
 pub mod print;
 pub mod server;
 mod slot;
+pub mod taking;
 #[cfg(test)]
 mod tests;
 
 pub use print::{print_emitted, print_slot_error};
 pub use server::{Emitted, MOST_SLOTS, NoClient, Server, SlotError};
+pub use taking::{Heard, ServerTook};

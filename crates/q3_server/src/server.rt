@@ -2,14 +2,17 @@
 //! Keeps the rules "what the server sends", "fragmentation", by q3_chan, and "end of message numbers", which is this
 //! project's own.
 
-ghost use Rattle.std.specs.Prelude.{◌≡◌, ◌<◌, ◌≤◌, None, IfOk, length, nat_lt, position, replicate};
-ghost use Rattle.q3_server.specs.Server.{places, most_numbers, new_server, is_of, add_client_at, set_time_at, set_entity_at, remove_entity_at, set_player_at, set_area_at, emit_at};
+ghost use Rattle.std.specs.Prelude.{◌≡◌, ◌<◌, ◌≤◌, None, IfOk, IfSome, option_map, length, nat_lt, position, replicate};
+ghost use Rattle.q3_server.specs.Server.{places, most_numbers, new_server, is_of, add_client_at, set_time_at, set_entity_at, remove_entity_at, set_player_at, set_area_at, emit_at, slot_at};
 ghost use Rattle.q3_chan.specs.Sending.{HandsOut};
+ghost use Rattle.q3_server.specs.Taking.{take_at};
 
 use crate::entities::Map;
 use crate::slot::Slot;
+use crate::taking::{Heard, ServerTook};
 use q3_bits::NoMemory;
-use q3_chan::{Datagram, LONGEST_MESSAGE};
+use q3_chan::{Datagram, LONGEST_MESSAGE, NoQport, qport_of};
+use q3_clmsg::ClientMessage;
 use q3_entity::{Baselines, EntityState};
 use q3_io::Address;
 use q3_player::PlayerState;
@@ -59,7 +62,7 @@ pub enum Emitted {
 }
 
 /// The server: a copy of the profile, what the game handed in, and a slot for each client; and places where a message is
-/// put together and written. After `new` no call takes memory.
+/// put together and written, and where one that came whole stands and is read into. After `new` no call takes memory.
 #[derive(Drop)]
 pub struct Server {
     profile: Profile,
@@ -68,6 +71,8 @@ pub struct Server {
     baselines: Baselines,
     message: ServerMessage,
     buffer: Vec<u8>,
+    said: ClientMessage,
+    whole: Vec<u8>,
 }
 
 impl Model for Server {
@@ -81,7 +86,7 @@ impl Model for Server {
     ghost view = { λ s. record { profile = s.profile; map = s.map; slots = s.slots.items } };
 
     ghost invariant = { λ s. (length s.slots.items ≤ places) × (s.baselines ≡ no_lines)
-        × (length s.buffer.items ≡ longest_message) };
+        × (length s.buffer.items ≡ longest_message) × (length s.whole.items ≡ longest_message) };
 }
 
 impl Server {
@@ -98,6 +103,8 @@ impl Server {
             baselines: Baselines::new(alloc)?,
             message: ServerMessage::new(alloc)?,
             buffer: vec![in alloc; 0; LONGEST_MESSAGE]?,
+            said: ClientMessage::new(alloc)?,
+            whole: vec![in alloc; 0; LONGEST_MESSAGE]?,
         })
     }
 
@@ -126,7 +133,7 @@ impl Server {
         if self.slots[slot as usize].is_taken() {
             return Err(SlotError::Taken);
         }
-        if let Some(twin) = twin_of(&self.slots, from.host, qport) {
+        if let Some(twin) = slot_of(&self.slots, from.host, qport) {
             return Err(SlotError::Twin(twin));
         }
         self.slots[slot as usize].join(challenge, qport, from);
@@ -176,6 +183,50 @@ impl Server {
         self.slots[slot as usize].set_area(area)
     }
 
+    /// The address of a client, with the port that its newest datagram came from: `None` exactly where no client was added
+    /// in the slot.
+    pub fn address(&self, slot: u8) -> Option<Address>
+        ensures { result ≡ option_map (λ joined. joined.address) (slot_at self.now slot) }
+    {
+        if !self.has(slot) {
+            return None;
+        }
+        self.slots[slot as usize].address()
+    }
+
+    /// Takes a datagram from an address, any bytes, and tells what it ran. Its client is found by host and qport, and takes
+    /// over the port, also where the datagram proves old.
+    ///
+    /// In this order: `Runt` and `Connectionless` where the datagram has no qport; `Stranger` exactly where no client has
+    /// that host and qport; `Old`, `OutOfOrder`, `BadFragment` and `Partial` as the gathering of the client's slot answers;
+    /// `Illegible` where a message that came whole isn't legible: then only the newest number, the port and what was
+    /// gathered have changed; and else `Ran`.
+    #[tactic(auto, unfolding(crate::specs::Taking::take_at))]
+    pub fn take(&mut self, from: Address, datagram: &[u8], heard: &mut Heard) -> ServerTook
+        ensures server { self.new ≡ (take_at self.old from datagram.now).server }
+        ensures answer { result ≡ (take_at self.old from datagram.now).answer }
+        ensures moves { heard.new.moves.items ≡ (take_at self.old from datagram.now).moves }
+    {
+        heard.moves.clear();
+        let qport = match qport_of(datagram) {
+            Ok(qport) => qport,
+            Err(NoQport::Runt) => return ServerTook::Runt,
+            Err(NoQport::Connectionless) => return ServerTook::Connectionless,
+        };
+        let Some(slot) = slot_of(&self.slots, from.host, qport) else {
+            return ServerTook::Stranger;
+        };
+        self.slots[slot as usize].take(
+            &self.profile,
+            slot,
+            from,
+            datagram,
+            &mut self.whole,
+            &mut self.said,
+            heard,
+        )
+    }
+
     /// Makes the next datagram for a client: it is empty where nothing is handed out. `NoClient` comes exactly where no
     /// client was added in the slot.
     #[tactic(auto, unfolding(crate::specs::Server::emit_at))]
@@ -211,9 +262,10 @@ fn empty_slots(alloc: Global, count: u8) -> Result<Vec<Slot>, NoMemory>
 }
 
 /// The least slot whose client has this host and qport.
-fn twin_of(slots: &[Slot], host: u32, qport: u16) -> Option<u8>
+fn slot_of(slots: &[Slot], host: u32, qport: u16) -> Option<u8>
     requires { length slots.now ≤ places }
-    ensures { result ≡ position (is_of host qport) slots.now }
+    ensures is { result ≡ position (is_of host qport) slots.now }
+    ensures within { IfSome result (λ slot. slot < length slots.now) }
 {
     let place = place_of(slots, host, qport)?;
     Some(place as u8)

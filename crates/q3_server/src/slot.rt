@@ -8,14 +8,20 @@ ghost use Rattle.q3_entity.specs.Entities.{most_entities, IsList};
 ghost use Rattle.q3_player.specs.State.{normal_player};
 ghost use Rattle.q3_svmsg.specs.Values.{told_of};
 ghost use Rattle.q3_server.specs.Server.{most_numbers, is_of, new_slot, with_player, with_area, next_message};
+ghost use Rattle.q3_bits.specs.Streams.{holding};
+ghost use Rattle.q3_chan.specs.declared.side.Side.TheVariants.{Client};
+ghost use Rattle.q3_chan.specs.Gathering.{new_gathering};
 ghost use Rattle.q3_chan.specs.Sending.{HandsOut};
-ghost use Rattle.q3_server.specs.Slots.{slot_of, given, slot_after, answer_of, piece_of};
+ghost use Rattle.q3_clmsg.specs.Values.{said_of};
+ghost use Rattle.q3_server.specs.Slots.{slot_of, given, slot_after, answer_of, piece_of, slot_behind, took_of, moves_of, last_run_read, took_read, moves_read};
 
 use crate::entities::Map;
 use crate::server::{Emitted, NoClient};
+use crate::taking::{Heard, ServerTook, read_message, run_moves};
 use arrayvec::ArrayVec;
 use q3_bits::NoMemory;
-use q3_chan::{Datagram, SEQUENCE_END, Sender, Side};
+use q3_chan::{Datagram, Gathered, Gatherer, SEQUENCE_END, Sender, Side};
+use q3_clmsg::{ClientIllegible, ClientMessage};
 use q3_entity::Baselines;
 use q3_io::Address;
 use q3_player::PlayerState;
@@ -24,37 +30,40 @@ use q3_svmsg::{Section, ServerMessage, write_snap};
 use std::alloc::Global;
 use std::marker::Model;
 
-/// How a client joined and from where, and what the game handed in for it alone.
+/// How a client joined and from where, the time of its last move that was run, and what the game handed in for it alone.
 #[derive(Drop)]
 pub(crate) struct Joined {
     pub challenge: u32,
     pub address: Address,
     pub qport: u16,
+    pub last_run: u32,
     pub player: PlayerState,
     pub area: ArrayVec<u8, 32>,
 }
 
-/// A sender, and the client that it sends to, once one has joined.
+/// A sender and a gatherer, and the client at their other end, once one has joined.
 #[derive(Drop)]
 pub(crate) struct Slot {
     sender: Sender,
+    gatherer: Gatherer,
     client: Option<Joined>,
 }
 
 impl Model for Slot {
     ghost use Rattle.std.specs.Prelude.{◌≡◌, ◌<◌, Option, option_map, MatchOption, ⊤};
     ghost use Rattle.q3_chan.specs.Datagrams.{sequence_end};
-    ghost use Rattle.q3_chan.specs.declared.side.Side.TheVariants.{Server};
+    ghost use Rattle.q3_chan.specs.declared.side.Side.TheVariants.{Server, Client};
+    ghost use Rattle.q3_chan.specs.Gathering.{new_gathering};
     ghost use Rattle.q3_chan.specs.Sending.{new_sending};
     ghost use Rattle.q3_server.specs.Server.{SlotState};
     ghost use Rattle.q3_server.specs.Slots.{slot_of};
 
     ghost Value = { Option SlotState };
 
-    ghost view = { λ s. option_map (slot_of s.sender) s.client };
+    ghost view = { λ s. option_map (slot_of s.sender s.gatherer) s.client };
 
     ghost invariant = { λ s. (s.sender.number < sequence_end)
-        × MatchOption s.client (s.sender ≡ new_sending Server 0) (λ client. ⊤) };
+        × MatchOption s.client ((s.sender ≡ new_sending Server 0) × (s.gatherer ≡ new_gathering Client)) (λ client. ⊤) };
 }
 
 impl Joined {
@@ -73,10 +82,38 @@ impl Joined {
         copy_area(area, &mut self.area);
     }
 
-    /// Makes the message that this sender sends to the client next.
+    /// Takes over the address.
+    fn set_address(&mut self, address: Address)
+        ensures { self.new ≡ record self.old { address = address } }
+    {
+        self.address = address;
+    }
+
+    /// Runs what was read of a message of the client in a slot, under a number.
+    fn run(
+        &mut self,
+        slot: u8,
+        number: u32,
+        read: Result<(), ClientIllegible>,
+        message: &ClientMessage,
+        heard: &mut Heard,
+    ) -> ServerTook
+        requires { heard.old.moves.items ≡ [] }
+        ensures client { self.new ≡ record self.old { last_run = last_run_read self.old.last_run (holding (said_of message.now) read) } }
+        ensures answer { result ≡ took_read slot number (holding (said_of message.now) read) }
+        ensures moves { heard.new.moves.items ≡ moves_read self.old.last_run (holding (said_of message.now) read) }
+    {
+        if let Err(cause) = read {
+            return ServerTook::Illegible(slot, cause);
+        }
+        self.last_run = run_moves(self.last_run, &message.moves, &mut heard.moves);
+        ServerTook::Ran { slot, number }
+    }
+
+    /// Makes the message that this sender sends to the client next. What was gathered doesn't count.
     fn fill(&self, sender: &Sender, map: &Map, message: &mut ServerMessage)
         requires { sender.now.number + 1 < 2 ^ 32 }
-        ensures told { told_of message.new ≡ next_message map.now (slot_of sender.now self.now) }
+        ensures told { told_of message.new ≡ next_message map.now (slot_of sender.now (new_gathering Client) self.now) }
         ensures section { message.new.section ≡ Section.Snap 0 true }
         ensures entities { message.new.entities.value.items ≡ take most_entities map.now.entities }
         ensures list { (table : Layout) → end_mark table ≡ most_numbers → IsList table (take most_entities map.now.entities) }
@@ -103,6 +140,7 @@ impl Slot {
     {
         Ok(Slot {
             sender: Sender::new(alloc, Side::Server, 0)?,
+            gatherer: Gatherer::new(alloc, Side::Client)?,
             client: None,
         })
     }
@@ -133,9 +171,17 @@ impl Slot {
             challenge,
             address,
             qport,
+            last_run: 0,
             player: PlayerState::zero(),
             area: ArrayVec::new(),
         });
+    }
+
+    /// The address of the client.
+    pub fn address(&self) -> Option<Address>
+        ensures { result ≡ option_map (λ slot. slot.address) self.now }
+    {
+        Some(self.client.as_ref()?.address)
     }
 
     /// Takes over the client's player, in normal form.
@@ -161,6 +207,43 @@ impl Slot {
         };
         client.set_area(area);
         Ok(())
+    }
+
+    /// Takes a datagram of the client in this slot, from an address, which it takes over. A message that came whole is
+    /// read and run; one that isn't legible changes nothing else.
+    #[tactic(auto, using(crate::proofs::Runs::read_is))]
+    pub fn take(
+        &mut self,
+        profile: &Profile,
+        slot: u8,
+        from: Address,
+        datagram: &[u8],
+        whole: &mut [u8],
+        message: &mut ClientMessage,
+        heard: &mut Heard,
+    ) -> ServerTook
+        requires whole { length whole.old ≡ longest_message }
+        requires heard { heard.old.moves.items ≡ [] }
+        ensures slot { self.new ≡ slot_behind profile.now slot from datagram.now self.old }
+        ensures answer { result ≡ took_of profile.now slot from datagram.now self.old }
+        ensures moves { heard.new.moves.items ≡ moves_of profile.now slot from datagram.now self.old }
+        ensures whole { length whole.new ≡ longest_message }
+    {
+        let Some(client) = &mut self.client else {
+            return ServerTook::Stranger;
+        };
+        client.set_address(from);
+        let (number, length) = match self.gatherer.take(datagram, whole) {
+            Gathered::Whole { number, length } => (number, length),
+            Gathered::Partial => return ServerTook::Partial(slot),
+            Gathered::Old => return ServerTook::Old(slot),
+            Gathered::OutOfOrder => return ServerTook::OutOfOrder(slot),
+            Gathered::BadFragment => return ServerTook::BadFragment(slot),
+            Gathered::Runt => return ServerTook::Runt,
+            Gathered::Connectionless => return ServerTook::Connectionless,
+        };
+        let read = read_message(profile, &whole[..length], message);
+        client.run(slot, number, read, message, heard)
     }
 
     /// Hands out what is left of a message, or begins the next, with a whole snapshot, and hands out its first piece.

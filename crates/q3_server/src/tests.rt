@@ -1,11 +1,13 @@
-//! Clients that join, and clients that can't.
+//! Clients that join and clients that can't, and datagrams with bytes worked by hand, by the plain code.
 
 use super::*;
 use q3_bits::{Code, NoMemory};
+use q3_clmsg::{ClientIllegible, Move};
 use q3_fields::Table;
 use q3_io::Address;
 use q3_profile::Profile;
 use std::alloc::Global;
+use std::process::Abort;
 use std::test::*;
 
 /// A server with three slots, by a profile with the plain code.
@@ -44,5 +46,167 @@ fn clients_join_by_slot_host_and_qport(rt: HostRuntime) -> Result<(), Fail> {
     );
     assert_eq!(rt; join(&mut server, 0, 5000, 2, 27960), Ok(()));
     assert_eq!(rt; join(&mut server, 2, 5001, 1, 27960), Ok(()));
+    Ok(())
+}
+
+/// The server takes a datagram: a message's number below 256, a qport, three longs that are 0, and operations.
+fn take(
+    rt: &impl Abort,
+    server: &mut Server,
+    from: Address,
+    number: u8,
+    qport: u16,
+    operations: &[u8],
+    heard: &mut Heard,
+) -> ServerTook {
+    let mut bytes = [0; 32];
+    assert!(rt; operations.len() <= 14);
+    let end = 18 + operations.len();
+    bytes[0] = number;
+    bytes[4..6].copy_from_slice(&qport.to_le_bytes());
+    bytes[18..end].copy_from_slice(operations);
+    server.take(from, &bytes[..end], heard)
+}
+
+fn last_time(moves: &[Move]) -> u32 {
+    match moves.last() {
+        Some(one) => one.time,
+        None => 0,
+    }
+}
+
+#[test]
+fn moves_run_once_and_by_rising_time(rt: HostRuntime) -> Result<(), Fail> {
+    let mut server = server(
+        rt.alloc(),
+        Table::of(&[0, 8, -16]).expect(&rt, "a table"),
+        Table::of(&[0, 16]).expect(&rt, "a table"),
+    )?;
+    assert_eq!(rt; join(&mut server, 1, 5000, 1, 27960), Ok(()));
+    let mut heard = Heard::new();
+    let at_5: &[u8] = &[0x03, 0x01, 0x0b, 0x14, 0x00];
+    let at_5_5_7: &[u8] = &[0x03, 0x03, 0x0b, 0x04, 0x50, 0x40, 0x01];
+    let no_operation: &[u8] = &[0x09, 0x00];
+    let no_move: &[u8] = &[0x03, 0x00, 0x05, 0x00];
+    let nothing: &[u8] = &[0x05, 0x00];
+    let bad = ServerTook::Illegible(1, ClientIllegible::BadOp(9));
+    let none = ServerTook::Illegible(1, ClientIllegible::MoveCount(0));
+    // a message's number and operations, the answer, and of the moves run how many there are and the last one's time
+    let table = [
+        (1, nothing, ServerTook::Ran { slot: 1, number: 1 }, 0, 0),
+        (2, at_5, ServerTook::Ran { slot: 1, number: 2 }, 1, 5),
+        (2, at_5, ServerTook::Old(1), 0, 0),
+        (3, at_5, ServerTook::Ran { slot: 1, number: 3 }, 0, 0),
+        (4, no_operation, bad, 0, 0),
+        (4, at_5_5_7, ServerTook::Old(1), 0, 0),
+        (5, no_move, none, 0, 0),
+        (6, at_5_5_7, ServerTook::Ran { slot: 1, number: 6 }, 1, 7),
+        (9, at_5_5_7, ServerTook::Ran { slot: 1, number: 9 }, 0, 0),
+    ];
+    let from = Address {
+        host: 1,
+        port: 27960,
+    };
+    for (number, operations, answer, count, last) in table {
+        assert_eq!(rt;
+            take(&rt, &mut server, from, number, 5000, operations, &mut heard),
+            answer
+        );
+        assert_eq!(rt; heard.moves.len(), count);
+        assert_eq!(rt; last_time(&heard.moves), last);
+    }
+    Ok(())
+}
+
+#[test]
+fn clients_are_found_by_host_and_qport(rt: HostRuntime) -> Result<(), Fail> {
+    let mut server = server(
+        rt.alloc(),
+        Table::of(&[0, 8, -16]).expect(&rt, "a table"),
+        Table::of(&[0, 16]).expect(&rt, "a table"),
+    )?;
+    assert_eq!(rt; join(&mut server, 1, 5000, 1, 27960), Ok(()));
+    let mut heard = Heard::new();
+    let nothing: &[u8] = &[0x05, 0x00];
+    let no_operation: &[u8] = &[0x09, 0x00];
+    let bad = ServerTook::Illegible(1, ClientIllegible::BadOp(9));
+    // a host, a port, a qport, a message's number and operations, the answer, and the client's port behind it
+    let table = [
+        (2, 27960, 5000, 1, nothing, ServerTook::Stranger, 27960),
+        (1, 27960, 5001, 1, nothing, ServerTook::Stranger, 27960),
+        (
+            1,
+            30000,
+            5000,
+            1,
+            nothing,
+            ServerTook::Ran { slot: 1, number: 1 },
+            30000,
+        ),
+        (1, 30001, 5000, 1, nothing, ServerTook::Old(1), 30001),
+        (1, 30002, 5000, 2, no_operation, bad, 30002),
+    ];
+    for (host, port, qport, number, operations, answer, behind) in table {
+        let from = Address { host, port };
+        assert_eq!(rt;
+            take(
+                &rt,
+                &mut server,
+                from,
+                number,
+                qport,
+                operations,
+                &mut heard
+            ),
+            answer
+        );
+        assert_eq!(rt;
+            server.address(1),
+            Some(Address {
+                host: 1,
+                port: behind
+            })
+        );
+    }
+    assert_eq!(rt; server.address(0), None);
+    assert_eq!(rt; server.address(3), None);
+    Ok(())
+}
+
+#[test]
+fn a_move_is_shown_by_its_key(rt: HostRuntime) -> Result<(), Fail> {
+    let mut server = server(
+        rt.alloc(),
+        Table::of(&[0, 8, -16]).expect(&rt, "a table"),
+        Table::of(&[0, 16]).expect(&rt, "a table"),
+    )?;
+    assert_eq!(rt; join(&mut server, 0, 5000, 1, 27960), Ok(()));
+    let mut heard = Heard::new();
+    let from = Address {
+        host: 1,
+        port: 27960,
+    };
+    // the newest message is 1 and the time 500, so that the key's low byte is 0xf5
+    let datagram = [
+        0x01, 0x00, 0x00, 0x00, 0x88, 0x13, 0x00, 0x00, 0x00, 0x00, 0x01, 0x00, 0x00, 0x00, 0x00,
+        0x00, 0x00, 0x00, 0x03, 0x01, 0xe8, 0x03, 0x00, 0x00, 0xe2, 0x3f, 0x14, 0x00,
+    ];
+    let mut one = Move::none();
+    one.time = 500;
+    one.forward = 10;
+    assert_eq!(rt;
+        server.take(from, &datagram, &mut heard),
+        ServerTook::Ran { slot: 0, number: 1 }
+    );
+    assert_eq!(rt; heard.moves.as_slice(), [one].as_slice());
+    assert_eq!(rt;
+        server.take(from, &datagram[..5], &mut heard),
+        ServerTook::Runt
+    );
+    assert!(rt; heard.moves.is_empty());
+    assert_eq!(rt;
+        server.take(from, &[255, 255, 255, 255, 0x88, 0x13], &mut heard),
+        ServerTook::Connectionless
+    );
     Ok(())
 }

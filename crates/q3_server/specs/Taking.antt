@@ -1,0 +1,129 @@
+-- What the server does with a datagram, and what it runs of a client's message.
+use Rattle.std.specs.Prelude.{ℕ, nat_lt, if◌then◌else◌, List, [], ◌∷◌, position, Option, Some, None, Result, Ok, Err}
+use Rattle.q3_io.specs.declared.address.Address.{Address}
+use Rattle.q3_profile.specs.declared.profile.Profile.{Profile}
+use Rattle.q3_bits.specs.Bits.{bits_of}
+use Rattle.q3_bits.specs.ResultBind.{◌>>=◌}
+use Rattle.q3_chan.specs.declared.gatherer.Gathered.{Gathered}
+use Rattle.q3_chan.specs.declared.gatherer.Gathered.TheVariants as gathered
+use Rattle.q3_chan.specs.declared.qport.NoQport.{NoQport}
+use Rattle.q3_chan.specs.declared.qport.NoQport.TheVariants as no
+use Rattle.q3_chan.specs.Gathering.{Took, gathered as gathered_of}
+use Rattle.q3_chan.specs.Senders.{qport_of}
+use Rattle.q3_clmsg.specs.declared.moves.Move.{Move}
+use Rattle.q3_clmsg.specs.declared.error.ClientIllegible.{ClientIllegible}
+use Rattle.q3_clmsg.specs.Moves.{message_key}
+use Rattle.q3_clmsg.specs.Values.{Message}
+use Rattle.q3_clmsg.specs.Reading.{bits_read, heads_at, client_at}
+use Rattle.q3_server.specs.declared.taking.ServerTook.{ServerTook}
+use Rattle.q3_server.specs.declared.taking.ServerTook.TheVariants.{Runt, Connectionless, Stranger, Old, OutOfOrder, BadFragment, Partial, Illegible, Ran}
+use Rattle.q3_server.specs.Server.{SlotState, ServerState, is_of, slot_at, with_slot}
+
+-- ---- what a client's message does
+
+-- the moves of a message that are run: each whose time is above that of the last one run
+unfoldable pub runs : ℕ → List Move → List Move
+runs last [] = []
+runs last (one ∷ moves) = if nat_lt last one.time then one ∷ runs one.time moves else runs last moves
+
+-- the time of the last of these moves, or the one before them
+unfoldable pub last_time : ℕ → List Move → ℕ
+last_time before [] = before
+last_time before (one ∷ moves) = last_time one.time moves
+
+-- the time of the last move run behind these
+abbrev pub last_run_of : ℕ → List Move → ℕ
+last_run_of last moves = last_time last (runs last moves)
+
+-- what a take of a slot gives: the slot after it, the answer, and the moves that were run
+pub record SlotTaken : Type 0 where
+  pub slot : SlotState
+  pub answer : ServerTook
+  pub moves : List Move
+
+-- a slot that runs nothing
+abbrev pub answers : SlotState → ServerTook → SlotTaken
+answers slot answer = record { slot = slot; answer = answer; moves = [] }
+
+-- what a message does to a slot
+abbrev pub run_message : SlotState → ℕ → ℕ → Message → SlotTaken
+run_message slot c number message = record {
+  slot = record slot { last_run = last_run_of slot.last_run message.moves };
+  answer = Ran c number;
+  moves = runs slot.last_run message.moves;
+}
+
+-- what a slot does with what was read under a number; what isn't legible changes nothing
+abbrev pub run_read : SlotState → ℕ → ℕ → Result Message ClientIllegible → SlotTaken
+run_read slot c number (Ok message) = run_message slot c number message
+run_read slot c number (Err cause) = answers slot (Illegible c cause)
+
+-- a message that came whole is read under its number, and every other answer is handed on
+abbrev pub take_answer : SlotState → ℕ → Gathered → (ℕ → Result Message ClientIllegible) → SlotTaken
+take_answer slot c (gathered.Whole number count) read = run_read slot c number (read number)
+take_answer slot c gathered.Partial read = answers slot (Partial c)
+take_answer slot c gathered.Old read = answers slot (Old c)
+take_answer slot c gathered.OutOfOrder read = answers slot (OutOfOrder c)
+take_answer slot c gathered.BadFragment read = answers slot (BadFragment c)
+take_answer slot c gathered.Runt read = answers slot Runt
+take_answer slot c gathered.Connectionless read = answers slot Connectionless
+
+-- a slot with what was gathered, and what it does with a message that came whole
+abbrev pub take_gathered : SlotState → ℕ → Took → (ℕ → Result Message ClientIllegible) → SlotTaken
+take_gathered slot c took read = take_answer (record slot { gathering = took.gathering }) c took.answer read
+
+-- the interim rule: until the stage of maps there is no checksum feed, and until that of commands no server command
+abbrev pub key_of : ℕ → ℕ
+key_of acknowledged = message_key 0 acknowledged []
+
+-- what bytes are as a client's message
+abbrev pub said_by : Profile → List ℕ → Result Message ClientIllegible
+said_by profile bytes = do
+  heads ← bits_read (heads_at profile.code (bits_of bytes))
+  client_at profile.code (key_of heads.acknowledged) (bits_of bytes)
+
+-- the client in a slot takes over the address from which its datagram came, also where that proves old
+abbrev pub take_slot : Profile → ℕ → Address → List ℕ → SlotState → SlotTaken
+take_slot profile c from datagram slot =
+    take_gathered (record slot { address = from }) c (gathered_of slot.gathering datagram)
+    (λ number. said_by profile (gathered_of slot.gathering datagram).message)
+
+-- ---- the server
+
+-- the slot of the client at a host by its qport; the port doesn't count
+abbrev pub sender_of : ServerState → ℕ → ℕ → Option ℕ
+sender_of server host qport = position (is_of host qport) server.slots
+
+-- what a take gives: the server after it, its answer, and the moves that were run
+pub record Taken : Type 0 where
+  pub server : ServerState
+  pub answer : ServerTook
+  pub moves : List Move
+
+-- a server that runs nothing
+abbrev pub unmoved : ServerState → ServerTook → Taken
+unmoved server answer = record { server = server; answer = answer; moves = [] }
+
+-- what a slot took, at its place
+abbrev pub taken_at : ServerState → ℕ → SlotTaken → Taken
+taken_at server c taken = record { server = with_slot server c taken.slot; answer = taken.answer; moves = taken.moves }
+
+-- a datagram for the client in a slot
+abbrev pub take_by : ServerState → ℕ → Address → List ℕ → Option SlotState → Taken
+take_by server c from datagram None = unmoved server Stranger
+take_by server c from datagram (Some slot) = taken_at server c (take_slot server.profile c from datagram slot)
+
+-- a datagram from a client of the server, or from a stranger
+abbrev pub take_from : ServerState → Address → List ℕ → Option ℕ → Taken
+take_from server from datagram None = unmoved server Stranger
+take_from server from datagram (Some c) = take_by server c from datagram (slot_at server c)
+
+-- a datagram of a qport, or one that has none
+abbrev pub take_headed : ServerState → Address → List ℕ → Result ℕ NoQport → Taken
+take_headed server from datagram (Ok qport) = take_from server from datagram (sender_of server from.host qport)
+take_headed server from datagram (Err no.Runt) = unmoved server Runt
+take_headed server from datagram (Err no.Connectionless) = unmoved server Connectionless
+
+-- the server takes a datagram from an address, any bytes
+unfoldable pub take_at : ServerState → Address → List ℕ → Taken
+take_at server from datagram = take_headed server from datagram (qport_of datagram)
