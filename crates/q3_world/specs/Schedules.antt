@@ -9,7 +9,7 @@ use Rattle.q3_script.specs.Grammar.{IsReplayEvent}
 use Rattle.q3_svmsg.specs.Values.{Snapshot}
 use Rattle.q3_client.specs.declared.client.SnapOutcome.{SnapOutcome}
 use Rattle.q3_client.specs.declared.client.SnapOutcome.TheVariants.{Accepted}
-use Rattle.q3_client.specs.declared.client.ClientTook.TheVariants.{Runt, Connectionless, BadFragment, Illegible, Applied}
+use Rattle.q3_client.specs.declared.client.ClientTook.TheVariants.{Runt, Connectionless, BadFragment, Illegible, Dropped, Applied}
 use Rattle.q3_chan.specs.declared.gatherer.Gathered.TheVariants.{Whole as CameWhole}
 use Rattle.q3_chan.specs.Datagrams.{sequence_end, longest_message, piece_count, last_index}
 use Rattle.q3_chan.specs.Sending.{IsIdle}
@@ -53,6 +53,7 @@ IsLegible (Deliver datagram c Runt) = ⊥
 IsLegible (Deliver datagram c Connectionless) = ⊥
 IsLegible (Deliver datagram c BadFragment) = ⊥
 IsLegible (Deliver datagram c (Illegible cause)) = ⊥
+IsLegible (Deliver datagram c (Dropped cause)) = ⊥
 IsLegible other = Unit {0}
 
 -- in a replay no client ever gets what it can't read
