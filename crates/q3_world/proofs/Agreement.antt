@@ -315,12 +315,12 @@ holds_piece profile whole c number n client took built lt found does gathers is 
     elim does.either [
       | inl waits ↦
           let same = quiet_client (record client { gathering = g }) took.answer (λ n. Ok built) waits.quiet in
-          rw (same.0, same.1) (Holds-taken profile whole c client (record client { gathering = g }) None lt found refl does.side refl
+          rw (same.0, same.1) (Holds-taken profile whole c client (record client { gathering = g }) None lt found refl does.side
           (λ slot joins. AreJoined-gathered profile whole.ends.server.map slot client (history_at whole.histories c) g waits.taken gathers joins) holds)
       | inr came ↦
           let newer = came.newer in
           let number_is = is.number in
-          rw (came.answer, is.is) (Holds-taken profile whole c client (record client { gathering = g; accepted = Some is.snapshot; delta = true }) (Some is.snapshot) lt found refl does.side refl
+          rw (came.answer, is.is) (Holds-taken profile whole c client (record client { gathering = g; accepted = Some is.snapshot; delta = true }) (Some is.snapshot) lt found refl does.side
           (λ slot joins. AreJoined-accepted profile whole.ends.server.map slot client (history_at whole.histories c) g is.snapshot (came.taken ∙ sym number_is) gathers was
           (omega (arith, newer, number_is)) joins) holds)
     ]

@@ -66,7 +66,6 @@ AreEnds-new profile challenge qport dup address chan first =
       sendable = λ k d lt. absurd (omega (arith, lt));
       by = refl;
       from = refl;
-      legible = refl;
     }
 
 -- another player and other area bytes
@@ -84,7 +83,6 @@ AreEnds-given profile slot client history player area held is ends =
       sendable = ends.sendable;
       by = ends.by;
       from = ends.from;
-      legible = ends.legible;
     }
 
 -- the message that goes to a slot next is built
@@ -133,7 +131,6 @@ AreEnds-begun profile map slot client history chan time entities fits sendable e
       sendable = each_more (λ (k : ℕ) (b : Built). IsSendable (built_bytes profile b)) history.built next ends.sendable sendable;
       by = ends.by;
       from = ends.from;
-      legible = ends.legible;
     }
 
 -- ---- a piece is handed out
@@ -156,7 +153,6 @@ AreEnds-handed profile slot client history chan ends =
       sendable = ends.sendable;
       by = ends.by;
       from = ends.from;
-      legible = ends.legible;
     }
 
 -- the bytes of the message under a number
@@ -183,8 +179,8 @@ handed_bytes profile slot left client history chan e ends =
 -- ---- another state of the client
 
 pub AreEnds-client : (profile : Profile) (slot : SlotState) (client next : ClientState) (history : History) (heard : Option Snapshot)
-    → next.profile ≡ profile → next.gathering.side ≡ Server → next.dropped ≡ None → AreEnds profile slot client history → AreEnds profile slot next (history_heard history heard)
-AreEnds-client profile slot client next history None by from legible ends =
+    → next.profile ≡ profile → next.gathering.side ≡ Server → AreEnds profile slot client history → AreEnds profile slot next (history_heard history heard)
+AreEnds-client profile slot client next history None by from ends =
     record {
       begun = ends.begun;
       side = ends.side;
@@ -196,9 +192,8 @@ AreEnds-client profile slot client next history None by from legible ends =
       sendable = ends.sendable;
       by = by;
       from = from;
-      legible = legible;
     }
-AreEnds-client profile slot client next history (Some snapshot) by from legible ends =
+AreEnds-client profile slot client next history (Some snapshot) by from ends =
     record {
       begun = ends.begun;
       side = ends.side;
@@ -210,7 +205,6 @@ AreEnds-client profile slot client next history (Some snapshot) by from legible 
       sendable = ends.sendable;
       by = by;
       from = from;
-      legible = legible;
     }
 
 -- ---- what joins the ends
@@ -224,13 +218,14 @@ AreJoined-new map profile challenge qport dup address chan =
       newest = refl;
       below = omega arith;
       gathers = chan.begin (messages_of profile []) 0 Server;
+      legible = refl;
     }
 
 -- another map and another slot
 pub AreJoined-slot : (profile : Profile) (map map' : MapState) (slot slot' : SlotState) (client : ClientState) (history : History)
     → AreJoined profile map slot client history → AreJoined profile map' slot' client history
 AreJoined-slot profile map map' slot slot' client history joined =
-    record { accepted = joined.accepted; rise = joined.rise; newest = joined.newest; below = joined.below; gathers = joined.gathers }
+    record { accepted = joined.accepted; rise = joined.rise; newest = joined.newest; below = joined.below; gathers = joined.gathers; legible = joined.legible }
 
 -- and a message more built, if one was begun
 pub AreJoined-after : (profile : Profile) (map : MapState) (slot slot' : SlotState) (client : ClientState) (history : History) (began : Option Built) → EndsGather
@@ -244,6 +239,7 @@ AreJoined-after profile map slot slot' client history (Some next) chan joined =
       below = joined.below;
       gathers = chan.more (messages_of profile history.built) (messages_of profile (history.built ++ next ∷ [])) (length history.built) (length (history.built ++ next ∷ []))
           client.gathering joined.gathers (omega (arith, length_push history.built next)) (messages_stay profile history.built (next ∷ []));
+      legible = joined.legible;
     }
 
 -- the last of a list, and of one more
@@ -286,7 +282,7 @@ pub AreJoined-gathered : (profile : Profile) (map : MapState) (slot : SlotState)
     → AreJoined profile map slot client history → AreJoined profile map slot (record client { gathering = g }) history
 AreJoined-gathered profile map slot client history g taken gathers joined =
     let below = joined.below in
-    record { accepted = joined.accepted; rise = joined.rise; newest = joined.newest; below = omega (arith, taken, below); gathers = gathers }
+    record { accepted = joined.accepted; rise = joined.rise; newest = joined.newest; below = omega (arith, taken, below); gathers = gathers; legible = joined.legible }
 
 -- a newer snapshot that was built came whole and is accepted
 pub AreJoined-accepted : (profile : Profile) (map : MapState) (slot : SlotState) (client : ClientState) (history : History) (g : Gathering) (snapshot : Snapshot)
@@ -302,4 +298,5 @@ AreJoined-accepted profile map slot client history g snapshot taken gathers was 
       newest = sym (last_push None history.accepted snapshot);
       below = omega (arith, taken);
       gathers = gathers;
+      legible = joined.legible;
     }

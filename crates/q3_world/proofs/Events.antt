@@ -270,15 +270,6 @@ client_by profile whole c client lt found holds =
     (subst (λ (e : Option ClientState). IsClient profile (slot_at whole.ends.server c) e history) found (holds.facts.each c lt)) in
     had.2.by
 
--- nothing that it took was illegible
-pub client_legible : (profile : Profile) (whole : Whole) (c : ℕ) (client : ClientState) → c < places → client_at whole.ends c ≡ Some client → Holds profile whole
-    → client.dropped ≡ None
-client_legible profile whole c client lt found holds =
-    let history = history_at whole.histories c in
-    let had = a_slot profile (slot_at whole.ends.server c) client history
-    (subst (λ (e : Option ClientState). IsClient profile (slot_at whole.ends.server c) e history) found (holds.facts.each c lt)) in
-    had.2.legible
-
 -- a client that is there gathers what a server sends, and each of the messages is one that may be sent
 pub client_from : (profile : Profile) (whole : Whole) (c : ℕ) (client : ClientState) → c < places → client_at whole.ends c ≡ Some client → Holds profile whole
     → (client.gathering.side ≡ Server)
@@ -303,16 +294,21 @@ client_joined profile whole c client lt found holds =
     (subst (λ (e : Option ClientState). IsJoined profile map (slot_at whole.ends.server c) e history) found (holds.joined c lt)) in
     (had.0, had.1, had.2, joined)
 
+-- nothing that it took was illegible
+pub client_legible : (profile : Profile) (whole : Whole) (c : ℕ) (client : ClientState) → c < places → client_at whole.ends c ≡ Some client → Holds profile whole
+    → client.dropped ≡ None
+client_legible profile whole c client lt found holds = (client_joined profile whole c client lt found holds).3.legible
+
 -- the client at a place took a datagram, and with it a snapshot, if it took one
 abbrev pub with_taken : Whole → ℕ → ClientState → Option Snapshot → Whole
 with_taken whole c next heard = record whole { ends = with_client whole.ends c next; histories = accepted_after whole.histories c heard }
 
 pub Holds-taken : (profile : Profile) (whole : Whole) (c : ℕ) (client next : ClientState) (heard : Option Snapshot) → c < places → client_at whole.ends c ≡ Some client
-    → next.profile ≡ client.profile → next.gathering.side ≡ client.gathering.side → next.dropped ≡ client.dropped
+    → next.profile ≡ client.profile → next.gathering.side ≡ client.gathering.side
     → ((slot : SlotState) → AreJoined profile whole.ends.server.map slot client (history_at whole.histories c)
     → AreJoined profile whole.ends.server.map slot next (history_heard (history_at whole.histories c) heard))
     → Holds profile whole → Holds profile (with_taken whole c next heard)
-Holds-taken profile whole c client next heard lt found by from legible joins holds =
+Holds-taken profile whole c client next heard lt found by from joins holds =
     let facts = holds.facts in
     let slots = whole.ends.server.slots in
     let clients = whole.ends.clients in
@@ -331,7 +327,7 @@ Holds-taken profile whole c client next heard lt found by from legible joins hol
       histories = OnlyAt-heard histories c heard;
       grows = grows;
     })
-    (rw (had.1, client_is, history_is) (AreEnds-client profile had.0 client next history heard (by ∙ had.2.by) (from ∙ had.2.from) (legible ∙ had.2.legible) had.2))
+    (rw (had.1, client_is, history_is) (AreEnds-client profile had.0 client next history heard (by ∙ had.2.by) (from ∙ had.2.from) had.2))
     (rw (had.1, client_is, history_is) (joins had.0 had.3))
     (all_sent_grow profile histories (accepted_after histories c heard) whole.sent grows facts.sent)
     holds

@@ -34,7 +34,6 @@ pub record AreEnds (profile : Profile) (slot : SlotState) (client : ClientState)
   pub sendable : (k : ℕ) (d : Built) → k < length history.built → IsSendable (built_bytes profile (slice_index_or history.built k d))
   pub by : client.profile ≡ profile
   pub from : client.gathering.side ≡ Server
-  pub legible : client.dropped ≡ None
 
 -- a client is at both ends or at none
 abbrev pub IsClient : Profile → Option SlotState → Option ClientState → History → Type 0
@@ -80,13 +79,14 @@ Rise snapshots = (j k : ℕ) (d : Snapshot) → j < k → k < length snapshots
     → (slice_index_or snapshots j d).head.number < (slice_index_or snapshots k d).head.number
 
 -- of one client: each snapshot that it accepted was built, their numbers rise, and it keeps the newest, which isn't above
--- the newest number taken; and it took and gathers only what was begun
+-- the newest number taken; it took and gathers only what was begun, and so it wasn't dropped
 pub record AreJoined (profile : Profile) (map : MapState) (slot : SlotState) (client : ClientState) (history : History) : Type 0 where
   pub accepted : (k : ℕ) (d : Snapshot) → k < length history.accepted → WasBuilt history.built (slice_index_or history.accepted k d)
   pub rise : Rise history.accepted
   pub newest : client.accepted ≡ last_or None history.accepted
   pub below : number_of_newest client.accepted ≤ client.gathering.taken
   pub gathers : Gathers (messages_of profile history.built) (length history.built) client.gathering
+  pub legible : client.dropped ≡ None
 
 -- of a client that is at both ends
 abbrev pub IsJoined : Profile → MapState → Option SlotState → Option ClientState → History → Type 0
