@@ -1,9 +1,22 @@
--- The words that tell why a client's message isn't legible.
-use Rattle.std.specs.Prelude.{ℕ, List, codes, Option, Some, None}
+-- The words of a move, and those that tell why a client's message isn't legible.
+use Rattle.std.specs.Prelude.{ℕ, List, [], ◌∷◌, ◌++◌, map, codes, decimal, Option, Some, None}
+use Rattle.std.specs.List.{flat_map}
+use Rattle.std.specs.Fmt.{signed_decimal}
+use Rattle.q3_clmsg.specs.declared.moves.Move.{Move}
 use Rattle.q3_bits.specs.declared.reader.ReadError.{ReadError}
 use Rattle.q3_bits.specs.declared.reader.ReadError.TheVariants as bits
 use Rattle.q3_clmsg.specs.declared.error.ClientIllegible.{ClientIllegible}
 use Rattle.q3_clmsg.specs.declared.error.ClientIllegible.TheVariants as causes
+
+-- the words of a move: its time, the three angles, forward, right and up, the buttons, and the weapon
+abbrev pub move_words : Move → List (List ℕ)
+move_words one =
+    decimal one.time ∷ map decimal one.angles
+    ++ signed_decimal one.forward ∷ signed_decimal one.right ∷ signed_decimal one.up ∷ decimal one.buttons ∷ decimal one.weapon ∷ []
+
+-- the line of a move that was run
+abbrev pub move_text : Move → List ℕ
+move_text one = codes "+ move" ++ flat_map (λ word. codes " " ++ word) (move_words one) ++ codes "\n"
 
 -- the word of a fault of bits
 abbrev pub bits_word : ReadError → List ℕ
