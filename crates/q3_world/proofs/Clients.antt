@@ -1,89 +1,177 @@
 -- What holds of one client, and stays so.
-use Rattle.std.proofs.Common.{◌≡◌, ℕ, zero, suc, ◌+◌, ◌-◌, ◌^◌, ◌<◌, ◌≤◌, List, [], ◌∷◌, ◌++◌, length, get_or, true, Option, Some, None, refl, sym, ap, subst, ◌∙◌, inl, inr, arith}
+use Rattle.std.proofs.Common.{◌≡◌, ℕ, zero, suc, ◌+◌, ◌-◌, ◌^◌, ◌<◌, ◌≤◌, Bool, true, false, List, [], ◌∷◌, ◌++◌, length, get_or, Option, Some, None, refl, sym, ap, subst, ◌∙◌, inl, inr, arith, lit<}
+use Rattle.std.specs.Prelude.{All, Contains}
 use Rattle.std.specs.List.{last_or}
 use Rattle.std.proofs.lemmas.List.{length_push, get_or_append_left, get_or_push}
-use Rattle.std.proofs.lemmas.List.Elements.{All-nil}
+use Rattle.std.proofs.lemmas.List.Elements.{All-nil, All-append, All-contains, All-weaker}
 use Rattle.std.proofs.lemmas.Bool.{cases_lt}
 use Rattle.arrayvec.specs.ArrayVec.{ArrayVec}
+use Rattle.q3_bits.specs.Bits.{message_bytes}
 use Rattle.q3_profile.specs.declared.profile.Profile.{Profile}
 use Rattle.q3_player.specs.State.{zero_player}
 use Rattle.q3_player.specs.declared.state.PlayerState.{PlayerState}
 use Rattle.q3_io.specs.declared.address.Address.{Address}
 use Rattle.q3_entity.specs.Entities.{most_entities}
 use Rattle.q3_chan.specs.declared.side.Side.{Side}
-use Rattle.q3_chan.specs.declared.side.Side.TheVariants.{Server}
+use Rattle.q3_chan.specs.declared.side.Side.TheVariants.{Server, Client}
 use Rattle.q3_chan.specs.Datagrams.{sequence_end, piece_count, datagram}
-use Rattle.q3_chan.specs.Sending.{UnderWay, started, next_of}
+use Rattle.q3_chan.specs.Sending.{Sending, UnderWay, started, next_of}
 use Rattle.q3_chan.specs.Gathering.{Gathering}
-use Rattle.q3_chan.specs.Laws.{IsSendable, Gathers, EndsGather, EndsSend}
+use Rattle.q3_chan.specs.Laws.{IsSendable, Gathers, Sends, EndsGather, EndsSend}
+use Rattle.q3_clmsg.specs.declared.moves.Move.{Move}
+use Rattle.q3_clmsg.specs.Moves.{IsMove}
+use Rattle.q3_clmsg.specs.Laws.{IsMessage}
+use Rattle.q3_clmsg.specs.Values.{empty_message}
+use Rattle.q3_strings.specs.Laws.{IsCommand}
 use Rattle.q3_svmsg.specs.Values.{Snapshot}
 use Rattle.q3_server.specs.Built.{IsHeld, IsArea, AreHeld, IsBuilt}
 use Rattle.q3_server.specs.Server.{MapState, SlotState, Built, new_slot, next_snapshot, next_message, built_bytes}
+use Rattle.q3_server.specs.Taking.{last_run_of, last_time, runs}
 use Rattle.q3_client.specs.Client.{ClientState, new_client}
-use Rattle.q3_world.specs.World.{History, no_history, no_message, built_at}
-use Rattle.q3_world.specs.StandsFor.{messages_of, AreEnds, IsClient, WasBuilt, number_of_newest, Rise, AreJoined}
-use Rattle.q3_world.proofs.Growth.{was_built_more, each_more, history_after, history_heard, messages_stay}
+use Rattle.circular_buffer.specs.Buffer.{keep_last}
+use Rattle.q3_client.specs.Moves.{most_moves, carried, asks_delta, issue}
+use Rattle.q3_client.specs.Sending.{Said, next_message as next_said}
+use Rattle.q3_world.specs.World.{Tag, History, no_history, no_message, built_at, said_at, said_bytes, with_built, with_accepted, with_said, with_run}
+use Rattle.q3_world.specs.StandsFor.{messages_of, messages_said, KeepsSlot, KeepsClient, AreEnds, IsClient, IsPiece, WasBuilt, number_of_newest, Rise, KeepsMoves, TakesBuilt, TakesSaid}
+use Rattle.q3_world.specs.Moves.{TimesRise, AreConsecutive}
+use Rattle.q3_world.proofs.Growth.{was_built_more, each_more, messages_stay, messages_said_stay}
 use Rattle.q3_world.proofs.Held.{AreHeld-take}
+use Rattle.q3_world.proofs.MoveLists.{last_time-append, TimesRise-append, runs_rise, runs_are, carried_consecutive, carried_each, carried_few, AreConsecutive-more, contains_more, KeepsMoves-none, KeepsMoves-begun, KeepsMoves-push}
 use Rattle.q3_server.proofs.Rising.{few_taken}
 
 -- ---- presence
 
 -- with no slot there is no client and no history
-pub no_client : (profile : Profile) (client : Option ClientState) (history : History) → IsClient profile None client history → history ≡ no_history
-no_client profile None history none = none
-no_client profile (Some client) history none = absurd none
+pub no_client : (profile : Profile) (client : Option ClientState) (address : Address) (history : History) → IsClient profile None client address history → history ≡ no_history
+no_client profile None address history none = none
+no_client profile (Some client) address history none = absurd none
 
 -- with a slot there is a client
-pub a_client : (profile : Profile) (slot : SlotState) (client : Option ClientState) (history : History) → IsClient profile (Some slot) client history
-    → (found : ClientState) × (client ≡ Some found) × AreEnds profile slot found history
-a_client profile slot None history none = absurd none
-a_client profile slot (Some client) history ends = (client, refl, ends)
+pub a_client : (profile : Profile) (slot : SlotState) (client : Option ClientState) (address : Address) (history : History) → IsClient profile (Some slot) client address history
+    → (found : ClientState) × (client ≡ Some found) × AreEnds profile slot found address history
+a_client profile slot None address history none = absurd none
+a_client profile slot (Some client) address history ends = (client, refl, ends)
 
 -- with a client there is a slot
-pub a_slot : (profile : Profile) (slot : Option SlotState) (client : ClientState) (history : History) → IsClient profile slot (Some client) history
-    → (found : SlotState) × (slot ≡ Some found) × AreEnds profile found client history
-a_slot profile None client history none = absurd none
-a_slot profile (Some slot) client history ends = (slot, refl, ends)
+pub a_slot : (profile : Profile) (slot : Option SlotState) (client : ClientState) (address : Address) (history : History) → IsClient profile slot (Some client) address history
+    → (found : SlotState) × (slot ≡ Some found) × AreEnds profile found client address history
+a_slot profile None client address history none = absurd none
+a_slot profile (Some slot) client address history ends = (slot, refl, ends)
 
--- ---- what each end keeps alone
+-- ---- what the server keeps
 
 -- no area bytes
 no_area : IsArea []
 no_area = record { bytes = All-nil (λ (byte : ℕ). byte < 256); short = omega arith }
 
--- a client that just joined
-pub AreEnds-new : (profile : Profile) (challenge qport dup : ℕ) (address : Address) → EndsSend → IsHeld profile zero_player
-    → AreEnds profile (new_slot challenge qport address) (new_client profile challenge qport dup) no_history
-AreEnds-new profile challenge qport dup address chan first =
+-- of a client that just joined
+pub KeepsSlot-new : (profile : Profile) (challenge qport : ℕ) (address : Address) → EndsSend → IsHeld profile zero_player
+    → KeepsSlot profile (new_slot challenge qport address) qport address.host [] []
+unfolding last_time
+KeepsSlot-new profile challenge qport address chan first =
     record {
-      begun = refl;
-      side = refl;
       qport = refl;
+      host = refl;
+      begun = refl;
+      short = lit< tt;
+      side = refl;
+      no_qport = refl;
       sends = chan.begin (messages_of profile []) Server 0;
       player = first;
       area = no_area;
       built = λ k d lt. absurd (omega (arith, lt));
       sendable = λ k d lt. absurd (omega (arith, lt));
-      by = refl;
       from = refl;
+      last = refl;
+      rise = tt;
     }
 
--- another player and other area bytes
-pub AreEnds-given : (profile : Profile) (slot : SlotState) (client : ClientState) (history : History) (player : PlayerState) (area : ArrayVec ℕ)
-    → IsHeld profile player → IsArea area.items → AreEnds profile slot client history → AreEnds profile (record slot { player = player; area = area }) client history
-AreEnds-given profile slot client history player area held is ends =
-    record {
-      begun = ends.begun;
-      side = ends.side;
-      qport = ends.qport;
-      sends = ends.sends;
-      player = held;
-      area = is;
-      built = ends.built;
-      sendable = ends.sendable;
-      by = ends.by;
-      from = ends.from;
-    }
+module _ (profile : Profile) (slot : SlotState) (qport host : ℕ) (built : List Built) (run : List Move) where
+  -- another player and other area bytes
+  pub KeepsSlot-given : (player : PlayerState) (area : ArrayVec ℕ) → IsHeld profile player → IsArea area.items → KeepsSlot profile slot qport host built run
+      → KeepsSlot profile (record slot { player = player; area = area }) qport host built run
+  KeepsSlot-given player area held is keeps =
+      record {
+        qport = keeps.qport;
+        host = keeps.host;
+        begun = keeps.begun;
+        short = keeps.short;
+        side = keeps.side;
+        no_qport = keeps.no_qport;
+        sends = keeps.sends;
+        player = held;
+        area = is;
+        built = keeps.built;
+        sendable = keeps.sendable;
+        from = keeps.from;
+        last = keeps.last;
+        rise = keeps.rise;
+      }
+
+  -- a datagram came from its client's host
+  pub KeepsSlot-came : (address : Address) (g : Gathering) → address.host ≡ host → g.side ≡ slot.gathering.side → KeepsSlot profile slot qport host built run
+      → KeepsSlot profile (record slot { address = address; gathering = g }) qport host built run
+  KeepsSlot-came address g from side keeps =
+      record {
+        qport = keeps.qport;
+        host = from;
+        begun = keeps.begun;
+        short = keeps.short;
+        side = keeps.side;
+        no_qport = keeps.no_qport;
+        sends = keeps.sends;
+        player = keeps.player;
+        area = keeps.area;
+        built = keeps.built;
+        sendable = keeps.sendable;
+        from = side ∙ keeps.from;
+        last = keeps.last;
+        rise = keeps.rise;
+      }
+
+  -- moves were run
+  pub KeepsSlot-ran : (moves : List Move) → KeepsSlot profile slot qport host built run
+      → KeepsSlot profile (record slot { last_run = last_run_of slot.last_run moves }) qport host built (run ++ runs slot.last_run moves)
+  KeepsSlot-ran moves keeps =
+      let behind = runs slot.last_run moves in
+      record {
+        qport = keeps.qport;
+        host = keeps.host;
+        begun = keeps.begun;
+        short = keeps.short;
+        side = keeps.side;
+        no_qport = keeps.no_qport;
+        sends = keeps.sends;
+        player = keeps.player;
+        area = keeps.area;
+        built = keeps.built;
+        sendable = keeps.sendable;
+        from = keeps.from;
+        last = ap (λ (last : ℕ). last_time last behind) keeps.last ∙ sym (last_time-append 0 run behind);
+        rise = TimesRise-append 0 run behind keeps.rise (subst (λ (last : ℕ). TimesRise last behind) keeps.last (runs_rise slot.last_run moves));
+      }
+
+  -- a piece was handed out
+  pub KeepsSlot-handed : EndsSend → KeepsSlot profile slot qport host built run
+      → KeepsSlot profile (record slot { sending = (next_of slot.sending).sending }) qport host built run
+  KeepsSlot-handed chan keeps =
+      let same = chan.stays slot.sending in
+      record {
+        qport = keeps.qport;
+        host = keeps.host;
+        begun = same.2 ∙ keeps.begun;
+        short = keeps.short;
+        side = same.0 ∙ keeps.side;
+        no_qport = same.1 ∙ keeps.no_qport;
+        sends = chan.next (messages_of profile built) slot.sending keeps.sends;
+        player = keeps.player;
+        area = keeps.area;
+        built = keeps.built;
+        sendable = keeps.sendable;
+        from = keeps.from;
+        last = keeps.last;
+        rise = keeps.rise;
+      }
 
 -- the message that goes to a slot next is built
 next_is_built : (profile : Profile) (map : MapState) (slot : SlotState) → map.time < 2 ^ 32 → AreHeld profile map.entities → slot.sending.number + 1 < sequence_end
@@ -106,112 +194,213 @@ next_is_built profile map slot time entities fits player area =
 abbrev pub slot_begun : Profile → MapState → SlotState → SlotState
 slot_begun profile map slot = record slot { sending = started slot.sending (built_bytes profile (next_message map slot)) }
 
-pub AreEnds-begun : (profile : Profile) (map : MapState) (slot : SlotState) (client : ClientState) (history : History) → EndsSend
+pub KeepsSlot-begun : (profile : Profile) (map : MapState) (slot : SlotState) (qport host : ℕ) (built : List Built) (run : List Move) → EndsSend
     → map.time < 2 ^ 32 → AreHeld profile map.entities → slot.sending.number + 1 < sequence_end → IsSendable (built_bytes profile (next_message map slot))
-    → AreEnds profile slot client history
-    → AreEnds profile (slot_begun profile map slot) client (record history { built = history.built ++ next_message map slot ∷ [] })
-AreEnds-begun profile map slot client history chan time entities fits sendable ends =
+    → KeepsSlot profile slot qport host built run
+    → KeepsSlot profile (slot_begun profile map slot) qport host (built ++ next_message map slot ∷ []) run
+KeepsSlot-begun profile map slot qport host built run chan time entities fits sendable keeps =
     let next = next_message map slot in
-    let begun = ends.begun in
-    let longer = length_push history.built next in
-    let last : messages_of profile (history.built ++ next ∷ []) (suc (length history.built)) ≡ built_bytes profile next =
-    let place : length history.built ≡ suc (length history.built) - 1 = omega arith in
-    ap (built_bytes profile) (get_or_push history.built next no_message (suc (length history.built) - 1) place) in
-    let number : suc (length history.built) ≡ slot.sending.number + 1 = omega (arith, begun) in
+    let begun = keeps.begun in
+    let longer = length_push built next in
+    let last : messages_of profile (built ++ next ∷ []) (suc (length built)) ≡ built_bytes profile next =
+    let place : length built ≡ suc (length built) - 1 = omega arith in
+    ap (built_bytes profile) (get_or_push built next no_message (suc (length built) - 1) place) in
+    let number : suc (length built) ≡ slot.sending.number + 1 = omega (arith, begun) in
     record {
-      begun = omega (arith, longer);
-      side = ends.side;
-      qport = ends.qport;
-      sends = chan.start (messages_of profile (history.built ++ next ∷ [])) slot.sending (built_bytes profile next)
-          (subst (λ (n : ℕ). messages_of profile (history.built ++ next ∷ []) n ≡ built_bytes profile next) number last);
-      player = ends.player;
-      area = ends.area;
-      built = each_more (λ (k : ℕ) (b : Built). IsBuilt profile (k + 1) b) history.built next ends.built
-          (subst (λ (n : ℕ). IsBuilt profile (n + 1) next) begun (next_is_built profile map slot time entities fits ends.player ends.area));
-      sendable = each_more (λ (k : ℕ) (b : Built). IsSendable (built_bytes profile b)) history.built next ends.sendable sendable;
-      by = ends.by;
-      from = ends.from;
+      qport = keeps.qport;
+      host = keeps.host;
+      begun = omega (arith, longer, begun);
+      short = omega (arith, longer, begun, fits);
+      side = keeps.side;
+      no_qport = keeps.no_qport;
+      sends = chan.start (messages_of profile (built ++ next ∷ [])) slot.sending (built_bytes profile next)
+          (subst (λ (n : ℕ). messages_of profile (built ++ next ∷ []) n ≡ built_bytes profile next) number last);
+      player = keeps.player;
+      area = keeps.area;
+      built = each_more (λ (k : ℕ) (b : Built). IsBuilt profile (k + 1) b) built next keeps.built
+          (subst (λ (n : ℕ). IsBuilt profile (n + 1) next) begun (next_is_built profile map slot time entities fits keeps.player keeps.area));
+      sendable = each_more (λ (k : ℕ) (b : Built). IsSendable (built_bytes profile b)) built next keeps.sendable sendable;
+      from = keeps.from;
+      last = keeps.last;
+      rise = keeps.rise;
     }
+
+-- ---- what a client keeps
+
+-- that just joined
+pub KeepsClient-new : (profile : Profile) (challenge qport dup : ℕ) → EndsSend → qport < 2 ^ 16 → KeepsClient profile (new_client profile challenge qport dup) qport [] []
+unfolding last_time
+KeepsClient-new profile challenge qport dup chan fits =
+    record {
+      by = refl;
+      from = refl;
+      fits = fits;
+      begun = refl;
+      short = lit< tt;
+      side = refl;
+      qport = refl;
+      sends = chan.begin (messages_said profile []) Client qport;
+      said = λ k d lt. absurd (omega (arith, lt));
+      sendable = λ k d lt. absurd (omega (arith, lt));
+      last = refl;
+      rise = tt;
+      moves = KeepsMoves-none;
+      carried = λ k d lt. absurd (omega (arith, lt));
+    }
+
+-- the message that a client begins next is one that it may send
+next_is_message : (client : ClientState) (begun : ℕ) (issued : List Move) → client.gathering.taken < 2 ^ 32
+    → KeepsMoves client.moves begun issued → IsMessage (next_said client)
+next_is_message client begun issued taken keeps =
+    let number = client.sending.number + 1 in
+    let moves = carried number client.dup client.moves in
+    record {
+      id = omega arith;
+      acknowledged = taken;
+      command = omega arith;
+      few = omega arith;
+      commands = All-nil IsCommand;
+      few_moves = carried_few number client.dup begun client.moves issued keeps;
+      moves = carried_each number client.dup begun client.moves issued keeps;
+      whole = λ none. none_asked moves none;
+    }
+  where
+    none_asked : (moves : List Move) → moves ≡ [] → asks_delta client.delta moves ≡ false
+    none_asked [] none = refl
+    none_asked (one ∷ moves) none = let long : length (one ∷ moves) ≡ 0 = ap (λ (l : List Move). length l) none in absurd (omega (arith, long))
+
+module _ (profile : Profile) (client : ClientState) (qport : ℕ) (said : List Said) (issued : List Move) where
+  -- a datagram came, and with it a snapshot, if one did
+  pub KeepsClient-took : (g : Gathering) (accepted : Option Snapshot) (delta : Bool) → g.side ≡ client.gathering.side → KeepsClient profile client qport said issued
+      → KeepsClient profile (record client { gathering = g; accepted = accepted; delta = delta }) qport said issued
+  KeepsClient-took g accepted delta side keeps =
+      record {
+        by = keeps.by;
+        from = side ∙ keeps.from;
+        fits = keeps.fits;
+        begun = keeps.begun;
+        short = keeps.short;
+        side = keeps.side;
+        qport = keeps.qport;
+        sends = keeps.sends;
+        said = keeps.said;
+        sendable = keeps.sendable;
+        last = keeps.last;
+        rise = keeps.rise;
+        moves = keeps.moves;
+        carried = keeps.carried;
+      }
+
+  -- a piece was handed out
+  pub KeepsClient-handed : EndsSend → KeepsClient profile client qport said issued
+      → KeepsClient profile (record client { sending = (next_of client.sending).sending }) qport said issued
+  KeepsClient-handed chan keeps =
+      let same = chan.stays client.sending in
+      record {
+        by = keeps.by;
+        from = keeps.from;
+        fits = keeps.fits;
+        begun = same.2 ∙ keeps.begun;
+        short = keeps.short;
+        side = same.0 ∙ keeps.side;
+        qport = same.1 ∙ keeps.qport;
+        sends = chan.next (messages_said profile said) client.sending keeps.sends;
+        said = keeps.said;
+        sendable = keeps.sendable;
+        last = keeps.last;
+        rise = keeps.rise;
+        moves = keeps.moves;
+        carried = keeps.carried;
+      }
+
+  -- a move was issued
+  pub KeepsClient-issued : (one : Move) → IsMove one → client.last_time < one.time → KeepsClient profile client qport said issued
+      → KeepsClient profile (issue client one) qport said (issued ++ one ∷ [])
+  unfolding last_time
+  KeepsClient-issued one is later keeps =
+      let last = keeps.last in
+      record {
+        by = keeps.by;
+        from = keeps.from;
+        fits = keeps.fits;
+        begun = keeps.begun;
+        short = keeps.short;
+        side = keeps.side;
+        qport = keeps.qport;
+        sends = keeps.sends;
+        said = keeps.said;
+        sendable = keeps.sendable;
+        last = sym (last_time-append 0 issued (one ∷ []));
+        rise = TimesRise-append 0 issued (one ∷ []) keeps.rise (omega (arith, later, last), tt);
+        moves = subst (λ (begun : ℕ). KeepsMoves (keep_last most_moves (client.moves ++ record { begun = begun; one = one } ∷ [])) (length said) (issued ++ one ∷ []))
+            (sym keeps.begun) (KeepsMoves-push client.moves (length said) issued one is keeps.moves);
+        carried = λ k d lt. AreConsecutive-more (get_or said k d).moves issued (one ∷ []) (keeps.carried k d lt);
+      }
+
+  -- a message was begun, and is under way
+  abbrev pub client_begun : ClientState
+  client_begun = record client { sending = started client.sending (said_bytes profile (next_said client)) }
+
+  pub KeepsClient-begun : EndsSend → client.sending.number + 1 < sequence_end → client.gathering.taken < 2 ^ 32 → IsSendable (said_bytes profile (next_said client))
+      → KeepsClient profile client qport said issued → KeepsClient profile client_begun qport (said ++ next_said client ∷ []) issued
+  KeepsClient-begun chan fits taken sendable keeps =
+      let next = next_said client in
+      let begun = keeps.begun in
+      let longer = length_push said next in
+      let last : messages_said profile (said ++ next ∷ []) (suc (length said)) ≡ said_bytes profile next =
+      let place : length said ≡ suc (length said) - 1 = omega arith in
+      ap (said_bytes profile) (get_or_push said next empty_message (suc (length said) - 1) place) in
+      let number : suc (length said) ≡ client.sending.number + 1 = omega (arith, begun) in
+      record {
+        by = keeps.by;
+        from = keeps.from;
+        fits = keeps.fits;
+        begun = omega (arith, longer, begun);
+        short = omega (arith, longer, begun, fits);
+        side = keeps.side;
+        qport = keeps.qport;
+        sends = chan.start (messages_said profile (said ++ next ∷ [])) client.sending (said_bytes profile next)
+            (subst (λ (n : ℕ). messages_said profile (said ++ next ∷ []) n ≡ said_bytes profile next) number last);
+        said = each_more (λ (k : ℕ) (s : Said). IsMessage s) said next keeps.said (next_is_message client (length said) issued taken keeps.moves);
+        sendable = each_more (λ (k : ℕ) (s : Said). IsSendable (said_bytes profile s)) said next keeps.sendable sendable;
+        last = keeps.last;
+        rise = keeps.rise;
+        moves = KeepsMoves-begun client.moves (length said) (length (said ++ next ∷ [])) issued (omega (arith, longer)) keeps.moves;
+        carried = each_more (λ (k : ℕ) (s : Said). AreConsecutive s.moves issued) said next keeps.carried
+            (carried_consecutive (client.sending.number + 1) client.dup (length said) client.moves issued keeps.moves);
+      }
 
 -- ---- a piece is handed out
-
-abbrev pub slot_handed : SlotState → SlotState
-slot_handed slot = record slot { sending = (next_of slot.sending).sending }
-
-pub AreEnds-handed : (profile : Profile) (slot : SlotState) (client : ClientState) (history : History) → EndsSend
-    → AreEnds profile slot client history → AreEnds profile (slot_handed slot) client history
-AreEnds-handed profile slot client history chan ends =
-    let same = chan.stays slot.sending in
-    record {
-      begun = same.2 ∙ ends.begun;
-      side = same.0 ∙ ends.side;
-      qport = same.1 ∙ ends.qport;
-      sends = chan.next (messages_of profile history.built) slot.sending ends.sends;
-      player = ends.player;
-      area = ends.area;
-      built = ends.built;
-      sendable = ends.sendable;
-      by = ends.by;
-      from = ends.from;
-    }
 
 -- the bytes of the message under a number
 pub at_number : (profile : Profile) (built : List Built) (number : ℕ) → 1 ≤ number → messages_of profile built number ≡ built_bytes profile (built_at built number)
 at_number profile built zero some = absurd (omega (arith, some))
 at_number profile built (suc number) some = refl
 
--- its datagram is one of the message that is under way
-pub handed_bytes : (profile : Profile) (slot : SlotState) (left : UnderWay) (client : ClientState) (history : History) → EndsSend → slot.sending.under_way ≡ Some left
-    → AreEnds profile slot client history
-    → (1 ≤ slot.sending.number) × (left.next < piece_count (length (built_bytes profile (built_at history.built slot.sending.number))))
-    × ((next_of slot.sending).datagram ≡ datagram Server 0 slot.sending.number (built_bytes profile (built_at history.built slot.sending.number)) left.next)
-handed_bytes profile slot left client history chan e ends =
-    let out = chan.piece (messages_of profile history.built) slot.sending left ends.sends e in
-    let message = at_number profile history.built slot.sending.number out.some in (
-      out.some,
-      subst (λ (m : List ℕ). left.next < piece_count (length m)) message out.left,
-      out.bytes
-          ∙ (ap (λ (side : Side). datagram side slot.sending.qport slot.sending.number (messages_of profile history.built slot.sending.number) left.next) ends.side
-          ∙ (ap (λ (qport : ℕ). datagram Server qport slot.sending.number (messages_of profile history.built slot.sending.number) left.next) ends.qport
-          ∙ ap (λ (m : List ℕ). datagram Server 0 slot.sending.number m left.next) message)),
-    )
+-- the bytes of the message under a number that the client began
+pub said_number : (profile : Profile) (said : List Said) (number : ℕ) → 1 ≤ number → messages_said profile said number ≡ said_bytes profile (said_at said number)
+said_number profile said zero some = absurd (omega (arith, some))
+said_number profile said (suc number) some = refl
 
--- ---- another state of the client
-
-pub AreEnds-client : (profile : Profile) (slot : SlotState) (client next : ClientState) (history : History) (heard : Option Snapshot)
-    → next.profile ≡ profile → next.gathering.side ≡ Server → AreEnds profile slot client history → AreEnds profile slot next (history_heard history heard)
-AreEnds-client profile slot client next history None by from ends =
+-- a datagram that is handed out has a piece of the message that is under way
+pub handed_piece : (messages : ℕ → List ℕ) (sending : Sending) (side : Side) (qport last : ℕ) (left : UnderWay) (tag : Tag) → EndsSend → Sends messages sending
+    → sending.under_way ≡ Some left → sending.side ≡ side → sending.qport ≡ qport → sending.number ≡ last
+    → tag.number ≡ sending.number → tag.index ≡ left.next → tag.bytes ≡ (next_of sending).datagram → IsPiece side qport messages last tag
+handed_piece messages sending side qport last left tag chan sends way of_side of_qport of_number number index bytes =
+    let out = chan.piece messages sending left sends way in
+    let some = out.some in
+    let within : left.next < piece_count (length (messages sending.number)) = out.left in
     record {
-      begun = ends.begun;
-      side = ends.side;
-      qport = ends.qport;
-      sends = ends.sends;
-      player = ends.player;
-      area = ends.area;
-      built = ends.built;
-      sendable = ends.sendable;
-      by = by;
-      from = from;
-    }
-AreEnds-client profile slot client next history (Some snapshot) by from ends =
-    record {
-      begun = ends.begun;
-      side = ends.side;
-      qport = ends.qport;
-      sends = ends.sends;
-      player = ends.player;
-      area = ends.area;
-      built = ends.built;
-      sendable = ends.sendable;
-      by = by;
-      from = from;
+      some = omega (arith, some, number);
+      begun = omega (arith, number, of_number);
+      piece = rw (index, number) within;
+      bytes = bytes ∙ (out.bytes ∙ rw (of_side, of_qport, number, index) refl);
     }
 
 -- ---- what joins the ends
 
-pub AreJoined-new : (map : MapState) (profile : Profile) (challenge qport dup : ℕ) (address : Address) → EndsGather
-    → AreJoined profile map (new_slot challenge qport address) (new_client profile challenge qport dup) no_history
-AreJoined-new map profile challenge qport dup address chan =
+pub TakesBuilt-new : (profile : Profile) (challenge qport dup : ℕ) → EndsGather → TakesBuilt profile (new_client profile challenge qport dup) [] []
+TakesBuilt-new profile challenge qport dup chan =
     record {
       accepted = λ k d lt. absurd (omega (arith, lt));
       rise = λ j k d lt within. absurd (omega (arith, within));
@@ -221,26 +410,64 @@ AreJoined-new map profile challenge qport dup address chan =
       legible = refl;
     }
 
--- another map and another slot
-pub AreJoined-slot : (profile : Profile) (map map' : MapState) (slot slot' : SlotState) (client : ClientState) (history : History)
-    → AreJoined profile map slot client history → AreJoined profile map' slot' client history
-AreJoined-slot profile map map' slot slot' client history joined =
-    record { accepted = joined.accepted; rise = joined.rise; newest = joined.newest; below = joined.below; gathers = joined.gathers; legible = joined.legible }
+pub TakesSaid-new : (profile : Profile) (challenge qport : ℕ) (address : Address) → EndsGather → TakesSaid profile (new_slot challenge qport address) [] [] []
+TakesSaid-new profile challenge qport address chan =
+    record { gathers = chan.begin (messages_said profile []) 0 Client; issued = All-nil (Contains []) }
 
--- and a message more built, if one was begun
-pub AreJoined-after : (profile : Profile) (map : MapState) (slot slot' : SlotState) (client : ClientState) (history : History) (began : Option Built) → EndsGather
-    → AreJoined profile map slot client history → AreJoined profile map slot' client (history_after history began)
-AreJoined-after profile map slot slot' client history None chan joined = AreJoined-slot profile map map slot slot' client history joined
-AreJoined-after profile map slot slot' client history (Some next) chan joined =
+-- another state of the client that takes as it did
+pub TakesBuilt-same : (profile : Profile) (client next : ClientState) (built : List Built) (accepted : List Snapshot) → next.gathering ≡ client.gathering → next.accepted ≡ client.accepted
+    → next.dropped ≡ client.dropped → TakesBuilt profile client built accepted → TakesBuilt profile next built accepted
+TakesBuilt-same profile client next built accepted gathering is dropped takes =
     record {
-      accepted = λ k d lt. was_built_more history.built (next ∷ []) (get_or history.accepted k d) (joined.accepted k d lt);
-      rise = joined.rise;
-      newest = joined.newest;
-      below = joined.below;
-      gathers = chan.more (messages_of profile history.built) (messages_of profile (history.built ++ next ∷ [])) (length history.built) (length (history.built ++ next ∷ []))
-          client.gathering joined.gathers (omega (arith, length_push history.built next)) (messages_stay profile history.built (next ∷ []));
-      legible = joined.legible;
+      accepted = takes.accepted;
+      rise = takes.rise;
+      newest = is ∙ takes.newest;
+      below = rw (gathering, is) takes.below;
+      gathers = rw gathering takes.gathers;
+      legible = dropped ∙ takes.legible;
     }
+
+-- and of the slot
+pub TakesSaid-same : (profile : Profile) (slot next : SlotState) (said : List Said) (issued run : List Move) → next.gathering ≡ slot.gathering → TakesSaid profile slot said issued run
+    → TakesSaid profile next said issued run
+TakesSaid-same profile slot next said issued run gathering takes = record { gathers = rw gathering takes.gathers; issued = takes.issued }
+
+-- one more message was built
+pub TakesBuilt-more : (profile : Profile) (client : ClientState) (built : List Built) (accepted : List Snapshot) (next : Built) → EndsGather
+    → TakesBuilt profile client built accepted → TakesBuilt profile client (built ++ next ∷ []) accepted
+TakesBuilt-more profile client built accepted next chan takes =
+    record {
+      accepted = λ k d lt. was_built_more built (next ∷ []) (get_or accepted k d) (takes.accepted k d lt);
+      rise = takes.rise;
+      newest = takes.newest;
+      below = takes.below;
+      gathers = chan.more (messages_of profile built) (messages_of profile (built ++ next ∷ [])) (length built) (length (built ++ next ∷ []))
+          client.gathering takes.gathers (omega (arith, length_push built next)) (messages_stay profile built (next ∷ []));
+      legible = takes.legible;
+    }
+
+-- one more message was begun by the client
+pub TakesSaid-more : (profile : Profile) (slot : SlotState) (said : List Said) (issued run : List Move) (next : Said) → EndsGather
+    → TakesSaid profile slot said issued run → TakesSaid profile slot (said ++ next ∷ []) issued run
+TakesSaid-more profile slot said issued run next chan takes =
+    record {
+      gathers = chan.more (messages_said profile said) (messages_said profile (said ++ next ∷ [])) (length said) (length (said ++ next ∷ []))
+          slot.gathering takes.gathers (omega (arith, length_push said next)) (messages_said_stay profile said (next ∷ []));
+      issued = takes.issued;
+    }
+
+-- one more move was issued
+pub TakesSaid-issued : (profile : Profile) (slot : SlotState) (said : List Said) (issued run : List Move) (one : Move)
+    → TakesSaid profile slot said issued run → TakesSaid profile slot said (issued ++ one ∷ []) run
+TakesSaid-issued profile slot said issued run one takes = record { gathers = takes.gathers; issued = contains_more run issued (one ∷ []) takes.issued }
+
+-- moves that were issued were run
+pub TakesSaid-ran : (profile : Profile) (slot : SlotState) (said : List Said) (issued run moves : List Move) (g : Gathering) (address : Address) (before last : ℕ)
+    → Gathers (messages_said profile said) (length said) g → All (Contains issued) moves
+    → TakesSaid profile slot said issued run
+    → TakesSaid profile (record slot { address = address; gathering = g; last_run = last }) said issued (run ++ runs before moves)
+TakesSaid-ran profile slot said issued run moves g address before last gathers are takes =
+    record { gathers = gathers; issued = All-append (Contains issued) run (runs before moves) takes.issued (runs_are (Contains issued) before moves are) }
 
 -- the last of a list, and of one more
 last_push : {X : Type 0} (o : Option X) (xs : List X) (x : X) → last_or o (xs ++ x ∷ []) ≡ Some x
@@ -277,26 +504,26 @@ rise_more accepted next rise above j k d lt within =
     ]
 
 -- more was gathered, or gathered anew, and no message came whole
-pub AreJoined-gathered : (profile : Profile) (map : MapState) (slot : SlotState) (client : ClientState) (history : History) (g : Gathering)
-    → g.taken ≡ client.gathering.taken → Gathers (messages_of profile history.built) (length history.built) g
-    → AreJoined profile map slot client history → AreJoined profile map slot (record client { gathering = g }) history
-AreJoined-gathered profile map slot client history g taken gathers joined =
-    let below = joined.below in
-    record { accepted = joined.accepted; rise = joined.rise; newest = joined.newest; below = omega (arith, taken, below); gathers = gathers; legible = joined.legible }
+pub TakesBuilt-gathered : (profile : Profile) (client : ClientState) (built : List Built) (accepted : List Snapshot) (g : Gathering)
+    → g.taken ≡ client.gathering.taken → Gathers (messages_of profile built) (length built) g
+    → TakesBuilt profile client built accepted → TakesBuilt profile (record client { gathering = g }) built accepted
+TakesBuilt-gathered profile client built accepted g taken gathers takes =
+    let below = takes.below in
+    record { accepted = takes.accepted; rise = takes.rise; newest = takes.newest; below = omega (arith, taken, below); gathers = gathers; legible = takes.legible }
 
 -- a newer snapshot that was built came whole and is accepted
-pub AreJoined-accepted : (profile : Profile) (map : MapState) (slot : SlotState) (client : ClientState) (history : History) (g : Gathering) (snapshot : Snapshot)
-    → g.taken ≡ snapshot.head.number → Gathers (messages_of profile history.built) (length history.built) g
-    → WasBuilt history.built snapshot → client.gathering.taken < snapshot.head.number → AreJoined profile map slot client history
-    → AreJoined profile map slot (record client { gathering = g; accepted = Some snapshot; delta = true }) (record history { accepted = history.accepted ++ snapshot ∷ [] })
-AreJoined-accepted profile map slot client history g snapshot taken gathers was newer joined =
-    let newest = ap number_of_newest joined.newest in
-    let below = joined.below in
+pub TakesBuilt-accepted : (profile : Profile) (client : ClientState) (built : List Built) (accepted : List Snapshot) (g : Gathering) (snapshot : Snapshot)
+    → g.taken ≡ snapshot.head.number → Gathers (messages_of profile built) (length built) g
+    → WasBuilt built snapshot → client.gathering.taken < snapshot.head.number → TakesBuilt profile client built accepted
+    → TakesBuilt profile (record client { gathering = g; accepted = Some snapshot; delta = true }) built (accepted ++ snapshot ∷ [])
+TakesBuilt-accepted profile client built accepted g snapshot taken gathers was newer takes =
+    let newest = ap number_of_newest takes.newest in
+    let below = takes.below in
     record {
-      accepted = each_more (λ (k : ℕ) (s : Snapshot). WasBuilt history.built s) history.accepted snapshot joined.accepted was;
-      rise = rise_more history.accepted snapshot joined.rise (λ k d lt. omega (arith, at_most history.accepted k d joined.rise lt, newest, below));
-      newest = sym (last_push None history.accepted snapshot);
+      accepted = each_more (λ (k : ℕ) (s : Snapshot). WasBuilt built s) accepted snapshot takes.accepted was;
+      rise = rise_more accepted snapshot takes.rise (λ k d lt. omega (arith, at_most accepted k d takes.rise lt, newest, below));
+      newest = sym (last_push None accepted snapshot);
       below = omega (arith, taken);
       gathers = gathers;
-      legible = joined.legible;
+      legible = takes.legible;
     }

@@ -1,32 +1,46 @@
 -- What holds between any two events holds after each event.
-use Rattle.std.proofs.Common.{◌≡◌, ℕ, ◌+◌, ◌-◌, ◌^◌, ◌<◌, ◌≤◌, List, [], ◌∷◌, ◌++◌, length, get_or, Option, Some, None, refl, sym, ap, subst, ◌∙◌, arith, lit<}
-use Rattle.std.specs.Prelude.{slice_set}
-use Rattle.std.proofs.lemmas.List.{get_or-replicate}
+use Rattle.std.proofs.Common.{◌≡◌, ℕ, zero, suc, ◌+◌, ◌-◌, ◌^◌, ◌<◌, ◌≤◌, List, [], ◌∷◌, ◌++◌, length, get_or, replicate, Option, Some, None, refl, sym, ap, subst, ◌∙◌, arith, lit<}
+use Rattle.std.specs.Prelude.{slice_set, position, All, Contains}
+use Rattle.std.proofs.lemmas.List.{get_or-replicate, set-get_or}
+use Rattle.std.proofs.lemmas.List.Elements.{All-append}
+use Rattle.arrayvec.specs.ArrayVec.{ArrayVec}
 use Rattle.q3_profile.specs.declared.profile.Profile.{Profile}
 use Rattle.q3_profile.specs.Profile.{IsCodec}
 use Rattle.q3_player.specs.State.{zero_player, normal_player}
 use Rattle.q3_player.specs.declared.state.PlayerState.{PlayerState}
 use Rattle.q3_io.specs.declared.address.Address.{Address}
-use Rattle.q3_chan.specs.declared.side.Side.TheVariants.{Server}
-use Rattle.q3_chan.specs.Datagrams.{piece_count, datagram}
+use Rattle.q3_chan.specs.declared.side.Side.TheVariants.{Server, Client}
+use Rattle.q3_chan.specs.Datagrams.{sequence_end}
 use Rattle.q3_chan.specs.Sending.{UnderWay, next_of}
-use Rattle.q3_chan.specs.Laws.{IsSendable, EndsGather, EndsSend}
+use Rattle.q3_chan.specs.Gathering.{Gathering}
+use Rattle.q3_chan.specs.Laws.{IsSendable, Gathers, EndsGather, EndsSend}
+use Rattle.q3_clmsg.specs.declared.moves.Move.{Move}
+use Rattle.q3_clmsg.specs.Moves.{IsMove}
 use Rattle.q3_svmsg.specs.Values.{Snapshot}
 use Rattle.q3_server.specs.Built.{IsHeld, IsArea, AreHeld, IsBuilt}
-use Rattle.q3_server.specs.Server.{MapState, SlotState, Built, places, slot_at, with_slot, new_slot, with_player, with_area, built_bytes}
+use Rattle.q3_server.specs.Server.{MapState, SlotState, ServerState, Built, places, slot_at, with_slot, is_of, new_slot, next_message, with_player, with_area, built_bytes}
+use Rattle.q3_server.specs.Taking.{last_run_of, runs}
 use Rattle.q3_client.specs.Client.{ClientState, new_client}
-use Rattle.q3_world.specs.Ends.{client_at, with_client}
-use Rattle.q3_world.specs.World.{Tag, History, Whole, no_history, no_message, history_at, built_at, histories_after, accepted_after, named, opening}
-use Rattle.q3_world.specs.StandsFor.{AreEnds, IsClient, IsSent, Facts, AreJoined, IsJoined, AllJoined, WasBuilt}
-use Rattle.q3_world.proofs.OnePlace.{set_there, OnlyAt, OnlyAt-set, OnlyAt-same, Each, each_at}
-use Rattle.q3_world.proofs.Growth.{Grows, Grows-same, Grows-after, Grows-heard, OnlyAt-after, OnlyAt-heard, there_after, there_heard, history_after, history_heard, AllSent, all_sent_grow, each_more}
-use Rattle.q3_world.proofs.Clients.{no_client, a_client, a_slot, AreEnds-new, AreEnds-given, AreEnds-handed, AreEnds-client, slot_handed, handed_bytes, AreJoined-new, AreJoined-slot, AreJoined-after}
+use Rattle.q3_client.specs.Moves.{issue}
+use Rattle.q3_client.specs.Sending.{Said, next_message as next_said}
+use Rattle.q3_world.specs.declared.sent.Direction.{Direction}
+use Rattle.q3_world.specs.declared.sent.Direction.TheVariants.{ToClient, ToServer}
+use Rattle.q3_world.specs.Ends.{Ends, client_at, with_client, no_address, address_at}
+use Rattle.q3_world.specs.World.{Tag, History, Whole, no_history, no_message, history_at, with_history, built_at, said_bytes, with_built, with_accepted, with_said, with_run, named, opening}
+use Rattle.q3_world.specs.StandsFor.{messages_of, messages_said, KeepsSlot, KeepsClient, AreEnds, IsClient, IsPiece, IsWay, IsSent, Facts, TakesBuilt, TakesSaid, AreJoined, IsJoined, AllJoined, WasBuilt}
+use Rattle.q3_world.proofs.OnePlace.{set_there, OnlyAt, OnlyAt-set, OnlyAt-same, DifferAt, Each, each_at}
+use Rattle.q3_world.proofs.Growth.{HistoryGrows, HistoryGrows-same, HistoryGrows-built, HistoryGrows-accepted, HistoryGrows-said, HistoryGrows-issued, HistoryGrows-run, HistoryGrows-joined, Grow, Grow-at, noted_same, AllSent, all_sent_grow, each_more}
+use Rattle.q3_world.proofs.Found.{AllFound, found_changed, found_joined}
+use Rattle.q3_world.proofs.Clients.{no_client, a_client, a_slot, at_number, KeepsSlot-new, KeepsSlot-given, KeepsSlot-came, KeepsSlot-ran, KeepsSlot-handed, KeepsSlot-begun, KeepsClient-new, KeepsClient-took, KeepsClient-handed, KeepsClient-issued, KeepsClient-begun, client_begun, slot_begun, handed_piece, TakesBuilt-new, TakesSaid-new, TakesBuilt-same, TakesSaid-same, TakesBuilt-more, TakesSaid-more, TakesSaid-issued, TakesSaid-ran}
 use Rattle.q3_world.proofs.Held.{AreHeld-none}
 
 -- what holds of a whole world
 pub record Holds (profile : Profile) (whole : Whole) : Type 0 where
   pub facts : Facts profile whole
   pub joined : AllJoined profile whole
+
+abbrev none_slot : Option SlotState
+none_slot = None
 
 -- at the beginning
 pub Holds-opening : (profile : Profile) → IsCodec profile → Holds profile (opening profile)
@@ -40,297 +54,559 @@ Holds-opening profile codec =
         by = refl;
         slots = refl;
         clients = refl;
+        addresses = refl;
         histories = refl;
         time = lit< tt;
         entities = AreHeld-none profile;
         each = λ c lt. rw (no_slots c lt, no_clients c lt, get_or-replicate places c no_history no_history lt) refl;
+        found = λ c slot at. absurd (none_some (sym (nobody places c) ∙ at));
         sent = λ k d lt. absurd (omega (arith, lt));
       };
       joined = λ c lt. rw (no_slots c lt) tt;
     }
+  where
+    nobody : (count c : ℕ) → get_or (replicate count (none_slot)) c none_slot ≡ none_slot
+    nobody zero c = refl
+    nobody (suc count) zero = refl
+    nobody (suc count) (suc c) = nobody count c
+
+    none_some : {slot : SlotState} → none_slot ≡ Some slot → ⊥
+    none_some e = absurd cc
 
 -- ---- one client changes
 
--- the worlds differ only in the parts of one client, and in what was sent; and what was built only grew
-pub record Differ (c : ℕ) (old new : Whole) : Type 0 where
+-- the worlds differ only in the parts of one client, and in what was sent; what was begun only grew, and each client is found
+pub record Differ (profile : Profile) (c : ℕ) (old new : Whole) : Type 0 where
   pub by : new.ends.server.profile ≡ old.ends.server.profile
   pub map : new.ends.server.map ≡ old.ends.server.map
-  pub slots : OnlyAt None c old.ends.server.slots new.ends.server.slots
-  pub clients : OnlyAt None c old.ends.clients new.ends.clients
-  pub histories : OnlyAt no_history c old.histories new.histories
-  pub grows : Grows old.histories new.histories
+  pub at : DifferAt c old.ends new.ends old.histories new.histories
+  pub found : AllFound new.ends.server.slots
+  pub sent : AllSent profile new.histories new.sent
+
+-- what joins the ends of a client, by this map
+abbrev OfJoined : Profile → MapState → Option SlotState → Option ClientState → Address → History → Type 0
+OfJoined profile map slot client address history = IsJoined profile map slot client history
 
 -- what holds of the others stays
-pub Holds-at : (profile : Profile) (c : ℕ) (old new : Whole) → Differ c old new
-    → IsClient profile (slot_at new.ends.server c) (client_at new.ends c) (history_at new.histories c)
+pub Holds-at : (profile : Profile) (c : ℕ) (old new : Whole) → Differ profile c old new
+    → IsClient profile (slot_at new.ends.server c) (client_at new.ends c) (address_at new.ends c) (history_at new.histories c)
     → IsJoined profile new.ends.server.map (slot_at new.ends.server c) (client_at new.ends c) (history_at new.histories c)
-    → AllSent profile new.histories new.sent → Holds profile old → Holds profile new
-Holds-at profile c old new differ client joined sent holds =
+    → Holds profile old → Holds profile new
+Holds-at profile c old new differ client joined holds =
     let facts = holds.facts in
+    let at = differ.at in
     record {
       facts = record {
         codec = facts.codec;
         by = differ.by ∙ facts.by;
-        slots = differ.slots.count ∙ facts.slots;
-        clients = differ.clients.count ∙ facts.clients;
-        histories = differ.histories.count ∙ facts.histories;
+        slots = at.slots.count ∙ facts.slots;
+        clients = at.clients.count ∙ facts.clients;
+        addresses = at.addresses.count ∙ facts.addresses;
+        histories = at.histories.count ∙ facts.histories;
         time = subst (λ (map : MapState). map.time < 2 ^ 32) (sym differ.map) facts.time;
         entities = subst (λ (map : MapState). AreHeld profile map.entities) (sym differ.map) facts.entities;
-        each = each_at (IsClient profile) c old.ends.server.slots new.ends.server.slots old.ends.clients new.ends.clients old.histories new.histories
-            differ.slots differ.clients differ.histories client facts.each;
-        sent = sent;
+        each = each_at (IsClient profile) c old.ends new.ends old.histories new.histories at client facts.each;
+        found = differ.found;
+        sent = differ.sent;
       };
-      joined = each_at (IsJoined profile new.ends.server.map) c old.ends.server.slots new.ends.server.slots old.ends.clients new.ends.clients old.histories new.histories
-          differ.slots differ.clients differ.histories joined
-          (subst (λ (map : MapState). Each (IsJoined profile map) old.ends.server.slots old.ends.clients old.histories) (sym differ.map) holds.joined);
+      joined = each_at (OfJoined profile new.ends.server.map) c old.ends new.ends old.histories new.histories at joined
+          (subst (λ (map : MapState). Each (OfJoined profile map) old.ends old.histories) (sym differ.map) holds.joined);
     }
+
+-- ---- a client joins
+
+-- the world with a client that sends from an address
+abbrev pub with_new : Whole → ℕ → ℕ → Address → SlotState → ClientState → Whole
+with_new whole c qport address slot client =
+    record whole {
+      ends = record {
+        server = with_slot whole.ends.server c slot;
+        clients = slice_set whole.ends.clients c (Some client);
+        addresses = slice_set whole.ends.addresses c address;
+      };
+      histories = with_history whole.histories c (record (history_at whole.histories c) { qport = qport; host = address.host });
+    }
+
+pub Holds-new : (profile : Profile) (whole : Whole) (c challenge qport dup : ℕ) (address : Address) → EndsSend → EndsGather → IsHeld profile zero_player → c < places
+    → qport < 2 ^ 16 → slot_at whole.ends.server c ≡ None → position (is_of address.host qport) whole.ends.server.slots ≡ None → Holds profile whole
+    → Holds profile (with_new whole c qport address (new_slot challenge qport address) (new_client profile challenge qport dup))
+Holds-new profile whole c challenge qport dup address sends gathers zero lt fits none alone holds =
+    let facts = holds.facts in
+    let ends = whole.ends in
+    let slots = ends.server.slots in
+    let slot = new_slot challenge qport address in
+    let client = new_client profile challenge qport dup in
+    let history = history_at whole.histories c in
+    let there = record history { qport = qport; host = address.host } in
+    let history_is : history ≡ no_history =
+    no_client profile (client_at ends c) (address_at ends c) history
+    (subst (λ (s : Option SlotState). IsClient profile s (client_at ends c) (address_at ends c) history) none (facts.each c lt)) in
+    let slot_is = set_there slots c None (Some slot) facts.slots lt in
+    let client_is = set_there ends.clients c None (Some client) facts.clients lt in
+    let address_is = set_there ends.addresses c no_address address facts.addresses lt in
+    let noted = set_there whole.histories c no_history there facts.histories lt in
+    let keeps : AreEnds profile slot client address there = subst (λ (h : History). AreEnds profile slot client address (record h { qport = qport; host = address.host })) (sym history_is)
+    (record { slot = KeepsSlot-new profile challenge qport address sends zero; client = KeepsClient-new profile challenge qport dup sends fits; host = refl }) in
+    let joins : AreJoined profile ends.server.map slot client there = subst (λ (h : History). AreJoined profile ends.server.map slot client (record h { qport = qport; host = address.host })) (sym history_is)
+    (record { client = TakesBuilt-new profile challenge qport dup gathers; slot = TakesSaid-new profile challenge qport address gathers }) in
+    Holds-at profile c whole (with_new whole c qport address slot client)
+    (record {
+      by = refl;
+      map = refl;
+      at = record {
+        slots = OnlyAt-set None c slots (Some slot);
+        clients = OnlyAt-set None c ends.clients (Some client);
+        addresses = OnlyAt-set no_address c ends.addresses address;
+        histories = OnlyAt-set no_history c whole.histories there;
+      };
+      found = found_joined slots c slot facts.slots lt none alone facts.found;
+      sent = all_sent_grow profile whole.histories (with_history whole.histories c there) whole.sent
+          (Grow-at whole.histories c there facts.histories lt (HistoryGrows-joined history there history_is)) facts.sent;
+    })
+    (rw (slot_is, client_is, address_is, noted) keeps)
+    (rw (slot_is, client_is, noted) joins)
+    holds
+
+-- ---- a client that is there
+
+-- what is known of it: its slot, its end, what they keep, and what joins them
+pub record Has (profile : Profile) (whole : Whole) (c : ℕ) (slot : SlotState) (client : ClientState) : Type 0 where
+  pub slot : slot_at whole.ends.server c ≡ Some slot
+  pub client : client_at whole.ends c ≡ Some client
+  pub keeps : AreEnds profile slot client (address_at whole.ends c) (history_at whole.histories c)
+  pub joined : AreJoined profile whole.ends.server.map slot client (history_at whole.histories c)
 
 abbrev some_slot : SlotState → Option SlotState
 some_slot slot = Some slot
 
--- a client joins
-abbrev pub with_new : Whole → ℕ → SlotState → ClientState → Whole
-with_new whole c slot client =
-    record whole { ends = record { server = with_slot whole.ends.server c slot; clients = slice_set whole.ends.clients c (Some client) } }
+abbrev some_client : ClientState → Option ClientState
+some_client client = Some client
 
-pub Holds-new : (profile : Profile) (whole : Whole) (c challenge qport dup : ℕ) (address : Address) → EndsSend → EndsGather → IsHeld profile zero_player → c < places
-    → slot_at whole.ends.server c ≡ None → Holds profile whole
-    → Holds profile (with_new whole c (new_slot challenge qport address) (new_client profile challenge qport dup))
-Holds-new profile whole c challenge qport dup address sends gathers zero lt none holds =
-    let facts = holds.facts in
-    let slots = whole.ends.server.slots in
-    let clients = whole.ends.clients in
-    let slot = new_slot challenge qport address in
-    let client = new_client profile challenge qport dup in
+-- with a slot
+pub has_slot : (profile : Profile) (whole : Whole) (c : ℕ) (slot : SlotState) → c < places → slot_at whole.ends.server c ≡ Some slot → Holds profile whole
+    → (client : ClientState) × Has profile whole c slot client
+has_slot profile whole c slot lt found holds =
     let history = history_at whole.histories c in
-    let history_is : history ≡ no_history =
-    no_client profile (client_at whole.ends c) history (subst (λ (s : Option SlotState). IsClient profile s (client_at whole.ends c) history) none (facts.each c lt)) in
-    let slot_is = set_there slots c None (Some slot) facts.slots lt in
-    let client_is = set_there clients c None (Some client) facts.clients lt in
-    Holds-at profile c whole (with_new whole c slot client)
+    let address = address_at whole.ends c in
+    let map = whole.ends.server.map in
+    let ends = a_client profile slot (client_at whole.ends c) address history
+    (subst (λ (s : Option SlotState). IsClient profile s (client_at whole.ends c) address history) found (holds.facts.each c lt)) in
+    let joined : IsJoined profile map (some_slot slot) (client_at whole.ends c) history = subst (λ (s : Option SlotState). IsJoined profile map s (client_at whole.ends c) history) found (holds.joined c lt) in
+    (ends.0, record { slot = found; client = ends.1; keeps = ends.2; joined = subst (λ (e : Option ClientState). IsJoined profile map (some_slot slot) e history) ends.1 joined })
+
+-- with its own end
+pub has_client : (profile : Profile) (whole : Whole) (c : ℕ) (client : ClientState) → c < places → client_at whole.ends c ≡ Some client → Holds profile whole
+    → (slot : SlotState) × Has profile whole c slot client
+has_client profile whole c client lt found holds =
+    let history = history_at whole.histories c in
+    let address = address_at whole.ends c in
+    let map = whole.ends.server.map in
+    let had = a_slot profile (slot_at whole.ends.server c) client address history
+    (subst (λ (e : Option ClientState). IsClient profile (slot_at whole.ends.server c) e address history) found (holds.facts.each c lt)) in
+    let joined : IsJoined profile map (some_slot had.0) (some_client client) history =
+    subst (λ (s : Option SlotState). IsJoined profile map s (some_client client) history) had.1
+    (subst (λ (e : Option ClientState). IsJoined profile map (slot_at whole.ends.server c) e history) found (holds.joined c lt)) in
+    (had.0, record { slot = had.1; client = found; keeps = had.2; joined = joined })
+
+-- the world in which its slot, its end, and what is noted of it are these, and this was sent
+abbrev pub changed : Whole → ℕ → SlotState → ClientState → History → List Tag → Whole
+changed whole c slot client history sent =
+    record {
+      ends = record whole.ends { server = with_slot whole.ends.server c slot; clients = slice_set whole.ends.clients c (Some client) };
+      histories = with_history whole.histories c history;
+      sent = sent;
+    }
+
+-- a change of a client that is there
+pub record Changes (profile : Profile) (whole : Whole) (c : ℕ) (slot : SlotState) (client : ClientState) (slot' : SlotState) (client' : ClientState) (history : History) (sent : List Tag) : Type 0 where
+  pub host : slot'.address.host ≡ slot.address.host
+  pub qport : slot'.qport ≡ slot.qport
+  pub grows : HistoryGrows (history_at whole.histories c) history
+  pub keeps : AreEnds profile slot' client' (address_at whole.ends c) history
+  pub joined : AreJoined profile whole.ends.server.map slot' client' history
+  pub sent : AllSent profile (with_history whole.histories c history) sent
+
+pub Holds-changed : (profile : Profile) (whole : Whole) (c : ℕ) (slot slot' : SlotState) (client client' : ClientState) (history : History) (sent : List Tag) → c < places
+    → Has profile whole c slot client → Changes profile whole c slot client slot' client' history sent → Holds profile whole
+    → Holds profile (changed whole c slot' client' history sent)
+Holds-changed profile whole c slot slot' client client' history sent lt had changes holds =
+    let facts = holds.facts in
+    let ends = whole.ends in
+    let slots = ends.server.slots in
+    let slot_is = set_there slots c None (Some slot') facts.slots lt in
+    let client_is = set_there ends.clients c None (Some client') facts.clients lt in
+    let noted = set_there whole.histories c no_history history facts.histories lt in
+    Holds-at profile c whole (changed whole c slot' client' history sent)
     (record {
       by = refl;
       map = refl;
-      slots = OnlyAt-set None c slots (Some slot);
-      clients = OnlyAt-set None c clients (Some client);
-      histories = OnlyAt-same no_history c whole.histories;
-      grows = Grows-same whole.histories;
+      at = record {
+        slots = OnlyAt-set None c slots (Some slot');
+        clients = OnlyAt-set None c ends.clients (Some client');
+        addresses = OnlyAt-same no_address c ends.addresses;
+        histories = OnlyAt-set no_history c whole.histories history;
+      };
+      found = found_changed slots c slot slot' facts.slots lt had.slot changes.host changes.qport facts.found;
+      sent = changes.sent;
     })
-    (rw (slot_is, client_is, history_is) (AreEnds-new profile challenge qport dup address sends zero))
-    (rw (slot_is, client_is, history_is) (AreJoined-new whole.ends.server.map profile challenge qport dup address gathers))
-    facts.sent holds
+    (rw (slot_is, client_is, noted) changes.keeps)
+    (rw (slot_is, client_is, noted) changes.joined)
+    holds
 
--- a player is handed in
+-- what was sent stays so
+pub sent_grows : (profile : Profile) (whole : Whole) (c : ℕ) (history : History) → c < places → HistoryGrows (history_at whole.histories c) history → Holds profile whole
+    → AllSent profile (with_history whole.histories c history) whole.sent
+sent_grows profile whole c history lt grows holds =
+    all_sent_grow profile whole.histories (with_history whole.histories c history) whole.sent (Grow-at whole.histories c history holds.facts.histories lt grows) holds.facts.sent
+
+-- and so does one datagram more, of a client at a place
+pub sent_more : (profile : Profile) (whole : Whole) (c : ℕ) (history : History) (tag : Tag) → c < places → HistoryGrows (history_at whole.histories c) history → tag.client ≡ c
+    → IsWay profile history tag tag.direction → Holds profile whole → AllSent profile (with_history whole.histories c history) (whole.sent ++ tag ∷ [])
+sent_more profile whole c history tag lt grows at way holds =
+    let there : history_at (with_history whole.histories c history) tag.client ≡ history =
+    ap (λ (k : ℕ). history_at (with_history whole.histories c history) k) at ∙ set_there whole.histories c no_history history holds.facts.histories lt in
+    each_more (λ (k : ℕ) (t : Tag). IsSent profile (with_history whole.histories c history) t) whole.sent tag (sent_grows profile whole c history lt grows holds)
+    (record { client = subst (λ (k : ℕ). k < places) (sym at) lt; way = subst (λ (h : History). IsWay profile h tag tag.direction) (sym there) way })
+
+-- ---- parts that are put where they were
+
+-- a slot put where it was
+pub same_server : (server : ServerState) (c : ℕ) (slot : SlotState) → slot_at server c ≡ Some slot → with_slot server c slot ≡ server
+same_server server c slot found =
+    ap (λ (slots : List (Option SlotState)). record server { slots = slots })
+    (ap (λ (s : Option SlotState). slice_set server.slots c s) (sym found) ∙ set-get_or server.slots c None)
+
+-- a client put where it was
+pub same_clients : (ends : Ends) (c : ℕ) (client : ClientState) → client_at ends c ≡ Some client → slice_set ends.clients c (Some client) ≡ ends.clients
+same_clients ends c client found = ap (λ (s : Option ClientState). slice_set ends.clients c s) (sym found) ∙ set-get_or ends.clients c None
+
+-- only the slot changes, and what is noted
+abbrev pub with_server_of : Whole → ℕ → SlotState → History → List Tag → Whole
+with_server_of whole c slot history sent =
+    record { ends = record whole.ends { server = with_slot whole.ends.server c slot }; histories = with_history whole.histories c history; sent = sent }
+
+pub Holds-slot : (profile : Profile) (whole : Whole) (c : ℕ) (slot slot' : SlotState) (client : ClientState) (history : History) (sent : List Tag) → c < places
+    → Has profile whole c slot client → Changes profile whole c slot client slot' client history sent → Holds profile whole
+    → Holds profile (with_server_of whole c slot' history sent)
+Holds-slot profile whole c slot slot' client history sent lt had changes holds =
+    subst (λ (clients : List (Option ClientState)). Holds profile (record {
+      ends = record whole.ends { server = with_slot whole.ends.server c slot'; clients = clients };
+      histories = with_history whole.histories c history;
+      sent = sent;
+    })) (same_clients whole.ends c client had.client) (Holds-changed profile whole c slot slot' client client history sent lt had changes holds)
+
+-- only the client's own end changes, and what is noted
+abbrev pub with_client_of : Whole → ℕ → ClientState → History → List Tag → Whole
+with_client_of whole c client history sent =
+    record { ends = with_client whole.ends c client; histories = with_history whole.histories c history; sent = sent }
+
+pub Holds-client : (profile : Profile) (whole : Whole) (c : ℕ) (slot : SlotState) (client client' : ClientState) (history : History) (sent : List Tag) → c < places
+    → Has profile whole c slot client → Changes profile whole c slot client slot client' history sent → Holds profile whole
+    → Holds profile (with_client_of whole c client' history sent)
+Holds-client profile whole c slot client client' history sent lt had changes holds =
+    subst (λ (server : ServerState). Holds profile (record {
+      ends = record whole.ends { server = server; clients = slice_set whole.ends.clients c (Some client') };
+      histories = with_history whole.histories c history;
+      sent = sent;
+    })) (same_server whole.ends.server c slot had.slot) (Holds-changed profile whole c slot slot client client' history sent lt had changes holds)
+
+-- ---- what the game hands in for a client
+
+-- a player is handed in, or area bytes
 abbrev pub with_new_slot : Whole → ℕ → SlotState → Whole
 with_new_slot whole c slot = record whole { ends = record whole.ends { server = with_slot whole.ends.server c slot } }
 
--- the two ends of a client that has a slot, and what joins them
-abbrev Has : Profile → Whole → ℕ → SlotState → Type 0
-Has profile whole c slot = (client : ClientState) × (client_at whole.ends c ≡ Some client)
-    × AreEnds profile slot client (history_at whole.histories c) × AreJoined profile whole.ends.server.map slot client (history_at whole.histories c)
-
-has : (profile : Profile) (whole : Whole) (c : ℕ) (slot : SlotState) → c < places → slot_at whole.ends.server c ≡ Some slot → Holds profile whole → Has profile whole c slot
-has profile whole c slot lt found holds =
+Holds-given : (profile : Profile) (whole : Whole) (c : ℕ) (slot : SlotState) (player : PlayerState) (area : ArrayVec ℕ) → c < places
+    → slot_at whole.ends.server c ≡ Some slot → (IsHeld profile slot.player → IsHeld profile player) → (IsArea slot.area.items → IsArea area.items) → Holds profile whole
+    → Holds profile (with_new_slot whole c (record slot { player = player; area = area }))
+Holds-given profile whole c slot player area lt found held is holds =
     let history = history_at whole.histories c in
-    let map = whole.ends.server.map in
-    let ends = a_client profile slot (client_at whole.ends c) history
-    (subst (λ (s : Option SlotState). IsClient profile s (client_at whole.ends c) history) found (holds.facts.each c lt)) in
-    let joined : IsJoined profile map (some_slot slot) (client_at whole.ends c) history = subst (λ (s : Option SlotState). IsJoined profile map s (client_at whole.ends c) history) found (holds.joined c lt) in
-    (ends.0, ends.1, ends.2, subst (λ (e : Option ClientState). IsJoined profile map (some_slot slot) e history) ends.1 joined)
-
--- a slot changes, and not how many messages it began
-holds_slot : (profile : Profile) (whole : Whole) (c : ℕ) (slot next : SlotState) → c < places → slot_at whole.ends.server c ≡ Some slot
-    → ((client : ClientState) → AreEnds profile slot client (history_at whole.histories c) → AreEnds profile next client (history_at whole.histories c))
-    → Holds profile whole → Holds profile (with_new_slot whole c next)
-holds_slot profile whole c slot next lt found stays holds =
-    let facts = holds.facts in
-    let slots = whole.ends.server.slots in
-    let map = whole.ends.server.map in
-    let history = history_at whole.histories c in
-    let had = has profile whole c slot lt found holds in
-    let slot_is = set_there slots c None (Some next) facts.slots lt in
-    Holds-at profile c whole (with_new_slot whole c next)
+    let next = record slot { player = player; area = area } in
+    let had = has_slot profile whole c slot lt found holds in
+    let client = had.0 in
+    let keeps = had.1.keeps in
+    let joined = had.1.joined in
+    subst (λ (histories : List History). Holds profile (record { ends = record whole.ends { server = with_slot whole.ends.server c next }; histories = histories; sent = whole.sent }))
+    (noted_same whole.histories c)
+    (Holds-slot profile whole c slot next client history whole.sent lt had.1
     (record {
-      by = refl;
-      map = refl;
-      slots = OnlyAt-set None c slots (Some next);
-      clients = OnlyAt-same None c whole.ends.clients;
-      histories = OnlyAt-same no_history c whole.histories;
-      grows = Grows-same whole.histories;
-    })
-    (rw (slot_is, had.1) (stays had.0 had.2))
-    (rw (slot_is, had.1) (AreJoined-slot profile map map slot next had.0 history had.3))
-    facts.sent holds
+      host = refl;
+      qport = refl;
+      grows = HistoryGrows-same history;
+      keeps = record {
+        slot = KeepsSlot-given profile slot history.qport history.host history.built history.run player area (held keeps.slot.player) (is keeps.slot.area) keeps.slot;
+        client = keeps.client;
+        host = keeps.host;
+      };
+      joined = record { client = joined.client; slot = TakesSaid-same profile slot next history.said history.issued history.run refl joined.slot };
+      sent = sent_grows profile whole c history lt (HistoryGrows-same history) holds;
+    }) holds)
 
 pub Holds-player : (profile : Profile) (whole : Whole) (c : ℕ) (slot : SlotState) (player : PlayerState) → c < places
     → slot_at whole.ends.server c ≡ Some slot → IsHeld profile (normal_player profile.player.kinds player) → Holds profile whole
     → Holds profile (with_new_slot whole c (with_player profile slot player))
 Holds-player profile whole c slot player lt found held holds =
-    holds_slot profile whole c slot (with_player profile slot player) lt found
-    (λ client ends. AreEnds-given profile slot client (history_at whole.histories c) (normal_player profile.player.kinds player) slot.area held ends.area ends) holds
+    Holds-given profile whole c slot (normal_player profile.player.kinds player) slot.area lt found (λ old. held) (λ old. old) holds
 
 pub Holds-area : (profile : Profile) (whole : Whole) (c : ℕ) (slot : SlotState) (area : List ℕ) → c < places
     → slot_at whole.ends.server c ≡ Some slot → IsArea area → Holds profile whole
     → Holds profile (with_new_slot whole c (with_area slot area))
 Holds-area profile whole c slot area lt found is holds =
-    holds_slot profile whole c slot (with_area slot area) lt found
-    (λ client ends. AreEnds-given profile slot client (history_at whole.histories c) slot.player (record { items = area }) ends.player is ends) holds
+    Holds-given profile whole c slot slot.player (record { items = area }) lt found (λ old. old) (λ old. is) holds
 
--- ---- a datagram was handed out
+-- ---- the server hands out a datagram
 
--- the world behind an emission of a slot that has this piece left: a message was begun, if one was, and the piece has a tag
+abbrev pub slot_handed : SlotState → SlotState
+slot_handed slot = record slot { sending = (next_of slot.sending).sending }
+
 abbrev pub handed_tag : ℕ → SlotState → UnderWay → Tag
-handed_tag c slot left = record { client = c; number = slot.sending.number; index = left.next; bytes = (next_of slot.sending).datagram }
+handed_tag c slot left = record { client = c; direction = ToClient; number = slot.sending.number; index = left.next; bytes = (next_of slot.sending).datagram }
 
-abbrev pub with_handed : Whole → ℕ → SlotState → UnderWay → Option Built → Whole
-with_handed whole c slot left began =
-    record {
-      ends = record whole.ends { server = with_slot whole.ends.server c (slot_handed slot) };
-      histories = histories_after whole.histories c began;
-      sent = whole.sent ++ handed_tag c slot left ∷ [];
-    }
+-- a slot's message is begun, or goes on
+pub record Begins (profile : Profile) (slot slot' : SlotState) (qport host : ℕ) (built built' : List Built) (run : List Move) : Type 0 where
+  pub host : slot'.address.host ≡ slot.address.host
+  pub qport : slot'.qport ≡ slot.qport
+  pub gathering : slot'.gathering ≡ slot.gathering
+  pub keeps : KeepsSlot profile slot qport host built run → KeepsSlot profile slot' qport host built' run
 
-handed_is_sent : (profile : Profile) (histories : List History) (c : ℕ) (slot : SlotState) (left : UnderWay) (client : ClientState) (history : History) → EndsSend → c < places
-    → history_at histories c ≡ history → slot.sending.under_way ≡ Some left → AreEnds profile slot client history → IsSent profile histories (handed_tag c slot left)
-handed_is_sent profile histories c slot left client history chan lt there e ends =
-    let bytes = handed_bytes profile slot left client history chan e ends in
-    let begun = ends.begun in
-    record {
-      client = lt;
-      some = bytes.0;
-      begun = subst (λ (h : History). slot.sending.number ≤ length h.built) (sym there) (omega (arith, begun));
-      piece = subst (λ (h : History). left.next < piece_count (length (built_bytes profile (built_at h.built slot.sending.number)))) (sym there) bytes.1;
-      bytes = bytes.2 ∙ ap (λ (h : History). datagram Server 0 slot.sending.number (built_bytes profile (built_at h.built slot.sending.number)) left.next) (sym there);
-    }
-
--- a slot that has a piece left, of a message that was begun now or before, hands it out
+-- and behind it what is left of it is handed out
 pub Holds-handed : (profile : Profile) (whole : Whole) (c : ℕ) (old slot : SlotState) (left : UnderWay) (began : Option Built) → EndsSend → EndsGather → c < places
     → slot_at whole.ends.server c ≡ Some old → slot.sending.under_way ≡ Some left
-    → ((client : ClientState) → AreEnds profile old client (history_at whole.histories c) → AreEnds profile slot client (history_after (history_at whole.histories c) began))
-    → Holds profile whole → Holds profile (with_handed whole c slot left began)
-Holds-handed profile whole c old slot left began sends gathers lt found way begins holds =
-    let facts = holds.facts in
-    let slots = whole.ends.server.slots in
-    let map = whole.ends.server.map in
-    let histories = whole.histories in
-    let history = history_at histories c in
+    → Begins profile old slot (history_at whole.histories c).qport (history_at whole.histories c).host (history_at whole.histories c).built (with_built (history_at whole.histories c) began).built (history_at whole.histories c).run
+    → Holds profile whole
+    → Holds profile (with_server_of whole c (slot_handed slot) (with_built (history_at whole.histories c) began) (whole.sent ++ handed_tag c slot left ∷ []))
+Holds-handed profile whole c old slot left None sends gathers lt found way begins holds =
+    let history = history_at whole.histories c in
     let next = slot_handed slot in
-    let grown = history_after history began in
-    let grows = Grows-after histories c began facts.histories lt in
-    let had = has profile whole c old lt found holds in
-    let ends = begins had.0 had.2 in
-    let slot_is = set_there slots c None (Some next) facts.slots lt in
-    let history_is = there_after histories c began facts.histories lt in
-    Holds-at profile c whole (with_handed whole c slot left began)
+    let had = has_slot profile whole c old lt found holds in
+    let keeps = had.1.keeps in
+    let joined = had.1.joined in
+    let starts = begins.keeps keeps.slot in
+    let grows = HistoryGrows-built history None in
+    Holds-slot profile whole c old next had.0 history (whole.sent ++ handed_tag c slot left ∷ []) lt had.1
     (record {
-      by = refl;
-      map = refl;
-      slots = OnlyAt-set None c slots (Some next);
-      clients = OnlyAt-same None c whole.ends.clients;
-      histories = OnlyAt-after histories c began;
+      host = begins.host;
+      qport = begins.qport;
       grows = grows;
-    })
-    (rw (slot_is, had.1, history_is) (AreEnds-handed profile slot had.0 grown sends ends))
-    (rw (slot_is, had.1, history_is) (AreJoined-after profile map old next had.0 history began gathers had.3))
-    (each_more (λ (k : ℕ) (tag : Tag). IsSent profile (histories_after histories c began) tag) whole.sent (handed_tag c slot left)
-    (all_sent_grow profile histories (histories_after histories c began) whole.sent grows facts.sent)
-    (handed_is_sent profile (histories_after histories c began) c slot left had.0 grown sends lt history_is way ends))
-    holds
+      keeps = record { slot = KeepsSlot-handed profile slot history.qport history.host history.built history.run sends starts; client = keeps.client; host = keeps.host };
+      joined = record { client = joined.client; slot = TakesSaid-same profile old next history.said history.issued history.run begins.gathering joined.slot };
+      sent = sent_more profile whole c history (handed_tag c slot left) lt grows refl
+          (handed_piece (messages_of profile history.built) slot.sending Server 0 (length history.built) left (handed_tag c slot left) sends starts.sends way starts.side starts.no_qport starts.begun refl refl refl) holds;
+    }) holds
+Holds-handed profile whole c old slot left (Some built) sends gathers lt found way begins holds =
+    let history = history_at whole.histories c in
+    let more = history.built ++ built ∷ [] in
+    let next = slot_handed slot in
+    let had = has_slot profile whole c old lt found holds in
+    let keeps = had.1.keeps in
+    let joined = had.1.joined in
+    let starts = begins.keeps keeps.slot in
+    let grows = HistoryGrows-built history (Some built) in
+    Holds-slot profile whole c old next had.0 (record history { built = more }) (whole.sent ++ handed_tag c slot left ∷ []) lt had.1
+    (record {
+      host = begins.host;
+      qport = begins.qport;
+      grows = grows;
+      keeps = record { slot = KeepsSlot-handed profile slot history.qport history.host more history.run sends starts; client = keeps.client; host = keeps.host };
+      joined = record {
+        client = TakesBuilt-more profile had.0 history.built history.accepted built gathers joined.client;
+        slot = TakesSaid-same profile old next history.said history.issued history.run begins.gathering joined.slot;
+      };
+      sent = sent_more profile whole c (record history { built = more }) (handed_tag c slot left) lt grows refl
+          (handed_piece (messages_of profile more) slot.sending Server 0 (length more) left (handed_tag c slot left) sends starts.sends way starts.side starts.no_qport starts.begun refl refl refl) holds;
+    }) holds
 
--- ---- a message arrived
+-- ---- a client hands out a datagram
 
--- the message that a tag names was built
-pub tag_was_built : (profile : Profile) (whole : Whole) (tag : Tag) (client : ClientState) → IsSent profile whole.histories tag
+abbrev pub client_handed : ClientState → ClientState
+client_handed client = record client { sending = (next_of client.sending).sending }
+
+abbrev pub said_tag : ℕ → Address → ClientState → UnderWay → Tag
+said_tag c from client left = record { client = c; direction = ToServer from; number = client.sending.number; index = left.next; bytes = (next_of client.sending).datagram }
+
+-- what is left of a client's message goes on
+pub Holds-goes : (profile : Profile) (whole : Whole) (c : ℕ) (client : ClientState) (left : UnderWay) → EndsSend → c < places
+    → client_at whole.ends c ≡ Some client → client.sending.under_way ≡ Some left → Holds profile whole
+    → Holds profile (with_client_of whole c (client_handed client) (history_at whole.histories c) (whole.sent ++ said_tag c (address_at whole.ends c) client left ∷ []))
+Holds-goes profile whole c client left sends lt found way holds =
+    let history = history_at whole.histories c in
+    let from = address_at whole.ends c in
+    let tag = said_tag c from client left in
+    let had = has_client profile whole c client lt found holds in
+    let keeps = had.1.keeps in
+    let joined = had.1.joined in
+    let grows = HistoryGrows-same history in
+    Holds-client profile whole c had.0 client (client_handed client) history (whole.sent ++ tag ∷ []) lt had.1
+    (record {
+      host = refl;
+      qport = refl;
+      grows = grows;
+      keeps = record { slot = keeps.slot; client = KeepsClient-handed profile client history.qport history.said history.issued sends keeps.client; host = keeps.host };
+      joined = record { client = TakesBuilt-same profile client (client_handed client) history.built history.accepted refl refl refl joined.client; slot = joined.slot };
+      sent = sent_more profile whole c history tag lt grows refl
+          (keeps.host, handed_piece (messages_said profile history.said) client.sending Client history.qport (length history.said) left tag sends keeps.client.sends way
+          keeps.client.side keeps.client.qport keeps.client.begun refl refl refl) holds;
+    }) holds
+
+-- a client's message is begun, and its first piece goes out
+pub Holds-said : (profile : Profile) (whole : Whole) (c : ℕ) (client : ClientState) (left : UnderWay) → EndsSend → EndsGather → c < places
+    → client_at whole.ends c ≡ Some client → (client_begun profile client).sending.under_way ≡ Some left → client.sending.number + 1 < sequence_end → client.gathering.taken < 2 ^ 32
+    → IsSendable (said_bytes profile (next_said client)) → Holds profile whole
+    → Holds profile (with_client_of whole c (client_handed (client_begun profile client)) (with_said (history_at whole.histories c) (Some (next_said client)))
+    (whole.sent ++ said_tag c (address_at whole.ends c) (client_begun profile client) left ∷ []))
+Holds-said profile whole c client left sends gathers lt found way fits taken sendable holds =
+    let history = history_at whole.histories c in
+    let from = address_at whole.ends c in
+    let begun = client_begun profile client in
+    let next = next_said client in
+    let more = history.said ++ next ∷ [] in
+    let tag = said_tag c from begun left in
+    let had = has_client profile whole c client lt found holds in
+    let keeps = had.1.keeps in
+    let joined = had.1.joined in
+    let starts = KeepsClient-begun profile client history.qport history.said history.issued sends fits taken sendable keeps.client in
+    let grows = HistoryGrows-said history (Some next) in
+    Holds-client profile whole c had.0 client (client_handed begun) (record history { said = more }) (whole.sent ++ tag ∷ []) lt had.1
+    (record {
+      host = refl;
+      qport = refl;
+      grows = grows;
+      keeps = record { slot = keeps.slot; client = KeepsClient-handed profile begun history.qport more history.issued sends starts; host = keeps.host };
+      joined = record {
+        client = TakesBuilt-same profile client (client_handed begun) history.built history.accepted refl refl refl joined.client;
+        slot = TakesSaid-more profile had.0 history.said history.issued history.run next gathers joined.slot;
+      };
+      sent = sent_more profile whole c (record history { said = more }) tag lt grows refl
+          (keeps.host, handed_piece (messages_said profile more) begun.sending Client history.qport (length more) left tag sends starts.sends way
+          starts.side starts.qport starts.begun refl refl refl) holds;
+    }) holds
+
+-- ---- a client issues a move
+
+pub Holds-issued : (profile : Profile) (whole : Whole) (c : ℕ) (client : ClientState) (one : Move) → c < places → client_at whole.ends c ≡ Some client → IsMove one
+    → client.last_time < one.time → Holds profile whole
+    → Holds profile (with_client_of whole c (issue client one) (record (history_at whole.histories c) { issued = (history_at whole.histories c).issued ++ one ∷ [] }) whole.sent)
+Holds-issued profile whole c client one lt found is later holds =
+    let history = history_at whole.histories c in
+    let next = issue client one in
+    let noted = record history { issued = history.issued ++ one ∷ [] } in
+    let had = has_client profile whole c client lt found holds in
+    let keeps = had.1.keeps in
+    let joined = had.1.joined in
+    let grows = HistoryGrows-issued history one in
+    Holds-client profile whole c had.0 client next noted whole.sent lt had.1
+    (record {
+      host = refl;
+      qport = refl;
+      grows = grows;
+      keeps = record { slot = keeps.slot; client = KeepsClient-issued profile client history.qport history.said history.issued one is later keeps.client; host = keeps.host };
+      joined = record {
+        client = TakesBuilt-same profile client next history.built history.accepted refl refl refl joined.client;
+        slot = TakesSaid-issued profile had.0 history.said history.issued history.run one joined.slot;
+      };
+      sent = sent_grows profile whole c noted lt grows holds;
+    }) holds
+
+-- ---- a datagram arrives at a client
+
+pub Holds-taken : (profile : Profile) (whole : Whole) (c : ℕ) (client : ClientState) (g : Gathering) (accepted : Option Snapshot) (delta : Bool) (heard : Option Snapshot) → c < places
+    → client_at whole.ends c ≡ Some client → g.side ≡ client.gathering.side
+    → (TakesBuilt profile client (history_at whole.histories c).built (history_at whole.histories c).accepted
+    → TakesBuilt profile (record client { gathering = g; accepted = accepted; delta = delta }) (history_at whole.histories c).built (with_accepted (history_at whole.histories c) heard).accepted)
+    → Holds profile whole
+    → Holds profile (with_client_of whole c (record client { gathering = g; accepted = accepted; delta = delta }) (with_accepted (history_at whole.histories c) heard) whole.sent)
+Holds-taken profile whole c client g accepted delta None lt found side takes holds =
+    let history = history_at whole.histories c in
+    let had = has_client profile whole c client lt found holds in
+    let keeps = had.1.keeps in
+    let joined = had.1.joined in
+    let grows = HistoryGrows-accepted history None in
+    Holds-client profile whole c had.0 client (record client { gathering = g; accepted = accepted; delta = delta }) history whole.sent lt had.1
+    (record {
+      host = refl;
+      qport = refl;
+      grows = grows;
+      keeps = record { slot = keeps.slot; client = KeepsClient-took profile client history.qport history.said history.issued g accepted delta side keeps.client; host = keeps.host };
+      joined = record { client = takes joined.client; slot = joined.slot };
+      sent = sent_grows profile whole c history lt grows holds;
+    }) holds
+Holds-taken profile whole c client g accepted delta (Some snapshot) lt found side takes holds =
+    let history = history_at whole.histories c in
+    let noted = record history { accepted = history.accepted ++ snapshot ∷ [] } in
+    let had = has_client profile whole c client lt found holds in
+    let keeps = had.1.keeps in
+    let joined = had.1.joined in
+    let grows = HistoryGrows-accepted history (Some snapshot) in
+    Holds-client profile whole c had.0 client (record client { gathering = g; accepted = accepted; delta = delta }) noted whole.sent lt had.1
+    (record {
+      host = refl;
+      qport = refl;
+      grows = grows;
+      keeps = record { slot = keeps.slot; client = KeepsClient-took profile client history.qport history.said history.issued g accepted delta side keeps.client; host = keeps.host };
+      joined = record { client = takes joined.client; slot = joined.slot };
+      sent = sent_grows profile whole c noted lt grows holds;
+    }) holds
+
+-- ---- a client's datagram arrives at its slot
+
+-- the slot behind it
+abbrev pub slot_heard : SlotState → Address → Gathering → ℕ → SlotState
+slot_heard slot from g last = record slot { address = from; gathering = g; last_run = last }
+
+-- moves were run, the last at a time, and each of them was issued
+pub Holds-heard : (profile : Profile) (whole : Whole) (c : ℕ) (slot : SlotState) (from : Address) (g : Gathering) (last : ℕ) (ran : List Move) → c < places
+    → slot_at whole.ends.server c ≡ Some slot → from.host ≡ slot.address.host → g.side ≡ slot.gathering.side
+    → Gathers (messages_said profile (history_at whole.histories c).said) (length (history_at whole.histories c).said) g
+    → (KeepsSlot profile slot (history_at whole.histories c).qport (history_at whole.histories c).host (history_at whole.histories c).built (history_at whole.histories c).run
+    → KeepsSlot profile (record slot { last_run = last }) (history_at whole.histories c).qport (history_at whole.histories c).host (history_at whole.histories c).built ((history_at whole.histories c).run ++ ran))
+    → All (Contains (history_at whole.histories c).issued) ran → Holds profile whole
+    → Holds profile (with_server_of whole c (slot_heard slot from g last) (with_run (history_at whole.histories c) ran) whole.sent)
+Holds-heard profile whole c slot from g last ran lt found host side gathers runs_so were holds =
+    let history = history_at whole.histories c in
+    let next = slot_heard slot from g last in
+    let noted = with_run history ran in
+    let had = has_slot profile whole c slot lt found holds in
+    let keeps = had.1.keeps in
+    let joined = had.1.joined in
+    let grows = HistoryGrows-run history ran in
+    let ran_so = runs_so keeps.slot in
+    Holds-slot profile whole c slot next had.0 noted whole.sent lt had.1
+    (record {
+      host = host;
+      qport = refl;
+      grows = grows;
+      keeps = record {
+        slot = KeepsSlot-came profile (record slot { last_run = last }) history.qport history.host history.built (history.run ++ ran) from g (host ∙ keeps.slot.host) side ran_so;
+        client = keeps.client;
+        host = keeps.host;
+      };
+      joined = record { client = joined.client; slot = record { gathers = gathers; issued = All-append (Contains history.issued) history.run ran joined.slot.issued were } };
+      sent = sent_grows profile whole c noted lt grows holds;
+    }) holds
+
+-- ---- what a tag names
+
+-- the message that a server's tag names was built
+pub tag_was_built : (profile : Profile) (whole : Whole) (tag : Tag) (client : ClientState) → tag.client < places
+    → IsPiece Server 0 (messages_of profile (history_at whole.histories tag.client).built) (length (history_at whole.histories tag.client).built) tag
     → client_at whole.ends tag.client ≡ Some client → Holds profile whole
     → IsBuilt profile tag.number (named whole.histories tag)
-tag_was_built profile whole tag client is found holds =
-    let history = history_at whole.histories tag.client in
-    let had = a_slot profile (slot_at whole.ends.server tag.client) client history
-    (subst (λ (e : Option ClientState). IsClient profile (slot_at whole.ends.server tag.client) e history) found (holds.facts.each tag.client is.client)) in
+tag_was_built profile whole tag client lt is found holds =
+    let had = has_client profile whole tag.client client lt found holds in
     let some = is.some in
     let begun = is.begun in
     let place : tag.number - 1 + 1 ≡ tag.number = omega arith in
-    subst (λ (n : ℕ). IsBuilt profile n (named whole.histories tag)) place (had.2.built (tag.number - 1) no_message (omega arith))
+    subst (λ (n : ℕ). IsBuilt profile n (named whole.histories tag)) place (had.1.keeps.slot.built (tag.number - 1) no_message (omega arith))
 
 -- and so the snapshot that it names is one that was built
-pub names_built : (profile : Profile) (whole : Whole) (tag : Tag) → IsSent profile whole.histories tag
+pub names_built : (profile : Profile) (whole : Whole) (tag : Tag)
+    → IsPiece Server 0 (messages_of profile (history_at whole.histories tag.client).built) (length (history_at whole.histories tag.client).built) tag
     → (built : IsBuilt profile tag.number (named whole.histories tag)) → WasBuilt (history_at whole.histories tag.client).built built.snapshot
 names_built profile whole tag is built =
     let number = built.number in
     let some = is.some in
     let begun = is.begun in
     (omega arith, omega arith, sym built.is ∙ ap (λ (n : ℕ). built_at (history_at whole.histories tag.client).built n) (sym number))
-
--- a client that is there goes by the profile
-pub client_by : (profile : Profile) (whole : Whole) (c : ℕ) (client : ClientState) → c < places → client_at whole.ends c ≡ Some client → Holds profile whole
-    → client.profile ≡ profile
-client_by profile whole c client lt found holds =
-    let history = history_at whole.histories c in
-    let had = a_slot profile (slot_at whole.ends.server c) client history
-    (subst (λ (e : Option ClientState). IsClient profile (slot_at whole.ends.server c) e history) found (holds.facts.each c lt)) in
-    had.2.by
-
--- a client that is there gathers what a server sends, and each of the messages is one that may be sent
-pub client_from : (profile : Profile) (whole : Whole) (c : ℕ) (client : ClientState) → c < places → client_at whole.ends c ≡ Some client → Holds profile whole
-    → (client.gathering.side ≡ Server)
-    × ((k : ℕ) (d : Built) → k < length (history_at whole.histories c).built → IsSendable (built_bytes profile (get_or (history_at whole.histories c).built k d)))
-client_from profile whole c client lt found holds =
-    let history = history_at whole.histories c in
-    let had = a_slot profile (slot_at whole.ends.server c) client history
-    (subst (λ (e : Option ClientState). IsClient profile (slot_at whole.ends.server c) e history) found (holds.facts.each c lt)) in
-    (had.2.from, had.2.sendable)
-
--- and what joins it to its slot
-pub client_joined : (profile : Profile) (whole : Whole) (c : ℕ) (client : ClientState) → c < places → client_at whole.ends c ≡ Some client → Holds profile whole
-    → (slot : SlotState) × (slot_at whole.ends.server c ≡ Some slot) × AreEnds profile slot client (history_at whole.histories c)
-    × AreJoined profile whole.ends.server.map slot client (history_at whole.histories c)
-client_joined profile whole c client lt found holds =
-    let history = history_at whole.histories c in
-    let map = whole.ends.server.map in
-    let had = a_slot profile (slot_at whole.ends.server c) client history
-    (subst (λ (e : Option ClientState). IsClient profile (slot_at whole.ends.server c) e history) found (holds.facts.each c lt)) in
-    let joined : IsJoined profile map (some_slot had.0) (Some client) history =
-    subst (λ (s : Option SlotState). IsJoined profile map s (Some client) history) had.1
-    (subst (λ (e : Option ClientState). IsJoined profile map (slot_at whole.ends.server c) e history) found (holds.joined c lt)) in
-    (had.0, had.1, had.2, joined)
-
--- nothing that it took was illegible
-pub client_legible : (profile : Profile) (whole : Whole) (c : ℕ) (client : ClientState) → c < places → client_at whole.ends c ≡ Some client → Holds profile whole
-    → client.dropped ≡ None
-client_legible profile whole c client lt found holds = (client_joined profile whole c client lt found holds).3.legible
-
--- the client at a place took a datagram, and with it a snapshot, if it took one
-abbrev pub with_taken : Whole → ℕ → ClientState → Option Snapshot → Whole
-with_taken whole c next heard = record whole { ends = with_client whole.ends c next; histories = accepted_after whole.histories c heard }
-
-pub Holds-taken : (profile : Profile) (whole : Whole) (c : ℕ) (client next : ClientState) (heard : Option Snapshot) → c < places → client_at whole.ends c ≡ Some client
-    → next.profile ≡ client.profile → next.gathering.side ≡ client.gathering.side
-    → ((slot : SlotState) → AreJoined profile whole.ends.server.map slot client (history_at whole.histories c)
-    → AreJoined profile whole.ends.server.map slot next (history_heard (history_at whole.histories c) heard))
-    → Holds profile whole → Holds profile (with_taken whole c next heard)
-Holds-taken profile whole c client next heard lt found by from joins holds =
-    let facts = holds.facts in
-    let slots = whole.ends.server.slots in
-    let clients = whole.ends.clients in
-    let histories = whole.histories in
-    let history = history_at histories c in
-    let grows = Grows-heard histories c heard facts.histories lt in
-    let had = client_joined profile whole c client lt found holds in
-    let client_is = set_there clients c None (Some next) facts.clients lt in
-    let history_is = there_heard histories c heard facts.histories lt in
-    Holds-at profile c whole (with_taken whole c next heard)
-    (record {
-      by = refl;
-      map = refl;
-      slots = OnlyAt-same None c slots;
-      clients = OnlyAt-set None c clients (Some next);
-      histories = OnlyAt-heard histories c heard;
-      grows = grows;
-    })
-    (rw (had.1, client_is, history_is) (AreEnds-client profile had.0 client next history heard (by ∙ had.2.by) (from ∙ had.2.from) had.2))
-    (rw (had.1, client_is, history_is) (joins had.0 had.3))
-    (all_sent_grow profile histories (accepted_after histories c heard) whole.sent grows facts.sent)
-    holds
 
 -- ---- the map changes
 
@@ -339,7 +615,7 @@ joined_map : (profile : Profile) (map map' : MapState) (slot : Option SlotState)
     → IsJoined profile map slot client history → IsJoined profile map' slot client history
 joined_map profile map map' None client history joined = tt
 joined_map profile map map' (Some slot) None history joined = tt
-joined_map profile map map' (Some slot) (Some client) history joined = AreJoined-slot profile map map' slot slot client history joined
+joined_map profile map map' (Some slot) (Some client) history joined = record { client = joined.client; slot = joined.slot }
 
 abbrev pub with_map : Whole → MapState → Whole
 with_map whole map = record whole { ends = record whole.ends { server = record whole.ends.server { map = map } } }
@@ -348,6 +624,18 @@ pub Holds-map : (profile : Profile) (whole : Whole) (map : MapState) → map.tim
 Holds-map profile whole map time entities holds =
     let facts = holds.facts in
     record {
-      facts = record { codec = facts.codec; by = facts.by; slots = facts.slots; clients = facts.clients; histories = facts.histories; time = time; entities = entities; each = facts.each; sent = facts.sent };
+      facts = record {
+        codec = facts.codec;
+        by = facts.by;
+        slots = facts.slots;
+        clients = facts.clients;
+        addresses = facts.addresses;
+        histories = facts.histories;
+        time = time;
+        entities = entities;
+        each = facts.each;
+        found = facts.found;
+        sent = facts.sent;
+      };
       joined = λ c lt. joined_map profile whole.ends.server.map map (slot_at whole.ends.server c) (client_at whole.ends c) (history_at whole.histories c) (holds.joined c lt);
     }

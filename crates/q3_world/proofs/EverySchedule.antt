@@ -32,7 +32,7 @@ use Rattle.q3_server.specs.Server.{MapState, SlotState, Built, places, slot_at, 
 use Rattle.q3_client.specs.Client.{ClientState, Taken, new_client, apply_section, apply_message, take_answer, take_gathered}
 use Rattle.q3_world.specs.Ends.{Ends, Answered, unknown, delivered, client_at, with_client, newest, joined}
 use Rattle.q3_world.specs.Kept.{SentBytes, Kept, KeptStep, opening_kept, kept_step, kept_after, kept_answers}
-use Rattle.q3_world.specs.World.{Tag, Step, Whole, History, history_at, opening, step, after, answers, deliver, arrive, named}
+use Rattle.q3_world.specs.World.{Tag, Step, Whole, History, history_at, opening, step, after, answers, deliver, to_client, named}
 use Rattle.q3_world.specs.StandsFor.{IsSent, IsClient, WasBuilt, Rise, AreJoined, IsJoined, StandsFor, bytes_of}
 use Rattle.q3_world.specs.Schedules.{StepFollows, kept_then, whole_then, BytesFollowTags, IsLegible, AlwaysLegible, AcceptedWereBuilt, ShownWasBuilt, WasApplied, AppliedWasBuilt, NewerIsAccepted}
 use Rattle.q3_world.proofs.Events.{Holds, Holds-opening, tag_was_built, names_built}
@@ -129,7 +129,7 @@ legible_took datagram c n client answer built (inl quiet) = waits answer quiet
     waits gathered.Connectionless is = absurd is
 legible_took datagram c n client answer built (inr came) = rw came.1 (legible_section datagram c n client built.section)
 
-legible_arrive : TaggedDoes → (profile : Profile) (whole : Whole) (number : ℕ) (tag : Tag) (found : Option ClientState) → IsLegible (arrive profile whole number tag found).answer.answer
+legible_arrive : TaggedDoes → (profile : Profile) (whole : Whole) (number : ℕ) (tag : Tag) (found : Option ClientState) → IsLegible (to_client profile whole number tag found).answer.answer
 legible_arrive does_so profile whole number tag None = tt
 legible_arrive does_so profile whole number tag (Some client) =
     let built = named whole.histories tag in
@@ -342,7 +342,7 @@ AppliedSo whole number c n snap next =
     next.answer ≡ delivered number c (Applied n snap) → Applies whole.ends next.whole.ends c n snap (history_at whole.histories c).built
 
 applied_arrive : TaggedDoes → (profile : Profile) (whole : Whole) (number c n : ℕ) (snap : SnapOutcome) (tag : Tag) (found : Option ClientState) → client_at whole.ends tag.client ≡ found
-    → IsSent profile whole.histories tag → Holds profile whole → AppliedSo whole number c n snap (arrive profile whole number tag found)
+    → IsSent profile whole.histories tag → Holds profile whole → AppliedSo whole number c n snap (to_client profile whole number tag found)
 applied_arrive does_so profile whole number c n snap tag None at is holds = λ e. absurd (not_delivered number c (Applied n snap) e)
 applied_arrive does_so profile whole number c n snap tag (Some client) at is holds =
     let named_is = named whole.histories tag in

@@ -1,15 +1,23 @@
--- What was built only grows.
-use Rattle.std.proofs.Common.{◌≡◌, ℕ, zero, suc, ◌-◌, ◌<◌, ◌≤◌, List, [], ◌∷◌, ◌++◌, length, get_or, Option, Some, None, refl, sym, ap, subst, ◌∙◌, inl, inr, arith}
-use Rattle.std.proofs.lemmas.List.{append-nil, length-append, length_push, get_or_append_left, get_or_push}
+-- What was begun only grows.
+use Rattle.std.proofs.Common.{◌≡◌, ℕ, zero, suc, ◌+◌, ◌-◌, ◌<◌, ◌≤◌, List, [], ◌∷◌, ◌++◌, length, get_or, Option, Some, None, Ok, Err, Result, refl, sym, ap, subst, ◌∙◌, inl, inr, arith}
+use Rattle.std.proofs.lemmas.List.{append-nil, length-append, length_push, get_or_append_left, get_or_push, set-get_or}
 use Rattle.std.proofs.lemmas.Bool.{cases_eq, cases_lt}
 use Rattle.q3_profile.specs.declared.profile.Profile.{Profile}
-use Rattle.q3_chan.specs.declared.side.Side.TheVariants.{Server}
+use Rattle.q3_chan.specs.declared.side.Side.{Side}
+use Rattle.q3_chan.specs.declared.side.Side.TheVariants.{Server, Client}
 use Rattle.q3_chan.specs.Datagrams.{piece_count, datagram}
+use Rattle.q3_clmsg.specs.declared.moves.Move.{Move}
+use Rattle.q3_clmsg.specs.Values.{empty_message}
 use Rattle.q3_svmsg.specs.Values.{Snapshot}
 use Rattle.q3_server.specs.Server.{Built, places, built_bytes}
-use Rattle.q3_world.specs.World.{Tag, History, no_history, no_message, history_at, built_at, with_built, with_accepted, histories_after, accepted_after}
-use Rattle.q3_world.specs.StandsFor.{IsSent, WasBuilt, messages_of}
-use Rattle.q3_world.proofs.OnePlace.{set_there, OnlyAt, OnlyAt-set, OnlyAt-same}
+use Rattle.q3_client.specs.declared.client.MoveError.{MoveError}
+use Rattle.q3_client.specs.Sending.{Said}
+use Rattle.q3_world.specs.declared.sent.Direction.{Direction}
+use Rattle.q3_world.specs.declared.sent.Direction.TheVariants.{ToClient, ToServer}
+use Rattle.q3_world.specs.Ends.{moved}
+use Rattle.q3_world.specs.World.{Tag, History, no_history, no_message, history_at, with_history, built_at, said_at, said_bytes, with_built, with_accepted, with_said, with_issued, with_run}
+use Rattle.q3_world.specs.StandsFor.{IsPiece, IsWay, IsSent, WasBuilt, messages_of, messages_said}
+use Rattle.q3_world.proofs.OnePlace.{set_there, OnlyAt, OnlyAt-set}
 
 -- the message under a number stays where more are built
 pub built_stays : (built more : List Built) (number : ℕ) → 1 ≤ number → number ≤ length built → built_at (built ++ more) number ≡ built_at built number
@@ -20,101 +28,116 @@ pub was_built_more : (built more : List Built) (snapshot : Snapshot) → WasBuil
 was_built_more built more snapshot was =
     (was.0, omega (arith, length-append built more, was.1), was.2 ∙ sym (built_stays built more snapshot.head.number was.0 was.1))
 
--- of each client, more may have been built
-abbrev pub Grows : List History → List History → Type 0
-Grows old new = (c : ℕ) → (more : List Built) × ((history_at new c).built ≡ (history_at old c).built ++ more)
-
-pub Grows-same : (histories : List History) → Grows histories histories
-Grows-same histories c = ([], sym (append-nil (history_at histories c).built))
-
--- one place of the histories is set
-grows_at : (histories : List History) (c : ℕ) (history : History) (more : List Built) → length histories ≡ places → c < places
-    → history.built ≡ (history_at histories c).built ++ more → (new : List History) → OnlyAt no_history c histories new → history_at new c ≡ history
-    → Grows histories new
-grows_at histories c history more count lt is new only there k =
-    elim (cases_eq k c) [
-      | inl same ↦ (more, subst (λ (j : ℕ). (history_at new j).built ≡ (history_at histories j).built ++ more) (sym same) (ap (λ (h : History). h.built) there ∙ is))
-      | inr other ↦ ([], ap (λ (h : History). h.built) (only.others k other) ∙ sym (append-nil (history_at histories k).built))
-    ]
-
-pub Grows-built : (histories : List History) (c : ℕ) (built : Built) → length histories ≡ places → c < places → Grows histories (with_built histories c built)
-Grows-built histories c built count lt =
-    let history = history_at histories c in
-    let grown = record history { built = history.built ++ built ∷ [] } in
-    grows_at histories c grown (built ∷ []) count lt refl (with_built histories c built) (OnlyAt-set no_history c histories grown)
-    (set_there histories c no_history grown count lt)
-
-pub Grows-accepted : (histories : List History) (c : ℕ) (snapshot : Snapshot) → length histories ≡ places → c < places → Grows histories (with_accepted histories c snapshot)
-Grows-accepted histories c snapshot count lt =
-    let history = history_at histories c in
-    let more = record history { accepted = history.accepted ++ snapshot ∷ [] } in
-    grows_at histories c more [] count lt (sym (append-nil history.built)) (with_accepted histories c snapshot) (OnlyAt-set no_history c histories more)
-    (set_there histories c no_history more count lt)
-
--- the history behind a message that was begun, if one was
-abbrev pub history_after : History → Option Built → History
-history_after history None = history
-history_after history (Some built) = record history { built = history.built ++ built ∷ [] }
-
-pub Grows-after : (histories : List History) (c : ℕ) (began : Option Built) → length histories ≡ places → c < places → Grows histories (histories_after histories c began)
-Grows-after histories c None count lt = Grows-same histories
-Grows-after histories c (Some built) count lt = Grows-built histories c built count lt
-
-pub OnlyAt-after : (histories : List History) (c : ℕ) (began : Option Built) → OnlyAt no_history c histories (histories_after histories c began)
-OnlyAt-after histories c None = OnlyAt-same no_history c histories
-OnlyAt-after histories c (Some built) = OnlyAt-set no_history c histories (history_after (history_at histories c) (Some built))
-
-pub there_after : (histories : List History) (c : ℕ) (began : Option Built) → length histories ≡ places → c < places
-    → history_at (histories_after histories c began) c ≡ history_after (history_at histories c) began
-there_after histories c None count lt = refl
-there_after histories c (Some built) count lt = set_there histories c no_history (history_after (history_at histories c) (Some built)) count lt
-
--- and behind a snapshot that was accepted, if one was
-abbrev pub history_heard : History → Option Snapshot → History
-history_heard history None = history
-history_heard history (Some snapshot) = record history { accepted = history.accepted ++ snapshot ∷ [] }
-
-pub Grows-heard : (histories : List History) (c : ℕ) (heard : Option Snapshot) → length histories ≡ places → c < places → Grows histories (accepted_after histories c heard)
-Grows-heard histories c None count lt = Grows-same histories
-Grows-heard histories c (Some snapshot) count lt = Grows-accepted histories c snapshot count lt
-
-pub OnlyAt-heard : (histories : List History) (c : ℕ) (heard : Option Snapshot) → OnlyAt no_history c histories (accepted_after histories c heard)
-OnlyAt-heard histories c None = OnlyAt-same no_history c histories
-OnlyAt-heard histories c (Some snapshot) = OnlyAt-set no_history c histories (history_heard (history_at histories c) (Some snapshot))
-
-pub there_heard : (histories : List History) (c : ℕ) (heard : Option Snapshot) → length histories ≡ places → c < places
-    → history_at (accepted_after histories c heard) c ≡ history_heard (history_at histories c) heard
-there_heard histories c None count lt = refl
-there_heard histories c (Some snapshot) count lt = set_there histories c no_history (history_heard (history_at histories c) (Some snapshot)) count lt
-
--- the bytes of a message stay where more are built
+-- the bytes of a message stay where more are begun, by the server
 pub messages_stay : (profile : Profile) (built more : List Built) (number : ℕ) → number ≤ length built
     → messages_of profile (built ++ more) number ≡ messages_of profile built number
 messages_stay profile built more zero few = refl
 messages_stay profile built more (suc number) few = ap (built_bytes profile) (built_stays built more (suc number) (omega arith) few)
 
--- a tag names the same message
-sent_grows : (profile : Profile) (old new : List History) (tag : Tag) → Grows old new → IsSent profile old tag → IsSent profile new tag
-sent_grows profile old new tag grows is =
-    let grown = grows tag.client in
-    let built = (history_at old tag.client).built in
+-- and by the client
+pub messages_said_stay : (profile : Profile) (said more : List Said) (number : ℕ) → number ≤ length said
+    → messages_said profile (said ++ more) number ≡ messages_said profile said number
+messages_said_stay profile said more zero few = refl
+messages_said_stay profile said more (suc number) few = ap (said_bytes profile) (get_or_append_left said more empty_message number (omega (arith, few)))
+
+-- ---- histories
+
+-- of a client more may have been begun; by which qport and from which host it sends stays, once it said something
+pub record HistoryGrows (old new : History) : Type 0 where
+  pub qport : 1 ≤ length old.said → new.qport ≡ old.qport
+  pub host : 1 ≤ length old.said → new.host ≡ old.host
+  pub built : (more : List Built) × (new.built ≡ old.built ++ more)
+  pub said : (more : List Said) × (new.said ≡ old.said ++ more)
+
+pub HistoryGrows-same : (history : History) → HistoryGrows history history
+HistoryGrows-same history = record { qport = λ some. refl; host = λ some. refl; built = ([], sym (append-nil history.built)); said = ([], sym (append-nil history.said)) }
+
+pub HistoryGrows-built : (history : History) (began : Option Built) → HistoryGrows history (with_built history began)
+HistoryGrows-built history None = HistoryGrows-same history
+HistoryGrows-built history (Some built) = record { qport = λ some. refl; host = λ some. refl; built = (built ∷ [], refl); said = ([], sym (append-nil history.said)) }
+
+pub HistoryGrows-accepted : (history : History) (heard : Option Snapshot) → HistoryGrows history (with_accepted history heard)
+HistoryGrows-accepted history None = HistoryGrows-same history
+HistoryGrows-accepted history (Some snapshot) = record { qport = λ some. refl; host = λ some. refl; built = ([], sym (append-nil history.built)); said = ([], sym (append-nil history.said)) }
+
+pub HistoryGrows-said : (history : History) (began : Option Said) → HistoryGrows history (with_said history began)
+HistoryGrows-said history None = HistoryGrows-same history
+HistoryGrows-said history (Some said) = record { qport = λ some. refl; host = λ some. refl; built = ([], sym (append-nil history.built)); said = (said ∷ [], refl) }
+
+pub HistoryGrows-issued : (history : History) (one : Move) → HistoryGrows history (record history { issued = history.issued ++ one ∷ [] })
+HistoryGrows-issued history one = record { qport = λ some. refl; host = λ some. refl; built = ([], sym (append-nil history.built)); said = ([], sym (append-nil history.said)) }
+
+pub HistoryGrows-run : (history : History) (moves : List Move) → HistoryGrows history (with_run history moves)
+HistoryGrows-run history moves = record { qport = λ some. refl; host = λ some. refl; built = ([], sym (append-nil history.built)); said = ([], sym (append-nil history.said)) }
+
+-- a client that joins said nothing before
+pub HistoryGrows-joined : (history new : History) → history ≡ no_history → HistoryGrows history new
+HistoryGrows-joined history new is =
+    subst (λ (h : History). HistoryGrows h new) (sym is)
+    (record { qport = λ some. absurd (omega (arith, some)); host = λ some. absurd (omega (arith, some)); built = (new.built, refl); said = (new.said, refl) })
+
+-- of each client
+abbrev pub Grow : List History → List History → Type 0
+Grow old new = (c : ℕ) → HistoryGrows (history_at old c) (history_at new c)
+
+-- one history is replaced by one that grew
+pub Grow-at : (histories : List History) (c : ℕ) (history : History) → length histories ≡ places → c < places → HistoryGrows (history_at histories c) history
+    → Grow histories (with_history histories c history)
+Grow-at histories c history count lt grows k =
+    let only = OnlyAt-set no_history c histories history in
+    elim (cases_eq k c) [
+      | inl same ↦
+          subst (λ (j : ℕ). HistoryGrows (history_at histories j) (history_at (with_history histories c history) j)) (sym same)
+          (rw (set_there histories c no_history history count lt) grows)
+      | inr other ↦ rw (only.others k other) (HistoryGrows-same (history_at histories k))
+    ]
+
+-- the history of a client noted again changes nothing
+pub noted_same : (histories : List History) (c : ℕ) → with_history histories c (history_at histories c) ≡ histories
+noted_same histories c = set-get_or histories c no_history
+
+-- ---- tags
+
+-- a piece stays one where more messages are begun
+piece_stays : (side : Side) (qport : ℕ) (messages messages' : ℕ → List ℕ) (last last' : ℕ) (tag : Tag) → last ≤ last'
+    → ((number : ℕ) → number ≤ last → messages' number ≡ messages number) → IsPiece side qport messages last tag → IsPiece side qport messages' last' tag
+piece_stays side qport messages messages' last last' tag le stay is =
     let begun = is.begun in
-    let same : built_at (history_at new tag.client).built tag.number ≡ built_at built tag.number =
-    ap (λ (b : List Built). built_at b tag.number) grown.1 ∙ built_stays built grown.0 tag.number is.some is.begun in
+    let same = stay tag.number begun in
     record {
-      client = is.client;
       some = is.some;
-      begun = rw grown.1 (omega (arith, length-append built grown.0, begun));
-      piece = subst (λ (b : Built). tag.index < piece_count (length (built_bytes profile b))) (sym same) is.piece;
-      bytes = is.bytes ∙ ap (λ (b : Built). datagram Server 0 tag.number (built_bytes profile b) tag.index) (sym same);
+      begun = omega (arith, begun, le);
+      piece = subst (λ (m : List ℕ). tag.index < piece_count (length m)) (sym same) is.piece;
+      bytes = is.bytes ∙ ap (λ (m : List ℕ). datagram side qport tag.number m tag.index) (sym same);
     }
+
+way_stays : (profile : Profile) (old new : History) (tag : Tag) (direction : Direction) → HistoryGrows old new → IsWay profile old tag direction → IsWay profile new tag direction
+way_stays profile old new tag ToClient grows is =
+    let grown = grows.built in
+    subst (λ (b : List Built). IsPiece Server 0 (messages_of profile b) (length b) tag) (sym grown.1)
+    (piece_stays Server 0 (messages_of profile old.built) (messages_of profile (old.built ++ grown.0)) (length old.built) (length (old.built ++ grown.0)) tag
+    (omega (arith, length-append old.built grown.0)) (messages_stay profile old.built grown.0) is)
+way_stays profile old new tag (ToServer from) grows is =
+    let grown = grows.said in
+    let first = is.1.some in
+    let begun = is.1.begun in
+    let some : 1 ≤ length old.said = omega (arith, first, begun) in (
+      is.0 ∙ sym (grows.host some),
+      subst (λ (q : ℕ). IsPiece Client q (messages_said profile new.said) (length new.said) tag) (sym (grows.qport some))
+      (subst (λ (s : List Said). IsPiece Client old.qport (messages_said profile s) (length s) tag) (sym grown.1)
+      (piece_stays Client old.qport (messages_said profile old.said) (messages_said profile (old.said ++ grown.0)) (length old.said) (length (old.said ++ grown.0)) tag
+      (omega (arith, length-append old.said grown.0)) (messages_said_stay profile old.said grown.0) is.1)),
+    )
 
 abbrev pub AllSent : Profile → List History → List Tag → Type 0
 AllSent profile histories sent = (k : ℕ) (d : Tag) → k < length sent → IsSent profile histories (get_or sent k d)
 
--- and so does each
-pub all_sent_grow : (profile : Profile) (old new : List History) (sent : List Tag) → Grows old new → AllSent profile old sent → AllSent profile new sent
-all_sent_grow profile old new sent grows all k d lt = sent_grows profile old new (get_or sent k d) grows (all k d lt)
+-- each tag names the same message
+pub all_sent_grow : (profile : Profile) (old new : List History) (sent : List Tag) → Grow old new → AllSent profile old sent → AllSent profile new sent
+all_sent_grow profile old new sent grow all k d lt =
+    let tag = get_or sent k d in
+    let is = all k d lt in
+    record { client = is.client; way = way_stays profile (history_at old tag.client) (history_at new tag.client) tag tag.direction (grow tag.client) is.way }
 
 -- what is said of each element of a list, and of one more
 pub each_more : {X : Type 0} (Says : ℕ → X → Type 0) (xs : List X) (x : X) → ((k : ℕ) (d : X) → k < length xs → Says k (get_or xs k d)) → Says (length xs) x

@@ -1,4 +1,4 @@
--- The pieces of a message that arrive in order.
+-- The pieces of a message that to_client in order.
 use Rattle.std.proofs.Common.{◌≡◌, ℕ, suc, ◌+◌, ◌-◌, ◌<◌, ◌≤◌, List, [], ◌∷◌, ◌++◌, length, Option, Some, None, Ok, refl, sym, ap, subst, ◌∙◌, arith}
 use Rattle.std.specs.Prelude.{slice_get}
 use Rattle.std.specs.List.{AllByRecursion}
@@ -24,7 +24,7 @@ use Rattle.q3_server.specs.Server.{Built, places, built_bytes}
 use Rattle.q3_client.specs.Client.{ClientState, Taken, apply_section, apply_message, take_answer, take_gathered}
 use Rattle.q3_world.specs.Ends.{client_at, with_client, delivered}
 use Rattle.q3_world.specs.Kept.{Kept, KeptStep, kept_step}
-use Rattle.q3_world.specs.World.{Tag, Whole, History, history_at, built_at, accepted_after, named, arrive_taken, step, after, opening}
+use Rattle.q3_world.specs.World.{Tag, Whole, History, history_at, built_at, accepted_after, named, client_took, step, after, opening}
 use Rattle.q3_world.specs.StandsFor.{StandsFor, messages_of}
 use Rattle.q3_world.specs.Schedules.{kept_then, whole_then, BytesFollowTags, ArePieces, deliveries, InOrderIsAccepted}
 use Rattle.q3_world.proofs.Growth.{there_heard, OnlyAt-heard, history_heard}
@@ -87,7 +87,7 @@ arrived profile whole number tag client =
     take_gathered client (tagged client.gathering tag.number (built_bytes profile (named whole.histories tag)) tag.index) (λ n. Ok (named whole.histories tag))
 
 abbrev arrives_at : Profile → Whole → ℕ → Tag → ClientState → Whole
-arrives_at profile whole number tag client = (arrive_taken whole number tag.client (arrived profile whole number tag client)).whole
+arrives_at profile whole number tag client = (client_took whole number tag.client (arrived profile whole number tag client)).whole
 
 reached_more : (profile : Profile) (start now : Whole) (c n count number : ℕ) (g : Gathering) (tag : Tag) → c < places → tag.client ≡ c → tag.number ≡ n → tag.index ≡ count
     → (reached : Reached profile start now c n count g) → Reached profile start (arrives_at profile now number tag reached.client) c n (count + 1) g

@@ -8,7 +8,7 @@ use Rattle.q3_chan.specs.Sending.{Piece}
 use Rattle.q3_server.specs.Server.{emit_at}
 use Rattle.q3_client.specs.Client.{ClientState}
 use Rattle.q3_world.specs.Ends.{client_at}
-use Rattle.q3_world.specs.Kept.{SentBytes, Kept, datagrams_after, kept_arrive, kept_deliver, kept_step}
+use Rattle.q3_world.specs.Kept.{SentBytes, Kept, datagrams_after, kept_to_client, kept_deliver, kept_step}
 
 few_served : (datagrams : List SentBytes) (c : ℕ) (piece : Option Piece)
     → length (datagrams_after datagrams c piece) ≤ length datagrams + 1
@@ -16,7 +16,7 @@ few_served datagrams c None = omega arith
 few_served datagrams c (Some piece) = omega (arith, length_push datagrams (record { client = c; bytes = piece.bytes }))
 
 few_arrived : (kept : Kept) (number : ℕ) (sent : SentBytes) (client : Option ClientState)
-    → length (kept_arrive kept number sent client).kept.datagrams ≤ length kept.datagrams + 1
+    → length (kept_to_client kept number sent client).kept.datagrams ≤ length kept.datagrams + 1
 few_arrived kept number sent None = omega arith
 few_arrived kept number sent (Some client) = omega arith
 

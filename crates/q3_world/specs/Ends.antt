@@ -4,22 +4,31 @@ use Rattle.q3_profile.specs.declared.profile.Profile.{Profile}
 use Rattle.q3_player.specs.declared.state.PlayerState.{PlayerState}
 use Rattle.arrayvec.specs.ArrayVec.{ArrayVec}
 use Rattle.q3_entity.specs.declared.state.EntityState.{EntityState}
+use Rattle.q3_clmsg.specs.declared.moves.Move.{Move}
 use Rattle.q3_io.specs.declared.address.Address.{Address}
 use Rattle.q3_svmsg.specs.Values.{Snapshot}
 use Rattle.q3_server.specs.declared.server.Emitted.{Emitted}
-use Rattle.q3_client.specs.declared.client.ClientTook.{ClientTook}
+use Rattle.q3_server.specs.declared.server.NoClient.{NoClient}
 use Rattle.q3_server.specs.declared.server.SlotError.{SlotError}
+use Rattle.q3_server.specs.declared.taking.ServerTook.{ServerTook}
+use Rattle.q3_client.specs.declared.client.ClientTook.{ClientTook}
+use Rattle.q3_client.specs.declared.client.MoveError.{MoveError}
+use Rattle.q3_client.specs.declared.client.Sent.{Sent}
 use Rattle.q3_world.specs.declared.answer.Answer.{Answer}
-use Rattle.q3_world.specs.declared.answer.Answer.TheVariants.{Client, Entity, Remove, Time, Player, Area, Serve, Unknown, Deliver, Show}
+use Rattle.q3_world.specs.declared.answer.Answer.TheVariants as answers
+use Rattle.q3_world.specs.declared.answer.Answer.TheVariants.{Client, Entity, Remove, Time, Player, Area, Serve, Send, Unknown, Deliver, ToServer, Show}
+use Rattle.q3_world.specs.declared.answer.MoveRefused.TheVariants as refused
 use Rattle.q3_world.specs.declared.answer.Shown.{Shown}
 use Rattle.q3_world.specs.declared.answer.Shown.TheVariants as shown
 use Rattle.q3_server.specs.Server.{ServerState, places, new_server, add_client_at, set_time_at, set_entity_at, remove_entity_at, set_player_at, set_area_at}
 use Rattle.q3_client.specs.Client.{ClientState, new_client}
+use Rattle.q3_client.specs.Moves.{add_move_at}
 
--- the server, and each client at its place
+-- the server, and at its place each client and the address that its datagrams come from
 pub record Ends : Type 0 where
   pub server : ServerState
   pub clients : List (Option ClientState)
+  pub addresses : List Address
 
 -- a client, by its place
 abbrev pub client_at : Ends → ℕ → Option ClientState
@@ -29,14 +38,23 @@ client_at ends c = slice_index_or ends.clients c None
 abbrev pub with_client : Ends → ℕ → ClientState → Ends
 with_client ends c client = record ends { clients = slice_set ends.clients c (Some client) }
 
+-- where nobody is
+abbrev pub no_address : Address
+no_address = record { host = 0; port = 0 }
+
+-- the address that a client's datagrams come from, by its place
+abbrev pub address_at : Ends → ℕ → Address
+address_at ends c = slice_index_or ends.addresses c no_address
+
 -- a server and no client
 abbrev pub new_ends : Profile → Ends
-new_ends profile = record { server = new_server profile places; clients = replicate places None }
+new_ends profile = record { server = new_server profile places; clients = replicate places None; addresses = replicate places no_address }
 
--- an answer, and the snapshot that is printed with it
+-- an answer, and what is printed with it: a snapshot, and the moves that were run
 pub record Answered : Type 0 where
   pub answer : Answer
   pub snapshot : Option Snapshot
+  pub moves : List Move
 
 -- the newest snapshot that a client accepted
 abbrev pub newest : Option ClientState → Option Snapshot
@@ -50,34 +68,46 @@ lent ends other = None
 
 -- an answer, with the snapshot that these ends lend for it
 abbrev pub answered : Ends → Answer → Answered
-answered ends answer = record { answer = answer; snapshot = lent ends answer }
+answered ends answer = record { answer = answer; snapshot = lent ends answer; moves = [] }
 
--- the answers of a `serve` and of a `deliver`
+-- an answer alone
+abbrev pub alone : Answer → Answered
+alone answer = record { answer = answer; snapshot = None; moves = [] }
+
+-- the answers of a `serve` and of a `send`
 abbrev pub served : ℕ → Emitted → ℕ → Answered
-served c emission datagram = record { answer = Serve c emission datagram; snapshot = None }
+served c emission datagram = alone (Serve c emission datagram)
 
+abbrev pub said : ℕ → Result Sent NoClient → ℕ → Answered
+said c emission datagram = alone (Send c emission datagram)
+
+-- the answers of a `deliver`, to a client and to the server, which ran these moves
 abbrev pub delivered : ℕ → ℕ → ClientTook → Answered
-delivered datagram c took = record { answer = Deliver datagram c took; snapshot = None }
+delivered datagram c took = alone (Deliver datagram c took)
 
--- no datagram of this number was made for a client that is there
+abbrev pub ran : ℕ → ServerTook → List Move → Answered
+ran datagram took moves = record { answer = ToServer datagram took; snapshot = None; moves = moves }
+
+-- no datagram of this number was made
 abbrev pub unknown : ℕ → Answered
-unknown datagram = record { answer = Unknown datagram; snapshot = None }
+unknown datagram = alone (Unknown datagram)
 
 -- the ends after an event, and the answer
 pub record EndsStep : Type 0 where
   pub ends : Ends
   pub answer : Answer
 
--- a client joins, at its own end too where the server took it
-abbrev pub joined : Ends → ℕ → ClientState → Result (Unit {0}) SlotError → EndsStep
-joined ends c client (Ok x) = record { ends = with_client ends c client; answer = Client c (Ok tt) }
-joined ends c client (Err e) = record { ends = ends; answer = Client c (Err e) }
+-- a client that sends from an address joins, at its own end too where the server took it
+abbrev pub joined : Ends → ℕ → ClientState → Address → Result (Unit {0}) SlotError → EndsStep
+joined ends c client address (Ok x) =
+    record { ends = record (with_client ends c client) { addresses = slice_set ends.addresses c address }; answer = Client c (Ok tt) }
+joined ends c client address (Err e) = record { ends = ends; answer = Client c (Err e) }
 
 -- a client asks to join
 abbrev pub join : Profile → Ends → ℕ → ℕ → ℕ → ℕ → Address → EndsStep
 join profile ends c challenge qport dup address =
     let added = add_client_at ends.server c challenge qport address in
-    joined (record ends { server = added.server }) c (new_client profile challenge qport dup) added.answer
+    joined (record ends { server = added.server }) c (new_client profile challenge qport dup) address added.answer
 
 -- the time, the entities, and the player and the area of a client, as the game hands them in
 abbrev pub set_time : Ends → ℕ → EndsStep
@@ -98,6 +128,21 @@ abbrev pub set_area : Ends → ℕ → ArrayVec ℕ → EndsStep
 set_area ends c area =
     let given = set_area_at ends.server c area.items in
     record { ends = record ends { server = given.server }; answer = Area c given.answer }
+
+-- what is answered where a client's end was given a move
+abbrev pub moved : ℕ → Result (Unit {0}) MoveError → Answer
+moved c (Ok x) = answers.Move c (Ok tt)
+moved c (Err e) = answers.Move c (Err (refused.Error e))
+
+-- a client issues a move
+abbrev pub add_move_to : Ends → ℕ → Move → Option ClientState → EndsStep
+add_move_to ends c one None = record { ends = ends; answer = answers.Move c (Err refused.NoClient) }
+add_move_to ends c one (Some client) =
+    let given = add_move_at client one in
+    record { ends = with_client ends c given.client; answer = moved c given.answer }
+
+abbrev pub add_move : Ends → ℕ → Move → EndsStep
+add_move ends c one = add_move_to ends c one (client_at ends c)
 
 -- what a client shows
 abbrev pub shown_of : Option ClientState → Shown

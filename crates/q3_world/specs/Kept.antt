@@ -1,16 +1,21 @@
 -- What the program's world keeps, and what an event does to it: datagrams are taken by their bytes.
-use Rattle.std.specs.Prelude.{ℕ, ◌+◌, ◌-◌, ◌^◌, List, [], ◌∷◌, ◌++◌, length, Option, Some, None, slice_get}
+use Rattle.std.specs.Prelude.{ℕ, ◌+◌, ◌-◌, ◌^◌, List, [], ◌∷◌, ◌++◌, length, Option, Some, None, Ok, Err, slice_get}
 use Rattle.q3_profile.specs.declared.profile.Profile.{Profile}
 use Rattle.q3_script.specs.declared.event.Event.{Event}
 use Rattle.q3_script.specs.declared.event.Event.TheVariants as events
 use Rattle.q3_chan.specs.Sending.{Piece}
 use Rattle.q3_server.specs.Server.{Emission, emit_at}
+use Rattle.q3_server.specs.Taking as hears
 use Rattle.q3_client.specs.Client.{ClientState, Taken, take_at}
-use Rattle.q3_world.specs.Ends.{Ends, EndsStep, Answered, answered, client_at, with_client, new_ends, served, unknown, delivered, join, set_time, set_entity, remove_entity, set_player, set_area, show}
+use Rattle.q3_client.specs.Sending as speaks
+use Rattle.q3_world.specs.declared.sent.Direction.{Direction}
+use Rattle.q3_world.specs.declared.sent.Direction.TheVariants.{ToClient, ToServer}
+use Rattle.q3_world.specs.Ends.{Ends, EndsStep, Answered, answered, client_at, with_client, address_at, new_ends, served, said, unknown, delivered, ran, join, set_time, set_entity, remove_entity, set_player, set_area, add_move, show}
 
--- a datagram that was made, and the client that it is for
+-- a datagram that was made: the client that it is for or comes from, which of the two, and its bytes
 pub record SentBytes : Type 0 where
   pub client : ℕ
+  pub direction : Direction
   pub bytes : List ℕ
 
 -- datagrams have numbers of 32 bits
@@ -36,10 +41,10 @@ opening_kept profile = record { profile = profile; ends = new_ends profile; data
 abbrev pub kept_ends : Kept → EndsStep → KeptStep
 kept_ends kept step = record { kept = record kept { ends = step.ends }; answer = answered step.ends step.answer }
 
--- the datagrams, and behind them what an emission for a client hands out
-abbrev pub datagrams_after : List SentBytes → ℕ → Option Piece → List SentBytes
-datagrams_after datagrams c None = datagrams
-datagrams_after datagrams c (Some piece) = datagrams ++ record { client = c; bytes = piece.bytes } ∷ []
+-- the datagrams, and behind them what an emission for a client, or of a client, hands out
+abbrev pub datagrams_after : List SentBytes → ℕ → Direction → Option Piece → List SentBytes
+datagrams_after datagrams c direction None = datagrams
+datagrams_after datagrams c direction (Some piece) = datagrams ++ record { client = c; direction = direction; bytes = piece.bytes } ∷ []
 
 -- the server makes a datagram, which is kept if it is handed out
 abbrev pub kept_serve : Kept → ℕ → Emission → KeptStep
@@ -47,28 +52,54 @@ kept_serve kept c emission =
     record {
       kept = record kept {
         ends = record kept.ends { server = emission.server };
-        datagrams = datagrams_after kept.datagrams c emission.piece;
+        datagrams = datagrams_after kept.datagrams c ToClient emission.piece;
       };
       answer = served c emission.answer (length kept.datagrams + 1);
     }
 
+-- a client makes a datagram, which is kept if it is handed out
+abbrev pub kept_said : Kept → ℕ → speaks.Emission → KeptStep
+kept_said kept c emission =
+    record {
+      kept = record kept {
+        ends = with_client kept.ends c emission.client;
+        datagrams = datagrams_after kept.datagrams c (ToServer (address_at kept.ends c)) emission.piece;
+      };
+      answer = said c (Ok emission.answer) (length kept.datagrams + 1);
+    }
+
+-- a datagram of the client at a place, if there is one
+abbrev pub kept_send : Kept → ℕ → Option ClientState → KeptStep
+kept_send kept c None = record { kept = kept; answer = said c (Err (record {})) (length kept.datagrams + 1) }
+kept_send kept c (Some from) = kept_said kept c (speaks.emit_at from)
+
 -- a client took a datagram
-abbrev pub kept_taken : Kept → ℕ → ℕ → Taken → KeptStep
-kept_taken kept number c taken =
+abbrev pub kept_client_took : Kept → ℕ → ℕ → Taken → KeptStep
+kept_client_took kept number c taken =
     record {
       kept = record kept { ends = with_client kept.ends c taken.client };
       answer = delivered number c taken.answer;
     }
 
 -- the client that a datagram is for takes it
-abbrev pub kept_arrive : Kept → ℕ → SentBytes → Option ClientState → KeptStep
-kept_arrive kept number sent None = record { kept = kept; answer = unknown number }
-kept_arrive kept number sent (Some client) = kept_taken kept number sent.client (take_at client sent.bytes)
+abbrev pub kept_to_client : Kept → ℕ → SentBytes → Option ClientState → KeptStep
+kept_to_client kept number sent None = record { kept = kept; answer = unknown number }
+kept_to_client kept number sent (Some client) = kept_client_took kept number sent.client (take_at client sent.bytes)
+
+-- the server took a datagram
+abbrev pub kept_server_took : Kept → ℕ → hears.Taken → KeptStep
+kept_server_took kept number taken =
+    record { kept = record kept { ends = record kept.ends { server = taken.server } }; answer = ran number taken.answer taken.moves }
+
+-- the end that a datagram goes to takes it
+abbrev pub kept_arrive : Kept → ℕ → SentBytes → Direction → KeptStep
+kept_arrive kept number sent ToClient = kept_to_client kept number sent (client_at kept.ends sent.client)
+kept_arrive kept number sent (ToServer from) = kept_server_took kept number (hears.take_at kept.ends.server from sent.bytes)
 
 -- the datagram of a number, if it was made, arrives
 abbrev pub kept_deliver : Kept → ℕ → Option SentBytes → KeptStep
 kept_deliver kept number None = record { kept = kept; answer = unknown number }
-kept_deliver kept number (Some sent) = kept_arrive kept number sent (client_at kept.ends sent.client)
+kept_deliver kept number (Some sent) = kept_arrive kept number sent sent.direction
 
 -- one event
 unfoldable pub kept_step : Kept → Event → KeptStep
@@ -78,7 +109,9 @@ kept_step kept (events.Remove number) = kept_ends kept (remove_entity kept.ends 
 kept_step kept (events.Player c player) = kept_ends kept (set_player kept.ends c player)
 kept_step kept (events.Area c area) = kept_ends kept (set_area kept.ends c area)
 kept_step kept (events.Time time) = kept_ends kept (set_time kept.ends time)
+kept_step kept (events.Move c one) = kept_ends kept (add_move kept.ends c one)
 kept_step kept (events.Serve c) = kept_serve kept c (emit_at kept.ends.server c)
+kept_step kept (events.Send c) = kept_send kept c (client_at kept.ends c)
 kept_step kept (events.Deliver number) = kept_deliver kept number (slice_get kept.datagrams (number - 1))
 kept_step kept (events.Show c) = kept_ends kept (show kept.ends c)
 

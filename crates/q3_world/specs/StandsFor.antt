@@ -1,64 +1,137 @@
 -- What is kept stands for a whole world: both ends are the same, and each datagram's bytes are those of the message
 -- that its tag names.
-use Rattle.std.specs.Prelude.{◌≡◌, ℕ, zero, suc, ◌+◌, ◌^◌, ◌<◌, ◌≤◌, List, [], length, map, Option, Some, None, slice_index_or}
+use Rattle.std.specs.Prelude.{◌≡◌, ℕ, zero, suc, ◌+◌, ◌^◌, ◌<◌, ◌≤◌, List, [], ◌++◌, length, map, All, Contains, Option, Some, None, slice_index_or}
 use Rattle.std.specs.List.{last_or}
 use Rattle.q3_profile.specs.declared.profile.Profile.{Profile}
 use Rattle.q3_profile.specs.Profile.{IsCodec}
-use Rattle.q3_chan.specs.declared.side.Side.TheVariants.{Server}
-use Rattle.q3_chan.specs.Datagrams.{piece_count, datagram}
+use Rattle.q3_io.specs.declared.address.Address.{Address}
+use Rattle.q3_chan.specs.declared.side.Side.{Side}
+use Rattle.q3_chan.specs.declared.side.Side.TheVariants.{Server, Client}
+use Rattle.q3_chan.specs.Datagrams.{sequence_end, piece_count, datagram}
 use Rattle.q3_chan.specs.Laws.{IsSendable, Gathers, Sends}
+use Rattle.q3_clmsg.specs.declared.moves.Move.{Move}
+use Rattle.q3_clmsg.specs.Moves.{IsMove}
+use Rattle.q3_clmsg.specs.Laws.{IsMessage}
 use Rattle.q3_svmsg.specs.Values.{Snapshot}
 use Rattle.q3_server.specs.Built.{message_of, IsHeld, IsArea, AreHeld, IsBuilt}
 use Rattle.q3_server.specs.Server.{MapState, SlotState, Built, places, slot_at, built_bytes}
+use Rattle.q3_server.specs.Taking.{last_time, sender_of}
+use Rattle.q3_client.specs.declared.moves.Issued.{Issued}
 use Rattle.q3_client.specs.Client.{ClientState}
-use Rattle.q3_world.specs.Ends.{client_at}
+use Rattle.q3_client.specs.Moves.{most_moves}
+use Rattle.q3_client.specs.Sending.{Said}
+use Rattle.q3_world.specs.declared.sent.Direction.{Direction}
+use Rattle.q3_world.specs.declared.sent.Direction.TheVariants.{ToClient, ToServer}
+use Rattle.q3_world.specs.Ends.{client_at, address_at}
 use Rattle.q3_world.specs.Kept.{SentBytes, Kept}
-use Rattle.q3_world.specs.World.{Tag, History, Whole, no_history, history_at, built_at}
+use Rattle.q3_world.specs.World.{Tag, History, Whole, no_history, history_at, built_at, said_at, said_bytes}
+use Rattle.q3_world.specs.Moves.{TimesRise, AreConsecutive}
 
 -- ---- what holds whatever bytes were delivered
 
--- the bytes of the message under a number; the number 0 has none
+-- the bytes of the message under a number, which the server built for a client, and which the client began; the number 0 has
+-- none
 abbrev pub messages_of : Profile → List Built → ℕ → List ℕ
 messages_of profile built zero = []
 messages_of profile built (suc number) = built_bytes profile (built_at built (suc number))
 
--- what each end of a client keeps alone, and what was built for it
-pub record AreEnds (profile : Profile) (slot : SlotState) (client : ClientState) (history : History) : Type 0 where
-  pub begun : slot.sending.number ≡ length history.built
+abbrev pub messages_said : Profile → List Said → ℕ → List ℕ
+messages_said profile said zero = []
+messages_said profile said (suc number) = said_bytes profile (said_at said (suc number))
+
+-- what the server keeps of a client that joined with this qport from this host, what it built for it, and the moves of it that
+-- it ran: their times rise, and it keeps the last
+pub record KeepsSlot (profile : Profile) (slot : SlotState) (qport host : ℕ) (built : List Built) (run : List Move) : Type 0 where
+  pub qport : slot.qport ≡ qport
+  pub host : slot.address.host ≡ host
+  pub begun : slot.sending.number ≡ length built
+  pub short : length built < sequence_end
   pub side : slot.sending.side ≡ Server
-  pub qport : slot.sending.qport ≡ 0
-  pub sends : Sends (messages_of profile history.built) slot.sending
+  pub no_qport : slot.sending.qport ≡ 0
+  pub sends : Sends (messages_of profile built) slot.sending
   pub player : IsHeld profile slot.player
   pub area : IsArea slot.area.items
-  pub built : (k : ℕ) (d : Built) → k < length history.built → IsBuilt profile (k + 1) (slice_index_or history.built k d)
-  pub sendable : (k : ℕ) (d : Built) → k < length history.built → IsSendable (built_bytes profile (slice_index_or history.built k d))
+  pub built : (k : ℕ) (d : Built) → k < length built → IsBuilt profile (k + 1) (slice_index_or built k d)
+  pub sendable : (k : ℕ) (d : Built) → k < length built → IsSendable (built_bytes profile (slice_index_or built k d))
+  pub from : slot.gathering.side ≡ Client
+  pub last : slot.last_run ≡ last_time 0 run
+  pub rise : TimesRise 0 run
+
+-- of each move, how many messages were begun before it: that doesn't fall, and is at most as many as were begun
+abbrev pub MarksRise : ℕ → ℕ → List Issued → Type 0
+MarksRise least most [] = Unit {0}
+MarksRise least most (issued ∷ others) = (least ≤ issued.begun) × (issued.begun ≤ most) × MarksRise issued.begun most others
+
+-- the moves that a client keeps are the newest that it issued
+pub record KeepsMoves (moves : List Issued) (begun : ℕ) (issued : List Move) : Type 0 where
+  pub before : List Move
+  pub newest : issued ≡ before ++ map (λ (i : Issued). i.one) moves
+  pub few : length moves ≤ most_moves
+  pub marks : MarksRise 0 begun moves
+  pub each : All (λ (i : Issued). IsMove i.one) moves
+
+-- what a client keeps that joined with this qport, what it said, and the moves that it issued: their times rise, and those of
+-- each message were issued one directly after the other
+pub record KeepsClient (profile : Profile) (client : ClientState) (qport : ℕ) (said : List Said) (issued : List Move) : Type 0 where
   pub by : client.profile ≡ profile
   pub from : client.gathering.side ≡ Server
+  pub fits : qport < 2 ^ 16
+  pub begun : client.sending.number ≡ length said
+  pub short : length said < sequence_end
+  pub side : client.sending.side ≡ Client
+  pub qport : client.sending.qport ≡ qport
+  pub sends : Sends (messages_said profile said) client.sending
+  pub said : (k : ℕ) (d : Said) → k < length said → IsMessage (slice_index_or said k d)
+  pub sendable : (k : ℕ) (d : Said) → k < length said → IsSendable (said_bytes profile (slice_index_or said k d))
+  pub last : client.last_time ≡ last_time 0 issued
+  pub rise : TimesRise 0 issued
+  pub moves : KeepsMoves client.moves (length said) issued
+  pub carried : (k : ℕ) (d : Said) → k < length said → AreConsecutive (slice_index_or said k d).moves issued
+
+-- what both ends of a client keep, and from which host it sends
+pub record AreEnds (profile : Profile) (slot : SlotState) (client : ClientState) (address : Address) (history : History) : Type 0 where
+  pub slot : KeepsSlot profile slot history.qport history.host history.built history.run
+  pub client : KeepsClient profile client history.qport history.said history.issued
+  pub host : address.host ≡ history.host
 
 -- a client is at both ends or at none
-abbrev pub IsClient : Profile → Option SlotState → Option ClientState → History → Type 0
-IsClient profile None None history = history ≡ no_history
-IsClient profile (Some slot) (Some client) history = AreEnds profile slot client history
-IsClient profile slot client history = ⊥
+abbrev pub IsClient : Profile → Option SlotState → Option ClientState → Address → History → Type 0
+IsClient profile None None address history = history ≡ no_history
+IsClient profile (Some slot) (Some client) address history = AreEnds profile slot client address history
+IsClient profile slot client address history = ⊥
+
+-- a datagram carries a piece of a message that was begun, and has its bytes
+pub record IsPiece (side : Side) (qport : ℕ) (messages : ℕ → List ℕ) (last : ℕ) (tag : Tag) : Type 0 where
+  pub some : 1 ≤ tag.number
+  pub begun : tag.number ≤ last
+  pub piece : tag.index < piece_count (length (messages tag.number))
+  pub bytes : tag.bytes ≡ datagram side qport tag.number (messages tag.number) tag.index
+
+-- of a message that was built for its client, or of one that its client began and sent from its host
+abbrev pub IsWay : Profile → History → Tag → Direction → Type 0
+IsWay profile history tag ToClient = IsPiece Server 0 (messages_of profile history.built) (length history.built) tag
+IsWay profile history tag (ToServer from) =
+    (from.host ≡ history.host) × IsPiece Client history.qport (messages_said profile history.said) (length history.said) tag
 
 -- a tag names a message that was begun, and has its bytes
 pub record IsSent (profile : Profile) (histories : List History) (tag : Tag) : Type 0 where
   pub client : tag.client < places
-  pub some : 1 ≤ tag.number
-  pub begun : tag.number ≤ length (history_at histories tag.client).built
-  pub piece : tag.index < piece_count (length (built_bytes profile (built_at (history_at histories tag.client).built tag.number)))
-  pub bytes : tag.bytes ≡ datagram Server 0 tag.number (built_bytes profile (built_at (history_at histories tag.client).built tag.number)) tag.index
+  pub way : IsWay profile (history_at histories tag.client) tag tag.direction
 
--- what holds of the whole world
+-- what holds of the whole world: each client is found by its host and its qport
 pub record Facts (profile : Profile) (whole : Whole) : Type 0 where
   pub codec : IsCodec profile
   pub by : whole.ends.server.profile ≡ profile
   pub slots : length whole.ends.server.slots ≡ places
   pub clients : length whole.ends.clients ≡ places
+  pub addresses : length whole.ends.addresses ≡ places
   pub histories : length whole.histories ≡ places
   pub time : whole.ends.server.map.time < 2 ^ 32
   pub entities : AreHeld profile whole.ends.server.map.entities
-  pub each : (c : ℕ) → c < places → IsClient profile (slot_at whole.ends.server c) (client_at whole.ends c) (history_at whole.histories c)
+  pub each : (c : ℕ) → c < places
+      → IsClient profile (slot_at whole.ends.server c) (client_at whole.ends c) (address_at whole.ends c) (history_at whole.histories c)
+  pub found : (c : ℕ) (slot : SlotState) → slot_at whole.ends.server c ≡ Some slot
+      → sender_of whole.ends.server slot.address.host slot.qport ≡ Some c
   pub sent : (k : ℕ) (d : Tag) → k < length whole.sent → IsSent profile whole.histories (slice_index_or whole.sent k d)
 
 -- ---- what holds while only the ends' own datagrams were delivered
@@ -78,15 +151,25 @@ abbrev pub Rise : List Snapshot → Type 0
 Rise snapshots = (j k : ℕ) (d : Snapshot) → j < k → k < length snapshots
     → (slice_index_or snapshots j d).head.number < (slice_index_or snapshots k d).head.number
 
--- of one client: each snapshot that it accepted was built, their numbers rise, and it keeps the newest, which isn't above
--- the newest number taken; it took and gathers only what was begun, and so it wasn't dropped
-pub record AreJoined (profile : Profile) (map : MapState) (slot : SlotState) (client : ClientState) (history : History) : Type 0 where
-  pub accepted : (k : ℕ) (d : Snapshot) → k < length history.accepted → WasBuilt history.built (slice_index_or history.accepted k d)
-  pub rise : Rise history.accepted
-  pub newest : client.accepted ≡ last_or None history.accepted
+-- a client takes and gathers only what was built for it, so it wasn't dropped; each snapshot that it accepted was built, their
+-- numbers rise, and it keeps the newest, which isn't above the newest number taken
+pub record TakesBuilt (profile : Profile) (client : ClientState) (built : List Built) (accepted : List Snapshot) : Type 0 where
+  pub accepted : (k : ℕ) (d : Snapshot) → k < length accepted → WasBuilt built (slice_index_or accepted k d)
+  pub rise : Rise accepted
+  pub newest : client.accepted ≡ last_or None accepted
   pub below : number_of_newest client.accepted ≤ client.gathering.taken
-  pub gathers : Gathers (messages_of profile history.built) (length history.built) client.gathering
+  pub gathers : Gathers (messages_of profile built) (length built) client.gathering
   pub legible : client.dropped ≡ None
+
+-- a slot takes and gathers only what its client began, and each move that was run was issued
+pub record TakesSaid (profile : Profile) (slot : SlotState) (said : List Said) (issued run : List Move) : Type 0 where
+  pub gathers : Gathers (messages_said profile said) (length said) slot.gathering
+  pub issued : All (Contains issued) run
+
+-- what joins the two ends of a client
+pub record AreJoined (profile : Profile) (map : MapState) (slot : SlotState) (client : ClientState) (history : History) : Type 0 where
+  pub client : TakesBuilt profile client history.built history.accepted
+  pub slot : TakesSaid profile slot history.said history.issued history.run
 
 -- of a client that is at both ends
 abbrev pub IsJoined : Profile → MapState → Option SlotState → Option ClientState → History → Type 0
@@ -102,7 +185,7 @@ AllJoined profile whole = (c : ℕ) → c < places
 
 -- the bytes of a tag
 abbrev pub bytes_of : Tag → SentBytes
-bytes_of tag = record { client = tag.client; bytes = tag.bytes }
+bytes_of tag = record { client = tag.client; direction = tag.direction; bytes = tag.bytes }
 
 -- the ends are the same, each datagram has the bytes of its tag, and all of the above holds
 pub record StandsFor (profile : Profile) (kept : Kept) (whole : Whole) : Type 0 where

@@ -1,29 +1,49 @@
 -- The whole world: both ends, and what nothing wipes. A step delivers a datagram by its tag:
--- what arrives is the message that was built under its number.
-use Rattle.std.specs.Prelude.{ℕ, ◌+◌, ◌-◌, List, [], ◌∷◌, ◌++◌, length, replicate, Option, Some, None, Ok, slice_get, slice_set, slice_index_or}
+-- what arrives is the message that was begun under its number.
+use Rattle.std.specs.Prelude.{ℕ, ◌+◌, ◌-◌, List, [], ◌∷◌, ◌++◌, length, replicate, Option, Some, None, Result, Ok, Err, slice_get, slice_set, slice_index_or}
+use Rattle.q3_bits.specs.Bits.{message_bytes}
 use Rattle.q3_profile.specs.declared.profile.Profile.{Profile}
+use Rattle.q3_io.specs.declared.address.Address.{Address}
 use Rattle.q3_player.specs.Heads.{empty_head}
 use Rattle.q3_script.specs.declared.event.Event.{Event}
 use Rattle.q3_script.specs.declared.event.Event.TheVariants as events
 use Rattle.q3_chan.specs.Tags.{tagged}
-use Rattle.q3_svmsg.specs.Values.{Snapshot}
-use Rattle.q3_server.specs.Built.{message_of}
 use Rattle.q3_chan.specs.Sending.{Piece}
-use Rattle.q3_server.specs.Server.{Built, Emission, places, emit_at, built_bytes}
+use Rattle.q3_clmsg.specs.declared.moves.Move.{Move}
+use Rattle.q3_clmsg.specs.Values.{empty_message}
+use Rattle.q3_svmsg.specs.Values.{Snapshot}
+use Rattle.q3_server.specs.declared.taking.ServerTook.TheVariants.{Stranger}
+use Rattle.q3_server.specs.Built.{message_of}
+use Rattle.q3_server.specs.Server.{SlotState, Built, Emission, places, slot_at, emit_at, built_bytes}
+use Rattle.q3_server.specs.Taking as hears
 use Rattle.q3_client.specs.Client.{ClientState, Taken, take_gathered}
-use Rattle.q3_world.specs.Ends.{Ends, EndsStep, Answered, answered, client_at, with_client, new_ends, served, unknown, delivered, join, set_time, set_entity, remove_entity, set_player, set_area, show}
+use Rattle.q3_client.specs.Sending as speaks
+use Rattle.q3_client.specs.Sending.{Said, said_bits}
+use Rattle.q3_world.specs.declared.answer.Answer.{Answer}
+use Rattle.q3_world.specs.declared.answer.Answer.TheVariants as answer
+use Rattle.q3_world.specs.declared.sent.Direction.{Direction}
+use Rattle.q3_world.specs.declared.sent.Direction.TheVariants.{ToClient, ToServer}
+use Rattle.q3_world.specs.Ends.{Ends, EndsStep, Answered, answered, client_at, with_client, address_at, new_ends, served, said, unknown, delivered, ran, join, set_time, set_entity, remove_entity, set_player, set_area, add_move, show}
 
--- a datagram that was made: the client that it is for, its message's number, which of its pieces it carries, and its bytes
+-- a datagram that was made: the client that it is for or comes from, which of the two, its message's number, which of its
+-- pieces it carries, and its bytes
 pub record Tag : Type 0 where
   pub client : ℕ
+  pub direction : Direction
   pub number : ℕ
   pub index : ℕ
   pub bytes : List ℕ
 
--- of one client: the messages that the server began for it, the one under number 1 first, and the snapshots that it accepted
+-- of one client: the qport and the host that it joined with, the messages that the server began for it, the one under number
+-- 1 first, the snapshots that it accepted, the messages that it began, the moves that it issued, and those that the server ran
 pub record History : Type 0 where
+  pub qport : ℕ
+  pub host : ℕ
   pub built : List Built
   pub accepted : List Snapshot
+  pub said : List Said
+  pub issued : List Move
+  pub run : List Move
 
 -- both ends, each client's history at its place, and every datagram that was made
 pub record Whole : Type 0 where
@@ -38,33 +58,63 @@ pub record Step : Type 0 where
 
 -- of a client that never joined
 abbrev pub no_history : History
-no_history = record { built = []; accepted = [] }
+no_history = record { qport = 0; host = 0; built = []; accepted = []; said = []; issued = []; run = [] }
 
 -- the history at a client's place
 abbrev pub history_at : List History → ℕ → History
 history_at histories c = slice_index_or histories c no_history
 
+-- and another one at it
+abbrev pub with_history : List History → ℕ → History → List History
+with_history histories c history = slice_set histories c history
+
 -- what stands where no message was built
 abbrev pub no_message : Built
 no_message = message_of (record { head = empty_head; entities = [] })
 
--- the message that was built under a number
+-- the message that was built under a number, and the one that a client began under it
 abbrev pub built_at : List Built → ℕ → Built
 built_at built number = slice_index_or built (number - 1) no_message
 
--- one message more was begun for a client, or one snapshot more accepted by it
-abbrev pub with_built : List History → ℕ → Built → List History
-with_built histories c built =
-    slice_set histories c (record (history_at histories c) { built = (history_at histories c).built ++ built ∷ [] })
+abbrev pub said_at : List Said → ℕ → Said
+said_at said number = slice_index_or said (number - 1) empty_message
 
-abbrev pub with_accepted : List History → ℕ → Snapshot → List History
-with_accepted histories c snapshot =
-    slice_set histories c (record (history_at histories c) { accepted = (history_at histories c).accepted ++ snapshot ∷ [] })
+-- the bytes of a message that a client began
+abbrev pub said_bytes : Profile → Said → List ℕ
+said_bytes profile said = message_bytes (said_bits profile said)
 
--- the snapshot that a client accepted, if it did, is noted
-abbrev pub accepted_after : List History → ℕ → Option Snapshot → List History
-accepted_after histories c None = histories
-accepted_after histories c (Some snapshot) = with_accepted histories c snapshot
+-- ---- what is noted of a client
+
+-- how it joined, if it did
+abbrev pub with_joined : History → ℕ → Address → Answer → History
+with_joined history qport address (answer.Client c (Ok x)) = record history { qport = qport; host = address.host }
+with_joined history qport address other = history
+
+-- a message that the server began for it, if it did
+abbrev pub with_built : History → Option Built → History
+with_built history None = history
+with_built history (Some built) = record history { built = history.built ++ built ∷ [] }
+
+-- a snapshot that it accepted, if it did
+abbrev pub with_accepted : History → Option Snapshot → History
+with_accepted history None = history
+with_accepted history (Some snapshot) = record history { accepted = history.accepted ++ snapshot ∷ [] }
+
+-- a message that it began, if it did
+abbrev pub with_said : History → Option Said → History
+with_said history None = history
+with_said history (Some said) = record history { said = history.said ++ said ∷ [] }
+
+-- a move that it issued, if it did
+abbrev pub with_issued : History → Move → Answer → History
+with_issued history one (answer.Move c (Ok x)) = record history { issued = history.issued ++ one ∷ [] }
+with_issued history one other = history
+
+-- the moves that the server ran
+abbrev pub with_run : History → List Move → History
+with_run history moves = record history { run = history.run ++ moves }
+
+-- ---- events
 
 -- before the first event
 unfoldable pub opening : Profile → Whole
@@ -74,15 +124,19 @@ opening profile = record { ends = new_ends profile; histories = replicate places
 abbrev pub with_ends : Whole → EndsStep → Step
 with_ends whole step = record { whole = record whole { ends = step.ends }; answer = answered step.ends step.answer }
 
--- the message that an emission began, if it did, is noted
-abbrev pub histories_after : List History → ℕ → Option Built → List History
-histories_after histories c None = histories
-histories_after histories c (Some built) = with_built histories c built
+-- and what is noted of a client with it
+abbrev pub with_noted : Whole → ℕ → EndsStep → (Answer → History) → Step
+with_noted whole c step note =
+    record {
+      whole = record whole { ends = step.ends; histories = with_history whole.histories c (note step.answer) };
+      answer = answered step.ends step.answer;
+    }
 
--- the tags, and behind them that of what an emission for a client hands out
-abbrev pub sent_after : List Tag → ℕ → Option Piece → List Tag
-sent_after sent c None = sent
-sent_after sent c (Some piece) = sent ++ record { client = c; number = piece.number; index = piece.index; bytes = piece.bytes } ∷ []
+-- the tags, and behind them that of what an emission for a client, or of a client, hands out
+abbrev pub sent_after : List Tag → ℕ → Direction → Option Piece → List Tag
+sent_after sent c direction None = sent
+sent_after sent c direction (Some piece) =
+    sent ++ record { client = c; direction = direction; number = piece.number; index = piece.index; bytes = piece.bytes } ∷ []
 
 -- the server makes a datagram, which gets a tag if it is handed out
 abbrev pub serve : Whole → ℕ → Emission → Step
@@ -90,47 +144,101 @@ serve whole c emission =
     record {
       whole = record whole {
         ends = record whole.ends { server = emission.server };
-        histories = histories_after whole.histories c emission.began;
-        sent = sent_after whole.sent c emission.piece;
+        histories = with_history whole.histories c (with_built (history_at whole.histories c) emission.began);
+        sent = sent_after whole.sent c ToClient emission.piece;
       };
       answer = served c emission.answer (length whole.sent + 1);
     }
 
--- the message that a tag names
+-- a client makes a datagram, which gets a tag if it is handed out
+abbrev pub say : Whole → ℕ → speaks.Emission → Step
+say whole c emission =
+    record {
+      whole = record whole {
+        ends = with_client whole.ends c emission.client;
+        histories = with_history whole.histories c (with_said (history_at whole.histories c) emission.began);
+        sent = sent_after whole.sent c (ToServer (address_at whole.ends c)) emission.piece;
+      };
+      answer = said c (Ok emission.answer) (length whole.sent + 1);
+    }
+
+-- a datagram of the client at a place, if there is one
+abbrev pub send : Whole → ℕ → Option ClientState → Step
+send whole c None = record { whole = whole; answer = said c (Err (record {})) (length whole.sent + 1) }
+send whole c (Some from) = say whole c (speaks.emit_at from)
+
+-- the message that the tag of a datagram for a client names
 abbrev pub named : List History → Tag → Built
 named histories tag = built_at (history_at histories tag.client).built tag.number
 
 -- a client took a datagram, and what it accepted is noted
-abbrev pub arrive_taken : Whole → ℕ → ℕ → Taken → Step
-arrive_taken whole number c taken =
+abbrev pub client_took : Whole → ℕ → ℕ → Taken → Step
+client_took whole number c taken =
     record {
-      whole = record whole { ends = with_client whole.ends c taken.client; histories = accepted_after whole.histories c taken.heard };
+      whole = record whole {
+        ends = with_client whole.ends c taken.client;
+        histories = with_history whole.histories c (with_accepted (history_at whole.histories c) taken.heard);
+      };
       answer = delivered number c taken.answer;
     }
 
--- a datagram arrives, by its tag: the number and the piece decide what it does, and of a message that comes whole the client
--- takes the value that was built
-abbrev pub arrive : Profile → Whole → ℕ → Tag → Option ClientState → Step
-arrive profile whole number tag None = record { whole = whole; answer = unknown number }
-arrive profile whole number tag (Some client) =
-    arrive_taken whole number tag.client
+-- a datagram arrives at its client, by its tag: the number and the piece decide what it does, and of a message that comes
+-- whole the client takes the value that was built
+abbrev pub to_client : Profile → Whole → ℕ → Tag → Option ClientState → Step
+to_client profile whole number tag None = record { whole = whole; answer = unknown number }
+to_client profile whole number tag (Some client) =
+    client_took whole number tag.client
     (take_gathered client (tagged client.gathering tag.number (built_bytes profile (named whole.histories tag)) tag.index)
     (λ n. Ok (named whole.histories tag)))
+
+-- the message that the tag of a client's datagram names
+abbrev pub said_under : List History → Tag → Said
+said_under histories tag = said_at (history_at histories tag.client).said tag.number
+
+-- the server took a datagram of a client, and what it ran is noted
+abbrev pub server_took : Whole → ℕ → ℕ → hears.Taken → Step
+server_took whole number c taken =
+    record {
+      whole = record whole {
+        ends = record whole.ends { server = taken.server };
+        histories = with_history whole.histories c (with_run (history_at whole.histories c) taken.moves);
+      };
+      answer = ran number taken.answer taken.moves;
+    }
+
+-- a client's datagram comes to its slot, from an address, by its tag: of a message that comes whole the slot runs the value
+-- that the client began
+abbrev pub to_server : Profile → Whole → ℕ → Tag → Address → Option SlotState → Step
+to_server profile whole number tag from None = server_took whole number tag.client (hears.unmoved whole.ends.server Stranger)
+to_server profile whole number tag from (Some slot) =
+    server_took whole number tag.client
+    (hears.taken_at whole.ends.server tag.client
+    (hears.take_gathered (record slot { address = from }) tag.client
+    (tagged slot.gathering tag.number (said_bytes profile (said_under whole.histories tag)) tag.index)
+    (λ n. Ok (said_under whole.histories tag))))
+
+-- a datagram arrives at the end that it goes to
+abbrev pub arrive : Profile → Whole → ℕ → Tag → Direction → Step
+arrive profile whole number tag ToClient = to_client profile whole number tag (client_at whole.ends tag.client)
+arrive profile whole number tag (ToServer from) = to_server profile whole number tag from (slot_at whole.ends.server tag.client)
 
 -- the datagram of a number, if it was made, arrives
 abbrev pub deliver : Profile → Whole → ℕ → Option Tag → Step
 deliver profile whole number None = record { whole = whole; answer = unknown number }
-deliver profile whole number (Some tag) = arrive profile whole number tag (client_at whole.ends tag.client)
+deliver profile whole number (Some tag) = arrive profile whole number tag tag.direction
 
 -- one event
 unfoldable pub step : Profile → Whole → Event → Step
-step profile whole (events.Client c challenge qport dup address) = with_ends whole (join profile whole.ends c challenge qport dup address)
+step profile whole (events.Client c challenge qport dup address) =
+    with_noted whole c (join profile whole.ends c challenge qport dup address) (with_joined (history_at whole.histories c) qport address)
 step profile whole (events.Entity state) = with_ends whole (set_entity whole.ends state)
 step profile whole (events.Remove number) = with_ends whole (remove_entity whole.ends number)
 step profile whole (events.Player c player) = with_ends whole (set_player whole.ends c player)
 step profile whole (events.Area c area) = with_ends whole (set_area whole.ends c area)
 step profile whole (events.Time time) = with_ends whole (set_time whole.ends time)
+step profile whole (events.Move c one) = with_noted whole c (add_move whole.ends c one) (with_issued (history_at whole.histories c) one)
 step profile whole (events.Serve c) = serve whole c (emit_at whole.ends.server c)
+step profile whole (events.Send c) = send whole c (client_at whole.ends c)
 step profile whole (events.Deliver number) = deliver profile whole number (slice_get whole.sent (number - 1))
 step profile whole (events.Show c) = with_ends whole (show whole.ends c)
 
