@@ -58,6 +58,7 @@ abbrev value_of : List ℕ → Option (List ℕ) → Option ℤ
 value_of word (Some digits) = option_map (λ size. neg_ℤ (pos size)) (number_at 1 128 digits)
 value_of word None = option_map pos (number_at 0 127 word)
 
+-- a value that is read so was spelled so
 value_is : (word : List ℕ) (o : Option (List ℕ)) (value : ℤ) → behind (codes "-") word ≡ o → value_of word o ≡ Some value → SpellsStep word value
 value_is word (Some digits) value front e =
     let n = map_some (λ (size : ℕ). neg_ℤ (pos size)) (number_at 1 128 digits) value e in
@@ -69,6 +70,7 @@ value_is word None value front e =
     let is = number_at-spelled 0 127 word n.0 (omega arith) n.1 in
     subst (λ (x : ℤ). SpellsStep word x) n.2 (record { fits = (omega (arith, ints), omega (arith, ints)); whole = is.2 })
 
+-- a value in those steps
 step_at-is : (word : List ℕ) → step_at word ≡ value_of word (behind (codes "-") word)
 unfolding step_at
 step_at-is word = of_front (behind (codes "-") word)

@@ -24,8 +24,20 @@ record AreAngles (pitch yaw roll : List ℕ) (angles : List ℕ) : Type 0 where
   each : All (λ angle. angle < 2 ^ 16) angles
   whole : pitch ∷ yaw ∷ roll ∷ [] ≡ map decimal angles
 
-are_three : (a b d : ℕ) → a < 2 ^ 16 → b < 2 ^ 16 → d < 2 ^ 16 → All (λ angle. angle < 2 ^ 16) (a ∷ b ∷ d ∷ [])
-are_three a b d first second third = All-from_recursion IsAngle (a ∷ b ∷ d ∷ []) (first, (second, (third, tt)))
+-- three words, each read
+angles_from : (pitch yaw roll : List ℕ) (a b d : ℕ) → number_word 0 65535 pitch ≡ Ok a → number_word 0 65535 yaw ≡ Ok b → number_word 0 65535 roll ≡ Ok d → AreAngles pitch yaw roll (a ∷ b ∷ d ∷ [])
+angles_from pitch yaw roll a b d a_read b_read d_read =
+    let a_is = number_word-spelled 0 65535 pitch a (omega arith) a_read in
+    let b_is = number_word-spelled 0 65535 yaw b (omega arith) b_read in
+    let d_is = number_word-spelled 0 65535 roll d (omega arith) d_read in
+    let first : a < 2 ^ 16 = omega arith in
+    let second : b < 2 ^ 16 = omega arith in
+    let third : d < 2 ^ 16 = omega arith in
+    record {
+      three = refl;
+      each = All-from_recursion IsAngle (a ∷ b ∷ d ∷ []) (first, (second, (third, tt)));
+      whole = rw (a_is.2, b_is.2, d_is.2) refl;
+    }
 
 -- angles that are read were spelled so
 angles_at-spelled : (pitch yaw roll : List ℕ) (angles : List ℕ) → angles_at pitch yaw roll ≡ Ok angles → AreAngles pitch yaw roll angles
@@ -33,14 +45,8 @@ angles_at-spelled pitch yaw roll angles e =
     let a = bind_ok (number_word 0 65535 pitch) (λ a. number_word 0 65535 yaw >>= λ b. number_word 0 65535 roll >>= λ d. Ok (a ∷ b ∷ d ∷ [])) angles e in
     let b = bind_ok (number_word 0 65535 yaw) (λ b. number_word 0 65535 roll >>= λ d. Ok (a.0 ∷ b ∷ d ∷ [])) angles a.2 in
     let d = bind_ok (number_word 0 65535 roll) (λ d. Ok (a.0 ∷ b.0 ∷ d ∷ [])) angles b.2 in
-    let a_is = number_word-spelled 0 65535 pitch a.0 (omega arith) a.1 in
-    let b_is = number_word-spelled 0 65535 yaw b.0 (omega arith) b.1 in
-    let d_is = number_word-spelled 0 65535 roll d.0 (omega arith) d.1 in
-    subst (λ (x : List ℕ). AreAngles pitch yaw roll x) (ok_is (a.0 ∷ b.0 ∷ d.0 ∷ []) angles d.2) (record {
-      three = refl;
-      each = are_three a.0 b.0 d.0 (omega arith) (omega arith) (omega arith);
-      whole = rw (a_is.2, b_is.2, d_is.2) refl;
-    })
+    let value : List ℕ = a.0 ∷ b.0 ∷ d.0 ∷ [] in
+    subst (λ (x : List ℕ). AreAngles pitch yaw roll x) {x = value} (ok_is value angles d.2) (angles_from pitch yaw roll a.0 b.0 d.0 a.1 b.1 d.1)
 
 -- three words that spell steps
 record AreSteps (forward right up : List ℕ) (steps : ℤ × ℤ × ℤ) : Type 0 where
@@ -54,7 +60,8 @@ steps_at-spelled forward right up steps e =
     let a = bind_ok (step_word forward) (λ a. step_word right >>= λ b. step_word up >>= λ d. Ok (a, b, d)) steps e in
     let b = bind_ok (step_word right) (λ b. step_word up >>= λ d. Ok (a.0, b, d)) steps a.2 in
     let d = bind_ok (step_word up) (λ d. Ok (a.0, b.0, d)) steps b.2 in
-    subst (λ (x : ℤ × ℤ × ℤ). AreSteps forward right up x) (ok_is (a.0, b.0, d.0) steps d.2) (record {
+    let value : ℤ × ℤ × ℤ = (a.0, b.0, d.0) in
+    subst (λ (x : ℤ × ℤ × ℤ). AreSteps forward right up x) {x = value} (ok_is value steps d.2) (record {
       first = step_word-spelled forward a.0 a.1;
       second = step_word-spelled right b.0 b.1;
       third = step_word-spelled up d.0 d.1;
@@ -108,7 +115,7 @@ move_line-spelled (c ∷ time ∷ pitch ∷ yaw ∷ roll ∷ forward ∷ right �
     let buttons' = bind_ok (number_word 0 65535 buttons) (λ buttons'. number_word 0 255 weapon >>= λ weapon'. Ok (Move c'.0 (move_with time'.0 angles'.0 steps'.0 buttons' weapon'))) event steps'.2 in
     let weapon' = bind_ok (number_word 0 255 weapon) (λ weapon'. Ok (Move c'.0 (move_with time'.0 angles'.0 steps'.0 buttons'.0 weapon'))) event buttons'.2 in
     let value : Event = Move c'.0 (move_with time'.0 angles'.0 steps'.0 buttons'.0 weapon'.0) in
-    subst {x = value} (λ (x : Event). SpellsEvent (codes "move" ∷ c ∷ time ∷ pitch ∷ yaw ∷ roll ∷ forward ∷ right ∷ up ∷ buttons ∷ weapon ∷ []) x) (ok_is value event weapon'.2)
+    subst (λ (x : Event). SpellsEvent (codes "move" ∷ c ∷ time ∷ pitch ∷ yaw ∷ roll ∷ forward ∷ right ∷ up ∷ buttons ∷ weapon ∷ []) x) {x = value} (ok_is value event weapon'.2)
     (move_from c time pitch yaw roll forward right up buttons weapon c'.0 time'.0 angles'.0 steps'.0 buttons'.0 weapon'.0 c'.1 time'.1 angles'.1 steps'.1 buttons'.1 weapon'.1)
 move_line-spelled (c ∷ time ∷ pitch ∷ yaw ∷ roll ∷ forward ∷ right ∷ up ∷ buttons ∷ weapon ∷ other ∷ others) event e = absurd cc
 

@@ -31,7 +31,7 @@ pub fn client_word(word: &[u8]) -> Result<u8, LineCause>
 
 /// The number so far below 0.
 fn negative(size: u32) -> i8
-    requires { (1 ≤ size) × (size ≤ 128) }
+    requires { size ≤ 128 }
     ensures { result ≡ neg_ℤ (pos size) }
 {
     (size as u8).wrapping_neg().cast_signed()
