@@ -7,6 +7,8 @@ pub mod Digits
 pub mod HexWords
 pub mod Rising
 pub mod Steps
+pub mod NumberWords
+pub mod SpelledMoves
 pub mod SpelledEvents
 pub mod SpelledScripts
 pub mod PlayerParts

@@ -19,7 +19,7 @@ use Rattle.q3_entity.specs.declared.state.EntityState.{EntityState}
 use Rattle.q3_player.specs.declared.state.PlayerState.{PlayerState}
 use Rattle.q3_io.specs.declared.address.Address.{Address}
 use Rattle.q3_script.specs.declared.event.Event.{Event}
-use Rattle.q3_script.specs.declared.event.Event.TheVariants.{Client, Entity, Remove, Player, Area, Time, Serve, Deliver, Show}
+use Rattle.q3_script.specs.declared.event.Event.TheVariants.{Client, Entity, Remove, Player, Area, Time, Move, Serve, Send, Deliver, Show}
 use Rattle.q3_script.specs.declared.cause.LineCause.{LineCause}
 use Rattle.q3_script.specs.declared.cause.LineCause.TheVariants as causes
 use Rattle.q3_bits.specs.ResultBind.{◌>>=◌, bind_ok}
@@ -27,41 +27,22 @@ use Rattle.q3_text.specs.Decimals.{number_at}
 use Rattle.q3_script.specs.Addresses.{address_at}
 use Rattle.q3_script.specs.Hex.{area_at}
 use Rattle.q3_script.specs.Fields.{values_of, player_of, entity_at, player_at}
-use Rattle.q3_script.specs.Lines.{last_entity, last_datagram, number_word, entity_word, client_word, client_line, entity_line, remove_line, player_line, area_line, time_line, serve_line, deliver_line, show_line, Table, replay_lines, line_in, line_at}
+use Rattle.q3_script.specs.Lines.{last_entity, last_datagram, number_word, entity_word, client_word, client_line, entity_line, remove_line, player_line, area_line, time_line, move_line, serve_line, send_line, deliver_line, show_line, Table, replay_lines, line_in, line_at}
 use Rattle.q3_script.specs.Grammar.{AreFields, SpellsEntity, SpellsPlayer, SpellsEvent}
-use Rattle.q3_text.proofs.Numerals.{number_at-spelled, number_at-again}
+use Rattle.q3_script.proofs.NumberWords.{done, ok_is, ok_or-ok, number_word-spelled, number_word-again}
 use Rattle.q3_script.proofs.Addresses.{address_at-spelled, address_at-again}
 use Rattle.q3_script.proofs.FieldWords.{entity_at-spelled, entity_at-again, player_at-spelled, player_at-again}
 use Rattle.q3_script.proofs.HexWords.{area_at-spelled, area_at-again}
+use Rattle.q3_script.proofs.SpelledMoves.{move_line-spelled, move_line-again}
 
--- an answer, and a refusal
-abbrev pub done : {A E : Type 0} → A → Result A E
-done x = Ok x
-
+-- a refusal
 abbrev refuse : LineCause → Result Event LineCause
 refuse cause = Err cause
-
--- answers that are the same have the same value
-pub ok_is : {A E : Type 0} (x y : A) → done {E = E} x ≡ done y → x ≡ y
-ok_is x y e = cc
-
--- what a cause was not needed for
-ok_or-ok : {A : Type 0} (o : Option A) (cause : LineCause) (x : A) → ok_or o cause ≡ Ok x → o ≡ Some x
-ok_or-ok (Some y) cause x e = ap (λ z. Some z) (ok_is y x e)
-ok_or-ok None cause x e = absurd cc
 
 -- a test that didn't refuse
 pub guard_ok : {A : Type 0} (b : Bool) (cause : LineCause) (r : Result A LineCause) (y : A) → cond b (Err cause) r ≡ Ok y → (b ≡ false) × (r ≡ Ok y)
 guard_ok true cause r y e = absurd cc
 guard_ok false cause r y e = (refl, e)
-
--- a word that is read as a number was spelled so
-number_word-spelled : (low high : ℕ) (word : List ℕ) (n : ℕ) → high < 2 ^ 64 → number_word low high word ≡ Ok n → (low ≤ n) × (n ≤ high) × (word ≡ decimal n)
-number_word-spelled low high word n small e = number_at-spelled low high word n small (ok_or-ok (number_at low high word) causes.Number n e)
-
--- and what is spelled so is read
-number_word-again : (low high n : ℕ) → high < 2 ^ 64 → low ≤ n → n ≤ high → number_word low high (decimal n) ≡ Ok n
-number_word-again low high n small lower upper = rw (number_at-again low high n small lower upper) refl
 
 -- ---- entities and players
 
@@ -212,6 +193,15 @@ serve_line-spelled (word ∷ []) event e =
     subst (λ (x : Event). SpellsEvent (codes "serve" ∷ word ∷ []) x) (ok_is (Serve c.0) event c.2) (record { event_of_replay = omega arith; whole = ap (λ (w : List ℕ). codes "serve" ∷ w ∷ []) is.2 })
 serve_line-spelled (word ∷ other ∷ others) event e = absurd cc
 
+send_line-spelled : (words : List (List ℕ)) (event : Event) → send_line words ≡ Ok event → SpellsEvent (codes "send" ∷ words) event
+unfolding send_line
+send_line-spelled [] event e = absurd cc
+send_line-spelled (word ∷ []) event e =
+    let c = bind_ok (client_word word) (λ c. Ok (Send c)) event e in
+    let is = number_word-spelled 0 0 word c.0 (omega arith) c.1 in
+    subst (λ (x : Event). SpellsEvent (codes "send" ∷ word ∷ []) x) (ok_is (Send c.0) event c.2) (record { event_of_replay = omega arith; whole = ap (λ (w : List ℕ). codes "send" ∷ w ∷ []) is.2 })
+send_line-spelled (word ∷ other ∷ others) event e = absurd cc
+
 deliver_line-spelled : (words : List (List ℕ)) (event : Event) → deliver_line words ≡ Ok event → SpellsEvent (codes "deliver" ∷ words) event
 unfolding deliver_line
 deliver_line-spelled [] event e = absurd cc
@@ -252,11 +242,11 @@ pub line_at-spelled : (words : List (List ℕ)) (event : Event) → line_at word
 unfolding line_at
 line_at-spelled [] event e = absurd cc
 line_at-spelled (word ∷ others) event e =
-    found replay_lines word others event (client_line-spelled, (entity_line-spelled, (remove_line-spelled, (player_line-spelled, (area_line-spelled, (time_line-spelled, (serve_line-spelled, (deliver_line-spelled, (show_line-spelled, tt))))))))) e
+    found replay_lines word others event (client_line-spelled, (entity_line-spelled, (remove_line-spelled, (player_line-spelled, (area_line-spelled, (time_line-spelled, (move_line-spelled, (serve_line-spelled, (send_line-spelled, (deliver_line-spelled, (show_line-spelled, tt))))))))))) e
 
 -- and what is spelled so is read
 pub line_at-again : (words : List (List ℕ)) (event : Event) → SpellsEvent words event → line_at words ≡ Ok event
-unfolding line_at client_line entity_line remove_line player_line area_line time_line serve_line deliver_line show_line
+unfolding line_at client_line entity_line remove_line player_line area_line time_line serve_line send_line deliver_line show_line
 line_at-again words (Client c challenge qport dup address) spelled =
     let is = spelled.event_of_replay in
     ap line_at spelled.whole.2 ∙ rw (
@@ -277,6 +267,8 @@ line_at-again words (Area c area) spelled =
     let is = spelled.event_of_replay in
     ap line_at spelled.whole.2 ∙ rw (number_word-again 0 0 c (omega arith) (omega arith) (omega arith), area_at-again spelled.whole.0 area spelled.whole.1 is.1 is.2) refl
 line_at-again words (Time time) spelled = let is = spelled.event_of_replay in ap line_at spelled.whole ∙ rw (number_word-again 0 4294967295 time (omega arith) (omega arith) (omega arith)) refl
+line_at-again words (Move c one) spelled = let is = spelled.event_of_replay in ap line_at spelled.whole ∙ move_line-again c one is.0 is.1
 line_at-again words (Serve c) spelled = let is = spelled.event_of_replay in ap line_at spelled.whole ∙ rw (number_word-again 0 0 c (omega arith) (omega arith) (omega arith)) refl
+line_at-again words (Send c) spelled = let is = spelled.event_of_replay in ap line_at spelled.whole ∙ rw (number_word-again 0 0 c (omega arith) (omega arith) (omega arith)) refl
 line_at-again words (Deliver datagram) spelled = let is = spelled.event_of_replay in ap line_at spelled.whole ∙ rw (number_word-again 1 last_datagram datagram (omega arith) is.0 is.1) refl
 line_at-again words (Show c) spelled = let is = spelled.event_of_replay in ap line_at spelled.whole ∙ rw (number_word-again 0 0 c (omega arith) (omega arith) (omega arith)) refl

@@ -15,7 +15,8 @@ use Rattle.q3_script.specs.Words.{words_of}
 use Rattle.q3_script.specs.Lines.{line_at}
 use Rattle.q3_script.specs.Script.{longest_script, most_events, lines_of, is_passed_over, BadLine, event_at, at_line, events_from, script_at, with_items, Reads}
 use Rattle.q3_script.specs.Grammar.{SpellEvents, SpellsScript, IsReplayEvent}
-use Rattle.q3_script.proofs.SpelledEvents.{ok_is, guard_ok, line_at-spelled, line_at-again}
+use Rattle.q3_script.proofs.NumberWords.{ok_is}
+use Rattle.q3_script.proofs.SpelledEvents.{guard_ok, line_at-spelled, line_at-again}
 
 -- events, and a bad line, as the answer for lines
 abbrev events_are : List Event → Result (List Event) BadLine

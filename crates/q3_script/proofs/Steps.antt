@@ -1,14 +1,14 @@
 -- Each line in the steps by which it is read.
 use Rattle.std.proofs.Common.{◌≡◌, ℕ, List, [], ◌∷◌, Ok, refl}
 use Rattle.std.specs.Option.{ok_or}
-use Rattle.q3_script.specs.declared.event.Event.TheVariants.{Client, Entity, Remove, Player, Area, Time, Serve, Deliver, Show}
+use Rattle.q3_script.specs.declared.event.Event.TheVariants.{Client, Entity, Remove, Player, Area, Time, Move, Serve, Send, Deliver, Show}
 use Rattle.q3_script.specs.declared.cause.LineCause.TheVariants.{Address, Count, Number}
 use Rattle.q3_bits.specs.ResultBind.{◌>>=◌}
-use Rattle.q3_script.specs.Words.{next_of, only_of}
+use Rattle.q3_script.specs.Words.{next_of, three_of, only_of}
 use Rattle.q3_script.specs.Addresses.{address_at}
 use Rattle.q3_script.specs.Hex.{area_at}
 use Rattle.q3_script.specs.Fields.{entity_at, player_at}
-use Rattle.q3_script.specs.Lines.{last_datagram, number_word, entity_word, client_word, client_line, entity_line, remove_line, player_line, area_line, time_line, serve_line, deliver_line, show_line}
+use Rattle.q3_script.specs.Lines.{last_datagram, number_word, entity_word, client_word, angles_at, steps_at, move_with, client_line, entity_line, remove_line, player_line, area_line, time_line, move_line, serve_line, send_line, deliver_line, show_line}
 
 -- a client: four words and the last, then each of them
 pub client_steps : (words : List (List ℕ)) → client_line words ≡ (ok_or (next_of words) Count >>= λ c. ok_or (next_of c.1) Count >>= λ challenge. ok_or (next_of challenge.1) Count >>= λ qport. ok_or (next_of qport.1) Count >>= λ dup. ok_or (only_of dup.1) Count >>= λ address.
@@ -57,12 +57,37 @@ unfolding player_line
 player_steps [] = refl
 player_steps (c ∷ fields) = refl
 
+-- a move: nine words and the last, then each of them
+pub move_steps : (words : List (List ℕ)) → move_line words ≡ (ok_or (three_of words) Count >>= λ front. ok_or (three_of front.3) Count >>= λ middle. ok_or (three_of middle.3) Count >>= λ back. ok_or (only_of back.3) Count >>= λ weapon.
+    client_word front.0 >>= λ c. number_word 0 4294967295 front.1 >>= λ time. angles_at front.2 middle.0 middle.1 >>= λ angles. steps_at middle.2 back.0 back.1 >>= λ steps. number_word 0 65535 back.2 >>= λ buttons. number_word 0 255 weapon >>= λ weapon.
+    Ok (Move c (move_with time angles steps buttons weapon)))
+unfolding move_line
+move_steps [] = refl
+move_steps (c ∷ []) = refl
+move_steps (c ∷ time ∷ []) = refl
+move_steps (c ∷ time ∷ pitch ∷ []) = refl
+move_steps (c ∷ time ∷ pitch ∷ yaw ∷ []) = refl
+move_steps (c ∷ time ∷ pitch ∷ yaw ∷ roll ∷ []) = refl
+move_steps (c ∷ time ∷ pitch ∷ yaw ∷ roll ∷ forward ∷ []) = refl
+move_steps (c ∷ time ∷ pitch ∷ yaw ∷ roll ∷ forward ∷ right ∷ []) = refl
+move_steps (c ∷ time ∷ pitch ∷ yaw ∷ roll ∷ forward ∷ right ∷ up ∷ []) = refl
+move_steps (c ∷ time ∷ pitch ∷ yaw ∷ roll ∷ forward ∷ right ∷ up ∷ buttons ∷ []) = refl
+move_steps (c ∷ time ∷ pitch ∷ yaw ∷ roll ∷ forward ∷ right ∷ up ∷ buttons ∷ weapon ∷ []) = refl
+move_steps (c ∷ time ∷ pitch ∷ yaw ∷ roll ∷ forward ∷ right ∷ up ∷ buttons ∷ weapon ∷ other ∷ others) = refl
+
 -- a call of the server: the only word is a client
 pub serve_steps : (words : List (List ℕ)) → serve_line words ≡ (ok_or (only_of words) Count >>= λ word. client_word word >>= λ c. Ok (Serve c))
 unfolding serve_line
 serve_steps [] = refl
 serve_steps (c ∷ []) = refl
 serve_steps (c ∷ other ∷ others) = refl
+
+-- a call of the client: the only word is a client
+pub send_steps : (words : List (List ℕ)) → send_line words ≡ (ok_or (only_of words) Count >>= λ word. client_word word >>= λ c. Ok (Send c))
+unfolding send_line
+send_steps [] = refl
+send_steps (c ∷ []) = refl
+send_steps (c ∷ other ∷ others) = refl
 
 -- an arrival: the only word is the number of a datagram
 pub deliver_steps : (words : List (List ℕ)) → deliver_line words ≡ (ok_or (only_of words) Count >>= λ word. number_word 1 last_datagram word >>= λ datagram. Ok (Deliver datagram))

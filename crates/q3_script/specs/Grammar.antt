@@ -1,20 +1,37 @@
 -- The grammar of a script: which words spell which event, and which lines which events.
-use Rattle.std.specs.Prelude.{◌≡◌, ℕ, ◌^◌, ◌<◌, ◌≤◌, Bool, true, false, List, [], ◌∷◌, ◌++◌, length, map, codes, decimal, All}
+use Rattle.std.specs.Prelude.{◌≡◌, ℕ, ◌^◌, ◌<◌, ◌≤◌, ℤ, pos, neg_ℤ, ◌≤ℤ◌, Bool, true, false, List, [], ◌∷◌, ◌++◌, length, map, codes, decimal, All}
 use Rattle.q3_fields.specs.Places.{Change, AreRising}
 use Rattle.q3_fields.specs.States.{AreWords}
+use Rattle.q3_clmsg.specs.declared.moves.Move.{Move as MoveValue}
+use Rattle.q3_clmsg.specs.Report.{move_words}
 use Rattle.q3_entity.specs.declared.state.EntityState.{EntityState}
 use Rattle.q3_player.specs.State.{IsState}
 use Rattle.q3_player.specs.declared.state.PlayerState.{PlayerState}
 use Rattle.q3_io.specs.Print.{indexed_text}
 use Rattle.q3_io.specs.declared.address.Address.{Address}
 use Rattle.q3_script.specs.declared.event.Event.{Event}
-use Rattle.q3_script.specs.declared.event.Event.TheVariants.{Client, Entity, Remove, Player, Area, Time, Serve, Deliver, Show}
+use Rattle.q3_script.specs.declared.event.Event.TheVariants.{Client, Entity, Remove, Player, Area, Time, Move, Serve, Send, Deliver, Show}
 use Rattle.q3_script.specs.Words.{words_of}
 use Rattle.q3_script.specs.Addresses.{host_of}
 use Rattle.q3_script.specs.Hex.{hex_text, most_area}
 use Rattle.q3_script.specs.Fields.{values_of, player_of}
 use Rattle.q3_script.specs.Lines.{last_entity, last_datagram}
 use Rattle.q3_script.specs.Script.{is_passed_over, lines_of, longest_script, most_events}
+
+-- a signed value of 8 bits
+abbrev pub IsSignedByte : ℤ → Type 0
+IsSignedByte value = (neg_ℤ (pos 128) ≤ℤ value) × (value ≤ℤ pos 127)
+
+-- a move as the program's type holds it
+pub record IsHeldMove (one : MoveValue) : Type 0 where
+  pub time : one.time < 2 ^ 32
+  pub three : length one.angles ≡ 3
+  pub angles : All (λ angle. angle < 2 ^ 16) one.angles
+  pub forward : IsSignedByte one.forward
+  pub right : IsSignedByte one.right
+  pub up : IsSignedByte one.up
+  pub buttons : one.buttons < 2 ^ 16
+  pub weapon : one.weapon < 2 ^ 8
 
 -- an event that a replay's script may have: the one client has the number 0
 abbrev pub IsReplayEvent : Event → Type 0
@@ -25,7 +42,9 @@ IsReplayEvent (Remove number) = number ≤ last_entity
 IsReplayEvent (Player c player) = (c ≡ 0) × IsState player
 IsReplayEvent (Area c area) = (c ≡ 0) × (length area.items ≤ most_area) × All (λ byte. byte < 256) area.items
 IsReplayEvent (Time time) = time < 2 ^ 32
+IsReplayEvent (Move c one) = (c ≡ 0) × IsHeldMove one
 IsReplayEvent (Serve c) = c ≡ 0
+IsReplayEvent (Send c) = c ≡ 0
 IsReplayEvent (Deliver datagram) = (1 ≤ datagram) × (datagram ≤ last_datagram)
 IsReplayEvent (Show c) = c ≡ 0
 
@@ -88,7 +107,9 @@ HasWords words (Remove number) = words ≡ codes "remove" ∷ decimal number ∷
 HasWords words (Player c player) = (fields : List (List ℕ)) × SpellsPlayer fields player × (words ≡ codes "player" ∷ decimal c ∷ fields)
 HasWords words (Area c area) = (last : List ℕ) × SpellsHex last area.items × (words ≡ codes "area" ∷ decimal c ∷ last ∷ [])
 HasWords words (Time time) = words ≡ codes "time" ∷ decimal time ∷ []
+HasWords words (Move c one) = words ≡ codes "move" ∷ decimal c ∷ move_words one
 HasWords words (Serve c) = words ≡ codes "serve" ∷ decimal c ∷ []
+HasWords words (Send c) = words ≡ codes "send" ∷ decimal c ∷ []
 HasWords words (Deliver datagram) = words ≡ codes "deliver" ∷ decimal datagram ∷ []
 HasWords words (Show c) = words ≡ codes "show" ∷ decimal c ∷ []
 

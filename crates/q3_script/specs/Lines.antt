@@ -1,14 +1,16 @@
 -- The event that a line of a script spells, or the first cause for which it is refused.
-use Rattle.std.specs.Prelude.{ℕ, List, [], ◌∷◌, codes, Result, Ok, Err}
+use Rattle.std.specs.Prelude.{ℕ, ℤ, pos, neg_ℤ, List, [], ◌∷◌, codes, Option, option_map, Result, Ok, Err}
 use Rattle.std.specs.Option.{ok_or, option_map_or}
 use Rattle.std.specs.Map.{lookup}
 use Rattle.std.specs.Str.{bytes_eq}
+use Rattle.q3_clmsg.specs.declared.moves.Move.{Move as MoveValue}
 use Rattle.q3_script.specs.declared.event.Event.{Event}
-use Rattle.q3_script.specs.declared.event.Event.TheVariants.{Client, Entity, Remove, Player, Area, Time, Serve, Deliver, Show}
+use Rattle.q3_script.specs.declared.event.Event.TheVariants.{Client, Entity, Remove, Player, Area, Time, Move, Serve, Send, Deliver, Show}
 use Rattle.q3_script.specs.declared.cause.LineCause.{LineCause}
 use Rattle.q3_script.specs.declared.cause.LineCause.TheVariants as causes
 use Rattle.q3_bits.specs.ResultBind.{◌>>=◌}
 use Rattle.q3_text.specs.Decimals.{number_at}
+use Rattle.q3_script.specs.Words.{behind}
 use Rattle.q3_script.specs.Addresses.{address_at}
 use Rattle.q3_script.specs.Hex.{area_at}
 use Rattle.q3_script.specs.Fields.{entity_at, player_at}
@@ -32,6 +34,16 @@ entity_word word = number_word 0 last_entity word
 -- the one client's number
 abbrev pub client_word : List ℕ → Result ℕ LineCause
 client_word word = number_word 0 0 word
+
+-- a number from -128 to 127, with a `-` in front where it is below 0
+unfoldable pub step_at : List ℕ → Option ℤ
+step_at word =
+    option_map_or (λ digits. option_map (λ size. neg_ℤ (pos size)) (number_at 1 128 digits))
+    (behind (codes "-") word) (option_map pos (number_at 0 127 word))
+
+-- how fast a player walks or rises
+abbrev pub step_word : List ℕ → Result ℤ LineCause
+step_word word = ok_or (step_at word) causes.Number
 
 unfoldable pub client_line : List (List ℕ) → Result Event LineCause
 client_line (c ∷ challenge ∷ qport ∷ dup ∷ address ∷ []) = do
@@ -76,11 +88,56 @@ time_line (time ∷ []) = do
   Ok (Time time)
 time_line words = Err causes.Count
 
+-- three angles
+abbrev pub angles_at : List ℕ → List ℕ → List ℕ → Result (List ℕ) LineCause
+angles_at pitch yaw roll = do
+  pitch ← number_word 0 65535 pitch
+  yaw ← number_word 0 65535 yaw
+  roll ← number_word 0 65535 roll
+  Ok (pitch ∷ yaw ∷ roll ∷ [])
+
+-- forward, right and up
+abbrev pub steps_at : List ℕ → List ℕ → List ℕ → Result (ℤ × ℤ × ℤ) LineCause
+steps_at forward right up = do
+  forward ← step_word forward
+  right ← step_word right
+  up ← step_word up
+  Ok (forward, right, up)
+
+-- the move of these parts
+abbrev pub move_with : ℕ → List ℕ → ℤ × ℤ × ℤ → ℕ → ℕ → MoveValue
+move_with time angles steps buttons weapon = record {
+  time = time;
+  angles = angles;
+  forward = steps.0;
+  right = steps.1;
+  up = steps.2;
+  buttons = buttons;
+  weapon = weapon;
+}
+
+unfoldable pub move_line : List (List ℕ) → Result Event LineCause
+move_line (c ∷ time ∷ pitch ∷ yaw ∷ roll ∷ forward ∷ right ∷ up ∷ buttons ∷ weapon ∷ []) = do
+  c ← client_word c
+  time ← number_word 0 4294967295 time
+  angles ← angles_at pitch yaw roll
+  steps ← steps_at forward right up
+  buttons ← number_word 0 65535 buttons
+  weapon ← number_word 0 255 weapon
+  Ok (Move c (move_with time angles steps buttons weapon))
+move_line words = Err causes.Count
+
 unfoldable pub serve_line : List (List ℕ) → Result Event LineCause
 serve_line (c ∷ []) = do
   c ← client_word c
   Ok (Serve c)
 serve_line words = Err causes.Count
+
+unfoldable pub send_line : List (List ℕ) → Result Event LineCause
+send_line (c ∷ []) = do
+  c ← client_word c
+  Ok (Send c)
+send_line words = Err causes.Count
 
 unfoldable pub deliver_line : List (List ℕ) → Result Event LineCause
 deliver_line (datagram ∷ []) = do
@@ -111,7 +168,9 @@ replay_lines =
     ∷ (codes "player", player_line)
     ∷ (codes "area", area_line)
     ∷ (codes "time", time_line)
+    ∷ (codes "move", move_line)
     ∷ (codes "serve", serve_line)
+    ∷ (codes "send", send_line)
     ∷ (codes "deliver", deliver_line)
     ∷ (codes "show", show_line)
     ∷ []

@@ -18,6 +18,11 @@ abbrev pub next_of : List (List ℕ) → Option (List ℕ × List (List ℕ))
 next_of [] = None
 next_of (word ∷ words) = Some (word, words)
 
+-- the next three words and those behind them
+abbrev pub three_of : List (List ℕ) → Option (List ℕ × List ℕ × List ℕ × List (List ℕ))
+three_of (first ∷ second ∷ third ∷ words) = Some (first, second, third, words)
+three_of words = None
+
 -- the word, if it is the only one
 abbrev pub only_of : List (List ℕ) → Option (List ℕ)
 only_of [] = None

@@ -1,6 +1,7 @@
 //! The events of a replay.
 
 use arrayvec::ArrayVec;
+use q3_clmsg::Move;
 use q3_entity::EntityState;
 use q3_io::Address;
 use q3_player::PlayerState;
@@ -39,8 +40,17 @@ pub enum Event {
     Time {
         time: u32,
     },
+    /// The client issues a move.
+    Move {
+        c: u8,
+        one: Move,
+    },
     /// The server makes a datagram for the client.
     Serve {
+        c: u8,
+    },
+    /// The client makes a datagram for the server.
+    Send {
         c: u8,
     },
     /// The datagram of this number, counted from 1, arrives.

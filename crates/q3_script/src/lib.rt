@@ -8,6 +8,8 @@ pub mod event;
 mod fields;
 pub mod laws;
 mod line;
+mod moves;
+mod numbers;
 mod script;
 mod words;
 

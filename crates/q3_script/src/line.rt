@@ -1,38 +1,17 @@
 //! Reads one line of a script.
 
-ghost use Rattle.std.specs.Prelude.{◌≡◌, ◌≤◌, ◌∷◌, IfOk};
+ghost use Rattle.std.specs.Prelude.{◌≡◌, ◌∷◌};
 ghost use Rattle.q3_script.specs.Words.{words_of, words_left};
-ghost use Rattle.q3_script.specs.Lines.{number_word, entity_word, client_word, client_line, entity_line, remove_line, player_line, area_line, time_line, serve_line, deliver_line, show_line, line_at};
+ghost use Rattle.q3_script.specs.Lines.{client_line, entity_line, remove_line, player_line, area_line, time_line, serve_line, send_line, deliver_line, show_line, line_at};
 
 use crate::address::address;
 use crate::area::area_bytes;
 use crate::cause::LineCause;
 use crate::event::Event;
 use crate::fields::{entity_state, player_state};
+use crate::moves::move_line;
+use crate::numbers::{client_word, entity_word, number_word};
 use crate::words::{first_word, is, next_word, only_word};
-use q3_text::decimal_within;
-
-/// The number that a word spells, if it is one from `low` to `high`.
-fn number_word(word: &[u8], low: u32, high: u32) -> Result<u32, LineCause>
-    ensures value { result ≡ number_word low high word.now }
-    ensures within { IfOk result (λ n. (low ≤ n) × (n ≤ high)) }
-{
-    decimal_within(word, low, high).ok_or(LineCause::Number)
-}
-
-/// The number of an entity.
-fn entity_word(word: &[u8]) -> Result<u16, LineCause>
-    ensures { result ≡ entity_word word.now }
-{
-    Ok(number_word(word, 0, 1022)? as u16)
-}
-
-/// The number of a client.
-fn client_word(word: &[u8]) -> Result<u8, LineCause>
-    ensures { result ≡ client_word word.now }
-{
-    Ok(number_word(word, 0, 0)? as u8)
-}
 
 #[tactic(auto, using(crate::proofs::Steps::client_steps))]
 fn client(left: &[u8]) -> Result<Event, LineCause>
@@ -116,6 +95,16 @@ fn serve(left: &[u8]) -> Result<Event, LineCause>
     })
 }
 
+#[tactic(auto, using(crate::proofs::Steps::send_steps))]
+fn send(left: &[u8]) -> Result<Event, LineCause>
+    ensures { result ≡ send_line (words_left left.now) }
+{
+    let word = only_word(left).ok_or(LineCause::Count)?;
+    Ok(Event::Send {
+        c: client_word(word)?,
+    })
+}
+
 #[tactic(auto, using(crate::proofs::Steps::deliver_steps))]
 fn deliver(left: &[u8]) -> Result<Event, LineCause>
     ensures { result ≡ deliver_line (words_left left.now) }
@@ -153,8 +142,12 @@ fn event(word: &[u8], left: &[u8]) -> Result<Event, LineCause>
         area(left)
     } else if is(word, b"time") {
         time(left)
+    } else if is(word, b"move") {
+        move_line(left)
     } else if is(word, b"serve") {
         serve(left)
+    } else if is(word, b"send") {
+        send(left)
     } else if is(word, b"deliver") {
         deliver(left)
     } else if is(word, b"show") {

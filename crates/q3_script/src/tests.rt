@@ -1,5 +1,6 @@
 use super::*;
 use arrayvec::ArrayVec;
+use q3_clmsg::Move;
 use q3_entity::EntityState;
 use q3_io::Address;
 use q3_player::PlayerState;
@@ -7,7 +8,7 @@ use std::test::*;
 
 /// One line of each kind, with two between them that are passed over.
 const SCRIPT: &str =
-    "client 0 17 5000 1 10.0.0.1:27960\ntime 1000\n\nentity 5 2:1 63:4294967295\nremove 1022\narea 0 1fa0\narea 0 -\nplayer 0 1:7 s3:65535 s4:32768 s5:65536 p0:1 a15:7 u0:65536 u15:4294967295\nserve 0\n# a note\ndeliver 1\nshow 0\n";
+    "client 0 17 5000 1 10.0.0.1:27960\ntime 1000\n\nentity 5 2:1 63:4294967295\nremove 1022\narea 0 1fa0\narea 0 -\nplayer 0 1:7 s3:65535 s4:32768 s5:65536 p0:1 a15:7 u0:65536 u15:4294967295\nmove 0 1050 0 65535 7 -128 127 -1 3 255\nserve 0\n# a note\nsend 0\ndeliver 1\nshow 0\n";
 
 /// 33 area bytes, one too many.
 const AREA_OF_33: &str =
@@ -52,7 +53,20 @@ fn one_line_of_each_kind(rt: HostRuntime) -> Result<(), Fail> {
             area: ArrayVec::new(),
         },
         Event::Player { c: 0, player },
+        Event::Move {
+            c: 0,
+            one: Move {
+                time: 1050,
+                angles: [0, 65_535, 7],
+                forward: -128,
+                right: 127,
+                up: -1,
+                buttons: 3,
+                weapon: 255,
+            },
+        },
         Event::Serve { c: 0 },
+        Event::Send { c: 0 },
         Event::Deliver { datagram: 1 },
         Event::Show { c: 0 },
     ];
@@ -82,6 +96,17 @@ fn bad_scripts(rt: HostRuntime) {
         ("serve 0 \n", 1, LineCause::Count),
         ("serve\n", 1, LineCause::Count),
         ("serve 1\n", 1, LineCause::Number),
+        ("move 0 0 0 0 0 0 0 0 x\n", 1, LineCause::Count),
+        ("move 0 0 0 0 0 0 0 0 0 0 x\n", 1, LineCause::Count),
+        ("move 0 0 65536 0 0 0 0 0 0 0\n", 1, LineCause::Number),
+        ("move 0 0 0 0 0 -0 0 0 0 0\n", 1, LineCause::Number),
+        ("move 0 0 0 0 0 -129 0 0 0 0\n", 1, LineCause::Number),
+        ("move 0 0 0 0 0 0 128 0 0 0\n", 1, LineCause::Number),
+        ("move 0 0 0 0 0 0 0 +1 0 0\n", 1, LineCause::Number),
+        ("move 0 0 0 0 0 0 0 -01 0 0\n", 1, LineCause::Number),
+        ("move 0 0 0 0 0 0 0 0 0 256\n", 1, LineCause::Number),
+        ("send\n", 1, LineCause::Count),
+        ("send 1\n", 1, LineCause::Number),
         ("deliver 0\n", 1, LineCause::Number),
         ("deliver 01\n", 1, LineCause::Number),
         ("time 4294967296\n", 1, LineCause::Number),

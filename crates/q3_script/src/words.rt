@@ -2,7 +2,7 @@
 
 ghost use Rattle.std.specs.Prelude.{◌≡◌, ◌∷◌, option_map};
 ghost use Rattle.std.specs.Str.{bytes_eq};
-ghost use Rattle.q3_script.specs.Words.{words_of, words_left, next_of, only_of, behind};
+ghost use Rattle.q3_script.specs.Words.{words_of, words_left, next_of, three_of, only_of, behind};
 
 use q3_text::place_of;
 
@@ -24,6 +24,16 @@ pub fn next_word(left: &[u8]) -> Option<(&[u8], &[u8])>
         [] => None,
         [_, text @ ..] => Some(first_word(text)),
     }
+}
+
+/// The next three words in what is left of a line, and what is left behind them.
+pub fn next_three(left: &[u8]) -> Option<(&[u8], &[u8], &[u8], &[u8])>
+    ensures { option_map (λ next. (next.0.now, next.1.now, next.2.now, words_left next.3.now)) result ≡ three_of (words_left left.now) }
+{
+    let (first, left) = next_word(left)?;
+    let (second, left) = next_word(left)?;
+    let (third, left) = next_word(left)?;
+    Some((first, second, third, left))
 }
 
 /// The word in what is left of a line, if it is the only one.

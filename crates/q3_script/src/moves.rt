@@ -1,0 +1,69 @@
+//! A client's move in a line.
+
+ghost use Rattle.std.specs.Prelude.{◌≡◌};
+ghost use Rattle.q3_script.specs.Words.{words_left};
+ghost use Rattle.q3_script.specs.Lines.{number_word, angles_at, steps_at, move_with, move_line};
+
+use crate::cause::LineCause;
+use crate::event::Event;
+use crate::numbers::{client_word, number_word, step};
+use crate::words::{next_three, only_word};
+use q3_clmsg::Move;
+
+/// A number of 16 bits: an angle, or the buttons.
+fn angle(word: &[u8]) -> Result<u16, LineCause>
+    ensures { result ≡ number_word 0 65535 word.now }
+{
+    Ok(number_word(word, 0, 65_535)? as u16)
+}
+
+/// The three angles.
+fn angles(pitch: &[u8], yaw: &[u8], roll: &[u8]) -> Result<[u16; 3], LineCause>
+    ensures { result ≡ angles_at pitch.now yaw.now roll.now }
+{
+    Ok([angle(pitch)?, angle(yaw)?, angle(roll)?])
+}
+
+/// Forward, right and up.
+fn steps(forward: &[u8], right: &[u8], up: &[u8]) -> Result<(i8, i8, i8), LineCause>
+    ensures { result ≡ steps_at forward.now right.now up.now }
+{
+    Ok((step(forward)?, step(right)?, step(up)?))
+}
+
+/// The move of these parts.
+fn one_move(time: u32, angles: [u16; 3], steps: (i8, i8, i8), buttons: u16, weapon: u8) -> Move
+    ensures { result ≡ move_with time angles steps buttons weapon }
+{
+    let (forward, right, up) = steps;
+    Move {
+        time,
+        angles,
+        forward,
+        right,
+        up,
+        buttons,
+        weapon,
+    }
+}
+
+/// The move that the words that are left spell.
+#[tactic(auto, using(crate::proofs::Steps::move_steps))]
+pub fn move_line(left: &[u8]) -> Result<Event, LineCause>
+    ensures { result ≡ move_line (words_left left.now) }
+{
+    let (c, time, pitch, left) = next_three(left).ok_or(LineCause::Count)?;
+    let (yaw, roll, forward, left) = next_three(left).ok_or(LineCause::Count)?;
+    let (right, up, buttons, left) = next_three(left).ok_or(LineCause::Count)?;
+    let weapon = only_word(left).ok_or(LineCause::Count)?;
+    let c = client_word(c)?;
+    let time = number_word(time, 0, u32::MAX)?;
+    let angles = angles(pitch, yaw, roll)?;
+    let steps = steps(forward, right, up)?;
+    let buttons = angle(buttons)?;
+    let weapon = number_word(weapon, 0, 255)? as u8;
+    Ok(Event::Move {
+        c,
+        one: one_move(time, angles, steps, buttons, weapon),
+    })
+}
