@@ -5,16 +5,16 @@ use Rattle.std.proofs.lemmas.List.{append-nil, length-append}
 use Rattle.q3_bits.specs.Words.{IsCode, row_bits}
 use Rattle.q3_bits.specs.Laws.{PutIsRead}
 use Rattle.q3_text.specs.declared.text.Command.{Command}
-use Rattle.q3_strings.specs.Commands.{nops_bits, SpellsCommands}
+use Rattle.q3_strings.specs.Commands.{nops_bits, commands_bits, SpellsCommands}
 use Rattle.q3_strings.specs.Rows.{row-none, row-behind, row-first, row-last}
 use Rattle.q3_strings.specs.Laws.{CommandSpelledIsRead, TurnsAreTaken}
 use Rattle.q3_clmsg.specs.declared.moves.Move.{Move}
 use Rattle.q3_clmsg.specs.Moves.{no_move}
 use Rattle.q3_clmsg.specs.Values.{Message}
-use Rattle.q3_clmsg.specs.Texts.{move_operation}
+use Rattle.q3_clmsg.specs.Texts.{move_operation, section_bits, client_text}
 use Rattle.q3_clmsg.specs.Reading.{heads_after, section_after, ending_after, moved_after, operations_after, client_after}
 use Rattle.q3_clmsg.specs.Spelling.{SpellsMoves, SpellsSection}
-use Rattle.q3_clmsg.specs.Laws.{SpelledIsRead}
+use Rattle.q3_clmsg.specs.Laws.{SpelledIsRead, HeadsAreRead}
 use Rattle.q3_clmsg.proofs.Turns.{ending_done, ending_nop, operations_done, operations_nop, operations_command, operations_moves, operations_moves_no_delta}
 use Rattle.q3_clmsg.proofs.CommandRows.{command_is_read}
 use Rattle.q3_clmsg.proofs.MovesSpelled.{moves_are_read}
@@ -165,6 +165,16 @@ heads_are_read put words code id acknowledged command rest fits fits' fits'' = (
     row-last words code put command 32 rest fits'',
   ) refl,
 )
+
+-- and those of what is written of a message
+pub written_heads_are_read : PutIsRead → HeadsAreRead
+unfolding client_text
+written_heads_are_read put words key message rest code is =
+    let longs = row_bits words ((message.id, 32) ∷ (message.acknowledged, 32) ∷ (message.command, 32) ∷ []) in
+    let behind = commands_bits words 4 message.commands ++ section_bits words key message.delta message.moves ++ row_bits words ((5, 8) ∷ []) in
+    let same : client_text words key message ++ rest ≡ longs ++ (behind ++ rest) = simp append_assoc in
+    let heads = heads_are_read put words code message.id message.acknowledged message.command (behind ++ rest) is.id is.acknowledged is.command in
+    (heads.0, rw (same, heads.1) refl)
 
 pub message_is_read : PutIsRead → TurnsAreTaken → CommandSpelledIsRead → SpelledIsRead
 unfolding client_after

@@ -5,7 +5,7 @@ use Rattle.q3_strings.specs.Laws.{IsCommand}
 use Rattle.q3_clmsg.specs.Moves.{IsMove}
 use Rattle.q3_clmsg.specs.Values.{Message}
 use Rattle.q3_clmsg.specs.Texts.{client_text}
-use Rattle.q3_clmsg.specs.Reading.{client_after}
+use Rattle.q3_clmsg.specs.Reading.{heads_at, client_after}
 use Rattle.q3_clmsg.specs.Spelling.{SpellsMessage}
 
 -- a message as an end may send it
@@ -39,3 +39,9 @@ SpelledIsRead = (words : List (List Bool)) (key : ℕ) (message : Message) (text
 abbrev pub WrittenIsRead : Type 0
 WrittenIsRead = (words : List (List Bool)) (key : ℕ) (message : Message) (rest : List Bool) → IsCode words → key < 2 ^ 32 → IsMessage message
     → client_after words key (client_text words key message ++ rest) ≡ Ok (message, rest)
+
+-- the leading longs of what is written of a message are read back, with whatever follows it
+abbrev pub HeadsAreRead : Type 0
+HeadsAreRead = (words : List (List Bool)) (key : ℕ) (message : Message) (rest : List Bool) → IsCode words → IsMessage message
+    → (bits : ℕ) × (heads_at words (client_text words key message ++ rest)
+    ≡ Ok (record { id = message.id; acknowledged = message.acknowledged; command = message.command; bits = bits }))

@@ -1,6 +1,6 @@
 //! Laws of client messages, each the contract of a call that does nothing but cite the laws below it.
 
-ghost use Rattle.q3_clmsg.specs.Laws.{WrittenIsSpelled, ReadIsSpelled, SpelledIsRead, WrittenIsRead};
+ghost use Rattle.q3_clmsg.specs.Laws.{WrittenIsSpelled, ReadIsSpelled, SpelledIsRead, WrittenIsRead, HeadsAreRead};
 
 use q3_bits::laws as bits;
 use q3_strings::laws as strings;
@@ -36,4 +36,11 @@ pub fn written_is_read()
 {
     written_is_spelled();
     spelled_is_read();
+}
+
+/// The leading longs of what is written of a message are read back, with whatever follows it.
+pub fn heads_are_read()
+    ensures { HeadsAreRead }
+{
+    bits::put_is_read();
 }
