@@ -6,6 +6,8 @@ use Rattle.q3_client.specs.declared.client.ClientTook.{ClientTook}
 use Rattle.q3_client.specs.declared.client.ClientTook.TheVariants.{Dropped, Runt, Connectionless, Old, OutOfOrder, BadFragment, Partial, Illegible, Applied}
 use Rattle.q3_client.specs.declared.client.SnapOutcome.{SnapOutcome}
 use Rattle.q3_client.specs.declared.client.SnapOutcome.TheVariants.{NoSnap, Accepted, Skipped}
+use Rattle.q3_client.specs.declared.client.MoveError.{MoveError}
+use Rattle.q3_client.specs.declared.client.MoveError.TheVariants.{NotLater, Range}
 use Rattle.q3_client.specs.declared.client.Sent.{Sent}
 use Rattle.q3_client.specs.declared.client.Sent.TheVariants as sent
 use Rattle.q3_client.specs.declared.client.NoBase.{NoBase}
@@ -43,6 +45,11 @@ took_text (Applied number snap) = outcome_text number snap
 -- what stands behind `deliver D`
 abbrev pub client_text : ℕ → ClientTook → List ℕ
 client_text c took = concat (codes " client " ∷ decimal c ∷ took_text took ∷ [])
+
+-- why a move can't be issued
+abbrev pub move_error_text : MoveError → List ℕ
+move_error_text (NotLater last) = concat (codes "notlater " ∷ decimal last ∷ [])
+move_error_text Range = codes "range"
 
 -- what stands behind `send C`
 abbrev pub sent_text : Sent → ℕ → List ℕ

@@ -32,6 +32,10 @@ next_message client =
 abbrev pub said_bits : Profile → Said → List Bool
 said_bits profile said = client_text profile.code (message_key 0 said.acknowledged []) said
 
+-- and its bytes
+abbrev pub said_bytes : Profile → Said → List ℕ
+said_bytes profile said = message_bytes (said_bits profile said)
+
 -- what an emit gives: the client after it, the answer, the message that it began, and the datagram that it hands out
 pub record Emission : Type 0 where
   pub client : ClientState

@@ -10,5 +10,5 @@ pub mod snapshots;
 mod tests;
 
 pub use client::{Client, ClientTook, MoveError, NoBase, Sent, SnapOutcome};
-pub use print::{print_sent, print_took};
+pub use print::{print_move_error, print_sent, print_took};
 pub use snapshots::SnapshotView;

@@ -5,9 +5,9 @@ ghost use Rattle.std.specs.List.{concat};
 ghost use Rattle.q3_io.specs.Faults.{HasCause};
 ghost use Rattle.q3_io.specs.Written.{Adds};
 ghost use Rattle.q3_svmsg.specs.Report.{cause_word, cause_number};
-ghost use Rattle.q3_client.specs.Report.{illegible_text, outcome_text, client_text, send_text};
+ghost use Rattle.q3_client.specs.Report.{illegible_text, outcome_text, client_text, move_error_text, send_text};
 
-use crate::client::{ClientTook, NoBase, Sent, SnapOutcome};
+use crate::client::{ClientTook, MoveError, NoBase, Sent, SnapOutcome};
 use q3_io::{Failed, Piece, Sink, print_all};
 use q3_svmsg::{Illegible, cause_number, cause_word};
 
@@ -121,6 +121,21 @@ fn print_applied<O: Sink>(c: u8, number: u32, snap: SnapOutcome, out: &mut O) ->
             ],
             out,
         ),
+    }
+}
+
+/// Prints why a move can't be issued: a word, and the time of the last move. `Failed` comes where the sink failed, behind a
+/// front of it.
+pub fn print_move_error<O: Sink>(error: MoveError, out: &mut O) -> Result<(), Failed>
+    ensures adds { Adds (O.written out.old) (O.written out.new) (move_error_text error) result }
+    ensures cause { HasCause (O.faults out.old) (O.faults out.new) result }
+{
+    match error {
+        MoveError::NotLater(last) => print_all(
+            &[Piece::Text(b"notlater "), Piece::Number(u64::from(last))],
+            out,
+        ),
+        MoveError::Range => print_all(&[Piece::Text(b"range")], out),
     }
 }
 

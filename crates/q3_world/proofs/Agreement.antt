@@ -47,7 +47,7 @@ use Rattle.q3_client.specs.declared.client.Sent.TheVariants as answered_sent
 use Rattle.q3_client.specs.Client.{no_bases, ClientState, Taken, without_game, read_by, take_answer, take_gathered, take_unless, take_at}
 use Rattle.q3_client.specs.Moves.{is_issuable, issue, carried}
 use Rattle.q3_client.specs.Sending as speaks
-use Rattle.q3_client.specs.Sending.{Said, said_bits, next_message as next_said}
+use Rattle.q3_client.specs.Sending.{said_bytes, Said, said_bits, next_message as next_said}
 use Rattle.q3_server.specs.Built.{IsHeld, IsArea, IsBuilt}
 use Rattle.q3_server.specs.Server.{SlotState, ServerState, Built, Emission, places, is_of, slot_at, with_slot, with_player, with_entity, without_entity, next_message, built_bits, built_bytes, hand_out, emit_bits, emit_new, emit_slot, emission_at, emit_from, emit_at}
 use Rattle.q3_server.specs.Taking as hears
@@ -57,10 +57,10 @@ use Rattle.q3_world.specs.declared.sent.Direction.{Direction}
 use Rattle.q3_world.specs.declared.sent.Direction.TheVariants.{ToClient, ToServer}
 use Rattle.q3_world.specs.Ends.{Ends, EndsStep, client_at, address_at, with_client, join, set_entity, remove_entity, set_player, set_area, add_move}
 use Rattle.q3_world.specs.Kept.{SentBytes, Kept, KeptStep, kept_ends, kept_serve, kept_said, kept_send, kept_client_took, kept_to_client, kept_server_took, kept_arrive, kept_deliver, kept_step}
-use Rattle.q3_world.specs.World.{Tag, Step, Whole, History, no_history, no_message, history_at, with_history, said_at, said_bytes, with_built, with_joined, with_issued, with_run, with_ends, with_noted, serve, say, send, named, client_took, to_client, said_under, server_took, to_server, arrive, deliver, step}
+use Rattle.q3_world.specs.World.{Tag, Step, Whole, History, no_history, no_message, history_at, with_history, said_at, with_built, with_joined, with_issued, with_run, with_ends, with_noted, serve, say, send, named, client_took, to_client, said_under, server_took, to_server, arrive, deliver, step}
 use Rattle.q3_world.specs.StandsFor.{KeepsSlot, IsPiece, IsSent, IsClient, IsWay, WasBuilt, messages_of, messages_said, StandsFor, bytes_of}
 use Rattle.q3_world.proofs.Growth.{noted_same}
-use Rattle.q3_world.proofs.MoveLists.{consecutive_issued, runs_are}
+use Rattle.q3_world.proofs.MoveLists.{is_move, consecutive_issued, runs_are}
 use Rattle.q3_world.proofs.Clients.{no_client, at_number, said_number, slot_begun, client_begun, KeepsSlot-begun, KeepsSlot-ran, TakesBuilt-gathered, TakesBuilt-accepted}
 use Rattle.q3_world.proofs.Events.{Holds, with_new_slot, with_server_of, with_client_of, Holds-new, Holds-player, Holds-area, Holds-map, Begins, Holds-handed, handed_tag, Holds-goes, Holds-said, said_tag, Holds-issued, Holds-taken, Holds-heard, Has, has_slot, has_client, tag_was_built, names_built, same_server, same_clients}
 use Rattle.q3_world.proofs.Held.{AreHeld-put, AreHeld-without}
@@ -190,10 +190,6 @@ left_alone profile whole c client sent found same holds =
       sent = sent;
     })) (sym (same_clients whole.ends c client found))
     (subst (λ (tags : List Tag). Holds profile (record whole { histories = with_history whole.histories c (history_at whole.histories c); sent = tags })) (sym same) (unnoted profile whole c holds))
-
--- a move that a script may have and that may be issued is one that an end may send
-is_move : (one : Move) → IsHeldMove one → is_issuable one ≡ true → IsMove one
-is_move one held issuable = MOVE_HOLE
 
 holds_move : (profile : Profile) (whole : Whole) (c : ℕ) (one : Move) → IsHeldMove one → c < places → Holds profile whole
     → Holds profile (with_noted whole c (add_move whole.ends c one) (with_issued (history_at whole.histories c) one)).whole
@@ -595,22 +591,45 @@ holds_heard profile whole c number n from slot took said lt at host does gathers
           (runs_are (Contains history.issued) slot.last_run said.moves were) holds)
     ]
 
-some_none : {slot : SlotState} → None ≡ Some slot → ⊥
-some_none e = absurd cc
-
-heard_at : (profile : Profile) (whole : Whole) (number : ℕ) (tag : Tag) (from : Address) (found : Option SlotState) → Cited profile
-    → IsOf profile whole tag from → slot_at whole.ends.server tag.client ≡ found → Holds profile whole
-    → Agree profile (kept_server_took (kept_of profile whole) number (hears.take_at whole.ends.server from tag.bytes)) (to_server profile whole number tag from found)
-heard_at profile whole number tag from None cited is at holds =
+-- its client has a slot
+pub slot_of_tag : (profile : Profile) (whole : Whole) (tag : Tag) (from : Address) → IsOf profile whole tag from → Holds profile whole
+    → (slot : SlotState) × (slot_at whole.ends.server tag.client ≡ Some slot)
+slot_of_tag profile whole tag from is holds =
     let c = tag.client in
     let history = history_at whole.histories c in
-    let none = no_client profile (client_at whole.ends c) (address_at whole.ends c) history
-    (subst (λ (s : Option SlotState). IsClient profile s (client_at whole.ends c) (address_at whole.ends c) history) at (holds.facts.each c is.0)) in
-    let some = is.2.some in
-    let begun = is.2.begun in
-    let nothing : length history.said ≡ 0 = ap (λ (h : History). length h.said) none in
-    absurd (omega (arith, some, begun, nothing))
-heard_at profile whole number tag from (Some slot) cited is at holds =
+    elim (found_or (slot_at whole.ends.server c)) [
+      | inl at ↦
+          let none = no_client profile (client_at whole.ends c) (address_at whole.ends c) history
+          (subst (λ (s : Option SlotState). IsClient profile s (client_at whole.ends c) (address_at whole.ends c) history) at (holds.facts.each c is.0)) in
+          let some = is.2.some in
+          let begun = is.2.begun in
+          let nothing : length history.said ≡ 0 = ap (λ (h : History). length h.said) none in
+          absurd (omega (arith, some, begun, nothing))
+      | inr found ↦ found
+    ]
+
+-- by its bytes a client's datagram does at its slot what it does by its tag
+pub said_tag_is : (profile : Profile) (whole : Whole) (tag : Tag) (from : Address) (slot : SlotState) → Cited profile → IsOf profile whole tag from
+    → slot_at whole.ends.server tag.client ≡ Some slot → Holds profile whole
+    → gathered_of slot.gathering tag.bytes ≡ tagged slot.gathering tag.number (said_bytes profile (said_under whole.histories tag)) tag.index
+said_tag_is profile whole tag from slot cited is at holds =
+    let history = history_at whole.histories tag.client in
+    let had = has_slot profile whole tag.client slot is.0 at holds in
+    let keeps = had.1.keeps in
+    let at_said = said_number profile history.said tag.number is.2.some in
+    let may = begun_sendable (said_bytes profile) history.said empty_message tag.number keeps.client.sendable is.2.some is.2.begun in
+    piece_is (messages_said profile history.said) slot.gathering Client history.qport (length history.said) tag cited.tags had.1.joined.slot.gathers.front keeps.slot.from keeps.client.fits keeps.client.short
+    (subst IsSendable (sym at_said) may) is.2
+    ∙ ap (λ (m : List ℕ). tagged slot.gathering tag.number m tag.index) at_said
+
+heard_at : (profile : Profile) (whole : Whole) (number : ℕ) (tag : Tag) (from : Address) → Cited profile
+    → IsOf profile whole tag from → Holds profile whole
+    → Agree profile (kept_server_took (kept_of profile whole) number (hears.take_at whole.ends.server from tag.bytes))
+    (to_server profile whole number tag from (slot_at whole.ends.server tag.client))
+heard_at profile whole number tag from cited is holds =
+    let found = slot_of_tag profile whole tag from is holds in
+    let slot = found.0 in
+    let at = found.1 in
     let c = tag.client in
     let history = history_at whole.histories c in
     let said = said_under whole.histories tag in
@@ -621,17 +640,13 @@ heard_at profile whole number tag from (Some slot) cited is at holds =
     let some = is.2.some in
     let begun = is.2.begun in
     let within : tag.number - 1 < length history.said = omega (arith, some, begun) in
-    let may = begun_sendable (said_bytes profile) history.said empty_message tag.number keeps.client.sendable is.2.some is.2.begun in
     let took = tagged slot.gathering tag.number (said_bytes profile said) tag.index in
     let does = cited.does slot.gathering tag.number (said_bytes profile said) tag.index in
-    let takes : gathered_of slot.gathering tag.bytes ≡ took =
-    piece_is messages slot.gathering Client history.qport (length history.said) tag cited.tags had.1.joined.slot.gathers.front keeps.slot.from keeps.client.fits keeps.client.short
-    (subst IsSendable (sym at_said) may) is.2
-    ∙ ap (λ (m : List ℕ). tagged slot.gathering tag.number m tag.index) at_said in
+    let takes = said_tag_is profile whole tag from slot cited is at holds in
     let gathers : Gathers messages (length history.said) took.gathering =
     subst (λ (m : List ℕ). Gathers messages (length history.said) (tagged slot.gathering tag.number m tag.index).gathering) at_said
     (cited.gathers.piece messages (length history.said) slot.gathering tag.number tag.index had.1.joined.slot.gathers is.2.begun) in
-    record {
+    rw at (record {
       same = ap (λ (t : hears.Taken). kept_server_took (kept_of profile whole) number t)
           (heard_by_bytes profile whole tag from slot cited is at holds
           ∙ (ap (λ (t : Took). hears.taken_at whole.ends.server c (hears.take_gathered (record slot { address = from }) c t (λ k. said_by profile t.message))) takes
@@ -639,7 +654,7 @@ heard_at profile whole number tag from (Some slot) cited is at holds =
           (heard_alike profile slot c took tag.number said cited.hears (keeps.client.said (tag.number - 1) empty_message within) does from)));
       holds = holds_heard profile whole c number tag.number from slot took said is.0 at (is.1 ∙ sym keeps.slot.host) does gathers
           (consecutive_issued said.moves history.issued (keeps.client.carried (tag.number - 1) empty_message within)) holds;
-    }
+    })
 
 -- ---- every delivery
 
@@ -665,7 +680,7 @@ arrives_at : (profile : Profile) (whole : Whole) (number : ℕ) (tag : Tag) (dir
 arrives_at profile whole number tag ToClient cited way is holds =
     delivered_to profile whole number tag (client_at whole.ends tag.client) cited (is_for profile whole tag way is) refl holds
 arrives_at profile whole number tag (ToServer from) cited way is holds =
-    heard_at profile whole number tag from (slot_at whole.ends.server tag.client) cited (is_of_client profile whole tag from way is) refl holds
+    heard_at profile whole number tag from cited (is_of_client profile whole tag from way is) holds
 
 sent_at : (profile : Profile) (whole : Whole) (number : ℕ) (found : Option Tag) → Cited profile
     → slice_get whole.sent (number - 1) ≡ found → Holds profile whole

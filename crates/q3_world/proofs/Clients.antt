@@ -30,8 +30,8 @@ use Rattle.q3_server.specs.Taking.{last_run_of, last_time, runs}
 use Rattle.q3_client.specs.Client.{ClientState, new_client}
 use Rattle.circular_buffer.specs.Buffer.{keep_last}
 use Rattle.q3_client.specs.Moves.{most_moves, carried, asks_delta, issue}
-use Rattle.q3_client.specs.Sending.{Said, next_message as next_said}
-use Rattle.q3_world.specs.World.{Tag, History, no_history, no_message, built_at, said_at, said_bytes, with_built, with_accepted, with_said, with_run}
+use Rattle.q3_client.specs.Sending.{said_bytes, Said, next_message as next_said}
+use Rattle.q3_world.specs.World.{Tag, History, no_history, no_message, built_at, said_at, with_built, with_accepted, with_said, with_run}
 use Rattle.q3_world.specs.StandsFor.{messages_of, messages_said, KeepsSlot, KeepsClient, AreEnds, IsClient, IsPiece, WasBuilt, number_of_newest, Rise, KeepsMoves, TakesBuilt, TakesSaid}
 use Rattle.q3_world.specs.Moves.{TimesRise, AreConsecutive}
 use Rattle.q3_world.proofs.Growth.{was_built_more, each_more, messages_stay, messages_said_stay}

@@ -22,11 +22,11 @@ use Rattle.q3_server.specs.Server.{MapState, SlotState, ServerState, Built, plac
 use Rattle.q3_server.specs.Taking.{last_run_of, runs}
 use Rattle.q3_client.specs.Client.{ClientState, new_client}
 use Rattle.q3_client.specs.Moves.{issue}
-use Rattle.q3_client.specs.Sending.{Said, next_message as next_said}
+use Rattle.q3_client.specs.Sending.{said_bytes, Said, next_message as next_said}
 use Rattle.q3_world.specs.declared.sent.Direction.{Direction}
 use Rattle.q3_world.specs.declared.sent.Direction.TheVariants.{ToClient, ToServer}
 use Rattle.q3_world.specs.Ends.{Ends, client_at, with_client, no_address, address_at}
-use Rattle.q3_world.specs.World.{Tag, History, Whole, no_history, no_message, history_at, with_history, built_at, said_bytes, with_built, with_accepted, with_said, with_run, named, opening}
+use Rattle.q3_world.specs.World.{Tag, History, Whole, no_history, no_message, history_at, with_history, built_at, with_built, with_accepted, with_said, with_run, named, opening}
 use Rattle.q3_world.specs.StandsFor.{messages_of, messages_said, KeepsSlot, KeepsClient, AreEnds, IsClient, IsPiece, IsWay, IsSent, Facts, TakesBuilt, TakesSaid, AreJoined, IsJoined, AllJoined, WasBuilt}
 use Rattle.q3_world.proofs.OnePlace.{set_there, OnlyAt, OnlyAt-set, OnlyAt-same, DifferAt, Each, each_at}
 use Rattle.q3_world.proofs.Growth.{HistoryGrows, HistoryGrows-same, HistoryGrows-built, HistoryGrows-accepted, HistoryGrows-said, HistoryGrows-issued, HistoryGrows-run, HistoryGrows-joined, Grow, Grow-at, noted_same, AllSent, all_sent_grow, each_more}

@@ -5,14 +5,11 @@ use Rattle.std.specs.List.{AllByRecursion, last_or}
 use Rattle.std.specs.Option.{option_map}
 use Rattle.std.proofs.lemmas.Option.{slice_get-map}
 use Rattle.std.proofs.Math.Pow.{pow_mono}
-use Rattle.q3_bits.specs.Laws.{MessageIsBytes}
 use Rattle.q3_profile.specs.declared.profile.Profile.{Profile}
 use Rattle.q3_profile.specs.Profile.{IsCodec}
-use Rattle.q3_player.specs.Laws.{NormalIsNormal, ZeroIsNormal}
 use Rattle.q3_script.specs.declared.event.Event.{Event}
 use Rattle.q3_script.specs.declared.event.Event.TheVariants as events
 use Rattle.q3_script.specs.Grammar.{IsReplayEvent}
-use Rattle.q3_entity.specs.Laws.{NormalIsNormal as EntityNormalIsNormal}
 use Rattle.q3_svmsg.specs.Values as told
 use Rattle.q3_svmsg.specs.Values.{Told, Message, Snapshot}
 use Rattle.q3_chan.specs.declared.gatherer.Gathered.{Gathered}
@@ -20,48 +17,46 @@ use Rattle.q3_chan.specs.declared.gatherer.Gathered.TheVariants as gathered
 use Rattle.q3_chan.specs.declared.gatherer.Gathered.TheVariants.{Whole as CameWhole}
 use Rattle.q3_chan.specs.Gathering.{Took, gathered as gathered_of}
 use Rattle.q3_chan.specs.Tags.{tagged, IsQuiet}
-use Rattle.q3_chan.specs.Laws.{SentIsTagged, TaggedDoes, EndsGather, EndsSend}
+use Rattle.q3_chan.specs.Laws.{TaggedDoes}
 use Rattle.q3_client.specs.declared.client.SnapOutcome.{SnapOutcome}
 use Rattle.q3_client.specs.declared.client.SnapOutcome.TheVariants.{Accepted}
 use Rattle.q3_server.specs.declared.server.SlotError.{SlotError}
 use Rattle.q3_client.specs.declared.client.ClientTook.TheVariants.{Applied}
 use Rattle.q3_client.specs.declared.client.ClientTook.{ClientTook}
+use Rattle.q3_server.specs.declared.taking.ServerTook.{ServerTook}
+use Rattle.q3_server.specs.declared.taking.ServerTook.TheVariants.{Stranger}
+use Rattle.q3_clmsg.specs.declared.moves.Move.{Move}
+use Rattle.q3_io.specs.declared.address.Address.{Address}
+use Rattle.q3_world.specs.declared.answer.Answer.TheVariants as variants
 use Rattle.q3_world.specs.declared.answer.Answer.TheVariants.{Unknown, Deliver}
-use Rattle.q3_world.specs.MessageLaws.{BuiltIsRead}
+use Rattle.q3_world.specs.declared.sent.Direction.{Direction}
+use Rattle.q3_world.specs.declared.sent.Direction.TheVariants.{ToClient, ToServer}
+use Rattle.q3_world.specs.Layers.{Layers}
 use Rattle.q3_server.specs.Server.{MapState, SlotState, Built, places, slot_at, add_client_at, built_bytes}
 use Rattle.q3_client.specs.Client.{ClientState, Taken, new_client, apply_section, apply_message, take_answer, take_gathered}
-use Rattle.q3_world.specs.Ends.{Ends, Answered, unknown, delivered, client_at, with_client, newest, joined}
+use Rattle.q3_world.specs.Ends.{Ends, Answered, unknown, delivered, ran, client_at, address_at, with_client, newest}
 use Rattle.q3_world.specs.Kept.{SentBytes, Kept, KeptStep, opening_kept, kept_step, kept_after, kept_answers}
-use Rattle.q3_world.specs.World.{Tag, Step, Whole, History, history_at, opening, step, after, answers, deliver, to_client, named}
+use Rattle.q3_world.specs.World.{Tag, Step, Whole, History, history_at, opening, step, after, answers, deliver, arrive, to_client, to_server, named}
 use Rattle.q3_world.specs.StandsFor.{IsSent, IsClient, WasBuilt, Rise, AreJoined, IsJoined, StandsFor, bytes_of}
-use Rattle.q3_world.specs.Schedules.{StepFollows, kept_then, whole_then, BytesFollowTags, IsLegible, AlwaysLegible, AcceptedWereBuilt, ShownWasBuilt, WasApplied, AppliedWasBuilt, NewerIsAccepted}
+use Rattle.q3_world.specs.Schedules.{StepFollows, kept_then, whole_then, BytesFollowTags, AcceptedWereBuilt, ShownWasBuilt, WasApplied, AppliedWasBuilt, NewerIsAccepted}
 use Rattle.q3_world.proofs.Events.{Holds, Holds-opening, tag_was_built, names_built}
-use Rattle.q3_world.proofs.Agreement.{Cited, seen, stands_of, stands_next, kept_is, is_sent, tag_is, delivers_agree}
+use Rattle.q3_world.proofs.Agreement.{Cited, seen, stands_of, stands_next, kept_is, IsFor, is_sent, is_for, tag_is, delivers_agree}
 use Rattle.q3_world.proofs.Clients.{last_is}
 use Rattle.q3_world.proofs.OnePlace.{set_there}
 
--- the laws of the layers below, and what is cited of them, of a profile that passed its check
-pub record Below : Type 0 where
-  pub reads : BuiltIsRead
-  pub entity : EntityNormalIsNormal
-  pub normal : NormalIsNormal
-  pub zero : ZeroIsNormal
-  pub tags : SentIsTagged
-  pub does : TaggedDoes
-  pub gathers : EndsGather
-  pub sends : EndsSend
-  pub bytes : MessageIsBytes
-
-pub cited_of : Below → (profile : Profile) → IsCodec profile → Cited profile
+-- what is cited of the layers below, of a profile that passed its check
+pub cited_of : Layers → (profile : Profile) → IsCodec profile → Cited profile
 cited_of below profile is =
     let at_first = below.zero profile.player.kinds is.player.kinds in
     record {
       reads = below.reads profile is;
+      hears = below.hears profile is;
       zero = record { state = at_first.0; normal = at_first.1 };
       normal = λ player state. let made = below.normal profile.player.kinds player is.player.kinds state in record { state = made.0; normal = made.1 };
       normal_entity = λ state words. below.entity profile.entity state is.entity words;
       end = let wide : 2 ^ 10 ≤ 2 ^ profile.entity.number_bits = pow_mono is.numbers in omega arith;
       tags = below.tags;
+      qport = below.qport;
       does = below.does;
       gathers = below.gathers;
       sends = below.sends;
@@ -70,7 +65,7 @@ cited_of below profile is =
 
 -- ---- bytes and tags
 
-pub step_follows : Below → StepFollows
+pub step_follows : Layers → StepFollows
 step_follows below profile kept whole event is stands =
     stands_next profile kept whole event (cited_of below profile stands.facts.codec) is stands
 
@@ -100,113 +95,37 @@ bytes_follow_tags law profile all is are = follow law profile all (opening_kept 
 abbrev Then : Profile → List Event → Type 0
 Then profile all = StandsFor profile (kept_then profile all) (whole_then profile all)
 
--- ---- legible answers
-
--- a client that is handed in
-legible_joined : (ends : Ends) (c : ℕ) (client : ClientState) (added : Result (Unit {0}) SlotError) → IsLegible (joined ends c client added).answer
-legible_joined ends c client (Ok x) = tt
-legible_joined ends c client (Err e) = tt
-
--- what a message does to a client
-legible_section : (datagram c number : ℕ) (client : ClientState) (section : Told) → IsLegible (delivered datagram c (apply_section client number section).answer).answer
-legible_section datagram c number client told.Nothing = tt
-legible_section datagram c number client (told.Game game) = tt
-legible_section datagram c number client (told.Snap base head entities) = tt
-legible_section datagram c number client (told.Skipped base) = tt
-
--- what a client makes of a piece: nothing came whole, or its message did, and was read
-legible_took : (datagram c n : ℕ) (client : ClientState) (answer : Gathered) (built : Built) → IsQuiet answer ⊎ ((count : ℕ) × (answer ≡ CameWhole n count))
-    → IsLegible (delivered datagram c (take_answer client answer (λ k. Ok built)).answer).answer
-legible_took datagram c n client answer built (inl quiet) = waits answer quiet
-  where
-    waits : (answer : Gathered) → IsQuiet answer → IsLegible (delivered datagram c (take_answer client answer (λ k. Ok built)).answer).answer
-    waits (CameWhole number count) is = absurd is
-    waits gathered.Partial is = tt
-    waits gathered.Old is = tt
-    waits gathered.OutOfOrder is = tt
-    waits gathered.BadFragment is = absurd is
-    waits gathered.Runt is = absurd is
-    waits gathered.Connectionless is = absurd is
-legible_took datagram c n client answer built (inr came) = rw came.1 (legible_section datagram c n client built.section)
-
-legible_arrive : TaggedDoes → (profile : Profile) (whole : Whole) (number : ℕ) (tag : Tag) (found : Option ClientState) → IsLegible (to_client profile whole number tag found).answer.answer
-legible_arrive does_so profile whole number tag None = tt
-legible_arrive does_so profile whole number tag (Some client) =
-    let built = named whole.histories tag in
-    let took = tagged client.gathering tag.number (built_bytes profile built) tag.index in
-    let does = does_so client.gathering tag.number (built_bytes profile built) tag.index in
-    legible_took number tag.client tag.number (record client { gathering = took.gathering }) took.answer built
-    (elim does.either [ inl waits ↦ inl waits.quiet | inr came ↦ inr (length (built_bytes profile built), came.answer) ])
-
-legible_deliver : TaggedDoes → (profile : Profile) (whole : Whole) (number : ℕ) (found : Option Tag) → IsLegible (deliver profile whole number found).answer.answer
-legible_deliver does_so profile whole number None = tt
-legible_deliver does_so profile whole number (Some tag) = legible_arrive does_so profile whole number tag (client_at whole.ends tag.client)
-
--- each step by tags answers legibly
-legible_step : TaggedDoes → (profile : Profile) (whole : Whole) (event : Event) → IsLegible (step profile whole event).answer.answer
-unfolding step
-legible_step does_so profile whole (events.Client c challenge qport dup address) =
-    let added = add_client_at whole.ends.server c challenge qport address in
-    legible_joined (record whole.ends { server = added.server }) c (new_client profile challenge qport dup) added.answer
-legible_step does_so profile whole (events.Entity state) = tt
-legible_step does_so profile whole (events.Remove number) = tt
-legible_step does_so profile whole (events.Player c player) = tt
-legible_step does_so profile whole (events.Area c area) = tt
-legible_step does_so profile whole (events.Time time) = tt
-legible_step does_so profile whole (events.Serve c) = tt
-legible_step does_so profile whole (events.Deliver number) = legible_deliver does_so profile whole number (slice_get whole.sent (number - 1))
-legible_step does_so profile whole (events.Show c) = tt
-
-abbrev AreLegible : List Answered → Type 0
-AreLegible all = AllByRecursion (λ (given : Answered). IsLegible given.answer) all
-
--- and so does every list of events
-legible_answers : TaggedDoes → (profile : Profile) (all : List Event) (whole : Whole) → AreLegible (answers profile whole all)
-unfolding answers
-legible_answers does_so profile [] whole = tt
-legible_answers does_so profile (event ∷ events) whole = (legible_step does_so profile whole event, legible_answers does_so profile events (step profile whole event).whole)
-
--- by bytes too
-pub always_legible : BytesFollowTags → TaggedDoes → AlwaysLegible
-always_legible law does_so profile all is are = subst AreLegible (sym (law profile all is are).1) (legible_answers does_so profile all (opening profile))
-
 -- ---- what was accepted
-
--- what joins the ends of a client that is there
-joined_at : (map : MapState) (slot : Option SlotState) (client : ClientState) (history : History) (profile : Profile)
-    → IsClient profile slot (Some client) history → IsJoined profile map slot (Some client) history → (found : SlotState) × AreJoined profile map found client history
-joined_at map None client history profile is joined = absurd is
-joined_at map (Some slot) client history profile is joined = (slot, joined)
 
 abbrev WereAccepted : History → Type 0
 WereAccepted history = ((k : ℕ) (d : Snapshot) → k < length history.accepted → WasBuilt history.built (get_or history.accepted k d)) × Rise history.accepted
 
 -- what a client accepted, wherever it is
-accepted_by : (profile : Profile) (map : MapState) (slot : Option SlotState) (client : Option ClientState) (history : History)
-    → IsClient profile slot client history → IsJoined profile map slot client history → WereAccepted history
-accepted_by profile map None None history is joined =
+accepted_by : (profile : Profile) (map : MapState) (slot : Option SlotState) (client : Option ClientState) (address : Address) (history : History)
+    → IsClient profile slot client address history → IsJoined profile map slot client history → WereAccepted history
+accepted_by profile map None None address history is joined =
     rw is ((λ k d lt. absurd (omega (arith, lt))), (λ j k d lt within. absurd (omega (arith, within))))
-accepted_by profile map None (Some client) history is joined = absurd is
-accepted_by profile map (Some slot) None history is joined = absurd is
-accepted_by profile map (Some slot) (Some client) history is joined = (joined.accepted, joined.rise)
+accepted_by profile map None (Some client) address history is joined = absurd is
+accepted_by profile map (Some slot) None address history is joined = absurd is
+accepted_by profile map (Some slot) (Some client) address history is joined = (joined.client.accepted, joined.client.rise)
 
 pub accepted_were_built : BytesFollowTags → AcceptedWereBuilt
 accepted_were_built law profile all c is are within =
     let stands : Then profile all = (law profile all is are).0 in
     let whole = whole_then profile all in
-    accepted_by profile whole.ends.server.map (slot_at whole.ends.server c) (client_at whole.ends c) (history_at whole.histories c)
+    accepted_by profile whole.ends.server.map (slot_at whole.ends.server c) (client_at whole.ends c) (address_at whole.ends c) (history_at whole.histories c)
     (stands.facts.each c within) (stands.joined c within)
 
 some_is : (x y : Snapshot) → Some x ≡ Some y → x ≡ y
 some_is x y e = cc
 
 -- the newest was
-newest_was : (profile : Profile) (map : MapState) (slot : Option SlotState) (client : Option ClientState) (history : History) (snapshot : Snapshot)
-    → newest client ≡ Some snapshot → IsClient profile slot client history → IsJoined profile map slot client history → WasBuilt history.built snapshot
-newest_was profile map slot None history snapshot shown is joined = absurd cc
-newest_was profile map None (Some client) history snapshot shown is joined = absurd is
-newest_was profile map (Some slot) (Some client) history snapshot shown is joined =
-    newest_of history snapshot history.accepted refl (sym joined.newest ∙ shown) joined.accepted
+newest_was : (profile : Profile) (map : MapState) (slot : Option SlotState) (client : Option ClientState) (address : Address) (history : History) (snapshot : Snapshot)
+    → newest client ≡ Some snapshot → IsClient profile slot client address history → IsJoined profile map slot client history → WasBuilt history.built snapshot
+newest_was profile map slot None address history snapshot shown is joined = absurd cc
+newest_was profile map None (Some client) address history snapshot shown is joined = absurd is
+newest_was profile map (Some slot) (Some client) address history snapshot shown is joined =
+    newest_of history snapshot history.accepted refl (sym joined.client.newest ∙ shown) joined.client.accepted
   where
     newest_of : (history : History) (snapshot : Snapshot) (accepted : List Snapshot) → history.accepted ≡ accepted → last_or None history.accepted ≡ Some snapshot
         → ((k : ℕ) (d : Snapshot) → k < length history.accepted → WasBuilt history.built (get_or history.accepted k d)) → WasBuilt history.built snapshot
@@ -226,14 +145,14 @@ pub shown_was_built : BytesFollowTags → ShownWasBuilt
 shown_was_built law profile all c snapshot is are within shown =
     let stands : Then profile all = (law profile all is are).0 in
     let whole = whole_then profile all in
-    newest_was profile whole.ends.server.map (slot_at whole.ends.server c) (client_at whole.ends c) (history_at whole.histories c) snapshot
+    newest_was profile whole.ends.server.map (slot_at whole.ends.server c) (client_at whole.ends c) (address_at whole.ends c) (history_at whole.histories c) snapshot
     (ap (λ (e : Ends). newest (client_at e c)) (sym stands.ends) ∙ (sym (shows (kept_then profile all) c) ∙ shown))
     (stands.facts.each c within) (stands.joined c within)
 
 -- ---- newer messages
 
 -- a tag that has these bytes
-tag_of : (found : Option Tag) (sent : SentBytes) → option_map bytes_of found ≡ Some sent → (tag : Tag) × (found ≡ Some tag) × (bytes_of tag ≡ sent)
+pub tag_of : (found : Option Tag) (sent : SentBytes) → option_map bytes_of found ≡ Some sent → (tag : Tag) × (found ≡ Some tag) × (bytes_of tag ≡ sent)
 tag_of None sent e = absurd cc
 tag_of (Some tag) sent e = (tag, refl, cc)
 
@@ -252,15 +171,15 @@ came_whole does_so profile whole tag client n count e =
     whole_is same = cc
 
 pub answers_tag : (profile : Profile) (whole : Whole) (number : ℕ) (tag : Tag) (client : ClientState) → slice_get whole.sent (number - 1) ≡ Some tag
-    → client_at whole.ends tag.client ≡ Some client
+    → tag.direction ≡ ToClient → client_at whole.ends tag.client ≡ Some client
     → (step profile whole (events.Deliver number)).answer
     ≡ delivered number tag.client (take_gathered client (tagged client.gathering tag.number (built_bytes profile (named whole.histories tag)) tag.index)
     (λ n. Ok (named whole.histories tag))).answer
 unfolding step
-answers_tag profile whole number tag client at found = rw (at, found) refl
+answers_tag profile whole number tag client at way found = rw (at, way, found) refl
 
-pub newer_is_accepted : BytesFollowTags → Below → NewerIsAccepted
-newer_is_accepted law below profile all number n count sent client is are at found came =
+pub newer_is_accepted : BytesFollowTags → Layers → NewerIsAccepted
+newer_is_accepted law below profile all number n count sent client is are at way found came =
     let stands : Then profile all = (law profile all is are).0 in
     let kept = kept_then profile all in
     let whole = whole_then profile all in
@@ -268,10 +187,11 @@ newer_is_accepted law below profile all number n count sent client is are at fou
     let holds : Holds profile whole = record { facts = stands.facts; joined = stands.joined } in
     let tag = tag_of (slice_get whole.sent (number - 1)) sent
     (sym (slice_get-map bytes_of whole.sent (number - 1)) ∙ (ap (λ (d : List SentBytes). slice_get d (number - 1)) (sym stands.datagrams) ∙ at)) in
-    let sent_is = is_sent profile whole (number - 1) tag.0 tag.1 holds in
+    let goes : tag.0.direction ≡ ToClient = ap (λ (s : SentBytes). s.direction) tag.2 ∙ way in
+    let sent_is = is_for profile whole tag.0 goes (is_sent profile whole (number - 1) tag.0 tag.1 holds) in
     let client_is : client_at whole.ends tag.0.client ≡ Some client =
     ap (λ (e : Ends). client_at e tag.0.client) (sym stands.ends) ∙ (ap (λ (s : SentBytes). client_at kept.ends s.client) tag.2 ∙ found) in
-    let built = tag_was_built profile whole tag.0 client sent_is client_is holds in
+    let built = tag_was_built profile whole tag.0 client sent_is.0 sent_is.1 client_is holds in
     let took = tagged client.gathering tag.0.number (built_bytes profile (named whole.histories tag.0)) tag.0.index in
     let answer : took.answer ≡ CameWhole n count =
     ap (λ (t : Took). t.answer) (sym (tag_is profile whole tag.0 client cited sent_is client_is holds))
@@ -279,7 +199,7 @@ newer_is_accepted law below profile all number n count sent client is are at fou
     let by_bytes = ap (λ (k : Kept). (kept_step k (events.Deliver number)).answer) (kept_is profile kept whole stands)
     ∙ ap (λ (s : KeptStep). s.answer) (delivers_agree profile whole number cited holds).same in
     by_bytes
-    ∙ (answers_tag profile whole number tag.0 client tag.1 client_is
+    ∙ (answers_tag profile whole number tag.0 client tag.1 goes client_is
     ∙ (ap (λ (a : Gathered). delivered number tag.0.client (take_answer (record client { gathering = took.gathering }) a (λ k. Ok (named whole.histories tag.0))).answer) answer
     ∙ (ap (λ (m : Message). delivered number tag.0.client (apply_message (record client { gathering = took.gathering }) n m).answer) built.is
     ∙ ap (λ (s : SentBytes). delivered number s.client (Applied n (Accepted 0))) tag.2)))
@@ -291,6 +211,11 @@ same_delivered : (number c c' : ℕ) (took took' : ClientTook) → delivered num
 same_delivered number c c' took took' e =
     let same : Deliver number c took ≡ Deliver number c' took' = ap (λ (a : Answered). a.answer) e in
     (cc, cc)
+
+not_to_server : (datagram : ℕ) (took : ServerTook) (moves : List Move) (number c : ℕ) (took' : ClientTook) → ran datagram took moves ≡ delivered number c took' → ⊥
+not_to_server datagram took moves number c took' e =
+    let same : variants.ToServer datagram took ≡ Deliver number c took' = ap (λ (a : Answered). a.answer) e in
+    absurd cc
 
 not_delivered : (number c : ℕ) (took : ClientTook) → unknown number ≡ delivered number c took → ⊥
 not_delivered number c took e =
@@ -342,13 +267,13 @@ AppliedSo whole number c n snap next =
     next.answer ≡ delivered number c (Applied n snap) → Applies whole.ends next.whole.ends c n snap (history_at whole.histories c).built
 
 applied_arrive : TaggedDoes → (profile : Profile) (whole : Whole) (number c n : ℕ) (snap : SnapOutcome) (tag : Tag) (found : Option ClientState) → client_at whole.ends tag.client ≡ found
-    → IsSent profile whole.histories tag → Holds profile whole → AppliedSo whole number c n snap (to_client profile whole number tag found)
+    → IsFor profile whole tag → Holds profile whole → AppliedSo whole number c n snap (to_client profile whole number tag found)
 applied_arrive does_so profile whole number c n snap tag None at is holds = λ e. absurd (not_delivered number c (Applied n snap) e)
 applied_arrive does_so profile whole number c n snap tag (Some client) at is holds =
     let named_is = named whole.histories tag in
     let took = tagged client.gathering tag.number (built_bytes profile named_is) tag.index in
     let does = does_so client.gathering tag.number (built_bytes profile named_is) tag.index in
-    let built = tag_was_built profile whole tag client is at holds in
+    let built = tag_was_built profile whole tag client is.0 is.1 at holds in
     let now = record client { gathering = took.gathering } in
     elim does.either [
       | inl waits ↦ λ e. absurd (quiet_applies now took.answer named_is n snap waits.quiet
@@ -359,15 +284,27 @@ applied_arrive does_so profile whole number c n snap tag (Some client) at is hol
           ap (λ (a : Gathered). take_answer now a (λ k. Ok named_is)) came.answer
           ∙ ap (λ (m : Message). apply_message now tag.number m) built.is in
           λ e. subst (λ (t : Taken). Applies whole.ends (with_client whole.ends tag.client t.client) c n snap (history_at whole.histories c).built) (sym does_so)
-          (applied_whole whole number c n tag.number snap tag client next built.snapshot holds.facts.clients is.client at refl built.number came.newer (names_built profile whole tag is built)
+          (applied_whole whole number c n tag.number snap tag client next built.snapshot holds.facts.clients is.0 at refl built.number came.newer (names_built profile whole tag is.1 built)
           (ap (λ (t : Taken). delivered number tag.client t.answer) (sym does_so) ∙ e))
     ]
+
+-- where the server takes a datagram, nothing is answered as applied
+not_applied : (profile : Profile) (whole : Whole) (number c n : ℕ) (snap : SnapOutcome) (tag : Tag) (from : Address) (found : Option SlotState)
+    → AppliedSo whole number c n snap (to_server profile whole number tag from found)
+not_applied profile whole number c n snap tag from None e = absurd (not_to_server number Stranger [] number c (Applied n snap) e)
+not_applied profile whole number c n snap tag from (Some slot) e = absurd (not_to_server number _ _ number c (Applied n snap) e)
+
+applied_go : TaggedDoes → (profile : Profile) (whole : Whole) (number c n : ℕ) (snap : SnapOutcome) (tag : Tag) (direction : Direction) → tag.direction ≡ direction
+    → IsSent profile whole.histories tag → Holds profile whole → AppliedSo whole number c n snap (arrive profile whole number tag direction)
+applied_go does_so profile whole number c n snap tag ToClient way is holds =
+    applied_arrive does_so profile whole number c n snap tag (client_at whole.ends tag.client) refl (is_for profile whole tag way is) holds
+applied_go does_so profile whole number c n snap tag (ToServer from) way is holds = not_applied profile whole number c n snap tag from (slot_at whole.ends.server tag.client)
 
 applied_deliver : TaggedDoes → (profile : Profile) (whole : Whole) (number c n : ℕ) (snap : SnapOutcome) (found : Option Tag) → slice_get whole.sent (number - 1) ≡ found → Holds profile whole
     → AppliedSo whole number c n snap (deliver profile whole number found)
 applied_deliver does_so profile whole number c n snap None at holds = λ e. absurd (not_delivered number c (Applied n snap) e)
 applied_deliver does_so profile whole number c n snap (Some tag) at holds =
-    applied_arrive does_so profile whole number c n snap tag (client_at whole.ends tag.client) refl (is_sent profile whole (number - 1) tag at holds) holds
+    applied_go does_so profile whole number c n snap tag tag.direction refl (is_sent profile whole (number - 1) tag at holds) holds
 
 -- by tags
 applied_step : TaggedDoes → (profile : Profile) (whole : Whole) (number c n : ℕ) (snap : SnapOutcome) → Holds profile whole
@@ -377,7 +314,7 @@ applied_step does_so profile whole number c n snap holds =
     applied_deliver does_so profile whole number c n snap (slice_get whole.sent (number - 1)) refl holds
 
 -- and by bytes
-pub applied_was_built : BytesFollowTags → Below → AppliedWasBuilt
+pub applied_was_built : BytesFollowTags → Layers → AppliedWasBuilt
 applied_was_built law below profile all number c n snap is are e =
     let stands : Then profile all = (law profile all is are).0 in
     let kept = kept_then profile all in

@@ -22,16 +22,17 @@ use Rattle.q3_client.specs.declared.client.ClientTook.{ClientTook}
 use Rattle.q3_server.specs.Built.{message_of}
 use Rattle.q3_server.specs.Server.{Built, places, built_bytes}
 use Rattle.q3_client.specs.Client.{ClientState, Taken, apply_section, apply_message, take_answer, take_gathered}
+use Rattle.q3_world.specs.declared.sent.Direction.TheVariants.{ToClient}
 use Rattle.q3_world.specs.Ends.{client_at, with_client, delivered}
 use Rattle.q3_world.specs.Kept.{Kept, KeptStep, kept_step}
-use Rattle.q3_world.specs.World.{Tag, Whole, History, history_at, built_at, accepted_after, named, client_took, step, after, opening}
+use Rattle.q3_world.specs.World.{Tag, Whole, History, no_history, history_at, with_history, with_accepted, built_at, named, client_took, step, after, opening}
 use Rattle.q3_world.specs.StandsFor.{StandsFor, messages_of}
+use Rattle.q3_world.specs.Layers.{Layers}
 use Rattle.q3_world.specs.Schedules.{kept_then, whole_then, BytesFollowTags, ArePieces, deliveries, InOrderIsAccepted}
-use Rattle.q3_world.proofs.Growth.{there_heard, OnlyAt-heard, history_heard}
 use Rattle.q3_world.proofs.Clients.{at_number}
-use Rattle.q3_world.proofs.Events.{Holds, client_joined, tag_was_built}
-use Rattle.q3_world.proofs.Agreement.{kept_is, is_sent, delivers_agree}
-use Rattle.q3_world.proofs.EverySchedule.{Below, cited_of, answers_tag}
+use Rattle.q3_world.proofs.Events.{Holds, has_client, tag_was_built}
+use Rattle.q3_world.proofs.Agreement.{kept_is, is_sent, is_for, delivers_agree}
+use Rattle.q3_world.proofs.EverySchedule.{cited_of, answers_tag}
 use Rattle.q3_world.proofs.OnePlace.{set_there}
 
 -- ---- one piece
@@ -53,7 +54,7 @@ answer_gathers client gathered.Runt built = refl
 answer_gathers client gathered.Connectionless built = refl
 
 -- and what was built
-heard_built : (history : History) (heard : Option Snapshot) → (history_heard history heard).built ≡ history.built
+heard_built : (history : History) (heard : Option Snapshot) → (with_accepted history heard).built ≡ history.built
 heard_built history None = refl
 heard_built history (Some snapshot) = refl
 
@@ -107,12 +108,13 @@ reached_more profile start now c n count number g tag lt is_c is_n is_index reac
     ∙ (ap (λ (b : Built). tagged (tagged_all g n message count) n (built_bytes profile b) tag.index) built_is
     ∙ ap (λ (k : ℕ). tagged (tagged_all g n message count) n message k) is_index)) in
     let one : suc count ≡ count + 1 = omega arith in
-    let there = there_heard now.histories tag.client taken.heard reached.histories (subst (λ (k : ℕ). k < places) (sym is_c) lt) in
+    let noted = with_accepted (history_at now.histories tag.client) taken.heard in
+    let there = set_there now.histories tag.client no_history noted reached.histories (subst (λ (k : ℕ). k < places) (sym is_c) lt) in
     record {
       sent = reached.sent;
       clients = length-set now.ends.clients tag.client (Some taken.client) ∙ reached.clients;
-      histories = (OnlyAt-heard now.histories tag.client taken.heard).count ∙ reached.histories;
-      built = ap (λ (k : ℕ). (history_at (accepted_after now.histories tag.client taken.heard) k).built) (sym is_c)
+      histories = length-set now.histories tag.client noted ∙ reached.histories;
+      built = ap (λ (k : ℕ). (history_at (with_history now.histories tag.client noted) k).built) (sym is_c)
           ∙ (ap (λ (h : History). h.built) there ∙ (heard_built (history_at now.histories tag.client) taken.heard
           ∙ (ap (λ (k : ℕ). (history_at now.histories k).built) is_c ∙ reached.built)));
       client = taken.client;
@@ -124,9 +126,9 @@ reached_more profile start now c n count number g tag lt is_c is_n is_index reac
 
 -- a delivery of a piece, by its tag
 delivers_piece : (profile : Profile) (whole : Whole) (number : ℕ) (tag : Tag) (client : ClientState) → slice_get whole.sent (number - 1) ≡ Some tag
-    → client_at whole.ends tag.client ≡ Some client → (step profile whole (events.Deliver number)).whole ≡ arrives_at profile whole number tag client
+    → tag.direction ≡ ToClient → client_at whole.ends tag.client ≡ Some client → (step profile whole (events.Deliver number)).whole ≡ arrives_at profile whole number tag client
 unfolding step
-delivers_piece profile whole number tag client at found = rw (at, found) refl
+delivers_piece profile whole number tag client at way found = rw (at, way, found) refl
 
 -- ---- pieces, one after the other
 
@@ -143,11 +145,11 @@ reached_all profile start now c n count g [] last lt are reached =
 reached_all profile start now c n count g (number ∷ numbers) last lt are reached =
     let tag = are.0 in
     let at : slice_get now.sent (number - 1) ≡ Some tag = ap (λ (sent : List Tag). slice_get sent (number - 1)) reached.sent ∙ are.1 in
-    let found : client_at now.ends tag.client ≡ Some reached.client = ap (λ (k : ℕ). client_at now.ends k) are.2 ∙ reached.found in
-    let next = delivers_piece profile now number tag reached.client at found in
+    let found : client_at now.ends tag.client ≡ Some reached.client = ap (λ (k : ℕ). client_at now.ends k) are.3 ∙ reached.found in
+    let next = delivers_piece profile now number tag reached.client at are.2 found in
     let more = subst (λ (w : Whole). Reached profile start w c n (count + 1) g) (sym next)
-    (reached_more profile start now c n count number g tag lt are.2 are.3 are.4 reached) in
-    let others = reached_all profile start (step profile now (events.Deliver number)).whole c n (count + 1) g numbers last lt are.5 more in
+    (reached_more profile start now c n count number g tag lt are.3 are.4 are.5 reached) in
+    let others = reached_all profile start (step profile now (events.Deliver number)).whole c n (count + 1) g numbers last lt are.6 more in
     let same : count + 1 + length numbers ≡ count + length (number ∷ numbers) = omega arith in (
       subst (λ (k : ℕ). Reached profile start (after profile (step profile now (events.Deliver number)).whole (deliveries numbers)) c n k g) same others.0,
       subst (λ (k : ℕ). ArePieces start.sent c n k (last ∷ [])) same others.1,
@@ -163,15 +165,15 @@ both_are [] others first second = second
 both_are (event ∷ some) others first second = (first.0, both_are some others first.1 second)
 
 -- what the last piece answers, by its tag
-last_answer : (profile : Profile) (whole : Whole) (c n last : ℕ) (tag : Tag) (client : ClientState) (message : Message) → slice_get whole.sent (last - 1) ≡ Some tag → tag.client ≡ c
+last_answer : (profile : Profile) (whole : Whole) (c n last : ℕ) (tag : Tag) (client : ClientState) (message : Message) → slice_get whole.sent (last - 1) ≡ Some tag → tag.direction ≡ ToClient → tag.client ≡ c
     → client_at whole.ends tag.client ≡ Some client
     → (tagged client.gathering tag.number (built_bytes profile (named whole.histories tag)) tag.index).answer ≡ CameWhole n (length (built_bytes profile (named whole.histories tag)))
     → named whole.histories tag ≡ message → (apply_message client n message).answer ≡ Applied n (Accepted 0)
     → (step profile whole (events.Deliver last)).answer ≡ delivered last c (Applied n (Accepted 0))
-last_answer profile whole c n last tag client message at is_c found came is accepted =
+last_answer profile whole c n last tag client message at way is_c found came is accepted =
     let built = named whole.histories tag in
     let took = tagged client.gathering tag.number (built_bytes profile built) tag.index in
-    answers_tag profile whole last tag client at found
+    answers_tag profile whole last tag client at way found
     ∙ (ap (λ (a : Gathered). delivered last tag.client (take_answer (record client { gathering = took.gathering }) a (λ k. Ok built)).answer) came
     ∙ (ap (λ (m : Message). delivered last tag.client (apply_message (record client { gathering = took.gathering }) n m).answer) is
     ∙ (ap (λ (t : ClientTook). delivered last tag.client t) (same_answer client took.gathering n message ∙ accepted)
@@ -186,7 +188,7 @@ last_answer profile whole c n last tag client message at is_c found came is acce
     same_answer : (client : ClientState) (g : Gathering) (n : ℕ) (message : Message) → (apply_message (record client { gathering = g }) n message).answer ≡ (apply_message client n message).answer
     same_answer client g n message = same_section client g n message.section
 
-pub in_order_is_accepted : BytesFollowTags → Below → PiecesAreTagged → InOrderIsAccepted
+pub in_order_is_accepted : BytesFollowTags → Layers → PiecesAreTagged → InOrderIsAccepted
 unfolding tagged_all
 in_order_is_accepted law below pieces profile all c n last numbers client is are delivers found newer are_pieces count =
     let before : StandsFor profile (kept_then profile all) (whole_then profile all) = (law profile all is are).0 in
@@ -195,10 +197,10 @@ in_order_is_accepted law below pieces profile all c n last numbers client is are
     let message = built_bytes profile (built_at built n) in
     let starts : Holds profile start = record { facts = before.facts; joined = before.joined } in
     let first_tag = first numbers last start.sent c n are_pieces in
-    let first_is = is_sent profile start (first_tag.0 - 1) first_tag.1 first_tag.2 starts in
-    let lt : c < places = subst (λ (k : ℕ). k < places) first_tag.3 first_is.client in
-    let some : 1 ≤ n = subst (λ (k : ℕ). 1 ≤ k) first_tag.4 first_is.some in
-    let joined = client_joined profile start c client lt found starts in
+    let first_is = is_for profile start first_tag.1 first_tag.3 (is_sent profile start (first_tag.0 - 1) first_tag.1 first_tag.2 starts) in
+    let lt : c < places = subst (λ (k : ℕ). k < places) first_tag.4 first_is.0 in
+    let some : 1 ≤ n = subst (λ (k : ℕ). 1 ≤ k) first_tag.5 first_is.1.some in
+    let had = has_client profile start c client lt found starts in
     let all' = all ++ deliveries numbers in
     let stands : StandsFor profile (kept_then profile all') (whole_then profile all') = (law profile all' is (both_are all (deliveries numbers) are delivers)).0 in
     let now = whole_then profile all' in
@@ -214,28 +216,28 @@ in_order_is_accepted law below pieces profile all c n last numbers client is are
     let tail = subst (λ (k : ℕ). ArePieces start.sent c n k (last ∷ [])) index reached_both.1 in
     let tag = tail.0 in
     let at : slice_get now.sent (last - 1) ≡ Some tag = ap (λ (sent : List Tag). slice_get sent (last - 1)) reached.sent ∙ tail.1 in
-    let tag_found : client_at now.ends tag.client ≡ Some reached.client = ap (λ (k : ℕ). client_at now.ends k) tail.2 ∙ reached.found in
+    let tag_found : client_at now.ends tag.client ≡ Some reached.client = ap (λ (k : ℕ). client_at now.ends k) tail.3 ∙ reached.found in
     let named_is : named now.histories tag ≡ built_at built n =
-    ap (λ (k : ℕ). built_at (history_at now.histories k).built tag.number) tail.2
-    ∙ (ap (λ (b : List Built). built_at b tag.number) reached.built ∙ ap (λ (k : ℕ). built_at built k) tail.3) in
-    let came = pieces (messages_of profile built) g n joined.3.gathers.front newer in
+    ap (λ (k : ℕ). built_at (history_at now.histories k).built tag.number) tail.3
+    ∙ (ap (λ (b : List Built). built_at b tag.number) reached.built ∙ ap (λ (k : ℕ). built_at built k) tail.4) in
+    let came = pieces (messages_of profile built) g n had.1.joined.client.gathers.front newer in
     let message_is = at_number profile built n some in
     let came_so : (tagged (tagged_all g n message (last_index message)) n message (last_index message)).answer ≡ CameWhole n (length message) =
     subst (λ (m : List ℕ). (tagged (tagged_all g n m (last_index m)) n m (last_index m)).answer ≡ CameWhole n (length m)) message_is came.answer in
     let took_is : tagged reached.client.gathering tag.number (built_bytes profile (named now.histories tag)) tag.index ≡ tagged (tagged_all g n message (last_index message)) n message (last_index message) =
     ap (λ (x : Gathering). tagged x tag.number (built_bytes profile (named now.histories tag)) tag.index) reached.gathers
-    ∙ (ap (λ (k : ℕ). tagged (tagged_all g n message (last_index message)) k (built_bytes profile (named now.histories tag)) tag.index) tail.3
+    ∙ (ap (λ (k : ℕ). tagged (tagged_all g n message (last_index message)) k (built_bytes profile (named now.histories tag)) tag.index) tail.4
     ∙ (ap (λ (b : Built). tagged (tagged_all g n message (last_index message)) n (built_bytes profile b) tag.index) named_is
-    ∙ ap (λ (k : ℕ). tagged (tagged_all g n message (last_index message)) n message k) tail.4)) in
-    let tag_sent = is_sent profile now (last - 1) tag at holds in
-    let was_built = tag_was_built profile now tag reached.client tag_sent tag_found holds in
+    ∙ ap (λ (k : ℕ). tagged (tagged_all g n message (last_index message)) n message k) tail.5)) in
+    let tag_sent = is_for profile now tag tail.2 (is_sent profile now (last - 1) tag at holds) in
+    let was_built = tag_was_built profile now tag reached.client tag_sent.0 tag_sent.1 tag_found holds in
     let length_is : length message ≡ length (built_bytes profile (named now.histories tag)) = ap (λ (b : Built). length (built_bytes profile b)) (sym named_is) in
     let answer = ap (λ (t : Took). t.answer) took_is ∙ (came_so ∙ ap (λ (k : ℕ). CameWhole n k) length_is) in
     ap (λ (k : Kept). (kept_step k (events.Deliver last)).answer) (kept_is profile (kept_then profile all') now stands)
     ∙ (ap (λ (s : KeptStep). s.answer) (delivers_agree profile now last (cited_of below profile is) holds).same
-    ∙ last_answer profile now c n last tag reached.client (message_of was_built.snapshot) at tail.2 tag_found answer was_built.is refl)
+    ∙ last_answer profile now c n last tag reached.client (message_of was_built.snapshot) at tail.2 tail.3 tag_found answer was_built.is refl)
   where
     first : (numbers : List ℕ) (last : ℕ) (sent : List Tag) (c n : ℕ) → ArePieces sent c n 0 (numbers ++ last ∷ [])
-        → (number : ℕ) × (tag : Tag) × (slice_get sent (number - 1) ≡ Some tag) × (tag.client ≡ c) × (tag.number ≡ n)
-    first [] last sent c n are = (last, are.0, are.1, are.2, are.3)
-    first (number ∷ numbers) last sent c n are = (number, are.0, are.1, are.2, are.3)
+        → (number : ℕ) × (tag : Tag) × (slice_get sent (number - 1) ≡ Some tag) × (tag.direction ≡ ToClient) × (tag.client ≡ c) × (tag.number ≡ n)
+    first [] last sent c n are = (last, are.0, are.1, are.2, are.3, are.4)
+    first (number ∷ numbers) last sent c n are = (number, are.0, are.1, are.2, are.3, are.4)

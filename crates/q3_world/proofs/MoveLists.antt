@@ -1,17 +1,51 @@
 -- Lists of moves: what a message carries, what is run of it, and where that stands among the moves that were issued.
-use Rattle.std.proofs.Common.{◌≡◌, ℕ, zero, suc, ◌+◌, ◌-◌, ◌<◌, ◌≤◌, Bool, true, false, List, [], ◌∷◌, ◌++◌, length, take, drop, refl, sym, ap, subst, ◌∙◌, inl, inr, arith}
-use Rattle.std.specs.Prelude.{nat_le, nat_lt, map, filter, All, Contains}
+use Rattle.std.proofs.Common.{◌≡◌, ℕ, zero, suc, ◌+◌, ◌-◌, ◌<◌, ◌≤◌, ◌^◌, Bool, true, false, List, [], ◌∷◌, ◌++◌, length, take, drop, ℤ, pos, negsuc, refl, sym, ap, subst, ◌∙◌, inl, inr, arith}
+use Rattle.std.specs.Prelude.{nat_le, nat_lt, not, ◌&&◌, neg_ℤ, map, filter, All, Contains}
 use Rattle.std.proofs.lemmas.List.{append-nil, append_assoc, length-append, length-map, map-append, take-append-drop, length-drop}
 use Rattle.std.proofs.lemmas.List.Elements.{All-nil, All-cons, All-head, All-tail, All-weaker, All-push, All-drop, All-map, All-filter, All-contains, Contains-append_left, Contains-append_right, All-contains_itself}
-use Rattle.std.proofs.lemmas.Bool.{cases_Bool, leb-true, le-leb, ltb-true}
+use Rattle.std.proofs.lemmas.Bool.{cases_Bool, cases_eq, and_parts, leb-true, le-leb, ltb-true, true≢false}
+use Rattle.std.proofs.lemmas.Bool.Decides.{Decides-int_eq}
+use Rattle.std.proofs.lemmas.Int.{ints}
 use Rattle.circular_buffer.specs.Buffer.{keep_last}
 use Rattle.q3_clmsg.specs.declared.moves.Move.{Move}
-use Rattle.q3_clmsg.specs.Moves.{IsMove}
+use Rattle.q3_script.specs.Grammar.{IsSignedByte, IsHeldMove}
+use Rattle.q3_clmsg.specs.Moves.{IsStep, IsMove}
 use Rattle.q3_server.specs.Taking.{runs, last_time}
 use Rattle.q3_client.specs.declared.moves.Issued.{Issued}
-use Rattle.q3_client.specs.Moves.{most_moves, is_carried, carried}
+use Rattle.q3_client.specs.Moves.{most_moves, is_step, is_issuable, is_carried, carried}
 use Rattle.q3_world.specs.Moves.{TimesRise, AreConsecutive, StandAmong}
 use Rattle.q3_world.specs.StandsFor.{MarksRise, KeepsMoves}
+
+-- ---- one move
+
+-- a signed byte that may be a step is one
+is_one_step : (value : ℤ) → IsSignedByte value → is_step value ≡ true → IsStep value
+is_one_step (pos n) held may = (omega (arith, ints), held.1)
+is_one_step (negsuc n) held may =
+    elim (cases_eq n 127) [
+      | inl least ↦
+          let same : negsuc n ≡ neg_ℤ (pos 128) = ap negsuc least in
+          let no_step : is_step (negsuc n) ≡ false = ap not ((Decides-int_eq (negsuc n) (neg_ℤ (pos 128))).1 same) in
+          absurd (true≢false (sym may ∙ no_step))
+      | inr other ↦ let low = held.0 in (omega (arith, ints, low, other), omega (arith, ints))
+    ]
+
+-- a move that a script may have and that may be issued is one that an end may send
+pub is_move : (one : Move) → IsHeldMove one → is_issuable one ≡ true → IsMove one
+is_move one held issuable =
+    let steps = and_parts (is_step one.forward && is_step one.right && is_step one.up) (nat_lt one.time (2 ^ 31)) issuable in
+    let two = and_parts (is_step one.forward && is_step one.right) (is_step one.up) steps.0 in
+    let first = and_parts (is_step one.forward) (is_step one.right) two.0 in
+    record {
+      time = held.time;
+      three = held.three;
+      angles = held.angles;
+      forward = is_one_step one.forward held.forward first.0;
+      right = is_one_step one.right held.right first.1;
+      up = is_one_step one.up held.up two.1;
+      buttons = held.buttons;
+      weapon = held.weapon;
+    }
 
 -- ---- times
 

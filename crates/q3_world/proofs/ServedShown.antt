@@ -26,17 +26,22 @@ use Rattle.q3_server.specs.Server.{MapState, SlotState, SlotEmission, Built, pla
 use Rattle.q3_client.specs.Client.{ClientState}
 use Rattle.q3_world.specs.Ends.{client_at}
 use Rattle.q3_world.specs.Kept.{Kept, opening_kept, kept_step, kept_after}
-use Rattle.q3_world.specs.World.{Tag, Whole, History, no_message, history_at, built_at, serve, step, after, opening}
+use Rattle.q3_world.specs.World.{Tag, Whole, History, no_history, no_message, history_at, with_built, built_at, serve, step, after, opening}
 use Rattle.q3_world.specs.StandsFor.{StandsFor}
 use Rattle.q3_world.specs.Schedules.{kept_then, whole_then, history_then, BytesFollowTags, ArePieces, deliveries, serve_and_deliver, datagrams_of, InOrderIsAccepted, AppliedWasBuilt, ServedIsShown}
-use Rattle.q3_world.proofs.Growth.{there_after}
-use Rattle.q3_world.proofs.Clients.{slot_begun, slot_handed}
-use Rattle.q3_world.proofs.Events.{Holds, handed_tag, with_handed, client_joined}
+use Rattle.q3_world.proofs.Growth.{noted_same}
+use Rattle.q3_world.proofs.Clients.{slot_begun}
+use Rattle.q3_world.proofs.Events.{Holds, with_server_of, slot_handed, handed_tag, has_client}
 use Rattle.q3_world.proofs.EverySchedule.{shows}
 use Rattle.q3_world.proofs.InOrder.{reached_none, reached_all, after_both, both_are}
 use Rattle.q3_world.proofs.OnePlace.{set_there}
 
 -- ---- one datagram more
+
+-- the world behind an emission of a slot that has this piece left: a message was begun, if one was, and the piece has a tag
+abbrev with_handed : Whole → ℕ → SlotState → UnderWay → Option Built → Whole
+with_handed whole c slot left began =
+    with_server_of whole c (slot_handed slot) (with_built (history_at whole.histories c) began) (whole.sent ++ handed_tag c slot left ∷ [])
 
 -- what was sent stays where more is sent
 abbrev some_tag : Tag → Option Tag
@@ -122,8 +127,8 @@ make_rest profile c n index (suc count) message now lt all handed =
       more = tag ∷ rest.more;
       sent = rest.sent ∙ append_assoc now.sent (tag ∷ []) rest.more;
       clients = rest.clients;
-      histories = rest.histories;
-      pieces = (tag, at, refl, handed.number, refl, subst (λ (k : ℕ). ArePieces then.sent c n (index + 1 + 1) (range_with_len (k + 1) count)) longer rest.pieces);
+      histories = rest.histories ∙ noted_same now.histories c;
+      pieces = (tag, at, refl, refl, handed.number, refl, subst (λ (k : ℕ). ArePieces then.sent c n (index + 1 + 1) (range_with_len (k + 1) count)) longer rest.pieces);
     })
 
 -- ---- a whole message
@@ -183,13 +188,14 @@ made profile start c count slot bytes lt holds found begun idle fits short all =
     let at : slice_get then.sent (length start.sent + 1 - 1) ≡ Some tag =
     ap (λ (k : ℕ). slice_get then.sent k) (sym place)
     ∙ (ap (λ (sent : List Tag). slice_get sent (length start.sent)) rest.sent ∙ sent_stays first.sent rest.more (length start.sent) tag (sent_last start.sent tag)) in
-    let there = there_after start.histories c (Some next) holds.facts.histories lt in
+    let noted = with_built (history_at start.histories c) (Some next) in
+    let there = set_there start.histories c no_history noted holds.facts.histories lt in
     subst (λ (w : Whole). Made c n (suc count) (length start.sent + 1) next start (after profile w (replicate count (events.Serve c)))) (sym is)
     (record {
       clients = rest.clients;
       built = ap (λ (histories : List History). built_at (history_at histories c).built n) rest.histories
           ∙ (ap (λ (h : History). built_at h.built n) there ∙ get_or_push (history_at start.histories c).built next no_message (n - 1) (omega (arith, begun)));
-      pieces = (tag, at, refl, refl, refl, subst (λ (k : ℕ). ArePieces then.sent c n (0 + 1) (range_with_len (k + 1) count)) longer rest.pieces);
+      pieces = (tag, at, refl, refl, refl, refl, subst (λ (k : ℕ). ArePieces then.sent c n (0 + 1) (range_with_len (k + 1) count)) longer rest.pieces);
     })
 
 -- ---- and its delivery
@@ -252,10 +258,10 @@ shown law accepted applied bytes profile all c t slot client is are made_so foun
     let parts = are_both serves (deliveries (range_with_len first (suc t))) made_so in
     let numbers_are = are_both (deliveries numbers) (events.Deliver last ∷ []) (subst (λ (l : List Event). AllByRecursion IsReplayEvent l) deliver_all parts.1) in
     let lt : c < places = let zero_is : c ≡ 0 = parts.0.0 in omega arith in
-    let had = client_joined profile start c client lt there holds in
-    let slot_is : had.0 ≡ slot = some_one (sym had.1 ∙ found) in
-    let begun : length (history_at start.histories c).built ≡ slot.sending.number = sym had.2.begun ∙ ap (λ (s : SlotState). s.sending.number) slot_is in
-    let taken = had.3.gathers.taken in
+    let had = has_client profile start c client lt there holds in
+    let slot_is : had.0 ≡ slot = some_one (sym had.1.slot ∙ found) in
+    let begun : length (history_at start.histories c).built ≡ slot.sending.number = sym had.1.keeps.slot.begun ∙ ap (λ (s : SlotState). s.sending.number) slot_is in
+    let taken = had.1.joined.client.gathers.taken in
     let served = all ++ serves in
     let served_are = both_are all serves are parts.0 in
     let mid = whole_then profile served in

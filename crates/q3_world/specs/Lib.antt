@@ -1,6 +1,8 @@
 pub mod MessageLaws
+pub mod Layers
 pub mod Ends
 pub mod Kept
+pub mod Moves
 pub mod World
 pub mod StandsFor
 pub mod Report

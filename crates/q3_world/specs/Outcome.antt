@@ -1,7 +1,7 @@
 -- When a step of the world fails.
 use Rattle.std.specs.Prelude.{◌≡◌, ℕ, ◌≤◌, List, Option, Result, Ok, Err}
 use Rattle.q3_script.specs.declared.event.Event.{Event}
-use Rattle.q3_script.specs.declared.event.Event.TheVariants.{Client, Serve}
+use Rattle.q3_script.specs.declared.event.Event.TheVariants.{Client, Serve, Send}
 use Rattle.q3_world.specs.declared.world.StepError.{StepError}
 use Rattle.q3_world.specs.declared.world.StepError.TheVariants.{NoMemory, WriteFault}
 use Rattle.q3_io.specs.Faults.{Rose}
@@ -11,6 +11,7 @@ use Rattle.q3_io.specs.Written.{Written, Adds}
 abbrev pub TakesMemory : Event → Type 0
 TakesMemory (Client c challenge qport dup address) = Unit {0}
 TakesMemory (Serve c) = Unit {0}
+TakesMemory (Send c) = Unit {0}
 TakesMemory other = ⊥
 
 -- what a step printed: its lines, or a front of them where the sink failed, and nothing where memory ran out

@@ -4,12 +4,16 @@ use Rattle.std.specs.List.{concat, flat_map}
 use Rattle.q3_profile.specs.declared.profile.Profile.{Profile}
 use Rattle.q3_script.specs.declared.event.Event.{Event}
 use Rattle.q3_svmsg.specs.Values.{Snapshot}
-use Rattle.q3_server.specs.Report.{slot_error_text, no_client_text, serve_text}
-use Rattle.q3_client.specs.Report.{client_text}
+use Rattle.q3_clmsg.specs.declared.moves.Move.{Move}
+use Rattle.q3_server.specs.Report.{slot_error_text, no_client_text, serve_text, server_text}
+use Rattle.q3_client.specs.Report.{client_text, move_error_text, send_text}
+use Rattle.q3_world.specs.declared.answer.MoveRefused.{MoveRefused}
+use Rattle.q3_world.specs.declared.answer.MoveRefused.TheVariants as refused
 use Rattle.q3_world.specs.declared.answer.Shown.{Shown}
 use Rattle.q3_world.specs.declared.answer.Shown.TheVariants as shown
 use Rattle.q3_world.specs.declared.answer.Answer.{Answer}
-use Rattle.q3_world.specs.declared.answer.Answer.TheVariants.{Client, Entity, Remove, Time, Player, Area, Serve, Unknown, Deliver, Show}
+use Rattle.q3_world.specs.declared.answer.Answer.TheVariants as answers
+use Rattle.q3_world.specs.declared.answer.Answer.TheVariants.{Client, Entity, Remove, Time, Player, Area, Serve, Send, Unknown, Deliver, ToServer, Show}
 use Rattle.q3_io.specs.Print.{hex_text}
 use Rattle.q3_player.specs.declared.head.SnapHead.{SnapHead}
 use Rattle.q3_player.specs.Report.{player_text}
@@ -22,6 +26,11 @@ use Rattle.q3_world.specs.World.{opening, answers}
 abbrev pub handed_in_text : {E : Type 0} → (E → List ℕ) → Result (Unit {0}) E → List ℕ
 handed_in_text error_text (Ok x) = codes " ok\n"
 handed_in_text error_text (Err e) = concat (codes " refused " ∷ error_text e ∷ codes "\n" ∷ [])
+
+-- why a client doesn't issue a move
+abbrev pub move_refused_text : MoveRefused → List ℕ
+move_refused_text refused.NoClient = codes "noclient"
+move_refused_text (refused.Error e) = move_error_text e
 
 -- area bytes: two digits each, and `-` for none
 abbrev pub area_text : List ℕ → List ℕ
@@ -53,22 +62,26 @@ shown_text shown.NoClient lent = codes " noclient\n"
 shown_text shown.Newest (Some snapshot) = snapshot_text snapshot
 shown_text other lent = codes " none\n"
 
--- the lines of an answer, with the snapshot that is lent to be printed
-unfoldable pub lines_of : Answer → Option Snapshot → List ℕ
-lines_of (Client c outcome) lent = concat (codes "client " ∷ decimal c ∷ handed_in_text slot_error_text outcome ∷ [])
-lines_of (Entity number) lent = concat (codes "entity " ∷ decimal number ∷ codes " ok\n" ∷ [])
-lines_of (Remove number) lent = concat (codes "remove " ∷ decimal number ∷ codes " ok\n" ∷ [])
-lines_of Time lent = codes "time ok\n"
-lines_of (Player c outcome) lent = concat (codes "player " ∷ decimal c ∷ handed_in_text no_client_text outcome ∷ [])
-lines_of (Area c outcome) lent = concat (codes "area " ∷ decimal c ∷ handed_in_text no_client_text outcome ∷ [])
-lines_of (Serve c emission datagram) lent = serve_text c emission datagram
-lines_of (Unknown datagram) lent = concat (codes "deliver " ∷ decimal datagram ∷ codes " unknown\n" ∷ [])
-lines_of (Deliver datagram c took) lent = concat (codes "deliver " ∷ decimal datagram ∷ client_text c took ∷ [])
-lines_of (Show c what) lent = concat (codes "show " ∷ decimal c ∷ shown_text what lent ∷ [])
+-- the lines of an answer, with what is lent to be printed: a snapshot, and the moves that were run
+unfoldable pub lines_of : Answer → Option Snapshot → List Move → List ℕ
+lines_of (Client c outcome) lent moves = concat (codes "client " ∷ decimal c ∷ handed_in_text slot_error_text outcome ∷ [])
+lines_of (Entity number) lent moves = concat (codes "entity " ∷ decimal number ∷ codes " ok\n" ∷ [])
+lines_of (Remove number) lent moves = concat (codes "remove " ∷ decimal number ∷ codes " ok\n" ∷ [])
+lines_of Time lent moves = codes "time ok\n"
+lines_of (Player c outcome) lent moves = concat (codes "player " ∷ decimal c ∷ handed_in_text no_client_text outcome ∷ [])
+lines_of (Area c outcome) lent moves = concat (codes "area " ∷ decimal c ∷ handed_in_text no_client_text outcome ∷ [])
+lines_of (answers.Move c outcome) lent moves = concat (codes "move " ∷ decimal c ∷ handed_in_text move_refused_text outcome ∷ [])
+lines_of (Serve c emission datagram) lent moves = serve_text c emission datagram
+lines_of (Send c (Ok sent) datagram) lent moves = send_text c sent datagram
+lines_of (Send c (Err e) datagram) lent moves = concat (codes "send " ∷ decimal c ∷ codes " noclient\n" ∷ [])
+lines_of (Unknown datagram) lent moves = concat (codes "deliver " ∷ decimal datagram ∷ codes " unknown\n" ∷ [])
+lines_of (Deliver datagram c took) lent moves = concat (codes "deliver " ∷ decimal datagram ∷ client_text c took ∷ [])
+lines_of (ToServer datagram took) lent moves = concat (codes "deliver " ∷ decimal datagram ∷ server_text took moves ∷ [])
+lines_of (Show c what) lent moves = concat (codes "show " ∷ decimal c ∷ shown_text what lent ∷ [])
 
 -- the lines of an answer, with what is printed with it
 abbrev pub answer_text : Answered → List ℕ
-answer_text given = lines_of given.answer given.snapshot
+answer_text given = lines_of given.answer given.snapshot given.moves
 
 -- the report of a replay of these events, from the opening world
 unfoldable pub report : Profile → List Event → List ℕ

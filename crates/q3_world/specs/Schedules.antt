@@ -1,5 +1,5 @@
 -- Laws over every list of events.
-use Rattle.std.specs.Prelude.{◌≡◌, ℕ, ◌+◌, ◌-◌, ◌<◌, List, [], ◌∷◌, ◌++◌, length, map, replicate, ◌≤◌, Some, slice_get, slice_index_or}
+use Rattle.std.specs.Prelude.{◌≡◌, ℕ, ◌+◌, ◌-◌, ◌<◌, List, [], ◌∷◌, ◌++◌, length, map, replicate, ◌≤◌, Some, Ok, slice_get, slice_index_or}
 use Rattle.std.specs.List.{AllByRecursion, range_with_len}
 use Rattle.q3_profile.specs.declared.profile.Profile.{Profile}
 use Rattle.q3_profile.specs.Profile.{IsCodec}
@@ -10,14 +10,19 @@ use Rattle.q3_svmsg.specs.Values.{Snapshot}
 use Rattle.q3_client.specs.declared.client.SnapOutcome.{SnapOutcome}
 use Rattle.q3_client.specs.declared.client.SnapOutcome.TheVariants.{Accepted}
 use Rattle.q3_client.specs.declared.client.ClientTook.TheVariants.{Runt, Connectionless, BadFragment, Illegible, Dropped, Applied}
+use Rattle.q3_client.specs.declared.client.Sent.TheVariants as sent
+use Rattle.q3_server.specs.declared.taking.ServerTook.TheVariants as took
+use Rattle.q3_io.specs.declared.address.Address.{Address}
 use Rattle.q3_chan.specs.declared.gatherer.Gathered.TheVariants.{Whole as CameWhole}
 use Rattle.q3_chan.specs.Datagrams.{sequence_end, longest_message, piece_count, last_index}
 use Rattle.q3_chan.specs.Sending.{IsIdle}
 use Rattle.q3_chan.specs.Gathering.{gathered}
 use Rattle.q3_world.specs.declared.answer.Answer.{Answer}
-use Rattle.q3_world.specs.declared.answer.Answer.TheVariants.{Deliver}
+use Rattle.q3_world.specs.declared.answer.Answer.TheVariants.{Send, Deliver, ToServer}
+use Rattle.q3_world.specs.declared.sent.Direction.TheVariants as direction
 use Rattle.q3_server.specs.Server.{MapState, SlotState, Built, places, slot_at, next_snapshot, next_message, built_bytes}
 use Rattle.q3_client.specs.Client.{ClientState}
+use Rattle.q3_world.specs.Moves.{TimesRise, StandAmong}
 use Rattle.q3_world.specs.Ends.{Ends, client_at, newest, delivered}
 use Rattle.q3_world.specs.Kept.{SentBytes, Kept, opening_kept, kept_step, kept_after, kept_answers}
 use Rattle.q3_world.specs.World.{Tag, Whole, History, history_at, built_at, opening, step, after, answers}
@@ -47,16 +52,22 @@ BytesFollowTags = (profile : Profile) (all : List Event) → IsCodec profile →
     → StandsFor profile (kept_then profile all) (whole_then profile all)
     × (kept_answers (opening_kept profile) all ≡ answers profile (opening profile) all)
 
--- the answer of a client that could make something of what arrived
+-- the answer of an end that could make something of what arrived, and of a client that wasn't dropped
 abbrev pub IsLegible : Answer → Type 0
 IsLegible (Deliver datagram c Runt) = ⊥
 IsLegible (Deliver datagram c Connectionless) = ⊥
 IsLegible (Deliver datagram c BadFragment) = ⊥
 IsLegible (Deliver datagram c (Illegible cause)) = ⊥
 IsLegible (Deliver datagram c (Dropped cause)) = ⊥
+IsLegible (Send c (Ok (sent.Dropped cause)) datagram) = ⊥
+IsLegible (ToServer datagram took.Runt) = ⊥
+IsLegible (ToServer datagram took.Connectionless) = ⊥
+IsLegible (ToServer datagram took.Stranger) = ⊥
+IsLegible (ToServer datagram (took.BadFragment slot)) = ⊥
+IsLegible (ToServer datagram (took.Illegible slot cause)) = ⊥
 IsLegible other = Unit {0}
 
--- in a replay no client ever gets what it can't read
+-- in a replay no end ever gets what it can't read, the server finds each datagram's client, and no client is dropped
 abbrev pub AlwaysLegible : Type 0
 AlwaysLegible = (profile : Profile) (all : List Event) → IsCodec profile → AllByRecursion IsReplayEvent all
     → AllByRecursion (λ given. IsLegible given.answer) (kept_answers (opening_kept profile) all)
@@ -93,20 +104,35 @@ AppliedWasBuilt = (profile : Profile) (all : List Event) (number c n : ℕ) (sna
     → (snap ≡ Accepted 0) × WasApplied (kept_then profile all).ends (kept_step (kept_then profile all) (events.Deliver number)).kept.ends c n
     (history_then profile all c).built
 
--- where the bytes of a datagram bring a message whole, it is accepted
+-- where the bytes of a datagram bring a message whole to a client, it is accepted
 abbrev pub NewerIsAccepted : Type 0
 NewerIsAccepted = (profile : Profile) (all : List Event) (number n count : ℕ) (sent : SentBytes) (client : ClientState) → IsCodec profile
     → AllByRecursion IsReplayEvent all
-    → slice_get (kept_then profile all).datagrams (number - 1) ≡ Some sent
+    → slice_get (kept_then profile all).datagrams (number - 1) ≡ Some sent → sent.direction ≡ direction.ToClient
     → client_at (kept_then profile all).ends sent.client ≡ Some client
     → (gathered client.gathering sent.bytes).answer ≡ CameWhole n count
     → (kept_step (kept_then profile all) (events.Deliver number)).answer ≡ delivered number sent.client (Applied n (Accepted 0))
+
+-- where the bytes of a client's datagram bring a message whole to its slot, it is run
+abbrev pub NewerIsRun : Type 0
+NewerIsRun = (profile : Profile) (all : List Event) (number n count : ℕ) (sent : SentBytes) (from : Address) (slot : SlotState) → IsCodec profile
+    → AllByRecursion IsReplayEvent all
+    → slice_get (kept_then profile all).datagrams (number - 1) ≡ Some sent → sent.direction ≡ direction.ToServer from
+    → slot_at (kept_then profile all).ends.server sent.client ≡ Some slot
+    → (gathered slot.gathering sent.bytes).answer ≡ CameWhole n count
+    → (kept_step (kept_then profile all) (events.Deliver number)).answer.answer ≡ ToServer number (took.Ran sent.client n)
+
+-- the moves of a client that the server ran stand among those that the client issued, each once and in their order, and their
+-- times rise
+abbrev pub MovesWereIssued : Type 0
+MovesWereIssued = (profile : Profile) (all : List Event) (c : ℕ) → IsCodec profile → AllByRecursion IsReplayEvent all → c < places
+    → StandAmong (history_then profile all c).run (history_then profile all c).issued × TimesRise 0 (history_then profile all c).run
 
 -- the datagrams of these numbers have the pieces of the message under a number for a client, from an index on
 abbrev pub ArePieces : List Tag → ℕ → ℕ → ℕ → List ℕ → Type 0
 ArePieces sent c n index [] = Unit {0}
 ArePieces sent c n index (number ∷ numbers) =
-    (tag : Tag) × (slice_get sent (number - 1) ≡ Some tag) × (tag.client ≡ c) × (tag.number ≡ n) × (tag.index ≡ index)
+    (tag : Tag) × (slice_get sent (number - 1) ≡ Some tag) × (tag.direction ≡ direction.ToClient) × (tag.client ≡ c) × (tag.number ≡ n) × (tag.index ≡ index)
     × ArePieces sent c n (index + 1) numbers
 
 -- datagrams are delivered, one after the other

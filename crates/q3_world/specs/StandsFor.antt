@@ -19,12 +19,12 @@ use Rattle.q3_server.specs.Taking.{last_time, sender_of}
 use Rattle.q3_client.specs.declared.moves.Issued.{Issued}
 use Rattle.q3_client.specs.Client.{ClientState}
 use Rattle.q3_client.specs.Moves.{most_moves}
-use Rattle.q3_client.specs.Sending.{Said}
+use Rattle.q3_client.specs.Sending.{said_bytes, Said}
 use Rattle.q3_world.specs.declared.sent.Direction.{Direction}
 use Rattle.q3_world.specs.declared.sent.Direction.TheVariants.{ToClient, ToServer}
 use Rattle.q3_world.specs.Ends.{client_at, address_at}
 use Rattle.q3_world.specs.Kept.{SentBytes, Kept}
-use Rattle.q3_world.specs.World.{Tag, History, Whole, no_history, history_at, built_at, said_at, said_bytes}
+use Rattle.q3_world.specs.World.{Tag, History, Whole, no_history, history_at, built_at, said_at}
 use Rattle.q3_world.specs.Moves.{TimesRise, AreConsecutive}
 
 -- ---- what holds whatever bytes were delivered

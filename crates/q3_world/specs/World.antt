@@ -1,7 +1,6 @@
 -- The whole world: both ends, and what nothing wipes. A step delivers a datagram by its tag:
 -- what arrives is the message that was begun under its number.
 use Rattle.std.specs.Prelude.{ℕ, ◌+◌, ◌-◌, List, [], ◌∷◌, ◌++◌, length, replicate, Option, Some, None, Result, Ok, Err, slice_get, slice_set, slice_index_or}
-use Rattle.q3_bits.specs.Bits.{message_bytes}
 use Rattle.q3_profile.specs.declared.profile.Profile.{Profile}
 use Rattle.q3_io.specs.declared.address.Address.{Address}
 use Rattle.q3_player.specs.Heads.{empty_head}
@@ -18,7 +17,7 @@ use Rattle.q3_server.specs.Server.{SlotState, Built, Emission, places, slot_at, 
 use Rattle.q3_server.specs.Taking as hears
 use Rattle.q3_client.specs.Client.{ClientState, Taken, take_gathered}
 use Rattle.q3_client.specs.Sending as speaks
-use Rattle.q3_client.specs.Sending.{Said, said_bits}
+use Rattle.q3_client.specs.Sending.{Said, said_bytes}
 use Rattle.q3_world.specs.declared.answer.Answer.{Answer}
 use Rattle.q3_world.specs.declared.answer.Answer.TheVariants as answer
 use Rattle.q3_world.specs.declared.sent.Direction.{Direction}
@@ -78,10 +77,6 @@ built_at built number = slice_index_or built (number - 1) no_message
 
 abbrev pub said_at : List Said → ℕ → Said
 said_at said number = slice_index_or said (number - 1) empty_message
-
--- the bytes of a message that a client began
-abbrev pub said_bytes : Profile → Said → List ℕ
-said_bytes profile said = message_bytes (said_bits profile said)
 
 -- ---- what is noted of a client
 

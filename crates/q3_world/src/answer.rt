@@ -1,7 +1,7 @@
 //! What each event answered.
 
-use q3_client::ClientTook;
-use q3_server::{Emitted, NoClient, SlotError};
+use q3_client::{ClientTook, MoveError, Sent};
+use q3_server::{Emitted, NoClient, ServerTook, SlotError};
 
 /// What a client shows.
 #[derive(Clone, Copy, Debug, PartialEq, Eq)]
@@ -12,6 +12,15 @@ pub enum Shown {
     Nothing,
     /// The newest snapshot that it accepted, which is lent to be printed.
     Newest,
+}
+
+/// Why a client doesn't issue a move.
+#[derive(Clone, Copy, Debug, PartialEq, Eq)]
+pub enum MoveRefused {
+    /// No such client was added.
+    NoClient,
+    /// The client's own end refuses it.
+    Error(MoveError),
 }
 
 /// What an event answered.
@@ -38,20 +47,36 @@ pub enum Answer {
         outcome: Result<(), NoClient>,
     },
     Time,
+    Move {
+        c: u8,
+        outcome: Result<(), MoveRefused>,
+    },
     /// The datagram's number is used where one was handed out.
     Serve {
         c: u8,
         emitted: Emitted,
         datagram: u32,
     },
-    /// No datagram of this number was made for a client that is there.
+    /// The datagram's number is used where one was handed out.
+    Send {
+        c: u8,
+        sent: Result<Sent, NoClient>,
+        datagram: u32,
+    },
+    /// No datagram of this number was made.
     Unknown {
         datagram: u32,
     },
+    /// The client that the datagram is for took it.
     Deliver {
         datagram: u32,
         c: u8,
         took: ClientTook,
+    },
+    /// The server took the datagram. The moves that it ran are lent to be printed.
+    ToServer {
+        datagram: u32,
+        took: ServerTook,
     },
     Show {
         c: u8,

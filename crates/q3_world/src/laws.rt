@@ -1,10 +1,12 @@
 //! Laws of what is built and of every schedule, each the contract of a call that does nothing but cite the laws below it.
 
-ghost use Rattle.q3_world.specs.MessageLaws.{BuiltIsRead};
-ghost use Rattle.q3_world.specs.Schedules.{StepFollows, BytesFollowTags, AlwaysLegible, AcceptedWereBuilt, ShownWasBuilt, AppliedWasBuilt, NewerIsAccepted, InOrderIsAccepted, ServedIsShown};
+ghost use Rattle.q3_world.specs.MessageLaws.{BuiltIsRead, SaidIsRead};
+ghost use Rattle.q3_world.specs.Layers.{Layers};
+ghost use Rattle.q3_world.specs.Schedules.{StepFollows, BytesFollowTags, AlwaysLegible, AcceptedWereBuilt, ShownWasBuilt, AppliedWasBuilt, NewerIsAccepted, NewerIsRun, MovesWereIssued, InOrderIsAccepted, ServedIsShown};
 
 use q3_bits::laws as bits;
 use q3_chan::laws as chan;
+use q3_clmsg::laws as clmsg;
 use q3_entity::laws as entity;
 use q3_player::laws as player;
 use q3_svmsg::laws as svmsg;
@@ -17,20 +19,38 @@ pub fn built_is_read()
     svmsg::written_is_read();
 }
 
+/// A message that a client began is read back by the server.
+pub fn said_is_read()
+    ensures { SaidIsRead }
+{
+    bits::message_holds_bits();
+    clmsg::heads_are_read();
+    clmsg::written_is_read();
+}
+
+/// What the laws over schedules use of the layers below.
+fn layers()
+    ensures { Layers }
+{
+    built_is_read();
+    said_is_read();
+    entity::normal_is_normal();
+    player::normal_is_normal();
+    player::zero_is_normal();
+    chan::sent_is_tagged();
+    chan::qport_is_told();
+    chan::tagged_does();
+    chan::ends_gather();
+    chan::ends_send();
+    bits::message_holds_bits();
+}
+
 /// A step of what stands for a whole world, where each datagram is taken by its bytes, is the whole world's step, where
 /// each is taken by its tag.
 pub fn step_follows()
     ensures { StepFollows }
 {
-    built_is_read();
-    entity::normal_is_normal();
-    player::normal_is_normal();
-    player::zero_is_normal();
-    chan::sent_is_tagged();
-    chan::tagged_does();
-    chan::ends_gather();
-    chan::ends_send();
-    bits::message_holds_bits();
+    layers();
 }
 
 /// In a replay what is kept, where each datagram is taken by its bytes, stands for the whole world, where each is taken
@@ -41,11 +61,11 @@ pub fn bytes_follow_tags()
     step_follows();
 }
 
-/// In a replay no client ever gets what it can't read.
+/// In a replay no end ever gets what it can't read, the server finds each datagram's client, and no client is dropped.
 pub fn always_legible()
     ensures { AlwaysLegible }
 {
-    bytes_follow_tags();
+    step_follows();
     chan::tagged_does();
 }
 
@@ -69,15 +89,7 @@ pub fn applied_was_built()
     ensures { AppliedWasBuilt }
 {
     bytes_follow_tags();
-    built_is_read();
-    entity::normal_is_normal();
-    player::normal_is_normal();
-    player::zero_is_normal();
-    chan::sent_is_tagged();
-    chan::tagged_does();
-    chan::ends_gather();
-    chan::ends_send();
-    bits::message_holds_bits();
+    layers();
 }
 
 /// Whatever came before, where the bytes of a datagram bring a message whole, its snapshot is accepted.
@@ -85,15 +97,23 @@ pub fn newer_is_accepted()
     ensures { NewerIsAccepted }
 {
     bytes_follow_tags();
-    built_is_read();
-    entity::normal_is_normal();
-    player::normal_is_normal();
-    player::zero_is_normal();
-    chan::sent_is_tagged();
-    chan::tagged_does();
-    chan::ends_gather();
-    chan::ends_send();
-    bits::message_holds_bits();
+    layers();
+}
+
+/// Whatever came before, where the bytes of a client's datagram bring a message whole to its slot, it is run.
+pub fn newer_is_run()
+    ensures { NewerIsRun }
+{
+    bytes_follow_tags();
+    layers();
+}
+
+/// Whatever came before, the moves of a client that the server ran stand among those that the client issued, each once and in
+/// their order, and their times rise.
+pub fn moves_were_issued()
+    ensures { MovesWereIssued }
+{
+    bytes_follow_tags();
 }
 
 /// Whatever came before, where all pieces of a message arrive in order, with nothing between them, whose number is above
@@ -102,16 +122,8 @@ pub fn in_order_is_accepted()
     ensures { InOrderIsAccepted }
 {
     bytes_follow_tags();
-    built_is_read();
-    entity::normal_is_normal();
-    player::normal_is_normal();
-    player::zero_is_normal();
-    chan::sent_is_tagged();
-    chan::tagged_does();
-    chan::ends_gather();
-    chan::ends_send();
+    layers();
     chan::pieces_are_tagged();
-    bits::message_holds_bits();
 }
 
 /// Whatever came before, where nothing is under way to a client, a message may be begun and isn't too long, and all of its

@@ -4,8 +4,10 @@
 pub mod answer;
 pub mod laws;
 mod places;
+mod replay;
 mod report;
+mod sent;
 pub mod world;
 
-pub use answer::{Answer, Shown};
+pub use answer::{Answer, MoveRefused, Shown};
 pub use world::{StepError, World};

@@ -4,32 +4,33 @@ ghost use Rattle.std.specs.Prelude.{◌≡◌, [], ◌∷◌, codes, decimal, op
 ghost use Rattle.std.specs.List.{concat, flat_map};
 ghost use Rattle.q3_io.specs.Faults.{HasCause};
 ghost use Rattle.q3_io.specs.Written.{Adds, NothingWaits};
-ghost use Rattle.q3_server.specs.Report.{slot_error_text, no_client_text};
-ghost use Rattle.q3_client.specs.Report.{client_text};
-ghost use Rattle.q3_world.specs.Report.{lines_of, handed_in_text, area_text, start_text, entity_text, shown_text, head_text, snapshot_text};
+ghost use Rattle.q3_server.specs.Report.{slot_error_text, no_client_text, server_text};
+ghost use Rattle.q3_client.specs.Report.{client_text, move_error_text};
+ghost use Rattle.q3_world.specs.Report.{lines_of, handed_in_text, move_refused_text, area_text, start_text, entity_text, shown_text, head_text, snapshot_text};
 ghost use Rattle.q3_client.specs.Views.{snapshot_of};
 
-use crate::answer::{Answer, Shown};
+use crate::answer::{Answer, MoveRefused, Shown};
 use arrayvec::ArrayVec;
-use q3_client::{ClientTook, SnapshotView, print_took};
+use q3_client::{ClientTook, MoveError, SnapshotView, print_move_error, print_sent, print_took};
 use q3_entity::{EntityState, print_fields};
 use q3_io::{Failed, Piece, Sink, laws, print_all, print_hex};
 use q3_player::{SnapHead, print_words};
-use q3_server::{NoClient, SlotError, print_emitted, print_slot_error};
+use q3_server::{Heard, NoClient, ServerTook, SlotError, print_emitted, print_slot_error};
 
-/// Prints the lines of an answer, with the snapshot that is lent for it, and hands them on, or a front of them and
-/// answers `Failed`.
+/// Prints the lines of an answer, with what is lent for it: a snapshot, and the moves that were run. It hands them on, or a
+/// front of them and answers `Failed`.
 pub(crate) fn print_answer<O: Sink>(
     answer: &Answer,
     lent: Option<SnapshotView>,
+    heard: &Heard,
     out: &mut O,
 ) -> Result<(), Failed>
-    ensures adds { Adds (O.written out.old) (O.written out.new) (lines_of answer.now (option_map snapshot_of lent.entry)) result }
+    ensures adds { Adds (O.written out.old) (O.written out.new) (lines_of answer.now (option_map snapshot_of lent.entry) heard.now.moves.items) result }
     ensures flushed { OnOk result (NothingWaits (O.written out.new)) }
     ensures cause { HasCause (O.faults out.old) (O.faults out.new) result }
 {
     laws::texts_follow();
-    print_lines(answer, lent, out)?;
+    print_lines(answer, lent, heard, out)?;
     out.flush()
 }
 
@@ -38,9 +39,10 @@ pub(crate) fn print_answer<O: Sink>(
 fn print_lines<O: Sink>(
     answer: &Answer,
     lent: Option<SnapshotView>,
+    heard: &Heard,
     out: &mut O,
 ) -> Result<(), Failed>
-    ensures adds { Adds (O.written out.old) (O.written out.new) (lines_of answer.now (option_map snapshot_of lent.entry)) result }
+    ensures adds { Adds (O.written out.old) (O.written out.new) (lines_of answer.now (option_map snapshot_of lent.entry) heard.now.moves.items) result }
     ensures cause { HasCause (O.faults out.old) (O.faults out.new) result }
 {
     match answer {
@@ -78,6 +80,7 @@ fn print_lines<O: Sink>(
             out,
         ),
         Answer::Time => print_all(&[Piece::Text(b"time ok\n")], out),
+        Answer::Move { c, outcome } => print_moved(*c, *outcome, out),
         Answer::Unknown { datagram } => print_all(
             &[
                 Piece::Text(b"deliver "),
@@ -91,7 +94,25 @@ fn print_lines<O: Sink>(
             emitted,
             datagram,
         } => print_emitted(*c, emitted, *datagram, out),
+        Answer::Send {
+            c,
+            sent: Ok(sent),
+            datagram,
+        } => print_sent(*c, sent, *datagram, out),
+        Answer::Send {
+            c,
+            sent: Err(NoClient),
+            ..
+        } => print_all(
+            &[
+                Piece::Text(b"send "),
+                Piece::Number(u64::from(*c)),
+                Piece::Text(b" noclient\n"),
+            ],
+            out,
+        ),
         Answer::Deliver { datagram, c, took } => print_delivered(*datagram, *c, took, out),
+        Answer::ToServer { datagram, took } => print_heard(*datagram, took, heard, out),
         Answer::Show { c, shown } => print_shown(*c, *shown, lent, out),
     }
 }
@@ -139,6 +160,68 @@ fn print_refusal<O: Sink>(c: u8, out: &mut O) -> Result<(), Failed>
         ],
         out,
     )
+}
+
+/// Prints the line of a move.
+fn print_moved<O: Sink>(c: u8, outcome: Result<(), MoveRefused>, out: &mut O) -> Result<(), Failed>
+    ensures adds { Adds (O.written out.old) (O.written out.new) (concat (codes "move " ∷ decimal c ∷ handed_in_text move_refused_text outcome ∷ [])) result }
+    ensures cause { HasCause (O.faults out.old) (O.faults out.new) result }
+{
+    let word: &[u8] = match outcome {
+        Ok(()) => b" ok\n",
+        Err(MoveRefused::NoClient) => b" refused noclient\n",
+        Err(MoveRefused::Error(error)) => return print_move_refused(c, error, out),
+    };
+    print_all(
+        &[
+            Piece::Text(b"move "),
+            Piece::Number(u64::from(c)),
+            Piece::Text(word),
+        ],
+        out,
+    )
+}
+
+/// Prints the line of a move that the client's end refuses.
+fn print_move_refused<O: Sink>(c: u8, error: MoveError, out: &mut O) -> Result<(), Failed>
+    ensures adds { Adds (O.written out.old) (O.written out.new)
+        (concat (codes "move " ∷ decimal c ∷ concat (codes " refused " ∷ move_error_text error ∷ codes "\n" ∷ []) ∷ [])) result }
+    ensures cause { HasCause (O.faults out.old) (O.faults out.new) result }
+{
+    laws::texts_follow();
+    print_move_refusal(c, out)?;
+    print_move_error(error, out)?;
+    out.write_all(b"\n")
+}
+
+/// Prints what stands in front of the reason.
+fn print_move_refusal<O: Sink>(c: u8, out: &mut O) -> Result<(), Failed>
+    ensures adds { Adds (O.written out.old) (O.written out.new) (concat (codes "move " ∷ decimal c ∷ codes " refused " ∷ [])) result }
+    ensures cause { HasCause (O.faults out.old) (O.faults out.new) result }
+{
+    print_all(
+        &[
+            Piece::Text(b"move "),
+            Piece::Number(u64::from(c)),
+            Piece::Text(b" refused "),
+        ],
+        out,
+    )
+}
+
+/// Prints the lines of a delivery to the server.
+fn print_heard<O: Sink>(
+    datagram: u32,
+    took: &ServerTook,
+    heard: &Heard,
+    out: &mut O,
+) -> Result<(), Failed>
+    ensures adds { Adds (O.written out.old) (O.written out.new) (concat (codes "deliver " ∷ decimal datagram ∷ server_text took.now heard.now.moves.items ∷ [])) result }
+    ensures cause { HasCause (O.faults out.old) (O.faults out.new) result }
+{
+    laws::texts_follow();
+    print_deliver(datagram, out)?;
+    q3_server::print_took(took, heard, out)
 }
 
 /// Prints the lines of a delivery to a client.

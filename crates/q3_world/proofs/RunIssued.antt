@@ -1,0 +1,86 @@
+-- What the server runs of a client.
+use Rattle.std.proofs.Common.{◌≡◌, ℕ, ◌-◌, ◌<◌, List, [], Option, Some, None, refl, sym, ap, subst, ◌∙◌, inl, inr, Ok, arith}
+use Rattle.std.specs.Prelude.{slice_get}
+use Rattle.std.proofs.lemmas.Option.{slice_get-map}
+use Rattle.q3_profile.specs.declared.profile.Profile.{Profile}
+use Rattle.q3_io.specs.declared.address.Address.{Address}
+use Rattle.q3_script.specs.declared.event.Event.TheVariants as events
+use Rattle.q3_chan.specs.declared.gatherer.Gathered.{Gathered}
+use Rattle.q3_chan.specs.declared.gatherer.Gathered.TheVariants.{Whole as CameWhole}
+use Rattle.q3_chan.specs.Gathering.{Took, gathered as gathered_of}
+use Rattle.q3_chan.specs.Tags.{tagged, IsQuiet}
+use Rattle.q3_server.specs.declared.taking.ServerTook.TheVariants as answer
+use Rattle.q3_server.specs.Server.{ServerState, SlotState, places, slot_at}
+use Rattle.q3_server.specs.Taking as hears
+use Rattle.q3_client.specs.Client.{ClientState}
+use Rattle.q3_client.specs.Sending.{said_bytes}
+use Rattle.q3_world.specs.declared.answer.Answer.TheVariants.{ToServer}
+use Rattle.q3_world.specs.declared.sent.Direction.TheVariants as direction
+use Rattle.q3_world.specs.Ends.{Ends, client_at, address_at}
+use Rattle.q3_world.specs.Kept.{SentBytes, Kept, KeptStep, kept_step}
+use Rattle.q3_world.specs.World.{Tag, Whole, History, history_at, said_under, step}
+use Rattle.q3_world.specs.StandsFor.{IsClient, IsJoined, StandsFor, bytes_of}
+use Rattle.q3_world.specs.Moves.{TimesRise, StandAmong}
+use Rattle.q3_world.specs.Layers.{Layers}
+use Rattle.q3_world.specs.Schedules.{kept_then, whole_then, history_then, BytesFollowTags, NewerIsRun, MovesWereIssued}
+use Rattle.q3_world.proofs.MoveLists.{stand_among}
+use Rattle.q3_world.proofs.Events.{Holds}
+use Rattle.q3_world.proofs.Agreement.{kept_is, is_sent, is_of_client, said_tag_is, delivers_agree}
+use Rattle.q3_world.proofs.EverySchedule.{cited_of, tag_of}
+
+-- ---- moves
+
+abbrev WereIssued : History → Type 0
+WereIssued history = StandAmong history.run history.issued × TimesRise 0 history.run
+
+-- of a client, wherever it is
+issued_by : (profile : Profile) (slot : Option SlotState) (client : Option ClientState) (address : Address) (history : History) (whole : Whole)
+    → IsClient profile slot client address history → IsJoined profile whole.ends.server.map slot client history → WereIssued history
+issued_by profile None None address history whole is joined = rw is (tt, tt)
+issued_by profile None (Some client) address history whole is joined = absurd is
+issued_by profile (Some slot) None address history whole is joined = absurd is
+issued_by profile (Some slot) (Some client) address history whole is joined =
+    (stand_among 0 0 history.issued history.run is.client.rise is.slot.rise joined.slot.issued, is.slot.rise)
+
+pub moves_were_issued : BytesFollowTags → MovesWereIssued
+moves_were_issued law profile all c is are within =
+    let stands : StandsFor profile (kept_then profile all) (whole_then profile all) = (law profile all is are).0 in
+    let whole = whole_then profile all in
+    issued_by profile (slot_at whole.ends.server c) (client_at whole.ends c) (address_at whole.ends c) (history_at whole.histories c) whole
+    (stands.facts.each c within) (stands.joined c within)
+
+-- ---- newer messages
+
+-- what a delivery to the server answers, by its tag
+answers_said : (profile : Profile) (whole : Whole) (number : ℕ) (tag : Tag) (from : Address) (slot : SlotState) → slice_get whole.sent (number - 1) ≡ Some tag
+    → tag.direction ≡ direction.ToServer from → slot_at whole.ends.server tag.client ≡ Some slot
+    → (step profile whole (events.Deliver number)).answer.answer
+    ≡ ToServer number (hears.take_gathered (record slot { address = from }) tag.client
+    (tagged slot.gathering tag.number (said_bytes profile (said_under whole.histories tag)) tag.index) (λ n. Ok (said_under whole.histories tag))).answer
+unfolding step
+answers_said profile whole number tag from slot at way found = rw (at, way, found) refl
+
+pub newer_is_run : BytesFollowTags → Layers → NewerIsRun
+newer_is_run law below profile all number n count sent from slot is are at way found came =
+    let stands : StandsFor profile (kept_then profile all) (whole_then profile all) = (law profile all is are).0 in
+    let kept = kept_then profile all in
+    let whole = whole_then profile all in
+    let cited = cited_of below profile is in
+    let holds : Holds profile whole = record { facts = stands.facts; joined = stands.joined } in
+    let tag = tag_of (slice_get whole.sent (number - 1)) sent
+    (sym (slice_get-map bytes_of whole.sent (number - 1)) ∙ (ap (λ (d : List SentBytes). slice_get d (number - 1)) (sym stands.datagrams) ∙ at)) in
+    let goes : tag.0.direction ≡ direction.ToServer from = ap (λ (s : SentBytes). s.direction) tag.2 ∙ way in
+    let sent_is = is_of_client profile whole tag.0 from goes (is_sent profile whole (number - 1) tag.0 tag.1 holds) in
+    let slot_is : slot_at whole.ends.server tag.0.client ≡ Some slot =
+    ap (λ (e : Ends). slot_at e.server tag.0.client) (sym stands.ends) ∙ (ap (λ (s : SentBytes). slot_at kept.ends.server s.client) tag.2 ∙ found) in
+    let said = said_under whole.histories tag.0 in
+    let took = tagged slot.gathering tag.0.number (said_bytes profile said) tag.0.index in
+    let whole_is : took.answer ≡ CameWhole n count =
+    ap (λ (t : Took). t.answer) (sym (said_tag_is profile whole tag.0 from slot cited sent_is slot_is holds))
+    ∙ (ap (λ (s : SentBytes). (gathered_of slot.gathering s.bytes).answer) tag.2 ∙ came) in
+    let by_bytes = ap (λ (k : Kept). (kept_step k (events.Deliver number)).answer.answer) (kept_is profile kept whole stands)
+    ∙ ap (λ (s : KeptStep). s.answer.answer) (delivers_agree profile whole number cited holds).same in
+    by_bytes
+    ∙ (answers_said profile whole number tag.0 from slot tag.1 goes slot_is
+    ∙ (ap (λ (a : Gathered). ToServer number (hears.take_answer (record slot { address = from; gathering = took.gathering }) tag.0.client a (λ k. Ok said)).answer) whole_is
+    ∙ ap (λ (s : SentBytes). ToServer number (answer.Ran s.client n)) tag.2))

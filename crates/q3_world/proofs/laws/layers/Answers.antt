@@ -1,0 +1,16 @@
+use Rattle.q3_world.proofs.laws.layers.Goals as goal
+
+pub returns : goal.returns
+returns c = record {
+  reads = c.built_is_read.ensures;
+  hears = c.said_is_read.ensures;
+  entity = c.normal_is_normal.ensures;
+  normal = c.normal_is_normal-2.ensures;
+  zero = c.zero_is_normal.ensures;
+  tags = c.sent_is_tagged.ensures;
+  qport = c.qport_is_told.ensures;
+  does = c.tagged_does.ensures;
+  gathers = c.ends_gather.ensures;
+  sends = c.ends_send.ensures;
+  bytes = c.message_holds_bits.ensures.bytes;
+}

@@ -1,0 +1,296 @@
+//! Both ends of every client and the datagrams that were made, and what an event does to them.
+
+ghost use Rattle.std.specs.Prelude.{◌≡◌, ◌+◌, ◌-◌, ◌<◌, ◌≤◌, [], length, slice_get, option_map, IfOk, OnErr};
+ghost use Rattle.q3_profile.specs.Profile.{IsProfile};
+ghost use Rattle.q3_script.specs.Grammar.{IsReplayEvent};
+ghost use Rattle.q3_server.specs.Server.{places, most_numbers, emit_at};
+ghost use Rattle.q3_client.specs.Views.{snapshot_of};
+ghost use Rattle.q3_world.specs.Ends.{answered, lent, newest, client_at, shown_of, join, set_time, set_entity, remove_entity, set_player, set_area, add_move};
+ghost use Rattle.q3_world.specs.Kept.{most_datagrams, opening_kept, kept_step, kept_ends, kept_serve, kept_send, kept_deliver};
+ghost use Rattle.q3_world.specs.Outcome.{TakesMemory};
+
+use crate::answer::{Answer, MoveRefused, Shown};
+use crate::places::{empty_places, no_addresses};
+use crate::sent::{Direction, Sent, deliver_to, keep, room_for_one};
+use arrayvec::ArrayVec;
+use q3_bits::NoMemory;
+use q3_chan::Datagram;
+use q3_client::{Client, SnapshotView};
+use q3_clmsg::Move;
+use q3_entity::EntityState;
+use q3_io::Address;
+use q3_player::PlayerState;
+use q3_profile::Profile;
+use q3_script::Event;
+use q3_server::{Heard, MOST_SLOTS, NoClient, Server};
+use std::alloc::Global;
+use std::marker::Model;
+
+/// A copy of the profile, a server, each added client with the address that it sends from, and every datagram that was made.
+#[derive(Drop)]
+pub(crate) struct Replay {
+    alloc: Global,
+    profile: Profile,
+    server: Server,
+    clients: Vec<Option<Client>>,
+    addresses: Vec<Address>,
+    datagrams: Vec<Sent>,
+}
+
+impl Model for Replay {
+    ghost use Rattle.std.specs.Prelude.{◌≡◌, length};
+    ghost use Rattle.q3_server.specs.Server.{places};
+    ghost use Rattle.q3_world.specs.Kept.{Kept};
+
+    ghost Value = { Kept };
+
+    ghost view = { λ r. record {
+      profile = r.profile;
+      ends = record { server = r.server; clients = r.clients.items; addresses = r.addresses.items };
+      datagrams = r.datagrams.items;
+    } };
+
+    ghost invariant = { λ r. (length r.clients.items ≡ places) × (length r.addresses.items ≡ places) };
+}
+
+impl Replay {
+    /// Nobody and nothing, by this profile, at the time 0. `Err` is want of memory.
+    pub fn new(alloc: Global, profile: &Profile) -> Result<Replay, NoMemory>
+        requires { IsProfile profile.now }
+        ensures { IfOk result (λ made. made ≡ opening_kept profile.now) }
+    {
+        Ok(Replay {
+            alloc,
+            profile: profile.copy()?,
+            server: Server::new(alloc, profile, MOST_SLOTS)?,
+            clients: empty_places(alloc)?,
+            addresses: no_addresses(alloc)?,
+            datagrams: Vec::new(alloc),
+        })
+    }
+
+    /// Does one event, and tells which moves were run. `Err` is want of memory, at `client`, `serve` and `send` alone, and
+    /// changes nothing.
+    #[tactic(auto, unfolding(crate::specs::Kept::kept_step))]
+    pub fn apply(&mut self, event: &Event, heard: &mut Heard) -> Result<Answer, NoMemory>
+        requires event { IsReplayEvent event.now }
+        requires few { length self.old.datagrams < most_datagrams }
+        requires heard { heard.old.moves.items ≡ [] }
+        ensures ok { IfOk result (λ answer. kept_step self.old event.now
+            ≡ record { kept = self.new; answer = record { answer = answer; snapshot = lent self.new.ends answer; moves = heard.new.moves.items } }) }
+        ensures err { OnErr result (TakesMemory event.now × (self.new ≡ self.old)) }
+    {
+        match event {
+            Event::Client {
+                c,
+                challenge,
+                qport,
+                dup,
+                address,
+            } => self.join(*c, *challenge, *qport, *dup, *address),
+            Event::Entity { state } => Ok(self.set_entity(state)),
+            Event::Remove { number } => Ok(self.remove_entity(*number)),
+            Event::Player { c, player } => Ok(self.set_player(*c, player)),
+            Event::Area { c, area } => Ok(self.set_area(*c, area)),
+            Event::Time { time } => Ok(self.set_time(*time)),
+            Event::Move { c, one } => Ok(self.add_move(*c, one)),
+            Event::Serve { c } => self.serve(*c),
+            Event::Send { c } => self.send(*c),
+            Event::Deliver { datagram } => Ok(self.deliver(*datagram, heard)),
+            Event::Show { c } => Ok(self.show(*c)),
+        }
+    }
+
+    /// A client joins, at both ends. The memory of its own end is taken first.
+    fn join(
+        &mut self,
+        c: u8,
+        challenge: u32,
+        qport: u16,
+        dup: u8,
+        address: Address,
+    ) -> Result<Answer, NoMemory>
+        requires { c < places }
+        ensures ok { IfOk result (λ answer. kept_ends self.old (join self.old.profile self.old.ends c challenge qport dup address)
+            ≡ record { kept = self.new; answer = answered self.new.ends answer }) }
+        ensures err { OnErr result (self.new ≡ self.old) }
+    {
+        let client = Client::new(self.alloc, &self.profile, challenge, qport, dup)?;
+        let outcome = self.server.add_client(c, challenge, qport, address);
+        if outcome.is_ok() {
+            self.clients[c as usize] = Some(client);
+            self.addresses[c as usize] = address;
+        }
+        Ok(Answer::Client { c, outcome })
+    }
+
+    fn set_entity(&mut self, state: &EntityState) -> Answer
+        requires { state.now.number < most_numbers }
+        ensures { kept_ends self.old (set_entity self.old.ends state.now)
+            ≡ record { kept = self.new; answer = answered self.new.ends result } }
+    {
+        self.server.set_entity(state);
+        Answer::Entity {
+            number: state.number,
+        }
+    }
+
+    fn remove_entity(&mut self, number: u16) -> Answer
+        ensures { kept_ends self.old (remove_entity self.old.ends number)
+            ≡ record { kept = self.new; answer = answered self.new.ends result } }
+    {
+        self.server.remove_entity(number);
+        Answer::Remove { number }
+    }
+
+    fn set_player(&mut self, c: u8, player: &PlayerState) -> Answer
+        requires { c < places }
+        ensures { kept_ends self.old (set_player self.old.ends c player.now)
+            ≡ record { kept = self.new; answer = answered self.new.ends result } }
+    {
+        Answer::Player {
+            c,
+            outcome: self.server.set_player(c, player),
+        }
+    }
+
+    fn set_area(&mut self, c: u8, area: &ArrayVec<u8, 32>) -> Answer
+        requires { c < places }
+        ensures { kept_ends self.old (set_area self.old.ends c area.now)
+            ≡ record { kept = self.new; answer = answered self.new.ends result } }
+    {
+        Answer::Area {
+            c,
+            outcome: self.server.set_area(c, area),
+        }
+    }
+
+    fn set_time(&mut self, time: u32) -> Answer
+        ensures { kept_ends self.old (set_time self.old.ends time)
+            ≡ record { kept = self.new; answer = answered self.new.ends result } }
+    {
+        self.server.set_time(time);
+        Answer::Time
+    }
+
+    /// A client issues a move.
+    fn add_move(&mut self, c: u8, one: &Move) -> Answer
+        requires { c < places }
+        ensures { kept_ends self.old (add_move self.old.ends c one.now)
+            ≡ record { kept = self.new; answer = answered self.new.ends result } }
+    {
+        let Some(client) = &mut self.clients[c as usize] else {
+            return Answer::Move {
+                c,
+                outcome: Err(MoveRefused::NoClient),
+            };
+        };
+        let outcome = match client.add_move(one) {
+            Ok(()) => Ok(()),
+            Err(error) => Err(MoveRefused::Error(error)),
+        };
+        Answer::Move { c, outcome }
+    }
+
+    /// The server makes a datagram, whose memory is taken first.
+    fn serve(&mut self, c: u8) -> Result<Answer, NoMemory>
+        requires place { c < places }
+        requires few { length self.old.datagrams < most_datagrams }
+        ensures ok { IfOk result (λ answer. kept_serve self.old c (emit_at self.old.ends.server c)
+            ≡ record { kept = self.new; answer = answered self.new.ends answer }) }
+        ensures err { OnErr result (self.new ≡ self.old) }
+    {
+        let bytes = room_for_one(self.alloc, &mut self.datagrams)?;
+        let mut out = Datagram::new();
+        let emitted = self.server.emit(c, &mut out);
+        let datagram = self.datagrams.len() as u32 + 1;
+        keep(&mut self.datagrams, c, Direction::ToClient, bytes, &out);
+        Ok(Answer::Serve {
+            c,
+            emitted,
+            datagram,
+        })
+    }
+
+    /// A client makes a datagram, whose memory is taken first.
+    fn send(&mut self, c: u8) -> Result<Answer, NoMemory>
+        requires place { c < places }
+        requires few { length self.old.datagrams < most_datagrams }
+        ensures ok { IfOk result (λ answer. kept_send self.old c (client_at self.old.ends c)
+            ≡ record { kept = self.new; answer = answered self.new.ends answer }) }
+        ensures err { OnErr result (self.new ≡ self.old) }
+    {
+        let bytes = room_for_one(self.alloc, &mut self.datagrams)?;
+        let mut out = Datagram::new();
+        let datagram = self.datagrams.len() as u32 + 1;
+        let Some(client) = &mut self.clients[c as usize] else {
+            return Ok(Answer::Send {
+                c,
+                sent: Err(NoClient),
+                datagram,
+            });
+        };
+        let sent = client.emit(&mut out);
+        let from = self.addresses[c as usize];
+        keep(
+            &mut self.datagrams,
+            c,
+            Direction::ToServer { from },
+            bytes,
+            &out,
+        );
+        Ok(Answer::Send {
+            c,
+            sent: Ok(sent),
+            datagram,
+        })
+    }
+
+    /// A datagram arrives: the end that it goes to takes the stored bytes.
+    fn deliver(&mut self, number: u32, heard: &mut Heard) -> Answer
+        requires number { 1 ≤ number }
+        requires heard { heard.old.moves.items ≡ [] }
+        ensures { kept_deliver self.old number (slice_get self.old.datagrams (number - 1))
+            ≡ record { kept = self.new; answer = record { answer = result; snapshot = lent self.new.ends result; moves = heard.new.moves.items } } }
+    {
+        let Some(sent) = self.datagrams.get(number as usize - 1) else {
+            return Answer::Unknown { datagram: number };
+        };
+        match sent.direction {
+            Direction::ToClient => deliver_to(&mut self.clients, number, sent),
+            Direction::ToServer { from } => Answer::ToServer {
+                datagram: number,
+                took: self.server.take(from, &sent.bytes, heard),
+            },
+        }
+    }
+
+    fn show(&self, c: u8) -> Answer
+        requires { c < places }
+        ensures { result ≡ Answer.Show c (shown_of (client_at self.now.ends c)) }
+    {
+        let shown = match &self.clients[c as usize] {
+            None => Shown::NoClient,
+            Some(client) if client.newest().is_none() => Shown::Nothing,
+            Some(_) => Shown::Newest,
+        };
+        Answer::Show { c, shown }
+    }
+
+    /// The snapshot that is printed with an answer.
+    pub fn lent(&self, answer: Answer) -> Option<SnapshotView<'_>>
+        ensures { option_map snapshot_of result ≡ lent self.now.ends answer }
+    {
+        match answer {
+            Answer::Show { c, .. } => self.newest(c),
+            _ => None,
+        }
+    }
+
+    /// The newest snapshot that a client accepted.
+    fn newest(&self, c: u8) -> Option<SnapshotView<'_>>
+        ensures { option_map snapshot_of result ≡ newest (client_at self.now.ends c) }
+    {
+        self.clients.get(c as usize)?.as_ref()?.newest()
+    }
+}

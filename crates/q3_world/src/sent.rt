@@ -1,0 +1,101 @@
+//! Datagrams that were made, and the end that each goes to.
+
+ghost use Rattle.std.specs.Prelude.{◌≡◌, ◌<◌, ◌≤◌, ◌+◌, [], length, vec_capacity, Option, OnOk, IfOk};
+ghost use Rattle.q3_chan.specs.Sending.{Piece, HandsOut};
+ghost use Rattle.q3_server.specs.Server.{places};
+ghost use Rattle.q3_world.specs.Ends.{answered, client_at};
+ghost use Rattle.q3_world.specs.Kept.{Kept, datagrams_after, kept_to_client};
+
+use crate::answer::Answer;
+use q3_bits::NoMemory;
+use q3_chan::{DATAGRAM_ROOM, Datagram};
+use q3_client::Client;
+use q3_io::Address;
+use std::alloc::Global;
+use std::marker::Model;
+
+/// Which end a datagram goes to.
+#[derive(Clone, Copy, Debug, PartialEq, Eq)]
+pub(crate) enum Direction {
+    /// Its client.
+    ToClient,
+    /// The server, which takes it from this address.
+    ToServer { from: Address },
+}
+
+/// A datagram that was made, and the client that it is for or comes from.
+#[derive(Drop)]
+pub(crate) struct Sent {
+    pub client: u8,
+    pub direction: Direction,
+    pub bytes: Vec<u8>,
+}
+
+impl Model for Sent {
+    ghost use Rattle.std.specs.Prelude.{◌<◌};
+    ghost use Rattle.q3_server.specs.Server.{places};
+    ghost use Rattle.q3_world.specs.Kept.{SentBytes};
+
+    ghost Value = { SentBytes };
+
+    ghost view = { λ s. record { client = s.client; direction = s.direction; bytes = s.bytes.items } };
+
+    ghost invariant = { λ s. s.client < places };
+}
+
+/// Room among the datagrams for one more, and for its bytes. `Err` is want of memory.
+pub(crate) fn room_for_one(
+    alloc: Global,
+    datagrams: &mut Vec<Sent>,
+) -> Result<Vec<u8>, NoMemory>
+    ensures same { datagrams.new.items ≡ datagrams.old.items }
+    ensures room { OnOk result (length datagrams.new.items + 1 ≤ vec_capacity datagrams.new) }
+    ensures bytes { IfOk result (λ bytes. (bytes.items ≡ []) × (DATAGRAM_ROOM ≤ vec_capacity bytes)) }
+{
+    let bytes = Vec::with_capacity(alloc, DATAGRAM_ROOM)?;
+    datagrams.reserve(1)?;
+    Ok(bytes)
+}
+
+/// Keeps what was handed out for a client, or by it, if anything was: there is room for it.
+pub(crate) fn keep(
+    datagrams: &mut Vec<Sent>,
+    client: u8,
+    direction: Direction,
+    bytes: Vec<u8>,
+    out: &Datagram,
+)
+    requires client { client < places }
+    requires room { length datagrams.old.items + 1 ≤ vec_capacity datagrams.old }
+    requires bytes { (bytes.items ≡ []) × (DATAGRAM_ROOM ≤ vec_capacity bytes) }
+    ensures { (piece : Option Piece) → HandsOut piece out.now.items → datagrams.new.items ≡ datagrams_after datagrams.old.items client direction piece }
+{
+    let mut bytes = bytes;
+    if !out.is_empty() {
+        bytes.extend_from_slice(out).unwrap();
+        bytes.shrink_to_fit();
+        datagrams
+            .push(Sent {
+                client,
+                direction,
+                bytes,
+            })
+            .unwrap();
+    }
+}
+
+/// The client that a datagram is for takes it.
+pub(crate) fn deliver_to(clients: &mut Vec<Option<Client>>, number: u32, sent: &Sent) -> Answer
+    requires { length clients.old.items ≡ places }
+    ensures { (kept : Kept) → kept.ends.clients ≡ clients.old.items → kept_to_client kept number sent.now (client_at kept.ends sent.now.client)
+        ≡ record { kept = record kept { ends = record kept.ends { clients = clients.new.items } }; answer = answered (record kept.ends { clients = clients.new.items }) result } }
+{
+    let Some(client) = &mut clients[sent.client as usize] else {
+        return Answer::Unknown { datagram: number };
+    };
+    Answer::Deliver {
+        datagram: number,
+        c: sent.client,
+        took: client.take(&sent.bytes),
+    }
+}
