@@ -1,7 +1,6 @@
 -- The words of a move against its grammar: what is read was spelled so, and what is spelled so is read.
-use Rattle.std.proofs.Common.{◌≡◌, ℕ, ◌^◌, ◌<◌, ◌≤◌, List, [], ◌∷◌, ◌++◌, length, Result, Ok, Err, refl, sym, ap, subst, ◌∙◌, arith}
+use Rattle.std.proofs.Common.{◌≡◌, ℕ, ◌^◌, ◌<◌, List, [], ◌∷◌, ◌++◌, length, Ok, refl, ap, subst, arith}
 use Rattle.std.specs.Prelude.{codes, All, ℤ, map}
-use Rattle.std.specs.List.{AllByRecursion}
 use Rattle.std.specs.Fmt.{decimal, signed_decimal}
 use Rattle.std.proofs.lemmas.List.Elements.{All-head, All-tail, All-from_recursion}
 use Rattle.q3_bits.specs.ResultBind.{◌>>=◌, bind_ok}
@@ -9,10 +8,9 @@ use Rattle.q3_clmsg.specs.declared.moves.Move.{Move as MoveValue}
 use Rattle.q3_clmsg.specs.Report.{move_words}
 use Rattle.q3_script.specs.declared.event.Event.{Event}
 use Rattle.q3_script.specs.declared.event.Event.TheVariants.{Move}
-use Rattle.q3_script.specs.declared.cause.LineCause.{LineCause}
 use Rattle.q3_script.specs.Lines.{number_word, client_word, step_word, angles_at, steps_at, move_with, move_line}
 use Rattle.q3_script.specs.Grammar.{IsSignedByte, IsHeldMove, SpellsEvent}
-use Rattle.q3_script.proofs.NumberWords.{done, ok_is, number_word-spelled, number_word-again, SpellsStep, step_word-spelled, step_word-again}
+use Rattle.q3_script.proofs.NumberWords.{ok_is, number_word-spelled, number_word-again, SpellsStep, step_word-spelled, step_word-again}
 
 -- a number below 2^16
 abbrev IsAngle : ℕ → Type 0
@@ -80,16 +78,19 @@ move_from c time pitch yaw roll forward right up buttons weapon c' time' angles'
     let weapon_is = number_word-spelled 0 255 weapon weapon' (omega arith) weapon_read in
     let back : List (List ℕ) = signed_decimal steps'.0 ∷ signed_decimal steps'.1 ∷ signed_decimal steps'.2 ∷ decimal buttons' ∷ decimal weapon' ∷ [] in
     record {
-      event_of_replay = (omega arith, record {
-        time = omega arith;
-        three = angles_are.three;
-        angles = angles_are.each;
-        forward = steps_are.first.fits;
-        right = steps_are.second.fits;
-        up = steps_are.third.fits;
-        buttons = omega arith;
-        weapon = omega arith;
-      });
+      event_of_replay = (
+        omega arith,
+        record {
+          time = omega arith;
+          three = angles_are.three;
+          angles = angles_are.each;
+          forward = steps_are.first.fits;
+          right = steps_are.second.fits;
+          up = steps_are.third.fits;
+          buttons = omega arith;
+          weapon = omega arith;
+        },
+      );
       whole = rw (c_is.2, time_is.2, steps_are.first.whole, steps_are.second.whole, steps_are.third.whole, buttons_is.2, weapon_is.2)
           (ap (λ (x : List (List ℕ)). codes "move" ∷ decimal c' ∷ decimal time' ∷ x ++ back) angles_are.whole);
     }
