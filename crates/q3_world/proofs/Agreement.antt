@@ -306,8 +306,8 @@ silent profile whole c client answer found holds =
 taken_fits : (profile : Profile) (whole : Whole) (c : ℕ) (client : ClientState) → c < places → client_at whole.ends c ≡ Some client → Holds profile whole → client.gathering.taken < 2 ^ 32
 taken_fits profile whole c client lt found holds =
     let had = has_client profile whole c client lt found holds in
-    let short = had.1.keeps.slot.short in
-    let taken = had.1.joined.client.gathers.taken in
+    let short = had.1.keeps.of_slot.short in
+    let taken = had.1.joined.of_client.gathers.taken in
     omega (arith, short, taken)
 
 -- a message is begun, unless it is too long
@@ -337,7 +337,7 @@ said_new profile whole c client cited lt found holds =
     elim (cases_Bool (nat_le sequence_end (client.sending.number + 1))) [
       | inl ended ↦ rw ended (silent profile whole c client answered_sent.SequenceEnd found holds)
       | inr goes ↦ rw goes
-          (subst (λ (p : Profile). SaidSo profile whole c (speaks.emit_bits client (next_said client) (said_bits p (next_said client)))) (sym had.1.keeps.client.by)
+          (subst (λ (p : Profile). SaidSo profile whole c (speaks.emit_bits client (next_said client) (said_bits p (next_said client)))) (sym had.1.keeps.of_client.by)
           (said_text profile whole c client cited lt found (leb-false sequence_end (client.sending.number + 1) goes) holds))
     ]
 
@@ -360,7 +360,7 @@ sends_agree profile whole c cited lt holds =
       | inr found ↦
           let had = has_client profile whole c found.0 lt found.1 holds in
           rw found.1
-          (subst (λ (dropped : Option Illegible). SaidSo profile whole c (speaks.emit_unless found.0 dropped)) (sym had.1.joined.client.legible)
+          (subst (λ (dropped : Option Illegible). SaidSo profile whole c (speaks.emit_unless found.0 dropped)) (sym had.1.joined.of_client.legible)
           (said_left profile whole c found.0 found.0.sending.under_way cited lt found.1 refl holds))
     ]
 
@@ -436,8 +436,8 @@ tag_is profile whole tag client cited is found holds =
     let messages = messages_of profile built in
     let had = has_client profile whole tag.client client is.0 found holds in
     let at = at_number profile built tag.number is.1.some in
-    let may = begun_sendable (built_bytes profile) built no_message tag.number had.1.keeps.slot.sendable is.1.some is.1.begun in
-    piece_is messages client.gathering Server 0 (length built) tag cited.tags had.1.joined.client.gathers.front had.1.keeps.client.from (lit< tt) had.1.keeps.slot.short
+    let may = begun_sendable (built_bytes profile) built no_message tag.number had.1.keeps.of_slot.sendable is.1.some is.1.begun in
+    piece_is messages client.gathering Server 0 (length built) tag cited.tags had.1.joined.of_client.gathers.front had.1.keeps.of_client.from (lit< tt) had.1.keeps.of_slot.short
     (subst IsSendable (sym at) may) is.1
     ∙ ap (λ (m : List ℕ). tagged client.gathering tag.number m tag.index) at
 
@@ -451,7 +451,7 @@ tag_gathers profile whole tag client cited is found holds =
     let messages = messages_of profile built in
     let had = has_client profile whole tag.client client is.0 found holds in
     subst (λ (m : List ℕ). Gathers messages (length built) (tagged client.gathering tag.number m tag.index).gathering) (at_number profile built tag.number is.1.some)
-    (cited.gathers.piece messages (length built) client.gathering tag.number tag.index had.1.joined.client.gathers is.1.begun)
+    (cited.gathers.piece messages (length built) client.gathering tag.number tag.index had.1.joined.of_client.gathers is.1.begun)
 
 -- what arrives of a piece: what holds stays
 holds_piece : (profile : Profile) (whole : Whole) (c number n : ℕ) (client : ClientState) (took : Took) (built : Built) → c < places → client_at whole.ends c ≡ Some client
@@ -493,8 +493,8 @@ delivered_to profile whole number tag (Some client) cited is at holds =
     let does = cited.does client.gathering tag.number (built_bytes profile built) tag.index in
     record {
       same = ap (λ (t : Taken). kept_client_took (kept_of profile whole) number tag.client t)
-          (taken_by_bytes client tag.bytes took had.1.joined.client.legible (tag_is profile whole tag client cited is at holds)
-          ∙ taken_alike profile client took tag.number built cited.reads was_built had.1.keeps.client.by does);
+          (taken_by_bytes client tag.bytes took had.1.joined.of_client.legible (tag_is profile whole tag client cited is at holds)
+          ∙ taken_alike profile client took tag.number built cited.reads was_built had.1.keeps.of_client.by does);
       holds = holds_piece profile whole tag.client number tag.number client took built is.0 at does (tag_gathers profile whole tag client cited is at holds) was_built
           (names_built profile whole tag is.1 was_built) holds;
     }
@@ -556,15 +556,15 @@ heard_by_bytes profile whole tag from slot cited is at holds =
     let messages = messages_said profile history.said in
     let some = is.2.some in
     let begun = is.2.begun in
-    let short = keeps.client.short in
-    let may = begun_sendable (said_bytes profile) history.said empty_message tag.number keeps.client.sendable is.2.some is.2.begun in
+    let short = keeps.of_client.short in
+    let may = begun_sendable (said_bytes profile) history.said empty_message tag.number keeps.of_client.sendable is.2.some is.2.begun in
     let told : qport_of tag.bytes ≡ Ok history.qport =
     ap qport_of is.2.bytes
-    ∙ cited.qport history.qport tag.number tag.index (messages tag.number) keeps.client.fits (omega (arith, begun, short))
+    ∙ cited.qport history.qport tag.number tag.index (messages tag.number) keeps.of_client.fits (omega (arith, begun, short))
     (subst IsSendable (sym (said_number profile history.said tag.number is.2.some)) may) is.2.piece in
     let found : sender_of server from.host history.qport ≡ Some c =
-    ap (λ (h : ℕ). sender_of server h history.qport) (is.1 ∙ sym keeps.slot.host)
-    ∙ (ap (λ (q : ℕ). sender_of server slot.address.host q) (sym keeps.slot.qport) ∙ holds.facts.found c slot at) in
+    ap (λ (h : ℕ). sender_of server h history.qport) (is.1 ∙ sym keeps.of_slot.host)
+    ∙ (ap (λ (q : ℕ). sender_of server slot.address.host q) (sym keeps.of_slot.qport) ∙ holds.facts.found c slot at) in
     ap (λ (r : Result ℕ NoQport). hears.take_headed server from tag.bytes r) told
     ∙ (ap (λ (o : Option ℕ). hears.take_from server from tag.bytes o) found
     ∙ (ap (λ (o : Option SlotState). hears.take_by server c from tag.bytes o) at
@@ -617,8 +617,8 @@ said_tag_is profile whole tag from slot cited is at holds =
     let had = has_slot profile whole tag.client slot is.0 at holds in
     let keeps = had.1.keeps in
     let at_said = said_number profile history.said tag.number is.2.some in
-    let may = begun_sendable (said_bytes profile) history.said empty_message tag.number keeps.client.sendable is.2.some is.2.begun in
-    piece_is (messages_said profile history.said) slot.gathering Client history.qport (length history.said) tag cited.tags had.1.joined.slot.gathers.front keeps.slot.from keeps.client.fits keeps.client.short
+    let may = begun_sendable (said_bytes profile) history.said empty_message tag.number keeps.of_client.sendable is.2.some is.2.begun in
+    piece_is (messages_said profile history.said) slot.gathering Client history.qport (length history.said) tag cited.tags had.1.joined.of_slot.gathers.front keeps.of_slot.from keeps.of_client.fits keeps.of_client.short
     (subst IsSendable (sym at_said) may) is.2
     ∙ ap (λ (m : List ℕ). tagged slot.gathering tag.number m tag.index) at_said
 
@@ -645,15 +645,15 @@ heard_at profile whole number tag from cited is holds =
     let takes = said_tag_is profile whole tag from slot cited is at holds in
     let gathers : Gathers messages (length history.said) took.gathering =
     subst (λ (m : List ℕ). Gathers messages (length history.said) (tagged slot.gathering tag.number m tag.index).gathering) at_said
-    (cited.gathers.piece messages (length history.said) slot.gathering tag.number tag.index had.1.joined.slot.gathers is.2.begun) in
+    (cited.gathers.piece messages (length history.said) slot.gathering tag.number tag.index had.1.joined.of_slot.gathers is.2.begun) in
     rw at (record {
       same = ap (λ (t : hears.Taken). kept_server_took (kept_of profile whole) number t)
           (heard_by_bytes profile whole tag from slot cited is at holds
           ∙ (ap (λ (t : Took). hears.taken_at whole.ends.server c (hears.take_gathered (record slot { address = from }) c t (λ k. said_by profile t.message))) takes
           ∙ ap (λ (t : hears.SlotTaken). hears.taken_at whole.ends.server c t)
-          (heard_alike profile slot c took tag.number said cited.hears (keeps.client.said (tag.number - 1) empty_message within) does from)));
-      holds = holds_heard profile whole c number tag.number from slot took said is.0 at (is.1 ∙ sym keeps.slot.host) does gathers
-          (consecutive_issued said.moves history.issued (keeps.client.carried (tag.number - 1) empty_message within)) holds;
+          (heard_alike profile slot c took tag.number said cited.hears (keeps.of_client.said (tag.number - 1) empty_message within) does from)));
+      holds = holds_heard profile whole c number tag.number from slot took said is.0 at (is.1 ∙ sym keeps.of_slot.host) does gathers
+          (consecutive_issued said.moves history.issued (keeps.of_client.carried (tag.number - 1) empty_message within)) holds;
     })
 
 -- ---- every delivery

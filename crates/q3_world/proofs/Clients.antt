@@ -269,6 +269,10 @@ next_is_message client begun issued taken keeps =
     none_asked [] none = refl
     none_asked (one ∷ moves) none = let long : length (one ∷ moves) ≡ 0 = ap (λ (l : List Move). length l) none in absurd (omega (arith, long))
 
+-- one message more was begun, and is under way
+abbrev pub client_begun : Profile → ClientState → ClientState
+client_begun profile client = record client { sending = started client.sending (said_bytes profile (next_said client)) }
+
 module _ (profile : Profile) (client : ClientState) (qport : ℕ) (said : List Said) (issued : List Move) where
   -- a datagram came, and with it a snapshot, if one did
   pub KeepsClient-took : (g : Gathering) (accepted : Option Snapshot) (delta : Bool) → g.side ≡ client.gathering.side → KeepsClient profile client qport said issued
@@ -338,11 +342,8 @@ module _ (profile : Profile) (client : ClientState) (qport : ℕ) (said : List S
       }
 
   -- a message was begun, and is under way
-  abbrev pub client_begun : ClientState
-  client_begun = record client { sending = started client.sending (said_bytes profile (next_said client)) }
-
   pub KeepsClient-begun : EndsSend → client.sending.number + 1 < sequence_end → client.gathering.taken < 2 ^ 32 → IsSendable (said_bytes profile (next_said client))
-      → KeepsClient profile client qport said issued → KeepsClient profile client_begun qport (said ++ next_said client ∷ []) issued
+      → KeepsClient profile client qport said issued → KeepsClient profile (client_begun profile client) qport (said ++ next_said client ∷ []) issued
   KeepsClient-begun chan fits taken sendable keeps =
       let next = next_said client in
       let begun = keeps.begun in
@@ -412,7 +413,7 @@ TakesBuilt-new profile challenge qport dup chan =
 
 pub TakesSaid-new : (profile : Profile) (challenge qport : ℕ) (address : Address) → EndsGather → TakesSaid profile (new_slot challenge qport address) [] [] []
 TakesSaid-new profile challenge qport address chan =
-    record { gathers = chan.begin (messages_said profile []) 0 Client; issued = All-nil (Contains []) }
+    record { gathers = chan.begin (messages_said profile []) 0 Client; ran = All-nil (Contains []) }
 
 -- another state of the client that takes as it did
 pub TakesBuilt-same : (profile : Profile) (client next : ClientState) (built : List Built) (accepted : List Snapshot) → next.gathering ≡ client.gathering → next.accepted ≡ client.accepted
@@ -430,7 +431,7 @@ TakesBuilt-same profile client next built accepted gathering is dropped takes =
 -- and of the slot
 pub TakesSaid-same : (profile : Profile) (slot next : SlotState) (said : List Said) (issued run : List Move) → next.gathering ≡ slot.gathering → TakesSaid profile slot said issued run
     → TakesSaid profile next said issued run
-TakesSaid-same profile slot next said issued run gathering takes = record { gathers = rw gathering takes.gathers; issued = takes.issued }
+TakesSaid-same profile slot next said issued run gathering takes = record { gathers = rw gathering takes.gathers; ran = takes.ran }
 
 -- one more message was built
 pub TakesBuilt-more : (profile : Profile) (client : ClientState) (built : List Built) (accepted : List Snapshot) (next : Built) → EndsGather
@@ -453,13 +454,13 @@ TakesSaid-more profile slot said issued run next chan takes =
     record {
       gathers = chan.more (messages_said profile said) (messages_said profile (said ++ next ∷ [])) (length said) (length (said ++ next ∷ []))
           slot.gathering takes.gathers (omega (arith, length_push said next)) (messages_said_stay profile said (next ∷ []));
-      issued = takes.issued;
+      ran = takes.ran;
     }
 
 -- one more move was issued
 pub TakesSaid-issued : (profile : Profile) (slot : SlotState) (said : List Said) (issued run : List Move) (one : Move)
     → TakesSaid profile slot said issued run → TakesSaid profile slot said (issued ++ one ∷ []) run
-TakesSaid-issued profile slot said issued run one takes = record { gathers = takes.gathers; issued = contains_more run issued (one ∷ []) takes.issued }
+TakesSaid-issued profile slot said issued run one takes = record { gathers = takes.gathers; ran = contains_more run issued (one ∷ []) takes.ran }
 
 -- moves that were issued were run
 pub TakesSaid-ran : (profile : Profile) (slot : SlotState) (said : List Said) (issued run moves : List Move) (g : Gathering) (address : Address) (before last : ℕ)
@@ -467,7 +468,7 @@ pub TakesSaid-ran : (profile : Profile) (slot : SlotState) (said : List Said) (i
     → TakesSaid profile slot said issued run
     → TakesSaid profile (record slot { address = address; gathering = g; last_run = last }) said issued (run ++ runs before moves)
 TakesSaid-ran profile slot said issued run moves g address before last gathers are takes =
-    record { gathers = gathers; issued = All-append (Contains issued) run (runs before moves) takes.issued (runs_are (Contains issued) before moves are) }
+    record { gathers = gathers; ran = All-append (Contains issued) run (runs before moves) takes.ran (runs_are (Contains issued) before moves are) }
 
 -- the last of a list, and of one more
 last_push : {X : Type 0} (o : Option X) (xs : List X) (x : X) → last_or o (xs ++ x ∷ []) ≡ Some x

@@ -1,5 +1,5 @@
 -- What holds between any two events holds after each event.
-use Rattle.std.proofs.Common.{◌≡◌, ℕ, zero, suc, ◌+◌, ◌-◌, ◌^◌, ◌<◌, ◌≤◌, List, [], ◌∷◌, ◌++◌, length, get_or, replicate, Option, Some, None, refl, sym, ap, subst, ◌∙◌, arith, lit<}
+use Rattle.std.proofs.Common.{◌≡◌, ℕ, zero, suc, ◌+◌, ◌-◌, ◌^◌, ◌<◌, ◌≤◌, List, [], ◌∷◌, ◌++◌, length, get_or, replicate, Bool, Option, Some, None, refl, sym, ap, subst, ◌∙◌, arith, lit<}
 use Rattle.std.specs.Prelude.{slice_set, position, All, Contains}
 use Rattle.std.proofs.lemmas.List.{get_or-replicate, set-get_or}
 use Rattle.std.proofs.lemmas.List.Elements.{All-append}
@@ -130,7 +130,7 @@ with_new whole c qport address slot client =
 pub Holds-new : (profile : Profile) (whole : Whole) (c challenge qport dup : ℕ) (address : Address) → EndsSend → EndsGather → IsHeld profile zero_player → c < places
     → qport < 2 ^ 16 → slot_at whole.ends.server c ≡ None → position (is_of address.host qport) whole.ends.server.slots ≡ None → Holds profile whole
     → Holds profile (with_new whole c qport address (new_slot challenge qport address) (new_client profile challenge qport dup))
-Holds-new profile whole c challenge qport dup address sends gathers zero lt fits none alone holds =
+Holds-new profile whole c challenge qport dup address sends gathers first lt fits none alone holds =
     let facts = holds.facts in
     let ends = whole.ends in
     let slots = ends.server.slots in
@@ -146,9 +146,9 @@ Holds-new profile whole c challenge qport dup address sends gathers zero lt fits
     let address_is = set_there ends.addresses c no_address address facts.addresses lt in
     let noted = set_there whole.histories c no_history there facts.histories lt in
     let keeps : AreEnds profile slot client address there = subst (λ (h : History). AreEnds profile slot client address (record h { qport = qport; host = address.host })) (sym history_is)
-    (record { slot = KeepsSlot-new profile challenge qport address sends zero; client = KeepsClient-new profile challenge qport dup sends fits; host = refl }) in
+    (record { of_slot = KeepsSlot-new profile challenge qport address sends first; of_client = KeepsClient-new profile challenge qport dup sends fits; host = refl }) in
     let joins : AreJoined profile ends.server.map slot client there = subst (λ (h : History). AreJoined profile ends.server.map slot client (record h { qport = qport; host = address.host })) (sym history_is)
-    (record { client = TakesBuilt-new profile challenge qport dup gathers; slot = TakesSaid-new profile challenge qport address gathers }) in
+    (record { of_client = TakesBuilt-new profile challenge qport dup gathers; of_slot = TakesSaid-new profile challenge qport address gathers }) in
     Holds-at profile c whole (with_new whole c qport address slot client)
     (record {
       by = refl;
@@ -171,8 +171,8 @@ Holds-new profile whole c challenge qport dup address sends gathers zero lt fits
 
 -- what is known of it: its slot, its end, what they keep, and what joins them
 pub record Has (profile : Profile) (whole : Whole) (c : ℕ) (slot : SlotState) (client : ClientState) : Type 0 where
-  pub slot : slot_at whole.ends.server c ≡ Some slot
-  pub client : client_at whole.ends c ≡ Some client
+  pub slot_is : slot_at whole.ends.server c ≡ Some slot
+  pub client_is : client_at whole.ends c ≡ Some client
   pub keeps : AreEnds profile slot client (address_at whole.ends c) (history_at whole.histories c)
   pub joined : AreJoined profile whole.ends.server.map slot client (history_at whole.histories c)
 
@@ -192,7 +192,7 @@ has_slot profile whole c slot lt found holds =
     let ends = a_client profile slot (client_at whole.ends c) address history
     (subst (λ (s : Option SlotState). IsClient profile s (client_at whole.ends c) address history) found (holds.facts.each c lt)) in
     let joined : IsJoined profile map (some_slot slot) (client_at whole.ends c) history = subst (λ (s : Option SlotState). IsJoined profile map s (client_at whole.ends c) history) found (holds.joined c lt) in
-    (ends.0, record { slot = found; client = ends.1; keeps = ends.2; joined = subst (λ (e : Option ClientState). IsJoined profile map (some_slot slot) e history) ends.1 joined })
+    (ends.0, record { slot_is = found; client_is = ends.1; keeps = ends.2; joined = subst (λ (e : Option ClientState). IsJoined profile map (some_slot slot) e history) ends.1 joined })
 
 -- with its own end
 pub has_client : (profile : Profile) (whole : Whole) (c : ℕ) (client : ClientState) → c < places → client_at whole.ends c ≡ Some client → Holds profile whole
@@ -206,7 +206,7 @@ has_client profile whole c client lt found holds =
     let joined : IsJoined profile map (some_slot had.0) (some_client client) history =
     subst (λ (s : Option SlotState). IsJoined profile map s (some_client client) history) had.1
     (subst (λ (e : Option ClientState). IsJoined profile map (slot_at whole.ends.server c) e history) found (holds.joined c lt)) in
-    (had.0, record { slot = had.1; client = found; keeps = had.2; joined = joined })
+    (had.0, record { slot_is = had.1; client_is = found; keeps = had.2; joined = joined })
 
 -- the world in which its slot, its end, and what is noted of it are these, and this was sent
 abbrev pub changed : Whole → ℕ → SlotState → ClientState → History → List Tag → Whole
@@ -218,13 +218,13 @@ changed whole c slot client history sent =
     }
 
 -- a change of a client that is there
-pub record Changes (profile : Profile) (whole : Whole) (c : ℕ) (slot : SlotState) (client : ClientState) (slot' : SlotState) (client' : ClientState) (history : History) (sent : List Tag) : Type 0 where
+pub record Changes (profile : Profile) (whole : Whole) (c : ℕ) (slot : SlotState) (client : ClientState) (slot' : SlotState) (client' : ClientState) (history : History) (tags : List Tag) : Type 0 where
   pub host : slot'.address.host ≡ slot.address.host
   pub qport : slot'.qport ≡ slot.qport
   pub grows : HistoryGrows (history_at whole.histories c) history
   pub keeps : AreEnds profile slot' client' (address_at whole.ends c) history
   pub joined : AreJoined profile whole.ends.server.map slot' client' history
-  pub sent : AllSent profile (with_history whole.histories c history) sent
+  pub sent : AllSent profile (with_history whole.histories c history) tags
 
 pub Holds-changed : (profile : Profile) (whole : Whole) (c : ℕ) (slot slot' : SlotState) (client client' : ClientState) (history : History) (sent : List Tag) → c < places
     → Has profile whole c slot client → Changes profile whole c slot client slot' client' history sent → Holds profile whole
@@ -246,7 +246,7 @@ Holds-changed profile whole c slot slot' client client' history sent lt had chan
         addresses = OnlyAt-same no_address c ends.addresses;
         histories = OnlyAt-set no_history c whole.histories history;
       };
-      found = found_changed slots c slot slot' facts.slots lt had.slot changes.host changes.qport facts.found;
+      found = found_changed slots c slot slot' facts.slots lt had.slot_is changes.host changes.qport facts.found;
       sent = changes.sent;
     })
     (rw (slot_is, client_is, noted) changes.keeps)
@@ -293,7 +293,7 @@ Holds-slot profile whole c slot slot' client history sent lt had changes holds =
       ends = record whole.ends { server = with_slot whole.ends.server c slot'; clients = clients };
       histories = with_history whole.histories c history;
       sent = sent;
-    })) (same_clients whole.ends c client had.client) (Holds-changed profile whole c slot slot' client client history sent lt had changes holds)
+    })) (same_clients whole.ends c client had.client_is) (Holds-changed profile whole c slot slot' client client history sent lt had changes holds)
 
 -- only the client's own end changes, and what is noted
 abbrev pub with_client_of : Whole → ℕ → ClientState → History → List Tag → Whole
@@ -308,7 +308,7 @@ Holds-client profile whole c slot client client' history sent lt had changes hol
       ends = record whole.ends { server = server; clients = slice_set whole.ends.clients c (Some client') };
       histories = with_history whole.histories c history;
       sent = sent;
-    })) (same_server whole.ends.server c slot had.slot) (Holds-changed profile whole c slot slot client client' history sent lt had changes holds)
+    })) (same_server whole.ends.server c slot had.slot_is) (Holds-changed profile whole c slot slot client client' history sent lt had changes holds)
 
 -- ---- what the game hands in for a client
 
@@ -334,11 +334,11 @@ Holds-given profile whole c slot player area lt found held is holds =
       qport = refl;
       grows = HistoryGrows-same history;
       keeps = record {
-        slot = KeepsSlot-given profile slot history.qport history.host history.built history.run player area (held keeps.slot.player) (is keeps.slot.area) keeps.slot;
-        client = keeps.client;
+        of_slot = KeepsSlot-given profile slot history.qport history.host history.built history.run player area (held keeps.of_slot.player) (is keeps.of_slot.area) keeps.of_slot;
+        of_client = keeps.of_client;
         host = keeps.host;
       };
-      joined = record { client = joined.client; slot = TakesSaid-same profile slot next history.said history.issued history.run refl joined.slot };
+      joined = record { of_client = joined.of_client; of_slot = TakesSaid-same profile slot next history.said history.issued history.run refl joined.of_slot };
       sent = sent_grows profile whole c history lt (HistoryGrows-same history) holds;
     }) holds)
 
@@ -363,11 +363,11 @@ abbrev pub handed_tag : ℕ → SlotState → UnderWay → Tag
 handed_tag c slot left = record { client = c; direction = ToClient; number = slot.sending.number; index = left.next; bytes = (next_of slot.sending).datagram }
 
 -- a slot's message is begun, or goes on
-pub record Begins (profile : Profile) (slot slot' : SlotState) (qport host : ℕ) (built built' : List Built) (run : List Move) : Type 0 where
+pub record Begins (profile : Profile) (slot slot' : SlotState) (of_qport of_host : ℕ) (built built' : List Built) (run : List Move) : Type 0 where
   pub host : slot'.address.host ≡ slot.address.host
   pub qport : slot'.qport ≡ slot.qport
   pub gathering : slot'.gathering ≡ slot.gathering
-  pub keeps : KeepsSlot profile slot qport host built run → KeepsSlot profile slot' qport host built' run
+  pub keeps : KeepsSlot profile slot of_qport of_host built run → KeepsSlot profile slot' of_qport of_host built' run
 
 -- and behind it what is left of it is handed out
 pub Holds-handed : (profile : Profile) (whole : Whole) (c : ℕ) (old slot : SlotState) (left : UnderWay) (began : Option Built) → EndsSend → EndsGather → c < places
@@ -381,15 +381,15 @@ Holds-handed profile whole c old slot left None sends gathers lt found way begin
     let had = has_slot profile whole c old lt found holds in
     let keeps = had.1.keeps in
     let joined = had.1.joined in
-    let starts = begins.keeps keeps.slot in
+    let starts = begins.keeps keeps.of_slot in
     let grows = HistoryGrows-built history None in
     Holds-slot profile whole c old next had.0 history (whole.sent ++ handed_tag c slot left ∷ []) lt had.1
     (record {
       host = begins.host;
       qport = begins.qport;
       grows = grows;
-      keeps = record { slot = KeepsSlot-handed profile slot history.qport history.host history.built history.run sends starts; client = keeps.client; host = keeps.host };
-      joined = record { client = joined.client; slot = TakesSaid-same profile old next history.said history.issued history.run begins.gathering joined.slot };
+      keeps = record { of_slot = KeepsSlot-handed profile slot history.qport history.host history.built history.run sends starts; of_client = keeps.of_client; host = keeps.host };
+      joined = record { of_client = joined.of_client; of_slot = TakesSaid-same profile old next history.said history.issued history.run begins.gathering joined.of_slot };
       sent = sent_more profile whole c history (handed_tag c slot left) lt grows refl
           (handed_piece (messages_of profile history.built) slot.sending Server 0 (length history.built) left (handed_tag c slot left) sends starts.sends way starts.side starts.no_qport starts.begun refl refl refl) holds;
     }) holds
@@ -400,17 +400,17 @@ Holds-handed profile whole c old slot left (Some built) sends gathers lt found w
     let had = has_slot profile whole c old lt found holds in
     let keeps = had.1.keeps in
     let joined = had.1.joined in
-    let starts = begins.keeps keeps.slot in
+    let starts = begins.keeps keeps.of_slot in
     let grows = HistoryGrows-built history (Some built) in
     Holds-slot profile whole c old next had.0 (record history { built = more }) (whole.sent ++ handed_tag c slot left ∷ []) lt had.1
     (record {
       host = begins.host;
       qport = begins.qport;
       grows = grows;
-      keeps = record { slot = KeepsSlot-handed profile slot history.qport history.host more history.run sends starts; client = keeps.client; host = keeps.host };
+      keeps = record { of_slot = KeepsSlot-handed profile slot history.qport history.host more history.run sends starts; of_client = keeps.of_client; host = keeps.host };
       joined = record {
-        client = TakesBuilt-more profile had.0 history.built history.accepted built gathers joined.client;
-        slot = TakesSaid-same profile old next history.said history.issued history.run begins.gathering joined.slot;
+        of_client = TakesBuilt-more profile had.0 history.built history.accepted built gathers joined.of_client;
+        of_slot = TakesSaid-same profile old next history.said history.issued history.run begins.gathering joined.of_slot;
       };
       sent = sent_more profile whole c (record history { built = more }) (handed_tag c slot left) lt grows refl
           (handed_piece (messages_of profile more) slot.sending Server 0 (length more) left (handed_tag c slot left) sends starts.sends way starts.side starts.no_qport starts.begun refl refl refl) holds;
@@ -441,11 +441,11 @@ Holds-goes profile whole c client left sends lt found way holds =
       host = refl;
       qport = refl;
       grows = grows;
-      keeps = record { slot = keeps.slot; client = KeepsClient-handed profile client history.qport history.said history.issued sends keeps.client; host = keeps.host };
-      joined = record { client = TakesBuilt-same profile client (client_handed client) history.built history.accepted refl refl refl joined.client; slot = joined.slot };
+      keeps = record { of_slot = keeps.of_slot; of_client = KeepsClient-handed profile client history.qport history.said history.issued sends keeps.of_client; host = keeps.host };
+      joined = record { of_client = TakesBuilt-same profile client (client_handed client) history.built history.accepted refl refl refl joined.of_client; of_slot = joined.of_slot };
       sent = sent_more profile whole c history tag lt grows refl
-          (keeps.host, handed_piece (messages_said profile history.said) client.sending Client history.qport (length history.said) left tag sends keeps.client.sends way
-          keeps.client.side keeps.client.qport keeps.client.begun refl refl refl) holds;
+          (keeps.host, handed_piece (messages_said profile history.said) client.sending Client history.qport (length history.said) left tag sends keeps.of_client.sends way
+          keeps.of_client.side keeps.of_client.qport keeps.of_client.begun refl refl refl) holds;
     }) holds
 
 -- a client's message is begun, and its first piece goes out
@@ -464,17 +464,17 @@ Holds-said profile whole c client left sends gathers lt found way fits taken sen
     let had = has_client profile whole c client lt found holds in
     let keeps = had.1.keeps in
     let joined = had.1.joined in
-    let starts = KeepsClient-begun profile client history.qport history.said history.issued sends fits taken sendable keeps.client in
+    let starts = KeepsClient-begun profile client history.qport history.said history.issued sends fits taken sendable keeps.of_client in
     let grows = HistoryGrows-said history (Some next) in
     Holds-client profile whole c had.0 client (client_handed begun) (record history { said = more }) (whole.sent ++ tag ∷ []) lt had.1
     (record {
       host = refl;
       qport = refl;
       grows = grows;
-      keeps = record { slot = keeps.slot; client = KeepsClient-handed profile begun history.qport more history.issued sends starts; host = keeps.host };
+      keeps = record { of_slot = keeps.of_slot; of_client = KeepsClient-handed profile begun history.qport more history.issued sends starts; host = keeps.host };
       joined = record {
-        client = TakesBuilt-same profile client (client_handed begun) history.built history.accepted refl refl refl joined.client;
-        slot = TakesSaid-more profile had.0 history.said history.issued history.run next gathers joined.slot;
+        of_client = TakesBuilt-same profile client (client_handed begun) history.built history.accepted refl refl refl joined.of_client;
+        of_slot = TakesSaid-more profile had.0 history.said history.issued history.run next gathers joined.of_slot;
       };
       sent = sent_more profile whole c (record history { said = more }) tag lt grows refl
           (keeps.host, handed_piece (messages_said profile more) begun.sending Client history.qport (length more) left tag sends starts.sends way
@@ -499,10 +499,10 @@ Holds-issued profile whole c client one lt found is later holds =
       host = refl;
       qport = refl;
       grows = grows;
-      keeps = record { slot = keeps.slot; client = KeepsClient-issued profile client history.qport history.said history.issued one is later keeps.client; host = keeps.host };
+      keeps = record { of_slot = keeps.of_slot; of_client = KeepsClient-issued profile client history.qport history.said history.issued one is later keeps.of_client; host = keeps.host };
       joined = record {
-        client = TakesBuilt-same profile client next history.built history.accepted refl refl refl joined.client;
-        slot = TakesSaid-issued profile had.0 history.said history.issued history.run one joined.slot;
+        of_client = TakesBuilt-same profile client next history.built history.accepted refl refl refl joined.of_client;
+        of_slot = TakesSaid-issued profile had.0 history.said history.issued history.run one joined.of_slot;
       };
       sent = sent_grows profile whole c noted lt grows holds;
     }) holds
@@ -526,8 +526,8 @@ Holds-taken profile whole c client g accepted delta None lt found side takes hol
       host = refl;
       qport = refl;
       grows = grows;
-      keeps = record { slot = keeps.slot; client = KeepsClient-took profile client history.qport history.said history.issued g accepted delta side keeps.client; host = keeps.host };
-      joined = record { client = takes joined.client; slot = joined.slot };
+      keeps = record { of_slot = keeps.of_slot; of_client = KeepsClient-took profile client history.qport history.said history.issued g accepted delta side keeps.of_client; host = keeps.host };
+      joined = record { of_client = takes joined.of_client; of_slot = joined.of_slot };
       sent = sent_grows profile whole c history lt grows holds;
     }) holds
 Holds-taken profile whole c client g accepted delta (Some snapshot) lt found side takes holds =
@@ -542,8 +542,8 @@ Holds-taken profile whole c client g accepted delta (Some snapshot) lt found sid
       host = refl;
       qport = refl;
       grows = grows;
-      keeps = record { slot = keeps.slot; client = KeepsClient-took profile client history.qport history.said history.issued g accepted delta side keeps.client; host = keeps.host };
-      joined = record { client = takes joined.client; slot = joined.slot };
+      keeps = record { of_slot = keeps.of_slot; of_client = KeepsClient-took profile client history.qport history.said history.issued g accepted delta side keeps.of_client; host = keeps.host };
+      joined = record { of_client = takes joined.of_client; of_slot = joined.of_slot };
       sent = sent_grows profile whole c noted lt grows holds;
     }) holds
 
@@ -569,18 +569,18 @@ Holds-heard profile whole c slot from g last ran lt found host side gathers runs
     let keeps = had.1.keeps in
     let joined = had.1.joined in
     let grows = HistoryGrows-run history ran in
-    let ran_so = runs_so keeps.slot in
+    let ran_so = runs_so keeps.of_slot in
     Holds-slot profile whole c slot next had.0 noted whole.sent lt had.1
     (record {
       host = host;
       qport = refl;
       grows = grows;
       keeps = record {
-        slot = KeepsSlot-came profile (record slot { last_run = last }) history.qport history.host history.built (history.run ++ ran) from g (host ∙ keeps.slot.host) side ran_so;
-        client = keeps.client;
+        of_slot = KeepsSlot-came profile (record slot { last_run = last }) history.qport history.host history.built (history.run ++ ran) from g (host ∙ keeps.of_slot.host) side ran_so;
+        of_client = keeps.of_client;
         host = keeps.host;
       };
-      joined = record { client = joined.client; slot = record { gathers = gathers; issued = All-append (Contains history.issued) history.run ran joined.slot.issued were } };
+      joined = record { of_client = joined.of_client; of_slot = record { gathers = gathers; ran = All-append (Contains history.issued) history.run ran joined.of_slot.ran were } };
       sent = sent_grows profile whole c noted lt grows holds;
     }) holds
 
@@ -596,7 +596,7 @@ tag_was_built profile whole tag client lt is found holds =
     let some = is.some in
     let begun = is.begun in
     let place : tag.number - 1 + 1 ≡ tag.number = omega arith in
-    subst (λ (n : ℕ). IsBuilt profile n (named whole.histories tag)) place (had.1.keeps.slot.built (tag.number - 1) no_message (omega arith))
+    subst (λ (n : ℕ). IsBuilt profile n (named whole.histories tag)) place (had.1.keeps.of_slot.built (tag.number - 1) no_message (omega arith))
 
 -- and so the snapshot that it names is one that was built
 pub names_built : (profile : Profile) (whole : Whole) (tag : Tag)
@@ -615,7 +615,7 @@ joined_map : (profile : Profile) (map map' : MapState) (slot : Option SlotState)
     → IsJoined profile map slot client history → IsJoined profile map' slot client history
 joined_map profile map map' None client history joined = tt
 joined_map profile map map' (Some slot) None history joined = tt
-joined_map profile map map' (Some slot) (Some client) history joined = record { client = joined.client; slot = joined.slot }
+joined_map profile map map' (Some slot) (Some client) history joined = record { of_client = joined.of_client; of_slot = joined.of_slot }
 
 abbrev pub with_map : Whole → MapState → Whole
 with_map whole map = record whole { ends = record whole.ends { server = record whole.ends.server { map = map } } }

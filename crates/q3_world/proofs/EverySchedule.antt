@@ -107,7 +107,7 @@ accepted_by profile map None None address history is joined =
     rw is ((λ k d lt. absurd (omega (arith, lt))), (λ j k d lt within. absurd (omega (arith, within))))
 accepted_by profile map None (Some client) address history is joined = absurd is
 accepted_by profile map (Some slot) None address history is joined = absurd is
-accepted_by profile map (Some slot) (Some client) address history is joined = (joined.client.accepted, joined.client.rise)
+accepted_by profile map (Some slot) (Some client) address history is joined = (joined.of_client.accepted, joined.of_client.rise)
 
 pub accepted_were_built : BytesFollowTags → AcceptedWereBuilt
 accepted_were_built law profile all c is are within =
@@ -125,7 +125,7 @@ newest_was : (profile : Profile) (map : MapState) (slot : Option SlotState) (cli
 newest_was profile map slot None address history snapshot shown is joined = absurd cc
 newest_was profile map None (Some client) address history snapshot shown is joined = absurd is
 newest_was profile map (Some slot) (Some client) address history snapshot shown is joined =
-    newest_of history snapshot history.accepted refl (sym joined.client.newest ∙ shown) joined.client.accepted
+    newest_of history snapshot history.accepted refl (sym joined.of_client.newest ∙ shown) joined.of_client.accepted
   where
     newest_of : (history : History) (snapshot : Snapshot) (accepted : List Snapshot) → history.accepted ≡ accepted → last_or None history.accepted ≡ Some snapshot
         → ((k : ℕ) (d : Snapshot) → k < length history.accepted → WasBuilt history.built (get_or history.accepted k d)) → WasBuilt history.built snapshot

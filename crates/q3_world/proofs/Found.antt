@@ -33,7 +33,7 @@ put_found_or_len test (y ∷ xs) zero x none lt passes = rw passes refl
 put_found_or_len test (y ∷ xs) (suc c) x none lt passes =
     elim (cases_Bool (test y)) [
       | inl first ↦ absurd (some_left test y xs first none)
-      | inr other ↦ rw other (ap suc (put_found_or_len test xs c x (none_left test y xs other none) (omega (arith, lt)) passes))
+      | inr other ↦ rw other (ap (λ (k : ℕ). 1 + k) (put_found_or_len test xs c x (none_left test y xs other none) (omega (arith, lt)) passes) ∙ omega arith)
     ]
 
 -- a position that was not found is the length
@@ -77,7 +77,9 @@ found_changed slots c slot next count lt found host qport all k one at =
       | inl same ↦
           let is : next ≡ one = one_slot (sym (set_there slots c None (Some next) count lt) ∙ (ap (λ (j : ℕ). get_or (set slots c (Some next)) j None) (sym same) ∙ at)) in
           subst (λ (s : SlotState). position (is_of s.address.host s.qport) (set slots c (Some next)) ≡ Some k) is
-          (rw (host, qport) (alike slot.address.host slot.qport ∙ all c slot found) ∙ ap (λ (j : ℕ). Some j) (sym same))
+          (ap (λ (h : ℕ). position (is_of h next.qport) (set slots c (Some next))) host
+          ∙ (ap (λ (q : ℕ). position (is_of slot.address.host q) (set slots c (Some next))) qport
+          ∙ (alike slot.address.host slot.qport ∙ (all c slot found ∙ ap (λ (j : ℕ). Some j) (sym same)))))
       | inr other ↦ alike one.address.host one.qport ∙ all k one (sym (get_or-set_other slots c k (Some next) None other) ∙ at)
     ]
   where

@@ -38,7 +38,7 @@ messages_stay profile built more (suc number) few = ap (built_bytes profile) (bu
 pub messages_said_stay : (profile : Profile) (said more : List Said) (number : ℕ) → number ≤ length said
     → messages_said profile (said ++ more) number ≡ messages_said profile said number
 messages_said_stay profile said more zero few = refl
-messages_said_stay profile said more (suc number) few = ap (said_bytes profile) (get_or_append_left said more empty_message number (omega (arith, few)))
+messages_said_stay profile said more (suc number) few = ap (said_bytes profile) (get_or_append_left said more empty_message (suc number - 1) (omega (arith, few)))
 
 -- ---- histories
 

@@ -220,7 +220,7 @@ in_order_is_accepted law below pieces profile all c n last numbers client is are
     let named_is : named now.histories tag ≡ built_at built n =
     ap (λ (k : ℕ). built_at (history_at now.histories k).built tag.number) tail.3
     ∙ (ap (λ (b : List Built). built_at b tag.number) reached.built ∙ ap (λ (k : ℕ). built_at built k) tail.4) in
-    let came = pieces (messages_of profile built) g n had.1.joined.client.gathers.front newer in
+    let came = pieces (messages_of profile built) g n had.1.joined.of_client.gathers.front newer in
     let message_is = at_number profile built n some in
     let came_so : (tagged (tagged_all g n message (last_index message)) n message (last_index message)).answer ≡ CameWhole n (length message) =
     subst (λ (m : List ℕ). (tagged (tagged_all g n m (last_index m)) n m (last_index m)).answer ≡ CameWhole n (length m)) message_is came.answer in

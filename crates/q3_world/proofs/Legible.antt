@@ -169,7 +169,7 @@ legible_step does_so profile whole (events.Time time) is holds = tt
 legible_step does_so profile whole (events.Move c one) is holds = legible_move whole.ends c one (client_at whole.ends c)
 legible_step does_so profile whole (events.Serve c) is holds = tt
 legible_step does_so profile whole (events.Send c) is holds =
-    legible_send profile whole c (client_at whole.ends c) (λ client found. (has_client profile whole c client (omega (arith, is)) found holds).1.joined.client.legible)
+    legible_send profile whole c (client_at whole.ends c) (λ client found. (has_client profile whole c client (omega (arith, is)) found holds).1.joined.of_client.legible)
 legible_step does_so profile whole (events.Deliver number) is holds = legible_deliver does_so profile whole number (slice_get whole.sent (number - 1)) refl holds
 legible_step does_so profile whole (events.Show c) is holds = tt
 

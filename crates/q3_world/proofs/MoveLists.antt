@@ -1,6 +1,6 @@
 -- Lists of moves: what a message carries, what is run of it, and where that stands among the moves that were issued.
 use Rattle.std.proofs.Common.{◌≡◌, ℕ, zero, suc, ◌+◌, ◌-◌, ◌<◌, ◌≤◌, ◌^◌, Bool, true, false, List, [], ◌∷◌, ◌++◌, length, take, drop, ℤ, pos, negsuc, refl, sym, ap, subst, ◌∙◌, inl, inr, arith}
-use Rattle.std.specs.Prelude.{nat_le, nat_lt, not, ◌&&◌, neg_ℤ, map, filter, All, Contains}
+use Rattle.std.specs.Prelude.{◌⊎◌, nat_le, nat_lt, not, ◌&&◌, neg_ℤ, map, filter, All, Contains}
 use Rattle.std.proofs.lemmas.List.{append-nil, append_assoc, length-append, length-map, map-append, take-append-drop, length-drop}
 use Rattle.std.proofs.lemmas.List.Elements.{All-nil, All-cons, All-head, All-tail, All-weaker, All-push, All-drop, All-map, All-filter, All-contains, Contains-append_left, Contains-append_right, All-contains_itself}
 use Rattle.std.proofs.lemmas.Bool.{cases_Bool, cases_eq, and_parts, leb-true, le-leb, ltb-true, true≢false}
@@ -102,28 +102,32 @@ none_first first (one ∷ moves) others are in_all =
     (not_first first one others (All-head (λ (m : Move). first.time < m.time) one moves are) (All-head (Contains (first ∷ others)) one moves in_all))
     (none_first first moves others (All-tail (λ (m : Move). first.time < m.time) one moves are) (All-tail (Contains (first ∷ others)) one moves in_all))
 
+-- a move among others is the first or behind it
+first_or_behind : (first one : Move) (others : List Move) → Contains (first ∷ others) one → (first ≡ one) ⊎ Contains others one
+first_or_behind first one others (zero, within, is) = inl is
+first_or_behind first one others (suc k, within, is) = inr (k, omega (arith, within), is)
+
 -- moves of rising times, each of which is among those that were issued by rising times, stand among them in their order
 pub stand_among : (least before : ℕ) (issued moves : List Move) → TimesRise least issued → TimesRise before moves → All (Contains issued) moves → StandAmong moves issued
 stand_among least before issued [] rise rising are = tt
 stand_among least before [] (one ∷ moves) rise rising are =
     let there = All-head (Contains []) one moves are in
     absurd (omega (arith, there.1))
-stand_among least before (first ∷ issued) (one ∷ moves) rise rising are = here (All-head (Contains (first ∷ issued)) one moves are)
-  where
-    here : Contains (first ∷ issued) one → StandAmong (one ∷ moves) (first ∷ issued)
-    here (zero, within, is) =
-        let behind = later one.time moves rising.1 in
-        let after_first = subst (λ (m : Move). All (λ (x : Move). m.time < x.time) moves) (sym is) behind in
-        ([], issued, ap (λ (m : Move). m ∷ issued) is,
-        stand_among first.time one.time issued moves rise.1 rising.1 (none_first first moves issued after_first (All-tail (Contains (first ∷ issued)) one moves are)))
-    here (suc k, within, is) =
-        let there : Contains issued one = (k, omega (arith, within), is) in
-        let past = All-contains (λ (m : Move). first.time < m.time) issued one (later first.time issued rise.1) there in
-        let behind = later one.time moves rising.1 in
-        let after_first = All-weaker (λ (m : Move). one.time < m.time) (λ (m : Move). first.time < m.time) (λ m lt. omega (arith, past, lt)) moves behind in
-        let rest = stand_among first.time before issued (one ∷ moves) rise.1 rising
-        (All-cons (Contains issued) one moves there (none_first first moves issued after_first (All-tail (Contains (first ∷ issued)) one moves are))) in
-        (first ∷ rest.0, rest.1, ap (λ (l : List Move). first ∷ l) rest.2, rest.3)
+stand_among least before (first ∷ issued) (one ∷ moves) rise rising are =
+    let behind = later one.time moves rising.1 in
+    let others = All-tail (Contains (first ∷ issued)) one moves are in
+    elim (first_or_behind first one issued (All-head (Contains (first ∷ issued)) one moves are)) [
+      | inl is ↦
+          let after_first = subst (λ (m : Move). All (λ (x : Move). m.time < x.time) moves) (sym is) behind in
+          ([], issued, ap (λ (m : Move). m ∷ issued) is,
+          stand_among first.time one.time issued moves rise.1 rising.1 (none_first first moves issued after_first others))
+      | inr there ↦
+          let past = All-contains (λ (m : Move). first.time < m.time) issued one (later first.time issued rise.1) there in
+          let after_first = All-weaker (λ (m : Move). one.time < m.time) (λ (m : Move). first.time < m.time) (λ m lt. omega (arith, past, lt)) moves behind in
+          let rest = stand_among first.time before issued (one ∷ moves) rise.1 rising
+          (All-cons (Contains issued) one moves there (none_first first moves issued after_first others)) in
+          (first ∷ rest.0, rest.1, ap (λ (l : List Move). first ∷ l) rest.2, rest.3)
+    ]
 
 -- ---- what a message carries
 
@@ -140,12 +144,12 @@ pub last_carried : (number dup least most : ℕ) (moves : List Issued) → Marks
 last_carried number dup least most [] rise = ([], refl)
 last_carried number dup least most (issued ∷ moves) rise =
     elim (cases_Bool (nat_le number (issued.begun + dup + 1))) [
-      | inl yes ↦
-          let others = all_carried number dup issued.begun most moves rise.2 (leb-true number (issued.begun + dup + 1) yes) in
-          ([], rw (yes, others) refl)
-      | inr no ↦
+      | inl goes ↦
+          let others = all_carried number dup issued.begun most moves rise.2 (leb-true number (issued.begun + dup + 1) goes) in
+          ([], rw (goes, others) refl)
+      | inr stays ↦
           let others = last_carried number dup issued.begun most moves rise.2 in
-          (issued ∷ others.0, rw no (ap (λ (l : List Issued). issued ∷ l) others.1))
+          (issued ∷ others.0, rw stays (ap (λ (l : List Issued). issued ∷ l) others.1))
     ]
 
 abbrev one_of : Issued → Move

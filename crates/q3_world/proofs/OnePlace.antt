@@ -31,11 +31,11 @@ abbrev pub Each : OfClient → Ends → List History → Type 0
 Each Says ends histories = (c : ℕ) → c < places → Says (slot_at ends.server c) (client_at ends c) (address_at ends c) (history_at histories c)
 
 -- only what stands for one client may differ
-pub record DifferAt (c : ℕ) (old new : Ends) (histories histories' : List History) : Type 0 where
+pub record DifferAt (c : ℕ) (old new : Ends) (before now : List History) : Type 0 where
   pub slots : OnlyAt None c old.server.slots new.server.slots
   pub clients : OnlyAt None c old.clients new.clients
   pub addresses : OnlyAt no_address c old.addresses new.addresses
-  pub histories : OnlyAt no_history c histories histories'
+  pub histories : OnlyAt no_history c before now
 
 -- one client changes and the others stay
 pub each_at : (Says : OfClient) (c : ℕ) (old new : Ends) (histories histories' : List History) → DifferAt c old new histories histories'

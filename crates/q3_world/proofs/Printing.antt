@@ -6,10 +6,6 @@ use Rattle.q3_player.specs.Report.{player_text}
 use Rattle.q3_entity.specs.declared.state.EntityState.{EntityState}
 use Rattle.q3_entity.specs.Report.{fields_text}
 use Rattle.q3_svmsg.specs.Values.{Snapshot}
-use Rattle.q3_server.specs.declared.server.SlotError.{SlotError}
-use Rattle.q3_server.specs.Report.{slot_error_text}
-use Rattle.q3_client.specs.declared.client.ClientTook.{ClientTook}
-use Rattle.q3_client.specs.Report.{client_text}
 use Rattle.q3_world.specs.Report.{area_text, start_text, head_text, entity_text, snapshot_text}
 
 grouped : (a b d e f g h i j area end : List ℕ) → concat (a ∷ b ∷ concat (d ∷ e ∷ f ∷ g ∷ h ∷ i ∷ j ∷ area ∷ end ∷ []) ∷ [])
@@ -44,15 +40,14 @@ entity_in_parts entity = three (codes "+ entity ") (decimal entity.number) (fiel
 refused : (a b d word end : List ℕ) → concat (a ∷ b ∷ concat (d ∷ word ∷ end ∷ []) ∷ []) ≡ concat (a ∷ b ∷ d ∷ []) ++ (word ++ end)
 refused a b d word end = simp (append_assoc, append-nil) refl
 
--- the line of a client that can't join
-pub refused_in_parts : (c : ℕ) (error : SlotError) → concat (codes "client " ∷ decimal c ∷ concat (codes " refused " ∷ slot_error_text error ∷ codes "\n" ∷ []) ∷ [])
-    ≡ concat (codes "client " ∷ decimal c ∷ codes " refused " ∷ []) ++ (slot_error_text error ++ codes "\n")
-refused_in_parts c error = refused (codes "client ") (decimal c) (codes " refused ") (slot_error_text error) (codes "\n")
+-- the line of what is refused
+pub refused_in_parts : (line : List ℕ) (c : ℕ) (error : List ℕ) → concat (line ∷ decimal c ∷ concat (codes " refused " ∷ error ∷ codes "\n" ∷ []) ∷ [])
+    ≡ concat (line ∷ decimal c ∷ codes " refused " ∷ []) ++ (error ++ codes "\n")
+refused_in_parts line c error = refused line (decimal c) (codes " refused ") error (codes "\n")
 
 two : (a b rest : List ℕ) → concat (a ∷ b ∷ rest ∷ []) ≡ concat (a ∷ b ∷ []) ++ rest
 two a b rest = simp (append_assoc, append-nil) refl
 
--- a delivery to a client
-pub delivery_in_parts : (datagram c : ℕ) (took : ClientTook) → concat (codes "deliver " ∷ decimal datagram ∷ client_text c took ∷ [])
-    ≡ concat (codes "deliver " ∷ decimal datagram ∷ []) ++ client_text c took
-delivery_in_parts datagram c took = two (codes "deliver ") (decimal datagram) (client_text c took)
+-- a delivery
+pub delivery_in_parts : (datagram : ℕ) (taken : List ℕ) → concat (codes "deliver " ∷ decimal datagram ∷ taken ∷ []) ≡ concat (codes "deliver " ∷ decimal datagram ∷ []) ++ taken
+delivery_in_parts datagram taken = two (codes "deliver ") (decimal datagram) taken

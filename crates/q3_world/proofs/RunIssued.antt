@@ -40,7 +40,7 @@ issued_by profile None None address history whole is joined = rw is (tt, tt)
 issued_by profile None (Some client) address history whole is joined = absurd is
 issued_by profile (Some slot) None address history whole is joined = absurd is
 issued_by profile (Some slot) (Some client) address history whole is joined =
-    (stand_among 0 0 history.issued history.run is.client.rise is.slot.rise joined.slot.issued, is.slot.rise)
+    (stand_among 0 0 history.issued history.run is.of_client.rise is.of_slot.rise joined.of_slot.ran, is.of_slot.rise)
 
 pub moves_were_issued : BytesFollowTags → MovesWereIssued
 moves_were_issued law profile all c is are within =

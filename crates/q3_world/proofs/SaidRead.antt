@@ -4,7 +4,7 @@ use Rattle.std.specs.Int.Bits.{bit_xor, xor_zero_r, xor_zero_l}
 use Rattle.q3_bits.specs.Bits.{bits_of, message_length}
 use Rattle.q3_bits.specs.ResultBind.{◌>>=◌}
 use Rattle.q3_bits.specs.Laws.{MessageHoldsBits}
-use Rattle.q3_text.specs.Keys.{key_of as text_key}
+use Rattle.q3_text.specs.Keys.{key_of, weighted}
 use Rattle.q3_profile.specs.declared.profile.Profile.{Profile}
 use Rattle.q3_profile.specs.Profile.{IsCodec}
 use Rattle.q3_clmsg.specs.declared.error.ClientIllegible.{ClientIllegible}
@@ -14,31 +14,32 @@ use Rattle.q3_clmsg.specs.Values.{Message}
 use Rattle.q3_clmsg.specs.Texts.{client_text}
 use Rattle.q3_clmsg.specs.Reading.{bits_read, heads_at, client_after, client_at}
 use Rattle.q3_clmsg.specs.Laws.{IsMessage, HeadsAreRead, WrittenIsRead}
-use Rattle.q3_server.specs.Taking.{key_of, said_by}
+use Rattle.q3_server.specs.Taking as hears
+use Rattle.q3_server.specs.Taking.{said_by}
 use Rattle.q3_client.specs.Sending.{Said, said_bits, said_bytes}
 use Rattle.q3_world.specs.MessageLaws.{SaidIsRead}
 
 -- the empty text gives no key
-no_key : text_key [] ≡ 0
-unfolding text_key
+no_key : key_of [] ≡ 0
+unfolding key_of weighted
 no_key = refl
 
 -- the key of a message fits a long
-key_fits : (acknowledged : ℕ) → acknowledged < 2 ^ 32 → key_of acknowledged < 2 ^ 32
+key_fits : (acknowledged : ℕ) → acknowledged < 2 ^ 32 → hears.key_of acknowledged < 2 ^ 32
 key_fits acknowledged fits =
-    let is : key_of acknowledged ≡ acknowledged =
+    let is : hears.key_of acknowledged ≡ acknowledged =
     ap (λ (k : ℕ). bit_xor (bit_xor 0 acknowledged) k) no_key ∙ (xor_zero_r (bit_xor 0 acknowledged) ∙ xor_zero_l acknowledged) in
     subst (λ (k : ℕ). k < 2 ^ 32) (sym is) fits
 
 -- with the heads that it has, a message is read by its own key
 read_with : (words : List (List Bool)) (bits : List Bool) → Result Heads ClientIllegible → Result Message ClientIllegible
-read_with words bits heads = heads >>= λ h. client_at words (key_of h.acknowledged) bits
+read_with words bits heads = heads >>= λ h. client_at words (hears.key_of h.acknowledged) bits
 
 pub said_is_read : MessageHoldsBits → HeadsAreRead → WrittenIsRead → SaidIsRead
 unfolding read_with
 said_is_read holds heads written profile is said message =
     let words = profile.code in
-    let key = key_of said.acknowledged in
+    let key = hears.key_of said.acknowledged in
     let text = said_bits profile said in
     let rest = replicate (8 * message_length (length text) - length text) false in
     let head = heads words key said rest is.code message in

@@ -1,5 +1,5 @@
 -- The two ends of every client, and what the game hands in to them and reads of them.
-use Rattle.std.specs.Prelude.{ℕ, List, replicate, Option, Some, None, slice_set, slice_index_or, Result, Ok, Err}
+use Rattle.std.specs.Prelude.{ℕ, List, [], replicate, Option, Some, None, slice_set, slice_index_or, Result, Ok, Err}
 use Rattle.q3_profile.specs.declared.profile.Profile.{Profile}
 use Rattle.q3_player.specs.declared.state.PlayerState.{PlayerState}
 use Rattle.arrayvec.specs.ArrayVec.{ArrayVec}

@@ -1,6 +1,6 @@
 -- What is kept stands for a whole world: both ends are the same, and each datagram's bytes are those of the message
 -- that its tag names.
-use Rattle.std.specs.Prelude.{◌≡◌, ℕ, zero, suc, ◌+◌, ◌^◌, ◌<◌, ◌≤◌, List, [], ◌++◌, length, map, All, Contains, Option, Some, None, slice_index_or}
+use Rattle.std.specs.Prelude.{◌≡◌, ℕ, zero, suc, ◌+◌, ◌^◌, ◌<◌, ◌≤◌, List, [], ◌∷◌, ◌++◌, length, map, All, Contains, Option, Some, None, slice_index_or}
 use Rattle.std.specs.List.{last_or}
 use Rattle.q3_profile.specs.declared.profile.Profile.{Profile}
 use Rattle.q3_profile.specs.Profile.{IsCodec}
@@ -41,21 +41,21 @@ messages_said profile said (suc number) = said_bytes profile (said_at said (suc 
 
 -- what the server keeps of a client that joined with this qport from this host, what it built for it, and the moves of it that
 -- it ran: their times rise, and it keeps the last
-pub record KeepsSlot (profile : Profile) (slot : SlotState) (qport host : ℕ) (built : List Built) (run : List Move) : Type 0 where
-  pub qport : slot.qport ≡ qport
-  pub host : slot.address.host ≡ host
-  pub begun : slot.sending.number ≡ length built
-  pub short : length built < sequence_end
+pub record KeepsSlot (profile : Profile) (slot : SlotState) (of_qport of_host : ℕ) (began : List Built) (ran : List Move) : Type 0 where
+  pub qport : slot.qport ≡ of_qport
+  pub host : slot.address.host ≡ of_host
+  pub begun : slot.sending.number ≡ length began
+  pub short : length began < sequence_end
   pub side : slot.sending.side ≡ Server
   pub no_qport : slot.sending.qport ≡ 0
-  pub sends : Sends (messages_of profile built) slot.sending
+  pub sends : Sends (messages_of profile began) slot.sending
   pub player : IsHeld profile slot.player
   pub area : IsArea slot.area.items
-  pub built : (k : ℕ) (d : Built) → k < length built → IsBuilt profile (k + 1) (slice_index_or built k d)
-  pub sendable : (k : ℕ) (d : Built) → k < length built → IsSendable (built_bytes profile (slice_index_or built k d))
+  pub built : (k : ℕ) (d : Built) → k < length began → IsBuilt profile (k + 1) (slice_index_or began k d)
+  pub sendable : (k : ℕ) (d : Built) → k < length began → IsSendable (built_bytes profile (slice_index_or began k d))
   pub from : slot.gathering.side ≡ Client
-  pub last : slot.last_run ≡ last_time 0 run
-  pub rise : TimesRise 0 run
+  pub last : slot.last_run ≡ last_time 0 ran
+  pub rise : TimesRise 0 ran
 
 -- of each move, how many messages were begun before it: that doesn't fall, and is at most as many as were begun
 abbrev pub MarksRise : ℕ → ℕ → List Issued → Type 0
@@ -72,26 +72,26 @@ pub record KeepsMoves (moves : List Issued) (begun : ℕ) (issued : List Move) :
 
 -- what a client keeps that joined with this qport, what it said, and the moves that it issued: their times rise, and those of
 -- each message were issued one directly after the other
-pub record KeepsClient (profile : Profile) (client : ClientState) (qport : ℕ) (said : List Said) (issued : List Move) : Type 0 where
+pub record KeepsClient (profile : Profile) (client : ClientState) (of_qport : ℕ) (began : List Said) (issued : List Move) : Type 0 where
   pub by : client.profile ≡ profile
   pub from : client.gathering.side ≡ Server
-  pub fits : qport < 2 ^ 16
-  pub begun : client.sending.number ≡ length said
-  pub short : length said < sequence_end
+  pub fits : of_qport < 2 ^ 16
+  pub begun : client.sending.number ≡ length began
+  pub short : length began < sequence_end
   pub side : client.sending.side ≡ Client
-  pub qport : client.sending.qport ≡ qport
-  pub sends : Sends (messages_said profile said) client.sending
-  pub said : (k : ℕ) (d : Said) → k < length said → IsMessage (slice_index_or said k d)
-  pub sendable : (k : ℕ) (d : Said) → k < length said → IsSendable (said_bytes profile (slice_index_or said k d))
+  pub qport : client.sending.qport ≡ of_qport
+  pub sends : Sends (messages_said profile began) client.sending
+  pub said : (k : ℕ) (d : Said) → k < length began → IsMessage (slice_index_or began k d)
+  pub sendable : (k : ℕ) (d : Said) → k < length began → IsSendable (said_bytes profile (slice_index_or began k d))
   pub last : client.last_time ≡ last_time 0 issued
   pub rise : TimesRise 0 issued
-  pub moves : KeepsMoves client.moves (length said) issued
-  pub carried : (k : ℕ) (d : Said) → k < length said → AreConsecutive (slice_index_or said k d).moves issued
+  pub moves : KeepsMoves client.moves (length began) issued
+  pub carried : (k : ℕ) (d : Said) → k < length began → AreConsecutive (slice_index_or began k d).moves issued
 
 -- what both ends of a client keep, and from which host it sends
 pub record AreEnds (profile : Profile) (slot : SlotState) (client : ClientState) (address : Address) (history : History) : Type 0 where
-  pub slot : KeepsSlot profile slot history.qport history.host history.built history.run
-  pub client : KeepsClient profile client history.qport history.said history.issued
+  pub of_slot : KeepsSlot profile slot history.qport history.host history.built history.run
+  pub of_client : KeepsClient profile client history.qport history.said history.issued
   pub host : address.host ≡ history.host
 
 -- a client is at both ends or at none
@@ -153,23 +153,23 @@ Rise snapshots = (j k : ℕ) (d : Snapshot) → j < k → k < length snapshots
 
 -- a client takes and gathers only what was built for it, so it wasn't dropped; each snapshot that it accepted was built, their
 -- numbers rise, and it keeps the newest, which isn't above the newest number taken
-pub record TakesBuilt (profile : Profile) (client : ClientState) (built : List Built) (accepted : List Snapshot) : Type 0 where
-  pub accepted : (k : ℕ) (d : Snapshot) → k < length accepted → WasBuilt built (slice_index_or accepted k d)
-  pub rise : Rise accepted
-  pub newest : client.accepted ≡ last_or None accepted
+pub record TakesBuilt (profile : Profile) (client : ClientState) (began : List Built) (took : List Snapshot) : Type 0 where
+  pub accepted : (k : ℕ) (d : Snapshot) → k < length took → WasBuilt began (slice_index_or took k d)
+  pub rise : Rise took
+  pub newest : client.accepted ≡ last_or None took
   pub below : number_of_newest client.accepted ≤ client.gathering.taken
-  pub gathers : Gathers (messages_of profile built) (length built) client.gathering
+  pub gathers : Gathers (messages_of profile began) (length began) client.gathering
   pub legible : client.dropped ≡ None
 
 -- a slot takes and gathers only what its client began, and each move that was run was issued
 pub record TakesSaid (profile : Profile) (slot : SlotState) (said : List Said) (issued run : List Move) : Type 0 where
   pub gathers : Gathers (messages_said profile said) (length said) slot.gathering
-  pub issued : All (Contains issued) run
+  pub ran : All (Contains issued) run
 
 -- what joins the two ends of a client
 pub record AreJoined (profile : Profile) (map : MapState) (slot : SlotState) (client : ClientState) (history : History) : Type 0 where
-  pub client : TakesBuilt profile client history.built history.accepted
-  pub slot : TakesSaid profile slot history.said history.issued history.run
+  pub of_client : TakesBuilt profile client history.built history.accepted
+  pub of_slot : TakesSaid profile slot history.said history.issued history.run
 
 -- of a client that is at both ends
 abbrev pub IsJoined : Profile → MapState → Option SlotState → Option ClientState → History → Type 0

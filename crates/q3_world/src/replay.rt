@@ -1,7 +1,7 @@
 //! Both ends of every client and the datagrams that were made, and what an event does to them.
 
-ghost use Rattle.std.specs.Prelude.{◌≡◌, ◌+◌, ◌-◌, ◌<◌, ◌≤◌, [], length, slice_get, option_map, IfOk, OnErr};
-ghost use Rattle.q3_profile.specs.Profile.{IsProfile};
+ghost use Rattle.std.specs.Prelude.{◌≡◌, ◌+◌, ◌-◌, ◌<◌, ◌≤◌, [], length, slice_get, option_map, IfOk, OnOk, OnErr};
+ghost use Rattle.q3_profile.specs.Profile.{IsProfile, IsCodec};
 ghost use Rattle.q3_script.specs.Grammar.{IsReplayEvent};
 ghost use Rattle.q3_server.specs.Server.{places, most_numbers, emit_at};
 ghost use Rattle.q3_client.specs.Views.{snapshot_of};
@@ -11,7 +11,7 @@ ghost use Rattle.q3_world.specs.Outcome.{TakesMemory};
 
 use crate::answer::{Answer, MoveRefused, Shown};
 use crate::places::{empty_places, no_addresses};
-use crate::sent::{Direction, Sent, deliver_to, keep, room_for_one};
+use crate::sent::{Direction, Sent, arrive, keep, room_for_one};
 use arrayvec::ArrayVec;
 use q3_bits::NoMemory;
 use q3_chan::Datagram;
@@ -57,7 +57,8 @@ impl Replay {
     /// Nobody and nothing, by this profile, at the time 0. `Err` is want of memory.
     pub fn new(alloc: Global, profile: &Profile) -> Result<Replay, NoMemory>
         requires { IsProfile profile.now }
-        ensures { IfOk result (λ made. made ≡ opening_kept profile.now) }
+        ensures made { IfOk result (λ made. made ≡ opening_kept profile.now) }
+        ensures codec { OnOk result (IsCodec profile.now) }
     {
         Ok(Replay {
             alloc,
@@ -192,6 +193,14 @@ impl Replay {
         Answer::Move { c, outcome }
     }
 
+    /// The number that the next datagram gets: they count from 1.
+    fn next_number(&self) -> u32
+        requires { length self.now.datagrams < most_datagrams }
+        ensures { result ≡ length self.now.datagrams + 1 }
+    {
+        self.datagrams.len() as u32 + 1
+    }
+
     /// The server makes a datagram, whose memory is taken first.
     fn serve(&mut self, c: u8) -> Result<Answer, NoMemory>
         requires place { c < places }
@@ -202,8 +211,8 @@ impl Replay {
     {
         let bytes = room_for_one(self.alloc, &mut self.datagrams)?;
         let mut out = Datagram::new();
+        let datagram = self.next_number();
         let emitted = self.server.emit(c, &mut out);
-        let datagram = self.datagrams.len() as u32 + 1;
         keep(&mut self.datagrams, c, Direction::ToClient, bytes, &out);
         Ok(Answer::Serve {
             c,
@@ -222,7 +231,7 @@ impl Replay {
     {
         let bytes = room_for_one(self.alloc, &mut self.datagrams)?;
         let mut out = Datagram::new();
-        let datagram = self.datagrams.len() as u32 + 1;
+        let datagram = self.next_number();
         let Some(client) = &mut self.clients[c as usize] else {
             return Ok(Answer::Send {
                 c,
@@ -256,13 +265,7 @@ impl Replay {
         let Some(sent) = self.datagrams.get(number as usize - 1) else {
             return Answer::Unknown { datagram: number };
         };
-        match sent.direction {
-            Direction::ToClient => deliver_to(&mut self.clients, number, sent),
-            Direction::ToServer { from } => Answer::ToServer {
-                datagram: number,
-                took: self.server.take(from, &sent.bytes, heard),
-            },
-        }
+        arrive(&mut self.server, &mut self.clients, number, sent, heard)
     }
 
     fn show(&self, c: u8) -> Answer

@@ -142,19 +142,19 @@ fn print_refused<O: Sink>(c: u8, error: SlotError, out: &mut O) -> Result<(), Fa
     ensures cause { HasCause (O.faults out.old) (O.faults out.new) result }
 {
     laws::texts_follow();
-    print_refusal(c, out)?;
+    print_refusal(b"client ", c, out)?;
     print_slot_error(error, out)?;
     out.write_all(b"\n")
 }
 
 /// Prints what stands in front of the reason.
-fn print_refusal<O: Sink>(c: u8, out: &mut O) -> Result<(), Failed>
-    ensures adds { Adds (O.written out.old) (O.written out.new) (concat (codes "client " ∷ decimal c ∷ codes " refused " ∷ [])) result }
+fn print_refusal<O: Sink>(line: &[u8], c: u8, out: &mut O) -> Result<(), Failed>
+    ensures adds { Adds (O.written out.old) (O.written out.new) (concat (line.now ∷ decimal c ∷ codes " refused " ∷ [])) result }
     ensures cause { HasCause (O.faults out.old) (O.faults out.new) result }
 {
     print_all(
         &[
-            Piece::Text(b"client "),
+            Piece::Text(line),
             Piece::Number(u64::from(c)),
             Piece::Text(b" refused "),
         ],
@@ -189,24 +189,9 @@ fn print_move_refused<O: Sink>(c: u8, error: MoveError, out: &mut O) -> Result<(
     ensures cause { HasCause (O.faults out.old) (O.faults out.new) result }
 {
     laws::texts_follow();
-    print_move_refusal(c, out)?;
+    print_refusal(b"move ", c, out)?;
     print_move_error(error, out)?;
     out.write_all(b"\n")
-}
-
-/// Prints what stands in front of the reason.
-fn print_move_refusal<O: Sink>(c: u8, out: &mut O) -> Result<(), Failed>
-    ensures adds { Adds (O.written out.old) (O.written out.new) (concat (codes "move " ∷ decimal c ∷ codes " refused " ∷ [])) result }
-    ensures cause { HasCause (O.faults out.old) (O.faults out.new) result }
-{
-    print_all(
-        &[
-            Piece::Text(b"move "),
-            Piece::Number(u64::from(c)),
-            Piece::Text(b" refused "),
-        ],
-        out,
-    )
 }
 
 /// Prints the lines of a delivery to the server.

@@ -3,14 +3,15 @@
 ghost use Rattle.std.specs.Prelude.{◌≡◌, ◌<◌, ◌≤◌, ◌+◌, [], length, vec_capacity, Option, OnOk, IfOk};
 ghost use Rattle.q3_chan.specs.Sending.{Piece, HandsOut};
 ghost use Rattle.q3_server.specs.Server.{places};
-ghost use Rattle.q3_world.specs.Ends.{answered, client_at};
-ghost use Rattle.q3_world.specs.Kept.{Kept, datagrams_after, kept_to_client};
+ghost use Rattle.q3_world.specs.Ends.{answered, lent, client_at};
+ghost use Rattle.q3_world.specs.Kept.{Kept, datagrams_after, kept_to_client, kept_arrive};
 
 use crate::answer::Answer;
 use q3_bits::NoMemory;
 use q3_chan::{DATAGRAM_ROOM, Datagram};
 use q3_client::Client;
 use q3_io::Address;
+use q3_server::{Heard, Server};
 use std::alloc::Global;
 use std::marker::Model;
 
@@ -84,11 +85,45 @@ pub(crate) fn keep(
     }
 }
 
+/// The end that a datagram goes to takes it.
+pub(crate) fn arrive(
+    server: &mut Server,
+    clients: &mut Vec<Option<Client>>,
+    number: u32,
+    sent: &Sent,
+    heard: &mut Heard,
+) -> Answer
+    requires places { length clients.old.items ≡ places }
+    requires heard { heard.old.moves.items ≡ [] }
+    ensures places { length clients.new.items ≡ places }
+    ensures takes { (kept : Kept) → kept.ends.server ≡ server.old → kept.ends.clients ≡ clients.old.items → kept_arrive kept number sent.now sent.now.direction
+        ≡ record {
+          kept = record kept { ends = record kept.ends { server = server.new; clients = clients.new.items } };
+          answer = record {
+            answer = result;
+            snapshot = lent (record kept.ends { server = server.new; clients = clients.new.items }) result;
+            moves = heard.new.moves.items;
+          };
+        } }
+{
+    match sent.direction {
+        Direction::ToClient => to_client(clients, number, sent),
+        Direction::ToServer { from } => Answer::ToServer {
+            datagram: number,
+            took: server.take(from, &sent.bytes, heard),
+        },
+    }
+}
+
 /// The client that a datagram is for takes it.
-pub(crate) fn deliver_to(clients: &mut Vec<Option<Client>>, number: u32, sent: &Sent) -> Answer
+fn to_client(clients: &mut Vec<Option<Client>>, number: u32, sent: &Sent) -> Answer
     requires { length clients.old.items ≡ places }
-    ensures { (kept : Kept) → kept.ends.clients ≡ clients.old.items → kept_to_client kept number sent.now (client_at kept.ends sent.now.client)
-        ≡ record { kept = record kept { ends = record kept.ends { clients = clients.new.items } }; answer = answered (record kept.ends { clients = clients.new.items }) result } }
+    ensures places { length clients.new.items ≡ places }
+    ensures takes { (kept : Kept) → kept.ends.clients ≡ clients.old.items → kept_to_client kept number sent.now (client_at kept.ends sent.now.client)
+        ≡ record {
+          kept = record kept { ends = record kept.ends { clients = clients.new.items } };
+          answer = answered (record kept.ends { clients = clients.new.items }) result;
+        } }
 {
     let Some(client) = &mut clients[sent.client as usize] else {
         return Answer::Unknown { datagram: number };

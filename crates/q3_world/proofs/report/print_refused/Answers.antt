@@ -7,15 +7,15 @@ use Rattle.q3_world.proofs.report.print_refused.Goals as goal
 pub returns-in_err-print_refusal-clause-adds : goal.returns-in_err-print_refusal-clause-adds
 returns-in_err-print_refusal-clause-adds g c =
     let p = err_from_is_err_and c.from_residual.result c.from_residual.ensures.1 in
-    rw p.1 (c.texts_follow.ensures.early (slot_error_text c.args.error ++ codes "\n") c.in_err-print_refusal.ensures.adds (refused_in_parts c.args.c c.args.error))
+    rw p.1 (c.texts_follow.ensures.early (slot_error_text c.args.error ++ codes "\n") c.in_err-print_refusal.ensures.adds (refused_in_parts (codes "client ") c.args.c (slot_error_text c.args.error)))
 
 pub returns-in_err-print_slot_error-clause-adds : goal.returns-in_err-print_slot_error-clause-adds
 returns-in_err-print_slot_error-clause-adds g c =
     let p = err_from_is_err_and c.from_residual-in_err-print_slot_error.result c.from_residual-in_err-print_slot_error.ensures.1 in
     let law = c.texts_follow.ensures in
-    rw p.1 (law.more c.in_ok-print_refusal.ensures.adds (law.early (codes "\n") c.in_err-print_slot_error.ensures.adds refl) (refused_in_parts c.args.c c.args.error))
+    rw p.1 (law.more c.in_ok-print_refusal.ensures.adds (law.early (codes "\n") c.in_err-print_slot_error.ensures.adds refl) (refused_in_parts (codes "client ") c.args.c (slot_error_text c.args.error)))
 
 pub returns-clause-adds : goal.returns-clause-adds
 returns-clause-adds g c =
     let law = c.texts_follow.ensures in
-    law.more c.in_ok-print_refusal.ensures.adds (law.more c.in_ok-print_slot_error.ensures.adds c.write_all.ensures.adds refl) (refused_in_parts c.args.c c.args.error)
+    law.more c.in_ok-print_refusal.ensures.adds (law.more c.in_ok-print_slot_error.ensures.adds c.write_all.ensures.adds refl) (refused_in_parts (codes "client ") c.args.c (slot_error_text c.args.error))

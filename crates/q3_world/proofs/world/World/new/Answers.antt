@@ -2,4 +2,4 @@ use Rattle.q3_world.proofs.EverySchedule.{stands_opening}
 use Rattle.q3_world.proofs.world.World.new.Goals as goal
 
 pub returns : goal.returns
-returns c = record { stands = rw (c.in_ok-copy.ensures.copy, c.in_ok-new.ensures, c.in_ok-empty_places.ensures, c.new-2.ensures.items) (stands_opening c.args.profile.now c.in_ok-copy.ensures.codec) }
+returns c = record { stands = rw c.in_ok-new.ensures.made (stands_opening c.args.profile.now c.in_ok-new.ensures.codec) }
