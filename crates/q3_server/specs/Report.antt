@@ -1,11 +1,15 @@
 -- What the server's end answers, as reports print it.
-use Rattle.std.specs.Prelude.{ℕ, List, [], ◌∷◌, codes, decimal}
-use Rattle.std.specs.List.{concat}
+use Rattle.std.specs.Prelude.{ℕ, List, [], ◌∷◌, ◌++◌, codes, decimal, Option, Some, None}
+use Rattle.std.specs.List.{concat, flat_map}
+use Rattle.q3_clmsg.specs.declared.moves.Move.{Move}
+use Rattle.q3_clmsg.specs.Report.{move_text, cause_word, cause_number}
 use Rattle.q3_server.specs.declared.server.Emitted.{Emitted}
 use Rattle.q3_server.specs.declared.server.Emitted.TheVariants as emitted
 use Rattle.q3_server.specs.declared.server.NoClient.{NoClient}
 use Rattle.q3_server.specs.declared.server.SlotError.{SlotError}
 use Rattle.q3_server.specs.declared.server.SlotError.TheVariants.{Range, Taken, Twin}
+use Rattle.q3_server.specs.declared.taking.ServerTook.{ServerTook}
+use Rattle.q3_server.specs.declared.taking.ServerTook.TheVariants.{Runt, Connectionless, Stranger, Old, OutOfOrder, BadFragment, Partial, Illegible, Ran}
 
 -- why a client can't join
 abbrev pub slot_error_text : SlotError → List ℕ
@@ -30,3 +34,33 @@ emitted_text (emitted.Snapshot number base bytes) datagram =
 -- the line of a `serve`
 abbrev pub serve_text : ℕ → Emitted → ℕ → List ℕ
 serve_text c emission datagram = concat (codes "serve " ∷ decimal c ∷ emitted_text emission datagram ∷ [])
+
+-- the line of a slot's answer: its number, and a word
+abbrev pub slot_text : ℕ → List ℕ → List ℕ
+slot_text slot word = concat (codes " server " ∷ decimal slot ∷ codes " " ∷ word ∷ codes "\n" ∷ [])
+
+-- the line of a message that isn't legible
+abbrev pub illegible_text : ℕ → List ℕ → Option ℕ → List ℕ
+illegible_text slot word None = concat (codes " server " ∷ decimal slot ∷ codes " illegible " ∷ word ∷ codes "\n" ∷ [])
+illegible_text slot word (Some number) =
+    concat (codes " server " ∷ decimal slot ∷ codes " illegible " ∷ word ∷ codes " " ∷ decimal number ∷ codes "\n" ∷ [])
+
+-- the line of a message that was run
+abbrev pub ran_text : ℕ → ℕ → List ℕ
+ran_text slot number = concat (codes " server " ∷ decimal slot ∷ codes " ran " ∷ decimal number ∷ codes "\n" ∷ [])
+
+-- words, each behind a space
+abbrev pub spaced : List (List ℕ) → List ℕ
+spaced words = flat_map (λ word. codes " " ++ word) words
+
+-- what stands behind `deliver D` where the server took a datagram: the rest of that line, and a line for each move that was run
+abbrev pub server_text : ServerTook → List Move → List ℕ
+server_text Runt moves = codes " server runt\n"
+server_text Connectionless moves = codes " server connectionless\n"
+server_text Stranger moves = codes " server stranger\n"
+server_text (Old slot) moves = slot_text slot (codes "old")
+server_text (OutOfOrder slot) moves = slot_text slot (codes "outoforder")
+server_text (BadFragment slot) moves = slot_text slot (codes "badfragment")
+server_text (Partial slot) moves = slot_text slot (codes "partial")
+server_text (Illegible slot cause) moves = illegible_text slot (cause_word cause) (cause_number cause)
+server_text (Ran slot number) moves = ran_text slot number ++ flat_map move_text moves

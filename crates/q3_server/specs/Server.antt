@@ -1,6 +1,6 @@
 -- The server's end: what the game handed in for all clients, and a slot for each of them. Each call gives the server
 -- after it, and its answer.
-use Rattle.std.specs.Prelude.{◌≡◌, ℕ, ◌<◌, ◌+◌, ◌==◌, ◌&&◌, if◌then◌else◌, Bool, false, not, position, List, [], ◌∷◌, length, replicate, take, nat_le, nat_lt, Option, Some, None, slice_set, slice_index_or, Result, Ok, Err}
+use Rattle.std.specs.Prelude.{ℕ, ◌+◌, ◌==◌, ◌&&◌, if◌then◌else◌, Bool, false, not, position, List, [], ◌∷◌, length, replicate, take, nat_le, nat_lt, Option, Some, None, slice_set, slice_index_or, Result, Ok, Err}
 use Rattle.std.specs.List.{filter}
 use Rattle.arrayvec.specs.ArrayVec.{ArrayVec}
 use Rattle.q3_profile.specs.declared.profile.Profile.{Profile}

@@ -9,6 +9,6 @@ pub mod taking;
 #[cfg(test)]
 mod tests;
 
-pub use print::{print_emitted, print_slot_error};
+pub use print::{print_emitted, print_slot_error, print_took};
 pub use server::{Emitted, MOST_SLOTS, NoClient, Server, SlotError};
 pub use taking::{Heard, ServerTook};

@@ -1,12 +1,18 @@
 //! Prints what the server's end answers, as reports have it.
 
-ghost use Rattle.std.specs.Prelude.{◌≡◌};
+ghost use Rattle.std.specs.Prelude.{◌≡◌, [], ◌∷◌, ◌++◌, map, codes, decimal, unsigned_abs};
+ghost use Rattle.std.specs.Fmt.{signed_decimal};
+ghost use Rattle.std.specs.List.{concat, flat_map};
 ghost use Rattle.q3_io.specs.Faults.{HasCause};
 ghost use Rattle.q3_io.specs.Written.{Adds};
-ghost use Rattle.q3_server.specs.Report.{serve_text, slot_error_text};
+ghost use Rattle.q3_clmsg.specs.Report.{move_text, cause_word, cause_number};
+ghost use Rattle.q3_server.specs.Report.{serve_text, slot_error_text, slot_text, illegible_text, ran_text, server_text, spaced};
 
 use crate::server::{Emitted, SlotError};
-use q3_io::{Failed, Piece, Sink, print_all};
+use crate::taking::{Heard, ServerTook};
+use q3_clmsg::report::{cause_number, cause_word};
+use q3_clmsg::{ClientIllegible, Move};
+use q3_io::{Failed, Piece, Sink, laws, print_all};
 
 /// Prints the line of a `serve`. The datagram's number is used where one was handed out. `Failed` comes where the sink
 /// failed, behind a front of the line.
@@ -84,4 +90,185 @@ pub fn print_slot_error<O: Sink>(error: SlotError, out: &mut O) -> Result<(), Fa
             out,
         ),
     }
+}
+
+/// Prints what stands behind `deliver D`, or `arrive`, where the server took a datagram: the rest of that line, and a line
+/// for each move that it ran, which `heard` holds since that take. `Failed` comes where the sink failed, behind a front of
+/// it.
+pub fn print_took<O: Sink>(took: &ServerTook, heard: &Heard, out: &mut O) -> Result<(), Failed>
+    ensures adds { Adds (O.written out.old) (O.written out.new) (server_text took.now heard.now.moves.items) result }
+    ensures cause { HasCause (O.faults out.old) (O.faults out.new) result }
+{
+    match took {
+        ServerTook::Runt => out.write_all(b" server runt\n"),
+        ServerTook::Connectionless => out.write_all(b" server connectionless\n"),
+        ServerTook::Stranger => out.write_all(b" server stranger\n"),
+        ServerTook::Old(slot) => print_word(*slot, b"old", out),
+        ServerTook::OutOfOrder(slot) => print_word(*slot, b"outoforder", out),
+        ServerTook::BadFragment(slot) => print_word(*slot, b"badfragment", out),
+        ServerTook::Partial(slot) => print_word(*slot, b"partial", out),
+        ServerTook::Illegible(slot, cause) => print_illegible(*slot, *cause, out),
+        ServerTook::Ran { slot, number } => print_ran(*slot, *number, &heard.moves, out),
+    }
+}
+
+/// Prints the line of a slot's answer.
+fn print_word<O: Sink>(slot: u8, word: &[u8], out: &mut O) -> Result<(), Failed>
+    ensures adds { Adds (O.written out.old) (O.written out.new) (slot_text slot word.now) result }
+    ensures cause { HasCause (O.faults out.old) (O.faults out.new) result }
+{
+    print_all(
+        &[
+            Piece::Text(b" server "),
+            Piece::Number(u64::from(slot)),
+            Piece::Text(b" "),
+            Piece::Text(word),
+            Piece::Text(b"\n"),
+        ],
+        out,
+    )
+}
+
+/// Prints the line of a message that isn't legible.
+fn print_illegible<O: Sink>(slot: u8, cause: ClientIllegible, out: &mut O) -> Result<(), Failed>
+    ensures adds { Adds (O.written out.old) (O.written out.new) (illegible_text slot (cause_word cause) (cause_number cause)) result }
+    ensures cause { HasCause (O.faults out.old) (O.faults out.new) result }
+{
+    let Some(number) = cause_number(cause) else {
+        return print_all(
+            &[
+                Piece::Text(b" server "),
+                Piece::Number(u64::from(slot)),
+                Piece::Text(b" illegible "),
+                Piece::Text(cause_word(cause)),
+                Piece::Text(b"\n"),
+            ],
+            out,
+        );
+    };
+    print_all(
+        &[
+            Piece::Text(b" server "),
+            Piece::Number(u64::from(slot)),
+            Piece::Text(b" illegible "),
+            Piece::Text(cause_word(cause)),
+            Piece::Text(b" "),
+            Piece::Number(u64::from(number)),
+            Piece::Text(b"\n"),
+        ],
+        out,
+    )
+}
+
+/// Prints the line of a message that was run, and a line for each move.
+fn print_ran<O: Sink>(slot: u8, number: u32, moves: &[Move], out: &mut O) -> Result<(), Failed>
+    ensures adds { Adds (O.written out.old) (O.written out.new) (ran_text slot number ++ flat_map move_text moves.now) result }
+    ensures cause { HasCause (O.faults out.old) (O.faults out.new) result }
+{
+    laws::texts_follow();
+    print_number(slot, number, out)?;
+    print_moves(moves, out)
+}
+
+/// Prints the line of a message that was run.
+fn print_number<O: Sink>(slot: u8, number: u32, out: &mut O) -> Result<(), Failed>
+    ensures adds { Adds (O.written out.old) (O.written out.new) (ran_text slot number) result }
+    ensures cause { HasCause (O.faults out.old) (O.faults out.new) result }
+{
+    print_all(
+        &[
+            Piece::Text(b" server "),
+            Piece::Number(u64::from(slot)),
+            Piece::Text(b" ran "),
+            Piece::Number(u64::from(number)),
+            Piece::Text(b"\n"),
+        ],
+        out,
+    )
+}
+
+/// Prints a line for each move.
+fn print_moves<O: Sink>(moves: &[Move], out: &mut O) -> Result<(), Failed>
+    ensures adds { Adds (O.written out.old) (O.written out.new) (flat_map move_text moves.now) result }
+    ensures cause { HasCause (O.faults out.old) (O.faults out.new) result }
+{
+    laws::items_follow::<Move>();
+    for one in moves {
+        print_move(*one, out)?;
+    }
+    Ok(())
+}
+
+/// Prints the line of a move.
+fn print_move<O: Sink>(one: Move, out: &mut O) -> Result<(), Failed>
+    ensures adds { Adds (O.written out.old) (O.written out.new) (move_text one) result }
+    ensures cause { HasCause (O.faults out.old) (O.faults out.new) result }
+{
+    laws::texts_follow();
+    print_start(one, out)?;
+    print_steps(one, out)?;
+    print_rest(one, out)
+}
+
+/// Prints the beginning of a move's line: its time and angles.
+fn print_start<O: Sink>(one: Move, out: &mut O) -> Result<(), Failed>
+    ensures adds { Adds (O.written out.old) (O.written out.new) (codes "+ move" ++ spaced (decimal one.time ∷ map decimal one.angles)) result }
+    ensures cause { HasCause (O.faults out.old) (O.faults out.new) result }
+{
+    print_all(
+        &[
+            Piece::Text(b"+ move "),
+            Piece::Number(u64::from(one.time)),
+            Piece::Text(b" "),
+            Piece::Number(u64::from(one.angles[0])),
+            Piece::Text(b" "),
+            Piece::Number(u64::from(one.angles[1])),
+            Piece::Text(b" "),
+            Piece::Number(u64::from(one.angles[2])),
+        ],
+        out,
+    )
+}
+
+/// Prints how fast a player moves, each behind a space.
+fn print_steps<O: Sink>(one: Move, out: &mut O) -> Result<(), Failed>
+    ensures adds { Adds (O.written out.old) (O.written out.new) (spaced (signed_decimal one.forward ∷ signed_decimal one.right ∷ signed_decimal one.up ∷ [])) result }
+    ensures cause { HasCause (O.faults out.old) (O.faults out.new) result }
+{
+    print_all(
+        &[
+            Piece::Text(sign(one.forward)),
+            Piece::Number(u64::from(one.forward.unsigned_abs())),
+            Piece::Text(sign(one.right)),
+            Piece::Number(u64::from(one.right.unsigned_abs())),
+            Piece::Text(sign(one.up)),
+            Piece::Number(u64::from(one.up.unsigned_abs())),
+        ],
+        out,
+    )
+}
+
+/// What stands in front of a signed number's digits: a space, and its sign.
+fn sign(step: i8) -> &'static [u8]
+    ensures { result.now ++ decimal (unsigned_abs step) ≡ codes " " ++ signed_decimal step }
+{
+    if step < 0 { b" -" } else { b" " }
+}
+
+/// Prints the end of a move's line: the buttons and the weapon.
+fn print_rest<O: Sink>(one: Move, out: &mut O) -> Result<(), Failed>
+    ensures adds { Adds (O.written out.old) (O.written out.new)
+        (concat (codes " " ∷ decimal one.buttons ∷ codes " " ∷ decimal one.weapon ∷ codes "\n" ∷ [])) result }
+    ensures cause { HasCause (O.faults out.old) (O.faults out.new) result }
+{
+    print_all(
+        &[
+            Piece::Text(b" "),
+            Piece::Number(u64::from(one.buttons)),
+            Piece::Text(b" "),
+            Piece::Number(u64::from(one.weapon)),
+            Piece::Text(b"\n"),
+        ],
+        out,
+    )
 }

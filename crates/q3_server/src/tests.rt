@@ -1,12 +1,13 @@
 //! Clients that join and clients that can't, and datagrams with bytes worked by hand, by the plain code.
 
 use super::*;
-use q3_bits::{Code, NoMemory};
+use q3_bits::{Code, NoMemory, ReadError};
 use q3_clmsg::{ClientIllegible, Move};
 use q3_fields::Table;
 use q3_io::Address;
+use q3_memory::MemSink;
 use q3_profile::Profile;
-use std::alloc::Global;
+use std::alloc::{AllocError, Global};
 use std::process::Abort;
 use std::test::*;
 
@@ -209,4 +210,118 @@ fn a_move_is_shown_by_its_key(rt: HostRuntime) -> Result<(), Fail> {
         ServerTook::Connectionless
     );
     Ok(())
+}
+
+/// A piece of message 1 from the qport 5000 that has as many bytes as it says: nops, behind three longs that are 0 where
+/// it is the first.
+fn piece(alloc: Global, start: u16, length: u16) -> Result<Vec<u8>, AllocError> {
+    let mut piece = Vec::new(alloc);
+    piece.extend_from_slice(&[0x01, 0x00, 0x00, 0x80, 0x88, 0x13])?;
+    piece.extend_from_slice(&start.to_le_bytes())?;
+    piece.extend_from_slice(&length.to_le_bytes())?;
+    for place in 0..length {
+        piece.push(if start == 0 && place < 12 { 0 } else { 1 })?;
+    }
+    Ok(piece)
+}
+
+/// The server takes a datagram from host 1, which gives this answer, and so many moves run.
+fn takes(
+    rt: &impl Abort,
+    server: &mut Server,
+    datagram: &[u8],
+    heard: &mut Heard,
+    answer: ServerTook,
+    moves: usize,
+) {
+    let from = Address {
+        host: 1,
+        port: 27960,
+    };
+    assert_eq!(rt; server.take(from, datagram, heard), answer);
+    assert_eq!(rt; heard.moves.len(), moves);
+}
+
+#[test]
+fn a_message_comes_in_two_pieces(rt: HostRuntime) -> Result<(), Fail> {
+    let alloc = rt.alloc();
+    let mut server = server(
+        alloc,
+        Table::of(&[0, 8, -16]).expect(&rt, "a table"),
+        Table::of(&[0, 16]).expect(&rt, "a table"),
+    )?;
+    assert_eq!(rt; join(&mut server, 1, 5000, 1, 27960), Ok(()));
+    let mut heard = Heard::new();
+    let first = piece(alloc, 0, 1_300)?;
+    let behind_a_gap = piece(alloc, 1_301, 5)?;
+    let long = piece(alloc, 1_300, 1_301)?;
+    // it begins at 1,300 and has five bytes: a move at the time 5
+    let last = [
+        0x01, 0x00, 0x00, 0x80, 0x88, 0x13, 0x14, 0x05, 0x05, 0x00, 0x03, 0x01, 0x0b, 0x14, 0x00,
+    ];
+    let ran = ServerTook::Ran { slot: 1, number: 1 };
+    let (server, heard) = (&mut server, &mut heard);
+    takes(&rt, server, &first, heard, ServerTook::Partial(1), 0);
+    takes(
+        &rt,
+        server,
+        &behind_a_gap,
+        heard,
+        ServerTook::OutOfOrder(1),
+        0,
+    );
+    takes(&rt, server, &long, heard, ServerTook::BadFragment(1), 0);
+    takes(
+        &rt,
+        server,
+        &last[..14],
+        heard,
+        ServerTook::BadFragment(1),
+        0,
+    );
+    takes(&rt, server, &last, heard, ran, 1);
+    takes(&rt, server, &last, heard, ServerTook::Old(1), 0);
+    Ok(())
+}
+
+/// Prints an answer and what was heard, which gives this text.
+fn prints(rt: &impl Abort, alloc: Global, took: ServerTook, heard: &Heard, text: &[u8]) {
+    let mut out = MemSink::new(alloc, 128, &[]).expect(rt, "memory");
+    assert_eq!(rt; print_took(&took, heard, &mut out), Ok(()));
+    assert_eq!(rt; out.bytes(), text);
+}
+
+#[test]
+fn answers_are_printed(rt: HostRuntime) {
+    let alloc = rt.alloc();
+    let mut heard = Heard::new();
+    let mut one = Move::none();
+    one.time = 500;
+    one.forward = 10;
+    heard.moves.push(one);
+    heard.moves.push(Move {
+        time: 510,
+        angles: [1, 65535, 0],
+        forward: -127,
+        right: 127,
+        up: -1,
+        buttons: 16,
+        weapon: 255,
+    });
+    let ran = ServerTook::Ran { slot: 0, number: 2 };
+    let lines =
+        b" server 0 ran 2\n+ move 500 0 0 0 10 0 0 0 0\n+ move 510 1 65535 0 -127 127 -1 16 255\n";
+    prints(&rt, alloc, ran, &heard, lines);
+    let moves = ServerTook::Illegible(15, ClientIllegible::MoveCount(33));
+    let line = b" server 15 illegible moves 33\n";
+    prints(&rt, alloc, moves, &heard, line);
+    let end = ServerTook::Illegible(1, ClientIllegible::Bits(ReadError::End));
+    prints(&rt, alloc, end, &heard, b" server 1 illegible end\n");
+    prints(
+        &rt,
+        alloc,
+        ServerTook::Stranger,
+        &heard,
+        b" server stranger\n",
+    );
 }
