@@ -40,7 +40,9 @@ use Rattle.q3_world.specs.World.{Tag, Step, Whole, History, history_at, opening,
 use Rattle.q3_world.specs.StandsFor.{IsSent, IsClient, WasBuilt, Rise, AreJoined, IsJoined, StandsFor, bytes_of}
 use Rattle.q3_world.specs.Schedules.{StepFollows, kept_then, whole_then, BytesFollowTags, AcceptedWereBuilt, ShownWasBuilt, WasApplied, AppliedWasBuilt, NewerIsAccepted}
 use Rattle.q3_world.proofs.Events.{Holds, Holds-opening, tag_was_built, names_built}
-use Rattle.q3_world.proofs.Agreement.{Cited, seen, stands_of, stands_next, kept_is, IsFor, is_sent, is_for, tag_is, delivers_agree}
+use Rattle.q3_world.proofs.Agree.{Cited, seen}
+use Rattle.q3_world.proofs.Arriving.{IsFor, is_sent, is_for, tag_is, delivers_agree}
+use Rattle.q3_world.proofs.Agreement.{stands_of, stands_next, kept_is}
 use Rattle.q3_world.proofs.Clients.{last_is}
 use Rattle.q3_world.proofs.OnePlace.{set_there}
 

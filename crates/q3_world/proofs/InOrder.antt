@@ -31,7 +31,8 @@ use Rattle.q3_world.specs.Layers.{Layers}
 use Rattle.q3_world.specs.Schedules.{kept_then, whole_then, BytesFollowTags, ArePieces, deliveries, InOrderIsAccepted}
 use Rattle.q3_world.proofs.Clients.{at_number}
 use Rattle.q3_world.proofs.Events.{Holds, has_client, tag_was_built}
-use Rattle.q3_world.proofs.Agreement.{kept_is, is_sent, is_for, delivers_agree}
+use Rattle.q3_world.proofs.Arriving.{is_sent, is_for, delivers_agree}
+use Rattle.q3_world.proofs.Agreement.{kept_is}
 use Rattle.q3_world.proofs.EverySchedule.{cited_of, answers_tag}
 use Rattle.q3_world.proofs.OnePlace.{set_there}
 

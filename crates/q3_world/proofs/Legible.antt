@@ -38,7 +38,7 @@ use Rattle.q3_world.specs.World.{Tag, Whole, opening, step, send, named, to_clie
 use Rattle.q3_world.specs.StandsFor.{IsSent, StandsFor}
 use Rattle.q3_world.specs.Schedules.{StepFollows, IsLegible, AlwaysLegible}
 use Rattle.q3_world.proofs.Events.{Holds, has_client}
-use Rattle.q3_world.proofs.Agreement.{IsOf, is_sent, is_of_client, slot_of_tag}
+use Rattle.q3_world.proofs.Arriving.{IsOf, is_sent, is_of_client, slot_of_tag}
 use Rattle.q3_world.proofs.EverySchedule.{stands_opening}
 
 -- ---- what the game hands in

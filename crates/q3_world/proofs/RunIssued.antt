@@ -25,7 +25,8 @@ use Rattle.q3_world.specs.Layers.{Layers}
 use Rattle.q3_world.specs.Schedules.{kept_then, whole_then, history_then, BytesFollowTags, NewerIsRun, MovesWereIssued}
 use Rattle.q3_world.proofs.MoveLists.{stand_among}
 use Rattle.q3_world.proofs.Events.{Holds}
-use Rattle.q3_world.proofs.Agreement.{kept_is, is_sent, is_of_client, said_tag_is, delivers_agree}
+use Rattle.q3_world.proofs.Arriving.{is_sent, is_of_client, said_tag_is, delivers_agree}
+use Rattle.q3_world.proofs.Agreement.{kept_is}
 use Rattle.q3_world.proofs.EverySchedule.{cited_of, tag_of}
 
 -- ---- moves

@@ -1,0 +1,93 @@
+-- A step by bytes is a step by tags: what that rests on, and where nothing changes.
+use Rattle.std.proofs.Common.{◌≡◌, ℕ, ◌+◌, ◌-◌, ◌^◌, ◌<◌, ◌≤◌, List, ◌∷◌, ◌++◌, map, Option, Some, None, Ok, refl, sym, subst, ◌∙◌, inl, inr}
+use Rattle.std.specs.Prelude.{◌⊎◌, ◌&&◌}
+use Rattle.q3_bits.specs.Bits.{bits_of, message_bytes}
+use Rattle.q3_bits.specs.Laws.{MessageIsBytes}
+use Rattle.q3_profile.specs.declared.profile.Profile.{Profile}
+use Rattle.q3_player.specs.State.{zero_player, normal_player, IsState}
+use Rattle.q3_player.specs.declared.state.PlayerState.{PlayerState}
+use Rattle.q3_fields.specs.States.{AreWords}
+use Rattle.q3_fields.specs.Kinds.{end_mark}
+use Rattle.q3_entity.specs.declared.state.EntityState.{EntityState}
+use Rattle.q3_entity.specs.Entities.{normal_entity, IsNormal}
+use Rattle.q3_clmsg.specs.Laws.{IsMessage}
+use Rattle.q3_svmsg.specs.Values.{Message}
+use Rattle.q3_svmsg.specs.Reading.{message_at}
+use Rattle.q3_chan.specs.Datagrams.{datagram}
+use Rattle.q3_chan.specs.Senders.{QportIsTold}
+use Rattle.q3_chan.specs.Laws.{SentIsTagged, TaggedDoes, EndsGather, EndsSend}
+use Rattle.q3_client.specs.Client.{no_bases, ClientState}
+use Rattle.q3_client.specs.Sending.{said_bytes, Said}
+use Rattle.q3_server.specs.Built.{IsHeld, IsBuilt}
+use Rattle.q3_server.specs.Server.{built_bits}
+use Rattle.q3_server.specs.Taking.{said_by}
+use Rattle.q3_world.specs.Ends.{client_at}
+use Rattle.q3_world.specs.Kept.{Kept, KeptStep}
+use Rattle.q3_world.specs.World.{Tag, Step, Whole, History, history_at, with_history, step}
+use Rattle.q3_world.specs.StandsFor.{bytes_of}
+use Rattle.q3_world.proofs.Growth.{noted_same}
+use Rattle.q3_world.proofs.Events.{Holds, with_client_of, same_clients}
+
+-- ---- what is cited of the layers below
+
+-- a message that was built is read back
+abbrev pub ReadsBack : Profile → Type 0
+ReadsBack profile = (number : ℕ) (message : Message) → IsBuilt profile number message
+    → message_at profile no_bases number (bits_of (message_bytes (built_bits profile message))) ≡ Ok message
+
+-- and one that a client said
+abbrev pub HearsBack : Profile → Type 0
+HearsBack profile = (said : Said) → IsMessage said → said_by profile (said_bytes profile said) ≡ Ok said
+
+-- what is read back, which players and entities are in normal form, which numbers entities may have, what a datagram does that was
+-- sent and which qport it tells, and how many bytes a message has
+pub record Cited (profile : Profile) : Type 0 where
+  pub reads : ReadsBack profile
+  pub hears : HearsBack profile
+  pub zero : IsHeld profile zero_player
+  pub normal : (player : PlayerState) → IsState player → IsHeld profile (normal_player profile.player.kinds player)
+  pub normal_entity : (entity : EntityState) → AreWords 64 entity.words
+      → AreWords 64 (normal_entity profile.entity entity).words × IsNormal profile.entity (normal_entity profile.entity entity)
+  pub end : 1023 ≤ end_mark profile.entity
+  pub tags : SentIsTagged
+  pub qport : QportIsTold
+  pub does : TaggedDoes
+  pub gathers : EndsGather
+  pub sends : EndsSend
+  pub bytes : MessageIsBytes
+
+-- ---- what is kept of a whole world
+
+abbrev pub kept_of : Profile → Whole → Kept
+kept_of profile whole = record { profile = profile; ends = whole.ends; datagrams = map bytes_of whole.sent }
+
+abbrev pub seen : Profile → Step → KeptStep
+seen profile s = record { kept = kept_of profile s.whole; answer = s.answer }
+
+-- a step by bytes is a step by tags, and what holds stays
+pub record Agree (profile : Profile) (kept : KeptStep) (whole : Step) : Type 0 where
+  pub same : kept ≡ seen profile whole
+  pub holds : Holds profile whole.whole
+
+-- ---- where nothing changes
+
+-- nothing, or something
+pub found_or : {X : Type 0} (o : Option X) → (o ≡ None) ⊎ ((x : X) × (o ≡ Some x))
+found_or None = inl refl
+found_or (Some x) = inr (x, refl)
+
+-- nothing new is noted of a client
+pub unnoted : (profile : Profile) (whole : Whole) (c : ℕ) → Holds profile whole
+    → Holds profile (record whole { histories = with_history whole.histories c (history_at whole.histories c) })
+unnoted profile whole c holds = subst (λ (histories : List History). Holds profile (record whole { histories = histories })) (sym (noted_same whole.histories c)) holds
+
+-- a client left as it was, of which nothing new is noted
+pub left_alone : (profile : Profile) (whole : Whole) (c : ℕ) (client : ClientState) (sent : List Tag) → client_at whole.ends c ≡ Some client → sent ≡ whole.sent → Holds profile whole
+    → Holds profile (with_client_of whole c client (history_at whole.histories c) sent)
+left_alone profile whole c client sent found same holds =
+    subst (λ (clients : List (Option ClientState)). Holds profile (record {
+      ends = record whole.ends { clients = clients };
+      histories = with_history whole.histories c (history_at whole.histories c);
+      sent = sent;
+    })) (sym (same_clients whole.ends c client found))
+    (subst (λ (tags : List Tag). Holds profile (record whole { histories = with_history whole.histories c (history_at whole.histories c); sent = tags })) (sym same) (unnoted profile whole c holds))

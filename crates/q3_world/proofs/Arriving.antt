@@ -1,0 +1,376 @@
+-- A datagram arrives by its bytes as by its tag.
+use Rattle.std.proofs.Common.{◌≡◌, ℕ, ◌+◌, ◌-◌, ◌^◌, ◌<◌, ◌≤◌, true, List, [], ◌∷◌, ◌++◌, length, Option, Some, None, Result, Ok, refl, sym, ap, subst, ◌∙◌, inl, inr, arith, lit<}
+use Rattle.std.specs.Prelude.{◌⊎◌, ◌&&◌, slice_get, slice_index_or, All, Contains}
+use Rattle.std.specs.Option.{option_map}
+use Rattle.std.proofs.lemmas.List.{append-nil}
+use Rattle.std.proofs.lemmas.List.Elements.{All-nil}
+use Rattle.std.proofs.lemmas.Option.{slice_get-map, slice_get_within, get_or_from_slice_get}
+use Rattle.q3_profile.specs.declared.profile.Profile.{Profile}
+use Rattle.q3_io.specs.declared.address.Address.{Address}
+use Rattle.q3_script.specs.declared.event.Event.TheVariants as events
+use Rattle.q3_clmsg.specs.declared.moves.Move.{Move}
+use Rattle.q3_clmsg.specs.declared.error.ClientIllegible.{ClientIllegible}
+use Rattle.q3_clmsg.specs.Laws.{IsMessage}
+use Rattle.q3_clmsg.specs.Values as client_told
+use Rattle.q3_clmsg.specs.Values.{empty_message}
+use Rattle.q3_svmsg.specs.declared.error.Illegible.{Illegible}
+use Rattle.q3_svmsg.specs.Values.{Message}
+use Rattle.q3_chan.specs.declared.side.Side.{Side}
+use Rattle.q3_chan.specs.declared.side.Side.TheVariants.{Server, Client}
+use Rattle.q3_chan.specs.declared.gatherer.Gathered.{Gathered}
+use Rattle.q3_chan.specs.declared.gatherer.Gathered.TheVariants as gathered
+use Rattle.q3_chan.specs.declared.qport.NoQport.{NoQport}
+use Rattle.q3_chan.specs.Datagrams.{sequence_end, datagram}
+use Rattle.q3_chan.specs.Gathering.{Gathering, Took, gathered as gathered_of}
+use Rattle.q3_chan.specs.Tags.{tagged, IsQuiet, PieceDoes}
+use Rattle.q3_chan.specs.Senders.{qport_of}
+use Rattle.q3_chan.specs.Laws.{IsSendable, HoldsFront, SentIsTagged, Gathers}
+use Rattle.q3_client.specs.Client.{ClientState, Taken, without_game, read_by, take_answer, take_gathered, take_unless, take_at}
+use Rattle.q3_client.specs.Moves.{carried}
+use Rattle.q3_client.specs.Sending.{said_bytes, Said}
+use Rattle.q3_server.specs.Built.{IsBuilt}
+use Rattle.q3_server.specs.Server.{SlotState, Built, places, slot_at, built_bytes}
+use Rattle.q3_server.specs.Taking as hears
+use Rattle.q3_server.specs.Taking.{sender_of, runs, last_run_of, said_by}
+use Rattle.q3_world.specs.declared.sent.Direction.{Direction}
+use Rattle.q3_world.specs.declared.sent.Direction.TheVariants.{ToClient, ToServer}
+use Rattle.q3_world.specs.Ends.{client_at, address_at}
+use Rattle.q3_world.specs.Kept.{kept_client_took, kept_to_client, kept_server_took, kept_arrive, kept_deliver, kept_step}
+use Rattle.q3_world.specs.World.{Tag, Whole, History, no_message, history_at, named, client_took, to_client, said_under, server_took, to_server, arrive, deliver, step}
+use Rattle.q3_world.specs.StandsFor.{KeepsSlot, IsPiece, IsSent, IsClient, IsWay, WasBuilt, messages_of, messages_said, bytes_of}
+use Rattle.q3_world.proofs.MoveLists.{consecutive_issued, runs_are}
+use Rattle.q3_world.proofs.Clients.{no_client, at_number, said_number, KeepsSlot-ran, TakesBuilt-gathered, TakesBuilt-accepted}
+use Rattle.q3_world.proofs.Events.{Holds, Holds-taken, Holds-heard, has_slot, has_client, tag_was_built, names_built}
+use Rattle.q3_world.proofs.Agree.{ReadsBack, HearsBack, Cited, kept_of, Agree, found_or}
+use Rattle.q3_world.proofs.Making.{quiet, sendable}
+
+-- ---- what a datagram does
+
+-- by its bytes a datagram does what it does by its tag
+pub piece_is : (messages : ℕ → List ℕ) (g : Gathering) (side : Side) (qport last : ℕ) (tag : Tag) → SentIsTagged → HoldsFront messages g → g.side ≡ side → qport < 2 ^ 16
+    → last < sequence_end → IsSendable (messages tag.number) → IsPiece side qport messages last tag
+    → gathered_of g tag.bytes ≡ tagged g tag.number (messages tag.number) tag.index
+piece_is messages g side qport last tag law front from fits short may is =
+    let begun = is.begun in
+    let n = tag.number in
+    ap (gathered_of g) (is.bytes ∙ ap (λ (s : Side). datagram s qport n (messages n) tag.index) (sym from))
+    ∙ (law messages g qport n tag.index front fits is.some (omega (arith, begun, short)) may is.piece).0
+
+-- a message of a number that was begun may be sent
+pub begun_sendable : {X : Type 0} (bytes_are : X → List ℕ) (messages : List X) (d : X) (number : ℕ) → ((k : ℕ) (d : X) → k < length messages → IsSendable (bytes_are (slice_index_or messages k d)))
+    → 1 ≤ number → number ≤ length messages → IsSendable (bytes_are (slice_index_or messages (number - 1) d))
+begun_sendable bytes_are messages d number each some begun = each (number - 1) d (omega (arith, some, begun))
+
+-- ---- delivering to a client
+
+abbrev pub Read : Type 0
+Read = Result Message Illegible
+
+-- where nothing came whole, nothing is read
+pub quiet_same : (client : ClientState) (answer : Gathered) (read other : ℕ → Read) → IsQuiet answer → take_answer client answer read ≡ take_answer client answer other
+quiet_same client (gathered.Whole number count) read other is = absurd is
+quiet_same client gathered.Partial read other is = refl
+quiet_same client gathered.Old read other is = refl
+quiet_same client gathered.OutOfOrder read other is = refl
+quiet_same client gathered.BadFragment read other is = absurd is
+quiet_same client gathered.Runt read other is = absurd is
+quiet_same client gathered.Connectionless read other is = absurd is
+
+-- the client is as it was, and accepts nothing
+pub quiet_client : (client : ClientState) (answer : Gathered) (read : ℕ → Read) → IsQuiet answer
+    → ((take_answer client answer read).client ≡ client) × ((take_answer client answer read).heard ≡ None)
+quiet_client client (gathered.Whole number count) read is = absurd is
+quiet_client client gathered.Partial read is = (refl, refl)
+quiet_client client gathered.Old read is = (refl, refl)
+quiet_client client gathered.OutOfOrder read is = (refl, refl)
+quiet_client client gathered.BadFragment read is = absurd is
+quiet_client client gathered.Runt read is = absurd is
+quiet_client client gathered.Connectionless read is = absurd is
+
+-- a message that was built has no gamestate
+pub no_game : (profile : Profile) (number : ℕ) (message : Message) → IsBuilt profile number message → without_game message message.section ≡ Ok message
+no_game profile number message is = subst (λ (m : Message). without_game m m.section ≡ Ok m) (sym is.is) refl
+
+-- what comes whole is read as the message that was built
+pub taken_alike : (profile : Profile) (client : ClientState) (took : Took) (number : ℕ) (built : Built) → ReadsBack profile → IsBuilt profile number built → client.profile ≡ profile
+    → PieceDoes client.gathering number (built_bytes profile built) took
+    → take_gathered client took (read_by client.profile took.message) ≡ take_gathered client took (λ n. Ok built)
+taken_alike profile client took number built reads is by does =
+    elim does.either [
+      | inl waits ↦ quiet_same (record client { gathering = took.gathering }) took.answer (read_by client.profile took.message) (λ n. Ok built) waits.quiet
+      | inr came ↦ rw (came.answer, came.message_is, by, reads number built is, no_game profile number built is) refl
+    ]
+
+-- a tag of a datagram for a client
+abbrev pub IsFor : Profile → Whole → Tag → Type 0
+IsFor profile whole tag =
+    (tag.client < places)
+    × IsPiece Server 0 (messages_of profile (history_at whole.histories tag.client).built) (length (history_at whole.histories tag.client).built) tag
+
+-- what a datagram that was made does by its bytes it does by its tag
+pub tag_is : (profile : Profile) (whole : Whole) (tag : Tag) (client : ClientState) → Cited profile → IsFor profile whole tag
+    → client_at whole.ends tag.client ≡ Some client → Holds profile whole
+    → gathered_of client.gathering tag.bytes ≡ tagged client.gathering tag.number (built_bytes profile (named whole.histories tag)) tag.index
+tag_is profile whole tag client cited is found holds =
+    let built = (history_at whole.histories tag.client).built in
+    let messages = messages_of profile built in
+    let had = has_client profile whole tag.client client is.0 found holds in
+    let at = at_number profile built tag.number is.1.some in
+    let may = begun_sendable (built_bytes profile) built no_message tag.number had.1.keeps.of_slot.sendable is.1.some is.1.begun in
+    piece_is messages client.gathering Server 0 (length built) tag cited.tags had.1.joined.of_client.gathers.front had.1.keeps.of_client.from (lit< tt) had.1.keeps.of_slot.short
+    (subst IsSendable (sym at) may) is.1
+    ∙ ap (λ (m : List ℕ). tagged client.gathering tag.number m tag.index) at
+
+-- and what is gathered then was begun
+pub tag_gathers : (profile : Profile) (whole : Whole) (tag : Tag) (client : ClientState) → Cited profile → IsFor profile whole tag
+    → client_at whole.ends tag.client ≡ Some client → Holds profile whole
+    → Gathers (messages_of profile (history_at whole.histories tag.client).built) (length (history_at whole.histories tag.client).built)
+    (tagged client.gathering tag.number (built_bytes profile (named whole.histories tag)) tag.index).gathering
+tag_gathers profile whole tag client cited is found holds =
+    let built = (history_at whole.histories tag.client).built in
+    let messages = messages_of profile built in
+    let had = has_client profile whole tag.client client is.0 found holds in
+    subst (λ (m : List ℕ). Gathers messages (length built) (tagged client.gathering tag.number m tag.index).gathering) (at_number profile built tag.number is.1.some)
+    (cited.gathers.piece messages (length built) client.gathering tag.number tag.index had.1.joined.of_client.gathers is.1.begun)
+
+-- what arrives of a piece: what holds stays
+pub holds_piece : (profile : Profile) (whole : Whole) (c number n : ℕ) (client : ClientState) (took : Took) (built : Built) → c < places → client_at whole.ends c ≡ Some client
+    → PieceDoes client.gathering n (built_bytes profile built) took
+    → Gathers (messages_of profile (history_at whole.histories c).built) (length (history_at whole.histories c).built) took.gathering
+    → (is : IsBuilt profile n built) → WasBuilt (history_at whole.histories c).built is.snapshot
+    → Holds profile whole → Holds profile (client_took whole number c (take_gathered client took (λ n. Ok built))).whole
+holds_piece profile whole c number n client took built lt found does gathers is was holds =
+    let g = took.gathering in
+    let history = history_at whole.histories c in
+    elim does.either [
+      | inl waits ↦
+          let same = quiet_client (record client { gathering = g }) took.answer (λ n. Ok built) waits.quiet in
+          rw (same.0, same.1) (Holds-taken profile whole c client g client.accepted client.delta None lt found does.side
+          (λ takes. TakesBuilt-gathered profile client history.built history.accepted g waits.taken gathers takes) holds)
+      | inr came ↦
+          let newer = came.newer in
+          let number_is = is.number in
+          rw (came.answer, is.is) (Holds-taken profile whole c client g (Some is.snapshot) true (Some is.snapshot) lt found does.side
+          (λ takes. TakesBuilt-accepted profile client history.built history.accepted g is.snapshot (came.taken ∙ sym number_is) gathers was
+          (omega (arith, newer, number_is)) takes) holds)
+    ]
+
+-- a client takes a datagram by what its bytes do
+pub taken_by_bytes : (client : ClientState) (bytes : List ℕ) (took : Took) → client.dropped ≡ None → gathered_of client.gathering bytes ≡ took
+    → take_at client bytes ≡ take_gathered client took (read_by client.profile took.message)
+unfolding take_at
+taken_by_bytes client bytes took legible e = ap (λ (dropped : Option Illegible). take_unless client bytes dropped) legible ∙ rw e refl
+
+pub delivered_to : (profile : Profile) (whole : Whole) (number : ℕ) (tag : Tag) (found : Option ClientState) → Cited profile
+    → IsFor profile whole tag → client_at whole.ends tag.client ≡ found → Holds profile whole
+    → Agree profile (kept_to_client (kept_of profile whole) number (bytes_of tag) found) (to_client profile whole number tag found)
+delivered_to profile whole number tag None cited is at holds = record { same = refl; holds = holds }
+delivered_to profile whole number tag (Some client) cited is at holds =
+    let built = named whole.histories tag in
+    let was_built = tag_was_built profile whole tag client is.0 is.1 at holds in
+    let had = has_client profile whole tag.client client is.0 at holds in
+    let took = tagged client.gathering tag.number (built_bytes profile built) tag.index in
+    let does = cited.does client.gathering tag.number (built_bytes profile built) tag.index in
+    record {
+      same = ap (λ (t : Taken). kept_client_took (kept_of profile whole) number tag.client t)
+          (taken_by_bytes client tag.bytes took had.1.joined.of_client.legible (tag_is profile whole tag client cited is at holds)
+          ∙ taken_alike profile client took tag.number built cited.reads was_built had.1.keeps.of_client.by does);
+      holds = holds_piece profile whole tag.client number tag.number client took built is.0 at does (tag_gathers profile whole tag client cited is at holds) was_built
+          (names_built profile whole tag is.1 was_built) holds;
+    }
+
+-- ---- delivering to the server
+
+abbrev pub Heard : Type 0
+Heard = Result client_told.Message ClientIllegible
+
+-- where nothing came whole, nothing is read
+pub quiet_heard : (slot : SlotState) (c : ℕ) (answer : Gathered) (read other : ℕ → Heard) → IsQuiet answer → hears.take_answer slot c answer read ≡ hears.take_answer slot c answer other
+quiet_heard slot c (gathered.Whole number count) read other is = absurd is
+quiet_heard slot c gathered.Partial read other is = refl
+quiet_heard slot c gathered.Old read other is = refl
+quiet_heard slot c gathered.OutOfOrder read other is = refl
+quiet_heard slot c gathered.BadFragment read other is = absurd is
+quiet_heard slot c gathered.Runt read other is = absurd is
+quiet_heard slot c gathered.Connectionless read other is = absurd is
+
+-- the slot is as it was, and runs nothing
+pub quiet_slot : (slot : SlotState) (c : ℕ) (answer : Gathered) (read : ℕ → Heard) → IsQuiet answer
+    → ((hears.take_answer slot c answer read).slot ≡ slot) × ((hears.take_answer slot c answer read).moves ≡ [])
+quiet_slot slot c (gathered.Whole number count) read is = absurd is
+quiet_slot slot c gathered.Partial read is = (refl, refl)
+quiet_slot slot c gathered.Old read is = (refl, refl)
+quiet_slot slot c gathered.OutOfOrder read is = (refl, refl)
+quiet_slot slot c gathered.BadFragment read is = absurd is
+quiet_slot slot c gathered.Runt read is = absurd is
+quiet_slot slot c gathered.Connectionless read is = absurd is
+
+-- what comes whole is read as the message that was said
+pub heard_alike : (profile : Profile) (slot : SlotState) (c : ℕ) (took : Took) (number : ℕ) (said : Said) → HearsBack profile → IsMessage said
+    → PieceDoes slot.gathering number (said_bytes profile said) took
+    → (from : Address)
+    → hears.take_gathered (record slot { address = from }) c took (λ k. said_by profile took.message) ≡ hears.take_gathered (record slot { address = from }) c took (λ k. Ok said)
+heard_alike profile slot c took number said hears_back is does from =
+    elim does.either [
+      | inl waits ↦ quiet_heard (record slot { address = from; gathering = took.gathering }) c took.answer (λ k. said_by profile took.message) (λ k. Ok said) waits.quiet
+      | inr came ↦ rw (came.answer, came.message_is, hears_back said is) refl
+    ]
+
+-- a tag of a client's datagram
+abbrev pub IsOf : Profile → Whole → Tag → Address → Type 0
+IsOf profile whole tag from =
+    (tag.client < places) × (from.host ≡ (history_at whole.histories tag.client).host)
+    × IsPiece Client (history_at whole.histories tag.client).qport (messages_said profile (history_at whole.histories tag.client).said) (length (history_at whole.histories tag.client).said) tag
+
+-- the server takes it by what its bytes do to its client's slot
+pub heard_by_bytes : (profile : Profile) (whole : Whole) (tag : Tag) (from : Address) (slot : SlotState) → Cited profile → IsOf profile whole tag from
+    → slot_at whole.ends.server tag.client ≡ Some slot → Holds profile whole
+    → hears.take_at whole.ends.server from tag.bytes ≡ hears.taken_at whole.ends.server tag.client (hears.take_slot profile tag.client from tag.bytes slot)
+unfolding hears.take_at
+heard_by_bytes profile whole tag from slot cited is at holds =
+    let server = whole.ends.server in
+    let c = tag.client in
+    let history = history_at whole.histories c in
+    let had = has_slot profile whole c slot is.0 at holds in
+    let keeps = had.1.keeps in
+    let messages = messages_said profile history.said in
+    let some = is.2.some in
+    let begun = is.2.begun in
+    let short = keeps.of_client.short in
+    let may = begun_sendable (said_bytes profile) history.said empty_message tag.number keeps.of_client.sendable is.2.some is.2.begun in
+    let told : qport_of tag.bytes ≡ Ok history.qport =
+    ap qport_of is.2.bytes
+    ∙ cited.qport history.qport tag.number tag.index (messages tag.number) keeps.of_client.fits (omega (arith, begun, short))
+    (subst IsSendable (sym (said_number profile history.said tag.number is.2.some)) may) is.2.piece in
+    let found : sender_of server from.host history.qport ≡ Some c =
+    ap (λ (h : ℕ). sender_of server h history.qport) (is.1 ∙ sym keeps.of_slot.host)
+    ∙ (ap (λ (q : ℕ). sender_of server slot.address.host q) (sym keeps.of_slot.qport) ∙ holds.facts.found c slot at) in
+    ap (λ (r : Result ℕ NoQport). hears.take_headed server from tag.bytes r) told
+    ∙ (ap (λ (o : Option ℕ). hears.take_from server from tag.bytes o) found
+    ∙ (ap (λ (o : Option SlotState). hears.take_by server c from tag.bytes o) at
+    ∙ ap (λ (p : Profile). hears.taken_at server c (hears.take_slot p c from tag.bytes slot)) holds.facts.by))
+
+-- what comes of a piece: what holds stays
+pub holds_heard : (profile : Profile) (whole : Whole) (c number n : ℕ) (from : Address) (slot : SlotState) (took : Took) (said : Said) → c < places → slot_at whole.ends.server c ≡ Some slot
+    → from.host ≡ slot.address.host → PieceDoes slot.gathering n (said_bytes profile said) took
+    → Gathers (messages_said profile (history_at whole.histories c).said) (length (history_at whole.histories c).said) took.gathering
+    → All (Contains (history_at whole.histories c).issued) said.moves → Holds profile whole
+    → Holds profile (server_took whole number c (hears.taken_at whole.ends.server c (hears.take_gathered (record slot { address = from }) c took (λ k. Ok said)))).whole
+holds_heard profile whole c number n from slot took said lt at host does gathers were holds =
+    let g = took.gathering in
+    let history = history_at whole.histories c in
+    elim does.either [
+      | inl waits ↦
+          let same = quiet_slot (record slot { address = from; gathering = g }) c took.answer (λ k. Ok said) waits.quiet in
+          rw (same.0, same.1) (Holds-heard profile whole c slot from g slot.last_run [] lt at host does.side gathers
+          (λ keeps. subst (λ (run : List Move). KeepsSlot profile slot history.qport history.host history.built run) (sym (append-nil history.run)) keeps)
+          (All-nil (Contains history.issued)) holds)
+      | inr came ↦
+          rw came.answer (Holds-heard profile whole c slot from g (last_run_of slot.last_run said.moves) (runs slot.last_run said.moves) lt at host does.side gathers
+          (λ keeps. KeepsSlot-ran profile slot history.qport history.host history.built history.run said.moves keeps)
+          (runs_are (Contains history.issued) slot.last_run said.moves were) holds)
+    ]
+
+-- its client has a slot
+pub slot_of_tag : (profile : Profile) (whole : Whole) (tag : Tag) (from : Address) → IsOf profile whole tag from → Holds profile whole
+    → (slot : SlotState) × (slot_at whole.ends.server tag.client ≡ Some slot)
+slot_of_tag profile whole tag from is holds =
+    let c = tag.client in
+    let history = history_at whole.histories c in
+    elim (found_or (slot_at whole.ends.server c)) [
+      | inl at ↦
+          let none = no_client profile (client_at whole.ends c) (address_at whole.ends c) history
+          (subst (λ (s : Option SlotState). IsClient profile s (client_at whole.ends c) (address_at whole.ends c) history) at (holds.facts.each c is.0)) in
+          let some = is.2.some in
+          let begun = is.2.begun in
+          let nothing : length history.said ≡ 0 = ap (λ (h : History). length h.said) none in
+          absurd (omega (arith, some, begun, nothing))
+      | inr found ↦ found
+    ]
+
+-- by its bytes a client's datagram does at its slot what it does by its tag
+pub said_tag_is : (profile : Profile) (whole : Whole) (tag : Tag) (from : Address) (slot : SlotState) → Cited profile → IsOf profile whole tag from
+    → slot_at whole.ends.server tag.client ≡ Some slot → Holds profile whole
+    → gathered_of slot.gathering tag.bytes ≡ tagged slot.gathering tag.number (said_bytes profile (said_under whole.histories tag)) tag.index
+said_tag_is profile whole tag from slot cited is at holds =
+    let history = history_at whole.histories tag.client in
+    let had = has_slot profile whole tag.client slot is.0 at holds in
+    let keeps = had.1.keeps in
+    let at_said = said_number profile history.said tag.number is.2.some in
+    let may = begun_sendable (said_bytes profile) history.said empty_message tag.number keeps.of_client.sendable is.2.some is.2.begun in
+    piece_is (messages_said profile history.said) slot.gathering Client history.qport (length history.said) tag cited.tags had.1.joined.of_slot.gathers.front keeps.of_slot.from keeps.of_client.fits keeps.of_client.short
+    (subst IsSendable (sym at_said) may) is.2
+    ∙ ap (λ (m : List ℕ). tagged slot.gathering tag.number m tag.index) at_said
+
+pub heard_at : (profile : Profile) (whole : Whole) (number : ℕ) (tag : Tag) (from : Address) → Cited profile
+    → IsOf profile whole tag from → Holds profile whole
+    → Agree profile (kept_server_took (kept_of profile whole) number (hears.take_at whole.ends.server from tag.bytes))
+    (to_server profile whole number tag from (slot_at whole.ends.server tag.client))
+heard_at profile whole number tag from cited is holds =
+    let found = slot_of_tag profile whole tag from is holds in
+    let slot = found.0 in
+    let at = found.1 in
+    let c = tag.client in
+    let history = history_at whole.histories c in
+    let said = said_under whole.histories tag in
+    let had = has_slot profile whole c slot is.0 at holds in
+    let keeps = had.1.keeps in
+    let messages = messages_said profile history.said in
+    let at_said = said_number profile history.said tag.number is.2.some in
+    let some = is.2.some in
+    let begun = is.2.begun in
+    let within : tag.number - 1 < length history.said = omega (arith, some, begun) in
+    let took = tagged slot.gathering tag.number (said_bytes profile said) tag.index in
+    let does = cited.does slot.gathering tag.number (said_bytes profile said) tag.index in
+    let takes = said_tag_is profile whole tag from slot cited is at holds in
+    let gathers : Gathers messages (length history.said) took.gathering =
+    subst (λ (m : List ℕ). Gathers messages (length history.said) (tagged slot.gathering tag.number m tag.index).gathering) at_said
+    (cited.gathers.piece messages (length history.said) slot.gathering tag.number tag.index had.1.joined.of_slot.gathers is.2.begun) in
+    rw at (record {
+      same = ap (λ (t : hears.Taken). kept_server_took (kept_of profile whole) number t)
+          (heard_by_bytes profile whole tag from slot cited is at holds
+          ∙ (ap (λ (t : Took). hears.taken_at whole.ends.server c (hears.take_gathered (record slot { address = from }) c t (λ k. said_by profile t.message))) takes
+          ∙ ap (λ (t : hears.SlotTaken). hears.taken_at whole.ends.server c t)
+          (heard_alike profile slot c took tag.number said cited.hears (keeps.of_client.said (tag.number - 1) empty_message within) does from)));
+      holds = holds_heard profile whole c number tag.number from slot took said is.0 at (is.1 ∙ sym keeps.of_slot.host) does gathers
+          (consecutive_issued said.moves history.issued (keeps.of_client.carried (tag.number - 1) empty_message within)) holds;
+    })
+
+-- ---- every delivery
+
+-- a datagram that was made is one of a message that was begun
+pub is_sent : (profile : Profile) (whole : Whole) (k : ℕ) (tag : Tag) → slice_get whole.sent k ≡ Some tag → Holds profile whole → IsSent profile whole.histories tag
+is_sent profile whole k tag at holds =
+    subst (λ (t : Tag). IsSent profile whole.histories t) (get_or_from_slice_get whole.sent k tag tag at)
+    (holds.facts.sent k tag (slice_get_within whole.sent k tag at))
+
+-- one for a client
+pub is_for : (profile : Profile) (whole : Whole) (tag : Tag) → tag.direction ≡ ToClient → IsSent profile whole.histories tag → IsFor profile whole tag
+is_for profile whole tag way is = (is.client, subst (λ (d : Direction). IsWay profile (history_at whole.histories tag.client) tag d) way is.way)
+
+-- or of one
+pub is_of_client : (profile : Profile) (whole : Whole) (tag : Tag) (from : Address) → tag.direction ≡ ToServer from → IsSent profile whole.histories tag → IsOf profile whole tag from
+is_of_client profile whole tag from way is =
+    let of : IsWay profile (history_at whole.histories tag.client) tag (ToServer from) = subst (λ (d : Direction). IsWay profile (history_at whole.histories tag.client) tag d) way is.way in
+    (is.client, of.0, of.1)
+
+pub arrives_at : (profile : Profile) (whole : Whole) (number : ℕ) (tag : Tag) (direction : Direction) → Cited profile → tag.direction ≡ direction → IsSent profile whole.histories tag
+    → Holds profile whole
+    → Agree profile (kept_arrive (kept_of profile whole) number (bytes_of tag) direction) (arrive profile whole number tag direction)
+arrives_at profile whole number tag ToClient cited way is holds =
+    delivered_to profile whole number tag (client_at whole.ends tag.client) cited (is_for profile whole tag way is) refl holds
+arrives_at profile whole number tag (ToServer from) cited way is holds =
+    heard_at profile whole number tag from cited (is_of_client profile whole tag from way is) holds
+
+pub sent_at : (profile : Profile) (whole : Whole) (number : ℕ) (found : Option Tag) → Cited profile
+    → slice_get whole.sent (number - 1) ≡ found → Holds profile whole
+    → Agree profile (kept_deliver (kept_of profile whole) number (option_map bytes_of found)) (deliver profile whole number found)
+sent_at profile whole number None cited at holds = record { same = refl; holds = holds }
+sent_at profile whole number (Some tag) cited at holds =
+    arrives_at profile whole number tag tag.direction cited refl (is_sent profile whole (number - 1) tag at holds) holds
+
+pub delivers_agree : (profile : Profile) (whole : Whole) (number : ℕ) → Cited profile → Holds profile whole
+    → Agree profile (kept_step (kept_of profile whole) (events.Deliver number)) (step profile whole (events.Deliver number))
+unfolding kept_step step
+delivers_agree profile whole number cited holds =
+    rw (slice_get-map bytes_of whole.sent (number - 1)) (sent_at profile whole number (slice_get whole.sent (number - 1)) cited refl holds)

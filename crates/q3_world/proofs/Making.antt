@@ -1,0 +1,185 @@
+-- Both ends make datagrams by bytes as by tags.
+use Rattle.std.proofs.Common.{◌≡◌, ℕ, ◌+◌, ◌-◌, ◌^◌, ◌<◌, ◌≤◌, Bool, false, List, ◌∷◌, ◌++◌, length, map, Option, Some, None, refl, sym, subst, ◌∙◌, inl, inr, arith}
+use Rattle.std.specs.Prelude.{◌⊎◌, ◌&&◌, nat_le, nat_lt}
+use Rattle.std.proofs.lemmas.List.{length-map, map_push}
+use Rattle.std.proofs.lemmas.Bool.{cases_Bool, leb-false, ltb-false}
+use Rattle.q3_bits.specs.Bits.{message_bytes, message_length}
+use Rattle.q3_bits.specs.Laws.{MessageIsBytes}
+use Rattle.q3_profile.specs.declared.profile.Profile.{Profile}
+use Rattle.q3_svmsg.specs.declared.error.Illegible.{Illegible}
+use Rattle.q3_chan.specs.Datagrams.{sequence_end, longest_message}
+use Rattle.q3_chan.specs.Sending.{UnderWay}
+use Rattle.q3_chan.specs.Laws.{IsSendable}
+use Rattle.q3_server.specs.declared.server.Emitted.{Emitted}
+use Rattle.q3_server.specs.declared.server.Emitted.TheVariants as emitted
+use Rattle.q3_client.specs.declared.client.Sent.{Sent}
+use Rattle.q3_client.specs.declared.client.Sent.TheVariants as answered_sent
+use Rattle.q3_client.specs.Client.{ClientState}
+use Rattle.q3_client.specs.Sending as speaks
+use Rattle.q3_client.specs.Sending.{said_bits, next_message as next_said}
+use Rattle.q3_server.specs.Server.{SlotState, ServerState, Built, Emission, places, slot_at, with_slot, next_message, built_bits, hand_out, emit_bits, emit_new, emit_slot, emission_at, emit_from, emit_at}
+use Rattle.q3_world.specs.Ends.{client_at, address_at}
+use Rattle.q3_world.specs.Kept.{kept_serve, kept_said, kept_send}
+use Rattle.q3_world.specs.World.{Whole, history_at, with_built, serve, say, send}
+use Rattle.q3_world.specs.StandsFor.{bytes_of}
+use Rattle.q3_world.proofs.Clients.{slot_begun, client_begun, KeepsSlot-begun}
+use Rattle.q3_world.proofs.Events.{Holds, Begins, Holds-handed, handed_tag, Holds-goes, Holds-said, said_tag, has_client, same_server}
+use Rattle.q3_world.proofs.Agree.{Cited, kept_of, Agree, found_or, unnoted, left_alone}
+use Rattle.q3_world.proofs.HandedIn.{handed}
+
+-- ---- serving
+
+abbrev pub Served : Profile → Whole → ℕ → Emission → Type 0
+Served profile whole c emission = Agree profile (kept_serve (kept_of profile whole) c emission) (serve whole c emission)
+
+-- nothing was begun or sent, and the server is as it was
+pub quiet : (profile : Profile) (whole : Whole) (c : ℕ) (server : ServerState) (answer : Emitted)
+    → server ≡ whole.ends.server → Holds profile whole
+    → Served profile whole c (record { server = server; answer = answer; began = None; piece = None })
+quiet profile whole c server answer same_as holds =
+    let count = length-map whole.sent bytes_of in
+    subst (λ (s : ServerState). Served profile whole c (record { server = s; answer = answer; began = None; piece = None })) (sym same_as)
+    (record { same = rw count refl; holds = unnoted profile whole c holds })
+
+-- a piece is handed out, of a message that was begun now or before
+pub handed_out : (profile : Profile) (whole : Whole) (c : ℕ) (old slot : SlotState) (left : UnderWay) (answer : Emitted) (began : Option Built) → Cited profile → c < places
+    → slot_at whole.ends.server c ≡ Some old → slot.sending.under_way ≡ Some left
+    → Begins profile old slot (history_at whole.histories c).qport (history_at whole.histories c).host (history_at whole.histories c).built (with_built (history_at whole.histories c) began).built (history_at whole.histories c).run
+    → Holds profile whole → Served profile whole c (emission_at whole.ends.server c (hand_out slot left.next answer began))
+handed_out profile whole c old slot left answer began cited lt found way begins holds =
+    let count = length-map whole.sent bytes_of in
+    let pushed = map_push bytes_of whole.sent (handed_tag c slot left) in
+    record { same = rw (count, pushed) refl; holds = Holds-handed profile whole c old slot left began cited.sends cited.gathers lt found way begins holds }
+
+-- a message of a length that fits is one that may be sent
+pub sendable : (bits : List Bool) → MessageIsBytes → nat_lt longest_message (message_length (length bits)) ≡ false → IsSendable (message_bytes bits)
+sendable bits law fits =
+    let bytes = law bits in
+    let short = ltb-false longest_message (message_length (length bits)) fits in
+    record { some = rw bytes.0 (omega arith); most = rw bytes.0 short; bytes = bytes.1 }
+
+-- a message is begun, unless it is too long
+pub served_bits : (profile : Profile) (whole : Whole) (c : ℕ) (slot : SlotState) → Cited profile → c < places → slot_at whole.ends.server c ≡ Some slot
+    → slot.sending.number + 1 < sequence_end → Holds profile whole
+    → Served profile whole c (emission_at whole.ends.server c
+    (emit_bits slot (next_message whole.ends.server.map slot) (built_bits profile (next_message whole.ends.server.map slot))))
+served_bits profile whole c slot cited lt is fits holds =
+    let server = whole.ends.server in
+    let map = server.map in
+    let history = history_at whole.histories c in
+    let next = next_message map slot in
+    let bits = built_bits profile next in
+    let first : UnderWay = record { message = message_bytes bits; next = 0 } in
+    elim (cases_Bool (nat_lt longest_message (message_length (length bits)))) [
+      | inl long ↦ rw long (quiet profile whole c (with_slot server c slot) emitted.Overlong (same_server server c slot is) holds)
+      | inr short ↦ rw short (handed_out profile whole c slot (slot_begun profile map slot) first
+          (emitted.Snapshot (slot.sending.number + 1) 0 (message_length (length bits))) (Some next) cited lt is refl
+          (record {
+            host = refl;
+            qport = refl;
+            gathering = refl;
+            keeps = KeepsSlot-begun profile map slot history.qport history.host history.built history.run cited.sends holds.facts.time holds.facts.entities fits (sendable bits cited.bytes short);
+          }) holds)
+    ]
+
+-- the next message, unless message numbers have ended
+pub served_new : (profile : Profile) (whole : Whole) (c : ℕ) (slot : SlotState) → Cited profile → c < places → slot_at whole.ends.server c ≡ Some slot → Holds profile whole
+    → Served profile whole c (emission_at whole.ends.server c (emit_new profile whole.ends.server.map slot))
+served_new profile whole c slot cited lt is holds =
+    let server = whole.ends.server in
+    elim (cases_Bool (nat_le sequence_end (slot.sending.number + 1))) [
+      | inl ended ↦ rw ended (quiet profile whole c (with_slot server c slot) emitted.SequenceEnd (same_server server c slot is) holds)
+      | inr goes ↦ rw goes (served_bits profile whole c slot cited lt is (leb-false sequence_end (slot.sending.number + 1) goes) holds)
+    ]
+
+-- what is left of a message goes first
+pub served_from : (profile : Profile) (whole : Whole) (c : ℕ) (slot : SlotState) (left : Option UnderWay) → Cited profile → c < places
+    → slot_at whole.ends.server c ≡ Some slot → slot.sending.under_way ≡ left → Holds profile whole
+    → Served profile whole c (emission_at whole.ends.server c (emit_slot profile whole.ends.server.map slot left))
+served_from profile whole c slot None cited lt is none holds = served_new profile whole c slot cited lt is holds
+served_from profile whole c slot (Some left) cited lt is some holds =
+    handed_out profile whole c slot slot left (emitted.Fragment slot.sending.number) None cited lt is some (record { host = refl; qport = refl; gathering = refl; keeps = λ keeps. keeps }) holds
+
+pub served : (profile : Profile) (whole : Whole) (c : ℕ) → Cited profile → c < places → Holds profile whole
+    → Served profile whole c (emit_from whole.ends.server c (slot_at whole.ends.server c))
+served profile whole c cited lt holds =
+    elim (found_or (slot_at whole.ends.server c)) [
+      | inl none ↦ rw none (quiet profile whole c whole.ends.server emitted.NoClient refl holds)
+      | inr found ↦ rw found.1
+          (subst (λ (p : Profile). Served profile whole c (emission_at whole.ends.server c (emit_slot p whole.ends.server.map found.0 found.0.sending.under_way))) (sym holds.facts.by)
+          (served_from profile whole c found.0 found.0.sending.under_way cited lt found.1 refl holds))
+    ]
+
+-- ---- sending
+
+abbrev pub SaidSo : Profile → Whole → ℕ → speaks.Emission → Type 0
+SaidSo profile whole c emission = Agree profile (kept_said (kept_of profile whole) c emission) (say whole c emission)
+
+-- nothing was begun or sent, and the client is as it was
+pub silent : (profile : Profile) (whole : Whole) (c : ℕ) (client : ClientState) (answer : Sent) → client_at whole.ends c ≡ Some client → Holds profile whole
+    → SaidSo profile whole c (speaks.nothing client answer)
+silent profile whole c client answer found holds =
+    let count = length-map whole.sent bytes_of in
+    record { same = rw count refl; holds = left_alone profile whole c client whole.sent found refl holds }
+
+-- what a client took fits a long
+pub taken_fits : (profile : Profile) (whole : Whole) (c : ℕ) (client : ClientState) → c < places → client_at whole.ends c ≡ Some client → Holds profile whole → client.gathering.taken < 2 ^ 32
+taken_fits profile whole c client lt found holds =
+    let had = has_client profile whole c client lt found holds in
+    let short = had.1.keeps.of_slot.short in
+    let taken = had.1.joined.of_client.gathers.taken in
+    omega (arith, short, taken)
+
+-- a message is begun, unless it is too long
+pub said_text : (profile : Profile) (whole : Whole) (c : ℕ) (client : ClientState) → Cited profile → c < places → client_at whole.ends c ≡ Some client
+    → client.sending.number + 1 < sequence_end → Holds profile whole
+    → SaidSo profile whole c (speaks.emit_bits client (next_said client) (said_bits profile (next_said client)))
+said_text profile whole c client cited lt found fits holds =
+    let next = next_said client in
+    let bits = said_bits profile next in
+    let first : UnderWay = record { message = message_bytes bits; next = 0 } in
+    elim (cases_Bool (nat_lt longest_message (message_length (length bits)))) [
+      | inl long ↦ rw long (silent profile whole c client answered_sent.Overlong found holds)
+      | inr short ↦
+          let count = length-map whole.sent bytes_of in
+          let pushed = map_push bytes_of whole.sent (said_tag c (address_at whole.ends c) (client_begun profile client) first) in
+          rw short (record {
+            same = rw (count, pushed) refl;
+            holds = Holds-said profile whole c client first cited.sends cited.gathers lt found refl fits (taken_fits profile whole c client lt found holds) (sendable bits cited.bytes short) holds;
+          })
+    ]
+
+-- the next message, unless message numbers have ended
+pub said_new : (profile : Profile) (whole : Whole) (c : ℕ) (client : ClientState) → Cited profile → c < places → client_at whole.ends c ≡ Some client → Holds profile whole
+    → SaidSo profile whole c (speaks.emit_new client)
+said_new profile whole c client cited lt found holds =
+    let had = has_client profile whole c client lt found holds in
+    elim (cases_Bool (nat_le sequence_end (client.sending.number + 1))) [
+      | inl ended ↦ rw ended (silent profile whole c client answered_sent.SequenceEnd found holds)
+      | inr goes ↦ rw goes
+          (subst (λ (p : Profile). SaidSo profile whole c (speaks.emit_bits client (next_said client) (said_bits p (next_said client)))) (sym had.1.keeps.of_client.by)
+          (said_text profile whole c client cited lt found (leb-false sequence_end (client.sending.number + 1) goes) holds))
+    ]
+
+-- what is left of a message goes first
+pub said_left : (profile : Profile) (whole : Whole) (c : ℕ) (client : ClientState) (left : Option UnderWay) → Cited profile → c < places
+    → client_at whole.ends c ≡ Some client → client.sending.under_way ≡ left → Holds profile whole → SaidSo profile whole c (speaks.emit_left client left)
+said_left profile whole c client None cited lt found none holds = said_new profile whole c client cited lt found holds
+said_left profile whole c client (Some left) cited lt found some holds =
+    let count = length-map whole.sent bytes_of in
+    let pushed = map_push bytes_of whole.sent (said_tag c (address_at whole.ends c) client left) in
+    record { same = rw (count, pushed) refl; holds = Holds-goes profile whole c client left cited.sends lt found some holds }
+
+pub sends_agree : (profile : Profile) (whole : Whole) (c : ℕ) → Cited profile → c < places → Holds profile whole
+    → Agree profile (kept_send (kept_of profile whole) c (client_at whole.ends c)) (send whole c (client_at whole.ends c))
+unfolding speaks.emit_at
+sends_agree profile whole c cited lt holds =
+    let count = length-map whole.sent bytes_of in
+    elim (found_or (client_at whole.ends c)) [
+      | inl none ↦ rw (none, count) (record { same = refl; holds = holds })
+      | inr found ↦
+          let had = has_client profile whole c found.0 lt found.1 holds in
+          rw found.1
+          (subst (λ (dropped : Option Illegible). SaidSo profile whole c (speaks.emit_unless found.0 dropped)) (sym had.1.joined.of_client.legible)
+          (said_left profile whole c found.0 found.0.sending.under_way cited lt found.1 refl holds))
+    ]
