@@ -1,6 +1,6 @@
 -- A step by bytes is a step by tags: what that rests on, and where nothing changes.
-use Rattle.std.proofs.Common.{◌≡◌, ℕ, ◌+◌, ◌-◌, ◌^◌, ◌<◌, ◌≤◌, List, ◌∷◌, ◌++◌, map, Option, Some, None, Ok, refl, sym, subst, ◌∙◌, inl, inr}
-use Rattle.std.specs.Prelude.{◌⊎◌, ◌&&◌}
+use Rattle.std.proofs.Common.{◌≡◌, ℕ, ◌≤◌, List, map, Option, Some, None, Ok, refl, sym, subst, inl, inr}
+use Rattle.std.specs.Prelude.{◌⊎◌}
 use Rattle.q3_bits.specs.Bits.{bits_of, message_bytes}
 use Rattle.q3_bits.specs.Laws.{MessageIsBytes}
 use Rattle.q3_profile.specs.declared.profile.Profile.{Profile}
@@ -13,7 +13,6 @@ use Rattle.q3_entity.specs.Entities.{normal_entity, IsNormal}
 use Rattle.q3_clmsg.specs.Laws.{IsMessage}
 use Rattle.q3_svmsg.specs.Values.{Message}
 use Rattle.q3_svmsg.specs.Reading.{message_at}
-use Rattle.q3_chan.specs.Datagrams.{datagram}
 use Rattle.q3_chan.specs.Senders.{QportIsTold}
 use Rattle.q3_chan.specs.Laws.{SentIsTagged, TaggedDoes, EndsGather, EndsSend}
 use Rattle.q3_client.specs.Client.{no_bases, ClientState}
@@ -23,7 +22,7 @@ use Rattle.q3_server.specs.Server.{built_bits}
 use Rattle.q3_server.specs.Taking.{said_by}
 use Rattle.q3_world.specs.Ends.{client_at}
 use Rattle.q3_world.specs.Kept.{Kept, KeptStep}
-use Rattle.q3_world.specs.World.{Tag, Step, Whole, History, history_at, with_history, step}
+use Rattle.q3_world.specs.World.{Tag, Step, Whole, History, history_at, with_history}
 use Rattle.q3_world.specs.StandsFor.{bytes_of}
 use Rattle.q3_world.proofs.Growth.{noted_same}
 use Rattle.q3_world.proofs.Events.{Holds, with_client_of, same_clients}

@@ -1,6 +1,6 @@
 -- A datagram arrives by its bytes as by its tag.
-use Rattle.std.proofs.Common.{◌≡◌, ℕ, ◌+◌, ◌-◌, ◌^◌, ◌<◌, ◌≤◌, true, List, [], ◌∷◌, ◌++◌, length, Option, Some, None, Result, Ok, refl, sym, ap, subst, ◌∙◌, inl, inr, arith, lit<}
-use Rattle.std.specs.Prelude.{◌⊎◌, ◌&&◌, slice_get, slice_index_or, All, Contains}
+use Rattle.std.proofs.Common.{◌≡◌, ℕ, ◌-◌, ◌^◌, ◌<◌, ◌≤◌, true, List, [], length, Option, Some, None, Result, Ok, refl, sym, ap, subst, ◌∙◌, inl, inr, arith, lit<}
+use Rattle.std.specs.Prelude.{slice_get, slice_index_or, All, Contains}
 use Rattle.std.specs.Option.{option_map}
 use Rattle.std.proofs.lemmas.List.{append-nil}
 use Rattle.std.proofs.lemmas.List.Elements.{All-nil}
@@ -26,7 +26,6 @@ use Rattle.q3_chan.specs.Tags.{tagged, IsQuiet, PieceDoes}
 use Rattle.q3_chan.specs.Senders.{qport_of}
 use Rattle.q3_chan.specs.Laws.{IsSendable, HoldsFront, SentIsTagged, Gathers}
 use Rattle.q3_client.specs.Client.{ClientState, Taken, without_game, read_by, take_answer, take_gathered, take_unless, take_at}
-use Rattle.q3_client.specs.Moves.{carried}
 use Rattle.q3_client.specs.Sending.{said_bytes, Said}
 use Rattle.q3_server.specs.Built.{IsBuilt}
 use Rattle.q3_server.specs.Server.{SlotState, Built, places, slot_at, built_bytes}
@@ -42,7 +41,6 @@ use Rattle.q3_world.proofs.MoveLists.{consecutive_issued, runs_are}
 use Rattle.q3_world.proofs.Clients.{no_client, at_number, said_number, KeepsSlot-ran, TakesBuilt-gathered, TakesBuilt-accepted}
 use Rattle.q3_world.proofs.Events.{Holds, Holds-taken, Holds-heard, has_slot, has_client, tag_was_built, names_built}
 use Rattle.q3_world.proofs.Agree.{ReadsBack, HearsBack, Cited, kept_of, Agree, found_or}
-use Rattle.q3_world.proofs.Making.{quiet, sendable}
 
 -- ---- what a datagram does
 

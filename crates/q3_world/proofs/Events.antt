@@ -1,5 +1,5 @@
 -- What holds between any two events holds after each event.
-use Rattle.std.proofs.Common.{◌≡◌, ℕ, zero, suc, ◌+◌, ◌-◌, ◌^◌, ◌<◌, ◌≤◌, List, [], ◌∷◌, ◌++◌, length, get_or, replicate, Bool, Option, Some, None, refl, sym, ap, subst, ◌∙◌, arith, lit<}
+use Rattle.std.proofs.Common.{◌≡◌, ℕ, zero, suc, ◌+◌, ◌-◌, ◌^◌, ◌<◌, List, [], ◌∷◌, ◌++◌, length, get_or, replicate, Bool, Option, Some, None, refl, sym, ap, subst, ◌∙◌, arith, lit<}
 use Rattle.std.specs.Prelude.{slice_set, position, All, Contains}
 use Rattle.std.proofs.lemmas.List.{get_or-replicate, set-get_or}
 use Rattle.std.proofs.lemmas.List.Elements.{All-append}
@@ -18,20 +18,18 @@ use Rattle.q3_clmsg.specs.declared.moves.Move.{Move}
 use Rattle.q3_clmsg.specs.Moves.{IsMove}
 use Rattle.q3_svmsg.specs.Values.{Snapshot}
 use Rattle.q3_server.specs.Built.{IsHeld, IsArea, AreHeld, IsBuilt}
-use Rattle.q3_server.specs.Server.{MapState, SlotState, ServerState, Built, places, slot_at, with_slot, is_of, new_slot, next_message, with_player, with_area, built_bytes}
-use Rattle.q3_server.specs.Taking.{last_run_of, runs}
+use Rattle.q3_server.specs.Server.{MapState, SlotState, ServerState, Built, places, slot_at, with_slot, is_of, new_slot, with_player, with_area}
 use Rattle.q3_client.specs.Client.{ClientState, new_client}
 use Rattle.q3_client.specs.Moves.{issue}
-use Rattle.q3_client.specs.Sending.{said_bytes, Said, next_message as next_said}
-use Rattle.q3_world.specs.declared.sent.Direction.{Direction}
+use Rattle.q3_client.specs.Sending.{said_bytes, next_message as next_said}
 use Rattle.q3_world.specs.declared.sent.Direction.TheVariants.{ToClient, ToServer}
 use Rattle.q3_world.specs.Ends.{Ends, client_at, with_client, no_address, address_at}
 use Rattle.q3_world.specs.World.{Tag, History, Whole, no_history, no_message, history_at, with_history, built_at, with_built, with_accepted, with_said, with_run, named, opening}
-use Rattle.q3_world.specs.StandsFor.{messages_of, messages_said, KeepsSlot, KeepsClient, AreEnds, IsClient, IsPiece, IsWay, IsSent, Facts, TakesBuilt, TakesSaid, AreJoined, IsJoined, AllJoined, WasBuilt}
-use Rattle.q3_world.proofs.OnePlace.{set_there, OnlyAt, OnlyAt-set, OnlyAt-same, DifferAt, Each, each_at}
-use Rattle.q3_world.proofs.Growth.{HistoryGrows, HistoryGrows-same, HistoryGrows-built, HistoryGrows-accepted, HistoryGrows-said, HistoryGrows-issued, HistoryGrows-run, HistoryGrows-joined, Grow, Grow-at, noted_same, AllSent, all_sent_grow, each_more}
+use Rattle.q3_world.specs.StandsFor.{messages_of, messages_said, KeepsSlot, AreEnds, IsClient, IsPiece, IsWay, IsSent, Facts, TakesBuilt, AreJoined, IsJoined, AllJoined, WasBuilt}
+use Rattle.q3_world.proofs.OnePlace.{set_there, OnlyAt-set, OnlyAt-same, DifferAt, Each, each_at}
+use Rattle.q3_world.proofs.Growth.{HistoryGrows, HistoryGrows-same, HistoryGrows-built, HistoryGrows-accepted, HistoryGrows-said, HistoryGrows-issued, HistoryGrows-run, HistoryGrows-joined, Grow-at, noted_same, AllSent, all_sent_grow, each_more}
 use Rattle.q3_world.proofs.Found.{AllFound, found_changed, found_joined}
-use Rattle.q3_world.proofs.Clients.{no_client, a_client, a_slot, at_number, KeepsSlot-new, KeepsSlot-given, KeepsSlot-came, KeepsSlot-ran, KeepsSlot-handed, KeepsSlot-begun, KeepsClient-new, KeepsClient-took, KeepsClient-handed, KeepsClient-issued, KeepsClient-begun, client_begun, slot_begun, handed_piece, TakesBuilt-new, TakesSaid-new, TakesBuilt-same, TakesSaid-same, TakesBuilt-more, TakesSaid-more, TakesSaid-issued, TakesSaid-ran}
+use Rattle.q3_world.proofs.Clients.{no_client, a_client, a_slot, KeepsSlot-new, KeepsSlot-given, KeepsSlot-came, KeepsSlot-handed, KeepsClient-new, KeepsClient-took, KeepsClient-handed, KeepsClient-issued, KeepsClient-begun, client_begun, handed_piece, TakesBuilt-new, TakesSaid-new, TakesBuilt-same, TakesSaid-same, TakesBuilt-more, TakesSaid-more, TakesSaid-issued}
 use Rattle.q3_world.proofs.Held.{AreHeld-none}
 
 -- what holds of a whole world
@@ -443,9 +441,11 @@ Holds-goes profile whole c client left sends lt found way holds =
       grows = grows;
       keeps = record { of_slot = keeps.of_slot; of_client = KeepsClient-handed profile client history.qport history.said history.issued sends keeps.of_client; host = keeps.host };
       joined = record { of_client = TakesBuilt-same profile client (client_handed client) history.built history.accepted refl refl refl joined.of_client; of_slot = joined.of_slot };
-      sent = sent_more profile whole c history tag lt grows refl
-          (keeps.host, handed_piece (messages_said profile history.said) client.sending Client history.qport (length history.said) left tag sends keeps.of_client.sends way
-          keeps.of_client.side keeps.of_client.qport keeps.of_client.begun refl refl refl) holds;
+      sent = sent_more profile whole c history tag lt grows refl (
+        keeps.host,
+        handed_piece (messages_said profile history.said) client.sending Client history.qport (length history.said) left tag sends keeps.of_client.sends way
+            keeps.of_client.side keeps.of_client.qport keeps.of_client.begun refl refl refl,
+      ) holds;
     }) holds
 
 -- a client's message is begun, and its first piece goes out
@@ -476,9 +476,11 @@ Holds-said profile whole c client left sends gathers lt found way fits taken sen
         of_client = TakesBuilt-same profile client (client_handed begun) history.built history.accepted refl refl refl joined.of_client;
         of_slot = TakesSaid-more profile had.0 history.said history.issued history.run next gathers joined.of_slot;
       };
-      sent = sent_more profile whole c (record history { said = more }) tag lt grows refl
-          (keeps.host, handed_piece (messages_said profile more) begun.sending Client history.qport (length more) left tag sends starts.sends way
-          starts.side starts.qport starts.begun refl refl refl) holds;
+      sent = sent_more profile whole c (record history { said = more }) tag lt grows refl (
+        keeps.host,
+        handed_piece (messages_said profile more) begun.sending Client history.qport (length more) left tag sends starts.sends way
+            starts.side starts.qport starts.begun refl refl refl,
+      ) holds;
     }) holds
 
 -- ---- a client issues a move

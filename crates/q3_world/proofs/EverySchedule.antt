@@ -1,6 +1,6 @@
 -- Every list of events: what holds after it, and what it answers.
-use Rattle.std.proofs.Common.{◌≡◌, ℕ, ◌-◌, ◌^◌, ◌<◌, ◌≤◌, List, [], ◌∷◌, length, get_or, true, Option, Some, None, Result, Ok, Err, refl, sym, ap, subst, ◌∙◌, inl, inr, arith}
-use Rattle.std.specs.Prelude.{◌⊎◌, slice_get}
+use Rattle.std.proofs.Common.{◌≡◌, ℕ, ◌-◌, ◌^◌, ◌<◌, ◌≤◌, List, [], ◌∷◌, length, get_or, true, Option, Some, None, Ok, refl, sym, ap, subst, ◌∙◌, inl, inr, arith}
+use Rattle.std.specs.Prelude.{slice_get}
 use Rattle.std.specs.List.{AllByRecursion, last_or}
 use Rattle.std.specs.Option.{option_map}
 use Rattle.std.proofs.lemmas.Option.{slice_get-map}
@@ -10,8 +10,7 @@ use Rattle.q3_profile.specs.Profile.{IsCodec}
 use Rattle.q3_script.specs.declared.event.Event.{Event}
 use Rattle.q3_script.specs.declared.event.Event.TheVariants as events
 use Rattle.q3_script.specs.Grammar.{IsReplayEvent}
-use Rattle.q3_svmsg.specs.Values as told
-use Rattle.q3_svmsg.specs.Values.{Told, Message, Snapshot}
+use Rattle.q3_svmsg.specs.Values.{Message, Snapshot}
 use Rattle.q3_chan.specs.declared.gatherer.Gathered.{Gathered}
 use Rattle.q3_chan.specs.declared.gatherer.Gathered.TheVariants as gathered
 use Rattle.q3_chan.specs.declared.gatherer.Gathered.TheVariants.{Whole as CameWhole}
@@ -20,7 +19,6 @@ use Rattle.q3_chan.specs.Tags.{tagged, IsQuiet}
 use Rattle.q3_chan.specs.Laws.{TaggedDoes}
 use Rattle.q3_client.specs.declared.client.SnapOutcome.{SnapOutcome}
 use Rattle.q3_client.specs.declared.client.SnapOutcome.TheVariants.{Accepted}
-use Rattle.q3_server.specs.declared.server.SlotError.{SlotError}
 use Rattle.q3_client.specs.declared.client.ClientTook.TheVariants.{Applied}
 use Rattle.q3_client.specs.declared.client.ClientTook.{ClientTook}
 use Rattle.q3_server.specs.declared.taking.ServerTook.{ServerTook}
@@ -32,12 +30,12 @@ use Rattle.q3_world.specs.declared.answer.Answer.TheVariants.{Unknown, Deliver}
 use Rattle.q3_world.specs.declared.sent.Direction.{Direction}
 use Rattle.q3_world.specs.declared.sent.Direction.TheVariants.{ToClient, ToServer}
 use Rattle.q3_world.specs.Layers.{Layers}
-use Rattle.q3_server.specs.Server.{MapState, SlotState, Built, places, slot_at, add_client_at, built_bytes}
-use Rattle.q3_client.specs.Client.{ClientState, Taken, new_client, apply_section, apply_message, take_answer, take_gathered}
+use Rattle.q3_server.specs.Server.{MapState, SlotState, Built, places, slot_at, built_bytes}
+use Rattle.q3_client.specs.Client.{ClientState, Taken, apply_message, take_answer, take_gathered}
 use Rattle.q3_world.specs.Ends.{Ends, Answered, unknown, delivered, ran, client_at, address_at, with_client, newest}
 use Rattle.q3_world.specs.Kept.{SentBytes, Kept, KeptStep, opening_kept, kept_step, kept_after, kept_answers}
 use Rattle.q3_world.specs.World.{Tag, Step, Whole, History, history_at, opening, step, after, answers, deliver, arrive, to_client, to_server, named}
-use Rattle.q3_world.specs.StandsFor.{IsSent, IsClient, WasBuilt, Rise, AreJoined, IsJoined, StandsFor, bytes_of}
+use Rattle.q3_world.specs.StandsFor.{IsSent, IsClient, WasBuilt, Rise, IsJoined, StandsFor, bytes_of}
 use Rattle.q3_world.specs.Schedules.{StepFollows, kept_then, whole_then, BytesFollowTags, AcceptedWereBuilt, ShownWasBuilt, WasApplied, AppliedWasBuilt, NewerIsAccepted}
 use Rattle.q3_world.proofs.Events.{Holds, Holds-opening, tag_was_built, names_built}
 use Rattle.q3_world.proofs.Agree.{Cited, seen}

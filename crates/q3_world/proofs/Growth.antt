@@ -1,5 +1,5 @@
 -- What was begun only grows.
-use Rattle.std.proofs.Common.{◌≡◌, ℕ, zero, suc, ◌+◌, ◌-◌, ◌<◌, ◌≤◌, List, [], ◌∷◌, ◌++◌, length, get_or, Option, Some, None, Ok, Err, Result, refl, sym, ap, subst, ◌∙◌, inl, inr, arith}
+use Rattle.std.proofs.Common.{◌≡◌, ℕ, zero, suc, ◌-◌, ◌<◌, ◌≤◌, List, [], ◌∷◌, ◌++◌, length, get_or, Option, Some, None, refl, sym, ap, subst, ◌∙◌, inl, inr, arith}
 use Rattle.std.proofs.lemmas.List.{append-nil, length-append, length_push, get_or_append_left, get_or_push, set-get_or}
 use Rattle.std.proofs.lemmas.Bool.{cases_eq, cases_lt}
 use Rattle.q3_profile.specs.declared.profile.Profile.{Profile}
@@ -10,14 +10,12 @@ use Rattle.q3_clmsg.specs.declared.moves.Move.{Move}
 use Rattle.q3_clmsg.specs.Values.{empty_message}
 use Rattle.q3_svmsg.specs.Values.{Snapshot}
 use Rattle.q3_server.specs.Server.{Built, places, built_bytes}
-use Rattle.q3_client.specs.declared.client.MoveError.{MoveError}
 use Rattle.q3_client.specs.Sending.{said_bytes, Said}
 use Rattle.q3_world.specs.declared.sent.Direction.{Direction}
 use Rattle.q3_world.specs.declared.sent.Direction.TheVariants.{ToClient, ToServer}
-use Rattle.q3_world.specs.Ends.{moved}
-use Rattle.q3_world.specs.World.{Tag, History, no_history, no_message, history_at, with_history, built_at, said_at, with_built, with_accepted, with_said, with_issued, with_run}
+use Rattle.q3_world.specs.World.{Tag, History, no_history, no_message, history_at, with_history, built_at, with_built, with_accepted, with_said, with_run}
 use Rattle.q3_world.specs.StandsFor.{IsPiece, IsWay, IsSent, WasBuilt, messages_of, messages_said}
-use Rattle.q3_world.proofs.OnePlace.{set_there, OnlyAt, OnlyAt-set}
+use Rattle.q3_world.proofs.OnePlace.{set_there, OnlyAt-set}
 
 -- the message under a number stays where more are built
 pub built_stays : (built more : List Built) (number : ℕ) → 1 ≤ number → number ≤ length built → built_at (built ++ more) number ≡ built_at built number
@@ -124,9 +122,9 @@ way_stays profile old new tag (ToServer from) grows is =
     let some : 1 ≤ length old.said = omega (arith, first, begun) in (
       is.0 ∙ sym (grows.host some),
       subst (λ (q : ℕ). IsPiece Client q (messages_said profile new.said) (length new.said) tag) (sym (grows.qport some))
-      (subst (λ (s : List Said). IsPiece Client old.qport (messages_said profile s) (length s) tag) (sym grown.1)
-      (piece_stays Client old.qport (messages_said profile old.said) (messages_said profile (old.said ++ grown.0)) (length old.said) (length (old.said ++ grown.0)) tag
-      (omega (arith, length-append old.said grown.0)) (messages_said_stay profile old.said grown.0) is.1)),
+          (subst (λ (s : List Said). IsPiece Client old.qport (messages_said profile s) (length s) tag) (sym grown.1)
+          (piece_stays Client old.qport (messages_said profile old.said) (messages_said profile (old.said ++ grown.0)) (length old.said) (length (old.said ++ grown.0)) tag
+          (omega (arith, length-append old.said grown.0)) (messages_said_stay profile old.said grown.0) is.1)),
     )
 
 abbrev pub AllSent : Profile → List History → List Tag → Type 0

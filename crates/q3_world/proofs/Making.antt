@@ -1,6 +1,6 @@
 -- Both ends make datagrams by bytes as by tags.
-use Rattle.std.proofs.Common.{◌≡◌, ℕ, ◌+◌, ◌-◌, ◌^◌, ◌<◌, ◌≤◌, Bool, false, List, ◌∷◌, ◌++◌, length, map, Option, Some, None, refl, sym, subst, ◌∙◌, inl, inr, arith}
-use Rattle.std.specs.Prelude.{◌⊎◌, ◌&&◌, nat_le, nat_lt}
+use Rattle.std.proofs.Common.{◌≡◌, ℕ, ◌+◌, ◌^◌, ◌<◌, Bool, false, List, length, Option, Some, None, refl, sym, subst, inl, inr, arith}
+use Rattle.std.specs.Prelude.{nat_le, nat_lt}
 use Rattle.std.proofs.lemmas.List.{length-map, map_push}
 use Rattle.std.proofs.lemmas.Bool.{cases_Bool, leb-false, ltb-false}
 use Rattle.q3_bits.specs.Bits.{message_bytes, message_length}
@@ -17,7 +17,7 @@ use Rattle.q3_client.specs.declared.client.Sent.TheVariants as answered_sent
 use Rattle.q3_client.specs.Client.{ClientState}
 use Rattle.q3_client.specs.Sending as speaks
 use Rattle.q3_client.specs.Sending.{said_bits, next_message as next_said}
-use Rattle.q3_server.specs.Server.{SlotState, ServerState, Built, Emission, places, slot_at, with_slot, next_message, built_bits, hand_out, emit_bits, emit_new, emit_slot, emission_at, emit_from, emit_at}
+use Rattle.q3_server.specs.Server.{SlotState, ServerState, Built, Emission, places, slot_at, with_slot, next_message, built_bits, hand_out, emit_bits, emit_new, emit_slot, emission_at, emit_from}
 use Rattle.q3_world.specs.Ends.{client_at, address_at}
 use Rattle.q3_world.specs.Kept.{kept_serve, kept_said, kept_send}
 use Rattle.q3_world.specs.World.{Whole, history_at, with_built, serve, say, send}
@@ -25,7 +25,6 @@ use Rattle.q3_world.specs.StandsFor.{bytes_of}
 use Rattle.q3_world.proofs.Clients.{slot_begun, client_begun, KeepsSlot-begun}
 use Rattle.q3_world.proofs.Events.{Holds, Begins, Holds-handed, handed_tag, Holds-goes, Holds-said, said_tag, has_client, same_server}
 use Rattle.q3_world.proofs.Agree.{Cited, kept_of, Agree, found_or, unnoted, left_alone}
-use Rattle.q3_world.proofs.HandedIn.{handed}
 
 -- ---- serving
 

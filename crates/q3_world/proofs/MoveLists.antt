@@ -1,5 +1,5 @@
 -- Lists of moves: what a message carries, what is run of it, and where that stands among the moves that were issued.
-use Rattle.std.proofs.Common.{◌≡◌, ℕ, zero, suc, ◌+◌, ◌-◌, ◌<◌, ◌≤◌, ◌^◌, Bool, true, false, List, [], ◌∷◌, ◌++◌, length, take, drop, ℤ, pos, negsuc, refl, sym, ap, subst, ◌∙◌, inl, inr, arith}
+use Rattle.std.proofs.Common.{◌≡◌, ℕ, zero, suc, ◌+◌, ◌-◌, ◌<◌, ◌≤◌, ◌^◌, true, false, List, [], ◌∷◌, ◌++◌, length, take, drop, ℤ, pos, negsuc, refl, sym, ap, subst, ◌∙◌, inl, inr, arith}
 use Rattle.std.specs.Prelude.{◌⊎◌, nat_le, nat_lt, not, ◌&&◌, neg_ℤ, map, filter, All, Contains}
 use Rattle.std.proofs.lemmas.List.{append-nil, append_assoc, length-append, length-map, map-append, take-append-drop, length-drop}
 use Rattle.std.proofs.lemmas.List.Elements.{All-nil, All-cons, All-head, All-tail, All-weaker, All-push, All-drop, All-map, All-filter, All-contains, Contains-append_left, Contains-append_right, All-contains_itself}
@@ -118,9 +118,12 @@ stand_among least before (first ∷ issued) (one ∷ moves) rise rising are =
     let others = All-tail (Contains (first ∷ issued)) one moves are in
     elim (first_or_behind first one issued (All-head (Contains (first ∷ issued)) one moves are)) [
       | inl is ↦
-          let after_first = subst (λ (m : Move). All (λ (x : Move). m.time < x.time) moves) (sym is) behind in
-          ([], issued, ap (λ (m : Move). m ∷ issued) is,
-          stand_among first.time one.time issued moves rise.1 rising.1 (none_first first moves issued after_first others))
+          let after_first = subst (λ (m : Move). All (λ (x : Move). m.time < x.time) moves) (sym is) behind in (
+            [],
+            issued,
+            ap (λ (m : Move). m ∷ issued) is,
+            stand_among first.time one.time issued moves rise.1 rising.1 (none_first first moves issued after_first others),
+          )
       | inr there ↦
           let past = All-contains (λ (m : Move). first.time < m.time) issued one (later first.time issued rise.1) there in
           let after_first = All-weaker (λ (m : Move). one.time < m.time) (λ (m : Move). first.time < m.time) (λ m lt. omega (arith, past, lt)) moves behind in

@@ -1,5 +1,5 @@
 -- What the server runs of a client.
-use Rattle.std.proofs.Common.{◌≡◌, ℕ, ◌-◌, ◌<◌, List, [], Option, Some, None, refl, sym, ap, subst, ◌∙◌, inl, inr, Ok, arith}
+use Rattle.std.proofs.Common.{◌≡◌, ℕ, ◌-◌, List, Option, Some, None, refl, sym, ap, ◌∙◌, Ok}
 use Rattle.std.specs.Prelude.{slice_get}
 use Rattle.std.proofs.lemmas.Option.{slice_get-map}
 use Rattle.q3_profile.specs.declared.profile.Profile.{Profile}
@@ -8,9 +8,9 @@ use Rattle.q3_script.specs.declared.event.Event.TheVariants as events
 use Rattle.q3_chan.specs.declared.gatherer.Gathered.{Gathered}
 use Rattle.q3_chan.specs.declared.gatherer.Gathered.TheVariants.{Whole as CameWhole}
 use Rattle.q3_chan.specs.Gathering.{Took, gathered as gathered_of}
-use Rattle.q3_chan.specs.Tags.{tagged, IsQuiet}
+use Rattle.q3_chan.specs.Tags.{tagged}
 use Rattle.q3_server.specs.declared.taking.ServerTook.TheVariants as answer
-use Rattle.q3_server.specs.Server.{ServerState, SlotState, places, slot_at}
+use Rattle.q3_server.specs.Server.{SlotState, slot_at}
 use Rattle.q3_server.specs.Taking as hears
 use Rattle.q3_client.specs.Client.{ClientState}
 use Rattle.q3_client.specs.Sending.{said_bytes}
@@ -22,7 +22,7 @@ use Rattle.q3_world.specs.World.{Tag, Whole, History, history_at, said_under, st
 use Rattle.q3_world.specs.StandsFor.{IsClient, IsJoined, StandsFor, bytes_of}
 use Rattle.q3_world.specs.Moves.{TimesRise, StandAmong}
 use Rattle.q3_world.specs.Layers.{Layers}
-use Rattle.q3_world.specs.Schedules.{kept_then, whole_then, history_then, BytesFollowTags, NewerIsRun, MovesWereIssued}
+use Rattle.q3_world.specs.Schedules.{kept_then, whole_then, BytesFollowTags, NewerIsRun, MovesWereIssued}
 use Rattle.q3_world.proofs.MoveLists.{stand_among}
 use Rattle.q3_world.proofs.Events.{Holds}
 use Rattle.q3_world.proofs.Arriving.{is_sent, is_of_client, said_tag_is, delivers_agree}

@@ -1,22 +1,18 @@
 -- What a client said is read back by the server.
-use Rattle.std.proofs.Common.{◌≡◌, ℕ, ◌*◌, ◌-◌, ◌^◌, ◌<◌, Bool, false, List, [], ◌++◌, length, replicate, Result, Ok, refl, sym, ap, subst, ◌∙◌, lit<}
+use Rattle.std.proofs.Common.{◌≡◌, ℕ, ◌*◌, ◌-◌, ◌^◌, ◌<◌, Bool, false, List, [], ◌++◌, length, replicate, Result, Ok, refl, sym, ap, subst, ◌∙◌}
 use Rattle.std.specs.Int.Bits.{bit_xor, xor_zero_r, xor_zero_l}
-use Rattle.q3_bits.specs.Bits.{bits_of, message_length}
+use Rattle.q3_bits.specs.Bits.{message_length}
 use Rattle.q3_bits.specs.ResultBind.{◌>>=◌}
 use Rattle.q3_bits.specs.Laws.{MessageHoldsBits}
 use Rattle.q3_text.specs.Keys.{key_of, weighted}
-use Rattle.q3_profile.specs.declared.profile.Profile.{Profile}
-use Rattle.q3_profile.specs.Profile.{IsCodec}
 use Rattle.q3_clmsg.specs.declared.error.ClientIllegible.{ClientIllegible}
 use Rattle.q3_clmsg.specs.declared.heads.Heads.{Heads}
-use Rattle.q3_clmsg.specs.Moves.{message_key}
 use Rattle.q3_clmsg.specs.Values.{Message}
-use Rattle.q3_clmsg.specs.Texts.{client_text}
-use Rattle.q3_clmsg.specs.Reading.{bits_read, heads_at, client_after, client_at}
-use Rattle.q3_clmsg.specs.Laws.{IsMessage, HeadsAreRead, WrittenIsRead}
+use Rattle.q3_clmsg.specs.Reading.{bits_read, heads_at, client_at}
+use Rattle.q3_clmsg.specs.Laws.{HeadsAreRead, WrittenIsRead}
 use Rattle.q3_server.specs.Taking as hears
 use Rattle.q3_server.specs.Taking.{said_by}
-use Rattle.q3_client.specs.Sending.{Said, said_bits, said_bytes}
+use Rattle.q3_client.specs.Sending.{said_bits}
 use Rattle.q3_world.specs.MessageLaws.{SaidIsRead}
 
 -- the empty text gives no key

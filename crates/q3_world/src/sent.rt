@@ -45,10 +45,7 @@ impl Model for Sent {
 }
 
 /// Room among the datagrams for one more, and for its bytes. `Err` is want of memory.
-pub(crate) fn room_for_one(
-    alloc: Global,
-    datagrams: &mut Vec<Sent>,
-) -> Result<Vec<u8>, NoMemory>
+pub(crate) fn room_for_one(alloc: Global, datagrams: &mut Vec<Sent>) -> Result<Vec<u8>, NoMemory>
     ensures same { datagrams.new.items ≡ datagrams.old.items }
     ensures room { OnOk result (length datagrams.new.items + 1 ≤ vec_capacity datagrams.new) }
     ensures bytes { IfOk result (λ bytes. (bytes.items ≡ []) × (DATAGRAM_ROOM ≤ vec_capacity bytes)) }
