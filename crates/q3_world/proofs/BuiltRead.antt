@@ -25,10 +25,10 @@ use Rattle.q3_server.specs.Server.{built_bits}
 use Rattle.q3_world.specs.MessageLaws.{BuiltIsRead}
 
 -- no baseline is set
-none_at : {X : Type 0} (count number : ℕ) (none : Option X) → none ≡ None → get_or (replicate count none) number None ≡ None
-none_at zero number none is = refl
-none_at (suc count) zero none is = is
-none_at (suc count) (suc number) none is = none_at count number none is
+none_at : {X : Type 0} (count number : ℕ) (no_line : Option X) → no_line ≡ None → get_or (replicate count no_line) number None ≡ None
+none_at zero number no_line is = refl
+none_at (suc count) zero no_line is = is
+none_at (suc count) (suc number) no_line is = none_at count number no_line is
 
 none_set : (number : ℕ) → set_at no_lines number ≡ None
 none_set number = none_at {X = EntityState} most_lines number None refl
@@ -49,7 +49,7 @@ no_lines_are table =
     no_state = None
 
 no_base : (base : Base) (found : Option Base) → found ≡ None → found ≡ Some base → ⊥
-no_base base found none some = absurd cc
+no_base base found no_line some = absurd cc
 
 no_bases_are : (profile : Profile) → IsContext profile no_bases
 no_bases_are profile =
