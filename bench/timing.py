@@ -88,7 +88,7 @@ def best(command, folder):
 
 
 def counts_instructions():
-    """Whether the tool that counts instructions is installed."""
+    """Whether the tool that counts instructions, and allocations, is installed."""
     return shutil.which('valgrind') is not None
 
 
@@ -97,3 +97,9 @@ def instructions(command, folder):
     counting = ['env', f'GLIBC_TUNABLES={NO_REPEATS}', 'valgrind', '--tool=callgrind', '--callgrind-out-file=/dev/null']
     _, _, told = run([*counting, *command], folder)
     return int(re.search(r'Collected : (\d+)', told).group(1))
+
+
+def allocations(command, folder):
+    """How many allocations a command makes; a block that is resized counts once more."""
+    _, _, told = run(['valgrind', '--tool=memcheck', '--leak-check=no', *command], folder)
+    return int(re.search(r'total heap usage: ([\d,]+) allocs', told).group(1).replace(',', ''))
