@@ -21,6 +21,7 @@ use Rattle.q3_chan.specs.declared.gatherer.Gathered.{Gathered}
 use Rattle.q3_chan.specs.declared.gatherer.Gathered.TheVariants as gathered
 use Rattle.q3_chan.specs.declared.qport.NoQport.{NoQport}
 use Rattle.q3_chan.specs.Datagrams.{sequence_end, datagram}
+use Rattle.q3_chan.specs.Sending.{Sending}
 use Rattle.q3_chan.specs.Gathering.{Gathering, Took, gathered as gathered_of}
 use Rattle.q3_chan.specs.Tags.{tagged, IsQuiet, PieceDoes}
 use Rattle.q3_chan.specs.Senders.{qport_of}
@@ -31,12 +32,12 @@ use Rattle.q3_server.specs.Built.{IsBuilt}
 use Rattle.q3_server.specs.Server.{SlotState, Built, places, slot_at, built_bytes}
 use Rattle.q3_server.specs.Taking as hears
 use Rattle.q3_server.specs.Taking.{sender_of, runs, last_run_of, said_by}
-use Rattle.q3_world.specs.declared.sent.Direction.{Direction}
-use Rattle.q3_world.specs.declared.sent.Direction.TheVariants.{ToClient, ToServer}
+use Rattle.q3_world.specs.declared.made.Direction.{Direction}
+use Rattle.q3_world.specs.declared.made.Direction.TheVariants.{ToClient, ToServer}
 use Rattle.q3_world.specs.Ends.{client_at, address_at}
 use Rattle.q3_world.specs.Kept.{kept_client_took, kept_to_client, kept_server_took, kept_arrive, kept_deliver, kept_step}
 use Rattle.q3_world.specs.World.{Tag, Whole, History, no_message, history_at, named, client_took, to_client, said_under, server_took, to_server, arrive, deliver, step}
-use Rattle.q3_world.specs.StandsFor.{KeepsSlot, IsPiece, IsSent, IsClient, IsWay, WasBuilt, messages_of, messages_said, bytes_of}
+use Rattle.q3_world.specs.StandsFor.{BeginsMessages, KeepsSlot, IsPiece, IsSent, IsClient, IsWay, WasBuilt, messages_of, messages_said, bytes_of}
 use Rattle.q3_world.proofs.MoveLists.{consecutive_issued, runs_are}
 use Rattle.q3_world.proofs.Clients.{no_client, at_number, said_number, KeepsSlot-ran, TakesBuilt-gathered, TakesBuilt-accepted}
 use Rattle.q3_world.proofs.Events.{Holds, Holds-taken, Holds-heard, has_slot, has_client, tag_was_built, names_built}
@@ -45,19 +46,15 @@ use Rattle.q3_world.proofs.Agree.{ReadsBack, HearsBack, Cited, kept_of, Agree, f
 -- ---- what a datagram does
 
 -- by its bytes a datagram does what it does by its tag
-pub piece_is : (messages : ℕ → List ℕ) (g : Gathering) (side : Side) (qport last : ℕ) (tag : Tag) → SentIsTagged → HoldsFront messages g → g.side ≡ side → qport < 2 ^ 16
-    → last < sequence_end → IsSendable (messages tag.number) → IsPiece side qport messages last tag
+pub piece_is : (messages : ℕ → List ℕ) (g : Gathering) (side : Side) (qport count : ℕ) (sending : Sending) (tag : Tag) → SentIsTagged → HoldsFront messages g → g.side ≡ side
+    → qport < 2 ^ 16 → BeginsMessages side qport messages count sending → IsPiece side qport messages count tag
     → gathered_of g tag.bytes ≡ tagged g tag.number (messages tag.number) tag.index
-piece_is messages g side qport last tag law front from fits short may is =
+piece_is messages g side qport count sending tag law front from fits begins is =
     let begun = is.begun in
+    let short = begins.short in
     let n = tag.number in
     ap (gathered_of g) (is.bytes ∙ ap (λ (s : Side). datagram s qport n (messages n) tag.index) (sym from))
-    ∙ (law messages g qport n tag.index front fits is.some (omega (arith, begun, short)) may is.piece).0
-
--- a message of a number that was begun may be sent
-pub begun_sendable : {X : Type 0} (bytes_are : X → List ℕ) (messages : List X) (d : X) (number : ℕ) → ((k : ℕ) (d : X) → k < length messages → IsSendable (bytes_are (slice_index_or messages k d)))
-    → 1 ≤ number → number ≤ length messages → IsSendable (bytes_are (slice_index_or messages (number - 1) d))
-begun_sendable bytes_are messages d number each some begun = each (number - 1) d (omega (arith, some, begun))
+    ∙ (law messages g qport n tag.index front fits is.some (omega (arith, begun, short)) (begins.sendable n is.some is.begun) is.piece).0
 
 -- ---- delivering to a client
 
@@ -114,9 +111,7 @@ tag_is profile whole tag client cited is found holds =
     let messages = messages_of profile built in
     let had = has_client profile whole tag.client client is.0 found holds in
     let at = at_number profile built tag.number is.1.some in
-    let may = begun_sendable (built_bytes profile) built no_message tag.number had.1.keeps.of_slot.sendable is.1.some is.1.begun in
-    piece_is messages client.gathering Server 0 (length built) tag cited.tags had.1.joined.of_client.gathers.front had.1.keeps.of_client.from (lit< tt) had.1.keeps.of_slot.short
-    (subst IsSendable (sym at) may) is.1
+    piece_is messages client.gathering Server 0 (length built) had.0.sending tag cited.tags had.1.joined.of_client.gathers.front had.1.keeps.of_client.from (lit< tt) had.1.keeps.of_slot.sending is.1
     ∙ ap (λ (m : List ℕ). tagged client.gathering tag.number m tag.index) at
 
 -- and what is gathered then was begun
@@ -234,12 +229,11 @@ heard_by_bytes profile whole tag from slot cited is at holds =
     let messages = messages_said profile history.said in
     let some = is.2.some in
     let begun = is.2.begun in
-    let short = keeps.of_client.short in
-    let may = begun_sendable (said_bytes profile) history.said empty_message tag.number keeps.of_client.sendable is.2.some is.2.begun in
+    let short = keeps.of_client.sending.short in
     let told : qport_of tag.bytes ≡ Ok history.qport =
     ap qport_of is.2.bytes
     ∙ cited.qport history.qport tag.number tag.index (messages tag.number) keeps.of_client.fits (omega (arith, begun, short))
-    (subst IsSendable (sym (said_number profile history.said tag.number is.2.some)) may) is.2.piece in
+    (keeps.of_client.sending.sendable tag.number is.2.some is.2.begun) is.2.piece in
     let found : sender_of server from.host history.qport ≡ Some c =
     ap (λ (h : ℕ). sender_of server h history.qport) (is.1 ∙ sym keeps.of_slot.host)
     ∙ (ap (λ (q : ℕ). sender_of server slot.address.host q) (sym keeps.of_slot.qport) ∙ holds.facts.found c slot at) in
@@ -295,9 +289,8 @@ said_tag_is profile whole tag from slot cited is at holds =
     let had = has_slot profile whole tag.client slot is.0 at holds in
     let keeps = had.1.keeps in
     let at_said = said_number profile history.said tag.number is.2.some in
-    let may = begun_sendable (said_bytes profile) history.said empty_message tag.number keeps.of_client.sendable is.2.some is.2.begun in
-    piece_is (messages_said profile history.said) slot.gathering Client history.qport (length history.said) tag cited.tags had.1.joined.of_slot.gathers.front keeps.of_slot.from keeps.of_client.fits keeps.of_client.short
-    (subst IsSendable (sym at_said) may) is.2
+    piece_is (messages_said profile history.said) slot.gathering Client history.qport (length history.said) had.0.sending tag cited.tags had.1.joined.of_slot.gathers.front keeps.of_slot.from keeps.of_client.fits
+    keeps.of_client.sending is.2
     ∙ ap (λ (m : List ℕ). tagged slot.gathering tag.number m tag.index) at_said
 
 pub heard_at : (profile : Profile) (whole : Whole) (number : ℕ) (tag : Tag) (from : Address) → Cited profile

@@ -34,6 +34,7 @@ use Rattle.q3_world.specs.World.{Tag, History, no_history, no_message, built_at,
 use Rattle.q3_world.specs.StandsFor.{messages_of, messages_said, KeepsSlot, KeepsClient, AreEnds, IsClient, IsPiece, WasBuilt, number_of_newest, Rise, KeepsMoves, TakesBuilt, TakesSaid}
 use Rattle.q3_world.specs.Moves.{TimesRise, AreConsecutive}
 use Rattle.q3_world.proofs.Growth.{was_built_more, each_more, messages_stay, messages_said_stay}
+use Rattle.q3_world.proofs.Beginning.{BeginsMessages-new, BeginsMessages-handed, BeginsMessages-started}
 use Rattle.q3_world.proofs.Held.{AreHeld-take}
 use Rattle.q3_world.proofs.MoveLists.{last_time-append, TimesRise-append, runs_rise, runs_are, carried_consecutive, carried_each, carried_few, AreConsecutive-more, contains_more, KeepsMoves-none, KeepsMoves-begun, KeepsMoves-push}
 use Rattle.q3_server.proofs.Rising.{few_taken}
@@ -71,15 +72,10 @@ KeepsSlot-new profile challenge qport address chan first =
     record {
       qport = refl;
       host = refl;
-      begun = refl;
-      short = lit< tt;
-      side = refl;
-      no_qport = refl;
-      sends = chan.begin (messages_of profile []) Server 0;
+      sending = BeginsMessages-new Server 0 (messages_of profile []) chan;
       player = first;
       area = no_area;
       built = λ k d lt. absurd (omega (arith, lt));
-      sendable = λ k d lt. absurd (omega (arith, lt));
       from = refl;
       last = refl;
       rise = tt;
@@ -93,15 +89,10 @@ module _ (profile : Profile) (slot : SlotState) (qport host : ℕ) (built : List
       record {
         qport = keeps.qport;
         host = keeps.host;
-        begun = keeps.begun;
-        short = keeps.short;
-        side = keeps.side;
-        no_qport = keeps.no_qport;
-        sends = keeps.sends;
+        sending = keeps.sending;
         player = held;
         area = is;
         built = keeps.built;
-        sendable = keeps.sendable;
         from = keeps.from;
         last = keeps.last;
         rise = keeps.rise;
@@ -114,15 +105,10 @@ module _ (profile : Profile) (slot : SlotState) (qport host : ℕ) (built : List
       record {
         qport = keeps.qport;
         host = from;
-        begun = keeps.begun;
-        short = keeps.short;
-        side = keeps.side;
-        no_qport = keeps.no_qport;
-        sends = keeps.sends;
+        sending = keeps.sending;
         player = keeps.player;
         area = keeps.area;
         built = keeps.built;
-        sendable = keeps.sendable;
         from = side ∙ keeps.from;
         last = keeps.last;
         rise = keeps.rise;
@@ -136,15 +122,10 @@ module _ (profile : Profile) (slot : SlotState) (qport host : ℕ) (built : List
       record {
         qport = keeps.qport;
         host = keeps.host;
-        begun = keeps.begun;
-        short = keeps.short;
-        side = keeps.side;
-        no_qport = keeps.no_qport;
-        sends = keeps.sends;
+        sending = keeps.sending;
         player = keeps.player;
         area = keeps.area;
         built = keeps.built;
-        sendable = keeps.sendable;
         from = keeps.from;
         last = ap (λ (last : ℕ). last_time last behind) keeps.last ∙ sym (last_time-append 0 run behind);
         rise = TimesRise-append 0 run behind keeps.rise (subst (λ (last : ℕ). TimesRise last behind) keeps.last (runs_rise slot.last_run moves));
@@ -154,19 +135,13 @@ module _ (profile : Profile) (slot : SlotState) (qport host : ℕ) (built : List
   pub KeepsSlot-handed : EndsSend → KeepsSlot profile slot qport host built run
       → KeepsSlot profile (record slot { sending = (next_of slot.sending).sending }) qport host built run
   KeepsSlot-handed chan keeps =
-      let same = chan.stays slot.sending in
       record {
         qport = keeps.qport;
         host = keeps.host;
-        begun = same.2 ∙ keeps.begun;
-        short = keeps.short;
-        side = same.0 ∙ keeps.side;
-        no_qport = same.1 ∙ keeps.no_qport;
-        sends = chan.next (messages_of profile built) slot.sending keeps.sends;
+        sending = BeginsMessages-handed Server 0 (messages_of profile built) (length built) slot.sending chan keeps.sending;
         player = keeps.player;
         area = keeps.area;
         built = keeps.built;
-        sendable = keeps.sendable;
         from = keeps.from;
         last = keeps.last;
         rise = keeps.rise;
@@ -199,26 +174,20 @@ pub KeepsSlot-begun : (profile : Profile) (map : MapState) (slot : SlotState) (q
     → KeepsSlot profile (slot_begun profile map slot) qport host (built ++ next_message map slot ∷ []) run
 KeepsSlot-begun profile map slot qport host built run chan time entities fits sendable keeps =
     let next = next_message map slot in
-    let begun = keeps.begun in
+    let begun = keeps.sending.begun in
     let longer = length_push built next in
     let last : messages_of profile (built ++ next ∷ []) (suc (length built)) ≡ built_bytes profile next =
     let place : length built ≡ suc (length built) - 1 = omega arith in
     ap (built_bytes profile) (get_or_push built next no_message (suc (length built) - 1) place) in
-    let number : suc (length built) ≡ slot.sending.number + 1 = omega (arith, begun) in
     record {
       qport = keeps.qport;
       host = keeps.host;
-      begun = omega (arith, longer, begun);
-      short = omega (arith, longer, begun, fits);
-      side = keeps.side;
-      no_qport = keeps.no_qport;
-      sends = chan.start (messages_of profile (built ++ next ∷ [])) slot.sending (built_bytes profile next)
-          (subst (λ (n : ℕ). messages_of profile (built ++ next ∷ []) n ≡ built_bytes profile next) number last);
+      sending = BeginsMessages-started Server 0 (messages_of profile built) (messages_of profile (built ++ next ∷ [])) (length built) (length (built ++ next ∷ [])) slot.sending (built_bytes profile next) chan
+          (omega (arith, longer)) fits (messages_stay profile built (next ∷ [])) last sendable keeps.sending;
       player = keeps.player;
       area = keeps.area;
       built = each_more (λ (k : ℕ) (b : Built). IsBuilt profile (k + 1) b) built next keeps.built
           (subst (λ (n : ℕ). IsBuilt profile (n + 1) next) begun (next_is_built profile map slot time entities fits keeps.player keeps.area));
-      sendable = each_more (λ (k : ℕ) (b : Built). IsSendable (built_bytes profile b)) built next keeps.sendable sendable;
       from = keeps.from;
       last = keeps.last;
       rise = keeps.rise;
@@ -234,13 +203,8 @@ KeepsClient-new profile challenge qport dup chan fits =
       by = refl;
       from = refl;
       fits = fits;
-      begun = refl;
-      short = lit< tt;
-      side = refl;
-      qport = refl;
-      sends = chan.begin (messages_said profile []) Client qport;
+      sending = BeginsMessages-new Client qport (messages_said profile []) chan;
       said = λ k d lt. absurd (omega (arith, lt));
-      sendable = λ k d lt. absurd (omega (arith, lt));
       last = refl;
       rise = tt;
       moves = KeepsMoves-none;
@@ -281,13 +245,8 @@ module _ (profile : Profile) (client : ClientState) (qport : ℕ) (said : List S
         by = keeps.by;
         from = side ∙ keeps.from;
         fits = keeps.fits;
-        begun = keeps.begun;
-        short = keeps.short;
-        side = keeps.side;
-        qport = keeps.qport;
-        sends = keeps.sends;
+        sending = keeps.sending;
         said = keeps.said;
-        sendable = keeps.sendable;
         last = keeps.last;
         rise = keeps.rise;
         moves = keeps.moves;
@@ -298,18 +257,12 @@ module _ (profile : Profile) (client : ClientState) (qport : ℕ) (said : List S
   pub KeepsClient-handed : EndsSend → KeepsClient profile client qport said issued
       → KeepsClient profile (record client { sending = (next_of client.sending).sending }) qport said issued
   KeepsClient-handed chan keeps =
-      let same = chan.stays client.sending in
       record {
         by = keeps.by;
         from = keeps.from;
         fits = keeps.fits;
-        begun = same.2 ∙ keeps.begun;
-        short = keeps.short;
-        side = same.0 ∙ keeps.side;
-        qport = same.1 ∙ keeps.qport;
-        sends = chan.next (messages_said profile said) client.sending keeps.sends;
+        sending = BeginsMessages-handed Client qport (messages_said profile said) (length said) client.sending chan keeps.sending;
         said = keeps.said;
-        sendable = keeps.sendable;
         last = keeps.last;
         rise = keeps.rise;
         moves = keeps.moves;
@@ -326,17 +279,12 @@ module _ (profile : Profile) (client : ClientState) (qport : ℕ) (said : List S
         by = keeps.by;
         from = keeps.from;
         fits = keeps.fits;
-        begun = keeps.begun;
-        short = keeps.short;
-        side = keeps.side;
-        qport = keeps.qport;
-        sends = keeps.sends;
+        sending = keeps.sending;
         said = keeps.said;
-        sendable = keeps.sendable;
         last = sym (last_time-append 0 issued (one ∷ []));
         rise = TimesRise-append 0 issued (one ∷ []) keeps.rise (omega (arith, later, last), tt);
         moves = subst (λ (begun : ℕ). KeepsMoves (keep_last most_moves (client.moves ++ record { begun = begun; one = one } ∷ [])) (length said) (issued ++ one ∷ []))
-            (sym keeps.begun) (KeepsMoves-push client.moves (length said) issued one is keeps.moves);
+            (sym keeps.sending.begun) (KeepsMoves-push client.moves (length said) issued one is keeps.moves);
         carried = λ k d lt. AreConsecutive-more (get_or said k d).moves issued (one ∷ []) (keeps.carried k d lt);
       }
 
@@ -345,24 +293,18 @@ module _ (profile : Profile) (client : ClientState) (qport : ℕ) (said : List S
       → KeepsClient profile client qport said issued → KeepsClient profile (client_begun profile client) qport (said ++ next_said client ∷ []) issued
   KeepsClient-begun chan fits taken sendable keeps =
       let next = next_said client in
-      let begun = keeps.begun in
+      let begun = keeps.sending.begun in
       let longer = length_push said next in
       let last : messages_said profile (said ++ next ∷ []) (suc (length said)) ≡ said_bytes profile next =
       let place : length said ≡ suc (length said) - 1 = omega arith in
       ap (said_bytes profile) (get_or_push said next empty_message (suc (length said) - 1) place) in
-      let number : suc (length said) ≡ client.sending.number + 1 = omega (arith, begun) in
       record {
         by = keeps.by;
         from = keeps.from;
         fits = keeps.fits;
-        begun = omega (arith, longer, begun);
-        short = omega (arith, longer, begun, fits);
-        side = keeps.side;
-        qport = keeps.qport;
-        sends = chan.start (messages_said profile (said ++ next ∷ [])) client.sending (said_bytes profile next)
-            (subst (λ (n : ℕ). messages_said profile (said ++ next ∷ []) n ≡ said_bytes profile next) number last);
+        sending = BeginsMessages-started Client qport (messages_said profile said) (messages_said profile (said ++ next ∷ [])) (length said) (length (said ++ next ∷ [])) client.sending (said_bytes profile next) chan
+            (omega (arith, longer)) fits (messages_said_stay profile said (next ∷ [])) last sendable keeps.sending;
         said = each_more (λ (k : ℕ) (s : Said). IsMessage s) said next keeps.said (next_is_message client (length said) issued taken keeps.moves);
-        sendable = each_more (λ (k : ℕ) (s : Said). IsSendable (said_bytes profile s)) said next keeps.sendable sendable;
         last = keeps.last;
         rise = keeps.rise;
         moves = KeepsMoves-begun client.moves (length said) (length (said ++ next ∷ [])) issued (omega (arith, longer)) keeps.moves;
@@ -381,21 +323,6 @@ at_number profile built (suc number) some = refl
 pub said_number : (profile : Profile) (said : List Said) (number : ℕ) → 1 ≤ number → messages_said profile said number ≡ said_bytes profile (said_at said number)
 said_number profile said zero some = absurd (omega (arith, some))
 said_number profile said (suc number) some = refl
-
--- a datagram that is handed out has a piece of the message that is under way
-pub handed_piece : (messages : ℕ → List ℕ) (sending : Sending) (side : Side) (qport last : ℕ) (left : UnderWay) (tag : Tag) → EndsSend → Sends messages sending
-    → sending.under_way ≡ Some left → sending.side ≡ side → sending.qport ≡ qport → sending.number ≡ last
-    → tag.number ≡ sending.number → tag.index ≡ left.next → tag.bytes ≡ (next_of sending).datagram → IsPiece side qport messages last tag
-handed_piece messages sending side qport last left tag chan sends way of_side of_qport of_number number index bytes =
-    let out = chan.piece messages sending left sends way in
-    let some = out.some in
-    let within : left.next < piece_count (length (messages sending.number)) = out.left in
-    record {
-      some = omega (arith, some, number);
-      begun = omega (arith, number, of_number);
-      piece = rw (index, number) within;
-      bytes = bytes ∙ (out.bytes ∙ rw (of_side, of_qport, number, index) refl);
-    }
 
 -- ---- what joins the ends
 

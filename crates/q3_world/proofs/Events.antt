@@ -22,14 +22,15 @@ use Rattle.q3_server.specs.Server.{MapState, SlotState, ServerState, Built, plac
 use Rattle.q3_client.specs.Client.{ClientState, new_client}
 use Rattle.q3_client.specs.Moves.{issue}
 use Rattle.q3_client.specs.Sending.{said_bytes, next_message as next_said}
-use Rattle.q3_world.specs.declared.sent.Direction.TheVariants.{ToClient, ToServer}
+use Rattle.q3_world.specs.declared.made.Direction.TheVariants.{ToClient, ToServer}
 use Rattle.q3_world.specs.Ends.{Ends, client_at, with_client, no_address, address_at}
 use Rattle.q3_world.specs.World.{Tag, History, Whole, no_history, no_message, history_at, with_history, built_at, with_built, with_accepted, with_said, with_run, named, opening}
 use Rattle.q3_world.specs.StandsFor.{messages_of, messages_said, KeepsSlot, AreEnds, IsClient, IsPiece, IsWay, IsSent, Facts, TakesBuilt, AreJoined, IsJoined, AllJoined, WasBuilt}
 use Rattle.q3_world.proofs.OnePlace.{set_there, OnlyAt-set, OnlyAt-same, DifferAt, Each, each_at}
 use Rattle.q3_world.proofs.Growth.{HistoryGrows, HistoryGrows-same, HistoryGrows-built, HistoryGrows-accepted, HistoryGrows-said, HistoryGrows-issued, HistoryGrows-run, HistoryGrows-joined, Grow-at, noted_same, AllSent, all_sent_grow, each_more}
 use Rattle.q3_world.proofs.Found.{AllFound, found_changed, found_joined}
-use Rattle.q3_world.proofs.Clients.{no_client, a_client, a_slot, KeepsSlot-new, KeepsSlot-given, KeepsSlot-came, KeepsSlot-handed, KeepsClient-new, KeepsClient-took, KeepsClient-handed, KeepsClient-issued, KeepsClient-begun, client_begun, handed_piece, TakesBuilt-new, TakesSaid-new, TakesBuilt-same, TakesSaid-same, TakesBuilt-more, TakesSaid-more, TakesSaid-issued}
+use Rattle.q3_world.proofs.Clients.{no_client, a_client, a_slot, KeepsSlot-new, KeepsSlot-given, KeepsSlot-came, KeepsSlot-handed, KeepsClient-new, KeepsClient-took, KeepsClient-handed, KeepsClient-issued, KeepsClient-begun, client_begun, TakesBuilt-new, TakesSaid-new, TakesBuilt-same, TakesSaid-same, TakesBuilt-more, TakesSaid-more, TakesSaid-issued}
+use Rattle.q3_world.proofs.Beginning.{handed_piece}
 use Rattle.q3_world.proofs.Held.{AreHeld-none}
 
 -- what holds of a whole world
@@ -81,14 +82,14 @@ pub record Differ (profile : Profile) (c : ℕ) (old new : Whole) : Type 0 where
   pub found : AllFound new.ends.server.slots
   pub sent : AllSent profile new.histories new.sent
 
--- what joins the ends of a client, by this map
-abbrev OfJoined : Profile → MapState → Option SlotState → Option ClientState → Address → History → Type 0
-OfJoined profile map slot client address history = IsJoined profile map slot client history
+-- what joins the ends of a client
+abbrev OfJoined : Profile → Option SlotState → Option ClientState → Address → History → Type 0
+OfJoined profile slot client address history = IsJoined profile slot client history
 
 -- what holds of the others stays
 pub Holds-at : (profile : Profile) (c : ℕ) (old new : Whole) → Differ profile c old new
     → IsClient profile (slot_at new.ends.server c) (client_at new.ends c) (address_at new.ends c) (history_at new.histories c)
-    → IsJoined profile new.ends.server.map (slot_at new.ends.server c) (client_at new.ends c) (history_at new.histories c)
+    → IsJoined profile (slot_at new.ends.server c) (client_at new.ends c) (history_at new.histories c)
     → Holds profile old → Holds profile new
 Holds-at profile c old new differ client joined holds =
     let facts = holds.facts in
@@ -107,8 +108,7 @@ Holds-at profile c old new differ client joined holds =
         found = differ.found;
         sent = differ.sent;
       };
-      joined = each_at (OfJoined profile new.ends.server.map) c old.ends new.ends old.histories new.histories at joined
-          (subst (λ (map : MapState). Each (OfJoined profile map) old.ends old.histories) (sym differ.map) holds.joined);
+      joined = each_at (OfJoined profile) c old.ends new.ends old.histories new.histories at joined holds.joined;
     }
 
 -- ---- a client joins
@@ -145,7 +145,7 @@ Holds-new profile whole c challenge qport dup address sends gathers first lt fit
     let noted = set_there whole.histories c no_history there facts.histories lt in
     let keeps : AreEnds profile slot client address there = subst (λ (h : History). AreEnds profile slot client address (record h { qport = qport; host = address.host })) (sym history_is)
     (record { of_slot = KeepsSlot-new profile challenge qport address sends first; of_client = KeepsClient-new profile challenge qport dup sends fits; host = refl }) in
-    let joins : AreJoined profile ends.server.map slot client there = subst (λ (h : History). AreJoined profile ends.server.map slot client (record h { qport = qport; host = address.host })) (sym history_is)
+    let joins : AreJoined profile slot client there = subst (λ (h : History). AreJoined profile slot client (record h { qport = qport; host = address.host })) (sym history_is)
     (record { of_client = TakesBuilt-new profile challenge qport dup gathers; of_slot = TakesSaid-new profile challenge qport address gathers }) in
     Holds-at profile c whole (with_new whole c qport address slot client)
     (record {
@@ -172,7 +172,7 @@ pub record Has (profile : Profile) (whole : Whole) (c : ℕ) (slot : SlotState) 
   pub slot_is : slot_at whole.ends.server c ≡ Some slot
   pub client_is : client_at whole.ends c ≡ Some client
   pub keeps : AreEnds profile slot client (address_at whole.ends c) (history_at whole.histories c)
-  pub joined : AreJoined profile whole.ends.server.map slot client (history_at whole.histories c)
+  pub joined : AreJoined profile slot client (history_at whole.histories c)
 
 abbrev some_slot : SlotState → Option SlotState
 some_slot slot = Some slot
@@ -189,8 +189,8 @@ has_slot profile whole c slot lt found holds =
     let map = whole.ends.server.map in
     let ends = a_client profile slot (client_at whole.ends c) address history
     (subst (λ (s : Option SlotState). IsClient profile s (client_at whole.ends c) address history) found (holds.facts.each c lt)) in
-    let joined : IsJoined profile map (some_slot slot) (client_at whole.ends c) history = subst (λ (s : Option SlotState). IsJoined profile map s (client_at whole.ends c) history) found (holds.joined c lt) in
-    (ends.0, record { slot_is = found; client_is = ends.1; keeps = ends.2; joined = subst (λ (e : Option ClientState). IsJoined profile map (some_slot slot) e history) ends.1 joined })
+    let joined : IsJoined profile (some_slot slot) (client_at whole.ends c) history = subst (λ (s : Option SlotState). IsJoined profile s (client_at whole.ends c) history) found (holds.joined c lt) in
+    (ends.0, record { slot_is = found; client_is = ends.1; keeps = ends.2; joined = subst (λ (e : Option ClientState). IsJoined profile (some_slot slot) e history) ends.1 joined })
 
 -- with its own end
 pub has_client : (profile : Profile) (whole : Whole) (c : ℕ) (client : ClientState) → c < places → client_at whole.ends c ≡ Some client → Holds profile whole
@@ -201,9 +201,9 @@ has_client profile whole c client lt found holds =
     let map = whole.ends.server.map in
     let had = a_slot profile (slot_at whole.ends.server c) client address history
     (subst (λ (e : Option ClientState). IsClient profile (slot_at whole.ends.server c) e address history) found (holds.facts.each c lt)) in
-    let joined : IsJoined profile map (some_slot had.0) (some_client client) history =
-    subst (λ (s : Option SlotState). IsJoined profile map s (some_client client) history) had.1
-    (subst (λ (e : Option ClientState). IsJoined profile map (slot_at whole.ends.server c) e history) found (holds.joined c lt)) in
+    let joined : IsJoined profile (some_slot had.0) (some_client client) history =
+    subst (λ (s : Option SlotState). IsJoined profile s (some_client client) history) had.1
+    (subst (λ (e : Option ClientState). IsJoined profile (slot_at whole.ends.server c) e history) found (holds.joined c lt)) in
     (had.0, record { slot_is = had.1; client_is = found; keeps = had.2; joined = joined })
 
 -- the world in which its slot, its end, and what is noted of it are these, and this was sent
@@ -221,7 +221,7 @@ pub record Changes (profile : Profile) (whole : Whole) (c : ℕ) (slot : SlotSta
   pub qport : slot'.qport ≡ slot.qport
   pub grows : HistoryGrows (history_at whole.histories c) history
   pub keeps : AreEnds profile slot' client' (address_at whole.ends c) history
-  pub joined : AreJoined profile whole.ends.server.map slot' client' history
+  pub joined : AreJoined profile slot' client' history
   pub sent : AllSent profile (with_history whole.histories c history) tags
 
 pub Holds-changed : (profile : Profile) (whole : Whole) (c : ℕ) (slot slot' : SlotState) (client client' : ClientState) (history : History) (sent : List Tag) → c < places
@@ -389,7 +389,7 @@ Holds-handed profile whole c old slot left None sends gathers lt found way begin
       keeps = record { of_slot = KeepsSlot-handed profile slot history.qport history.host history.built history.run sends starts; of_client = keeps.of_client; host = keeps.host };
       joined = record { of_client = joined.of_client; of_slot = TakesSaid-same profile old next history.said history.issued history.run begins.gathering joined.of_slot };
       sent = sent_more profile whole c history (handed_tag c slot left) lt grows refl
-          (handed_piece (messages_of profile history.built) slot.sending Server 0 (length history.built) left (handed_tag c slot left) sends starts.sends way starts.side starts.no_qport starts.begun refl refl refl) holds;
+          (handed_piece Server 0 (messages_of profile history.built) (length history.built) slot.sending left (handed_tag c slot left) sends starts.sending way refl refl refl) holds;
     }) holds
 Holds-handed profile whole c old slot left (Some built) sends gathers lt found way begins holds =
     let history = history_at whole.histories c in
@@ -411,7 +411,7 @@ Holds-handed profile whole c old slot left (Some built) sends gathers lt found w
         of_slot = TakesSaid-same profile old next history.said history.issued history.run begins.gathering joined.of_slot;
       };
       sent = sent_more profile whole c (record history { built = more }) (handed_tag c slot left) lt grows refl
-          (handed_piece (messages_of profile more) slot.sending Server 0 (length more) left (handed_tag c slot left) sends starts.sends way starts.side starts.no_qport starts.begun refl refl refl) holds;
+          (handed_piece Server 0 (messages_of profile more) (length more) slot.sending left (handed_tag c slot left) sends starts.sending way refl refl refl) holds;
     }) holds
 
 -- ---- a client hands out a datagram
@@ -443,8 +443,7 @@ Holds-goes profile whole c client left sends lt found way holds =
       joined = record { of_client = TakesBuilt-same profile client (client_handed client) history.built history.accepted refl refl refl joined.of_client; of_slot = joined.of_slot };
       sent = sent_more profile whole c history tag lt grows refl (
         keeps.host,
-        handed_piece (messages_said profile history.said) client.sending Client history.qport (length history.said) left tag sends keeps.of_client.sends way
-            keeps.of_client.side keeps.of_client.qport keeps.of_client.begun refl refl refl,
+        handed_piece Client history.qport (messages_said profile history.said) (length history.said) client.sending left tag sends keeps.of_client.sending way refl refl refl,
       ) holds;
     }) holds
 
@@ -478,8 +477,7 @@ Holds-said profile whole c client left sends gathers lt found way fits taken sen
       };
       sent = sent_more profile whole c (record history { said = more }) tag lt grows refl (
         keeps.host,
-        handed_piece (messages_said profile more) begun.sending Client history.qport (length more) left tag sends starts.sends way
-            starts.side starts.qport starts.begun refl refl refl,
+        handed_piece Client history.qport (messages_said profile more) (length more) begun.sending left tag sends starts.sending way refl refl refl,
       ) holds;
     }) holds
 
@@ -612,13 +610,6 @@ names_built profile whole tag is built =
 
 -- ---- the map changes
 
--- what joins the ends of a client does so with another map
-joined_map : (profile : Profile) (map map' : MapState) (slot : Option SlotState) (client : Option ClientState) (history : History)
-    → IsJoined profile map slot client history → IsJoined profile map' slot client history
-joined_map profile map map' None client history joined = tt
-joined_map profile map map' (Some slot) None history joined = tt
-joined_map profile map map' (Some slot) (Some client) history joined = record { of_client = joined.of_client; of_slot = joined.of_slot }
-
 abbrev pub with_map : Whole → MapState → Whole
 with_map whole map = record whole { ends = record whole.ends { server = record whole.ends.server { map = map } } }
 
@@ -639,5 +630,5 @@ Holds-map profile whole map time entities holds =
         found = facts.found;
         sent = facts.sent;
       };
-      joined = λ c lt. joined_map profile whole.ends.server.map map (slot_at whole.ends.server c) (client_at whole.ends c) (history_at whole.histories c) (holds.joined c lt);
+      joined = holds.joined;
     }

@@ -27,8 +27,8 @@ use Rattle.q3_clmsg.specs.declared.moves.Move.{Move}
 use Rattle.q3_io.specs.declared.address.Address.{Address}
 use Rattle.q3_world.specs.declared.answer.Answer.TheVariants as variants
 use Rattle.q3_world.specs.declared.answer.Answer.TheVariants.{Unknown, Deliver}
-use Rattle.q3_world.specs.declared.sent.Direction.{Direction}
-use Rattle.q3_world.specs.declared.sent.Direction.TheVariants.{ToClient, ToServer}
+use Rattle.q3_world.specs.declared.made.Direction.{Direction}
+use Rattle.q3_world.specs.declared.made.Direction.TheVariants.{ToClient, ToServer}
 use Rattle.q3_world.specs.Layers.{Layers}
 use Rattle.q3_server.specs.Server.{MapState, SlotState, Built, places, slot_at, built_bytes}
 use Rattle.q3_client.specs.Client.{ClientState, Taken, apply_message, take_answer, take_gathered}
@@ -101,30 +101,30 @@ abbrev WereAccepted : History → Type 0
 WereAccepted history = ((k : ℕ) (d : Snapshot) → k < length history.accepted → WasBuilt history.built (get_or history.accepted k d)) × Rise history.accepted
 
 -- what a client accepted, wherever it is
-accepted_by : (profile : Profile) (map : MapState) (slot : Option SlotState) (client : Option ClientState) (address : Address) (history : History)
-    → IsClient profile slot client address history → IsJoined profile map slot client history → WereAccepted history
-accepted_by profile map None None address history is joined =
+accepted_by : (profile : Profile) (slot : Option SlotState) (client : Option ClientState) (address : Address) (history : History)
+    → IsClient profile slot client address history → IsJoined profile slot client history → WereAccepted history
+accepted_by profile None None address history is joined =
     rw is ((λ k d lt. absurd (omega (arith, lt))), (λ j k d lt within. absurd (omega (arith, within))))
-accepted_by profile map None (Some client) address history is joined = absurd is
-accepted_by profile map (Some slot) None address history is joined = absurd is
-accepted_by profile map (Some slot) (Some client) address history is joined = (joined.of_client.accepted, joined.of_client.rise)
+accepted_by profile None (Some client) address history is joined = absurd is
+accepted_by profile (Some slot) None address history is joined = absurd is
+accepted_by profile (Some slot) (Some client) address history is joined = (joined.of_client.accepted, joined.of_client.rise)
 
 pub accepted_were_built : BytesFollowTags → AcceptedWereBuilt
 accepted_were_built law profile all c is are within =
     let stands : Then profile all = (law profile all is are).0 in
     let whole = whole_then profile all in
-    accepted_by profile whole.ends.server.map (slot_at whole.ends.server c) (client_at whole.ends c) (address_at whole.ends c) (history_at whole.histories c)
+    accepted_by profile (slot_at whole.ends.server c) (client_at whole.ends c) (address_at whole.ends c) (history_at whole.histories c)
     (stands.facts.each c within) (stands.joined c within)
 
 some_is : (x y : Snapshot) → Some x ≡ Some y → x ≡ y
 some_is x y e = cc
 
 -- the newest was
-newest_was : (profile : Profile) (map : MapState) (slot : Option SlotState) (client : Option ClientState) (address : Address) (history : History) (snapshot : Snapshot)
-    → newest client ≡ Some snapshot → IsClient profile slot client address history → IsJoined profile map slot client history → WasBuilt history.built snapshot
-newest_was profile map slot None address history snapshot shown is joined = absurd cc
-newest_was profile map None (Some client) address history snapshot shown is joined = absurd is
-newest_was profile map (Some slot) (Some client) address history snapshot shown is joined =
+newest_was : (profile : Profile) (slot : Option SlotState) (client : Option ClientState) (address : Address) (history : History) (snapshot : Snapshot)
+    → newest client ≡ Some snapshot → IsClient profile slot client address history → IsJoined profile slot client history → WasBuilt history.built snapshot
+newest_was profile slot None address history snapshot shown is joined = absurd cc
+newest_was profile None (Some client) address history snapshot shown is joined = absurd is
+newest_was profile (Some slot) (Some client) address history snapshot shown is joined =
     newest_of history snapshot history.accepted refl (sym joined.of_client.newest ∙ shown) joined.of_client.accepted
   where
     newest_of : (history : History) (snapshot : Snapshot) (accepted : List Snapshot) → history.accepted ≡ accepted → last_or None history.accepted ≡ Some snapshot
@@ -145,7 +145,7 @@ pub shown_was_built : BytesFollowTags → ShownWasBuilt
 shown_was_built law profile all c snapshot is are within shown =
     let stands : Then profile all = (law profile all is are).0 in
     let whole = whole_then profile all in
-    newest_was profile whole.ends.server.map (slot_at whole.ends.server c) (client_at whole.ends c) (address_at whole.ends c) (history_at whole.histories c) snapshot
+    newest_was profile (slot_at whole.ends.server c) (client_at whole.ends c) (address_at whole.ends c) (history_at whole.histories c) snapshot
     (ap (λ (e : Ends). newest (client_at e c)) (sym stands.ends) ∙ (sym (shows (kept_then profile all) c) ∙ shown))
     (stands.facts.each c within) (stands.joined c within)
 

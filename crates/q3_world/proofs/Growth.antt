@@ -11,8 +11,8 @@ use Rattle.q3_clmsg.specs.Values.{empty_message}
 use Rattle.q3_svmsg.specs.Values.{Snapshot}
 use Rattle.q3_server.specs.Server.{Built, places, built_bytes}
 use Rattle.q3_client.specs.Sending.{said_bytes, Said}
-use Rattle.q3_world.specs.declared.sent.Direction.{Direction}
-use Rattle.q3_world.specs.declared.sent.Direction.TheVariants.{ToClient, ToServer}
+use Rattle.q3_world.specs.declared.made.Direction.{Direction}
+use Rattle.q3_world.specs.declared.made.Direction.TheVariants.{ToClient, ToServer}
 use Rattle.q3_world.specs.World.{Tag, History, no_history, no_message, history_at, with_history, built_at, with_built, with_accepted, with_said, with_run}
 use Rattle.q3_world.specs.StandsFor.{IsPiece, IsWay, IsSent, WasBuilt, messages_of, messages_said}
 use Rattle.q3_world.proofs.OnePlace.{set_there, OnlyAt-set}

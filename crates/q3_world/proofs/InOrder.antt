@@ -22,7 +22,7 @@ use Rattle.q3_client.specs.declared.client.ClientTook.{ClientTook}
 use Rattle.q3_server.specs.Built.{message_of}
 use Rattle.q3_server.specs.Server.{Built, places, built_bytes}
 use Rattle.q3_client.specs.Client.{ClientState, Taken, apply_section, apply_message, take_answer, take_gathered}
-use Rattle.q3_world.specs.declared.sent.Direction.TheVariants.{ToClient}
+use Rattle.q3_world.specs.declared.made.Direction.TheVariants.{ToClient}
 use Rattle.q3_world.specs.Ends.{client_at, with_client, delivered}
 use Rattle.q3_world.specs.Kept.{Kept, KeptStep, kept_step}
 use Rattle.q3_world.specs.World.{Tag, Whole, History, no_history, history_at, with_history, with_accepted, built_at, named, client_took, step, after, opening}

@@ -28,9 +28,9 @@ use Rattle.q3_client.specs.Client.{ClientState, new_client, apply_section, take_
 use Rattle.q3_client.specs.Moves.{add_move_at}
 use Rattle.q3_client.specs.Sending as speaks
 use Rattle.q3_client.specs.Sending.{Said, said_bits, said_bytes, next_message as next_said}
-use Rattle.q3_world.specs.declared.sent.Direction.{Direction}
-use Rattle.q3_world.specs.declared.sent.Direction.TheVariants.{ToClient, ToServer}
-use Rattle.q3_world.specs.Ends.{Ends, Answered, delivered, ran, said, joined, moved, add_move_to, client_at}
+use Rattle.q3_world.specs.declared.made.Direction.{Direction}
+use Rattle.q3_world.specs.declared.made.Direction.TheVariants.{ToClient, ToServer}
+use Rattle.q3_world.specs.Ends.{Ends, Answered, delivered, ran, sent, joined, moved, add_move_to, client_at}
 use Rattle.q3_world.specs.Kept.{Kept, opening_kept, kept_step, kept_answers}
 use Rattle.q3_world.specs.World.{Tag, Whole, opening, step, send, named, to_client, said_under, to_server, arrive, deliver}
 use Rattle.q3_world.specs.StandsFor.{IsSent, StandsFor}
@@ -55,7 +55,7 @@ legible_move ends c one (Some client) = legible_moved c (add_move_at client one)
 
 -- ---- what a client sends
 
-legible_left : (c n : ℕ) (client : ClientState) (left : Option UnderWay) → IsLegible (said c (Ok (speaks.emit_left client left).answer) n).answer
+legible_left : (c n : ℕ) (client : ClientState) (left : Option UnderWay) → IsLegible (sent c (Ok (speaks.emit_left client left).answer) n).answer
 legible_left c n client (Some left) = tt
 legible_left c n client None =
     let next = next_said client in
@@ -73,7 +73,7 @@ legible_send : (profile : Profile) (whole : Whole) (c : ℕ) (found : Option Cli
 unfolding speaks.emit_at
 legible_send profile whole c None legible = tt
 legible_send profile whole c (Some client) legible =
-    subst (λ (dropped : Option Illegible). IsLegible (said c (Ok (speaks.emit_unless client dropped).answer) (length whole.sent + 1)).answer) (sym (legible client refl))
+    subst (λ (dropped : Option Illegible). IsLegible (sent c (Ok (speaks.emit_unless client dropped).answer) (length whole.sent + 1)).answer) (sym (legible client refl))
     (legible_left c (length whole.sent + 1) client client.sending.under_way)
 
 -- ---- what a client takes

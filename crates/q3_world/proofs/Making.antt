@@ -125,7 +125,7 @@ silent profile whole c client answer found holds =
 pub taken_fits : (profile : Profile) (whole : Whole) (c : ℕ) (client : ClientState) → c < places → client_at whole.ends c ≡ Some client → Holds profile whole → client.gathering.taken < 2 ^ 32
 taken_fits profile whole c client lt found holds =
     let had = has_client profile whole c client lt found holds in
-    let short = had.1.keeps.of_slot.short in
+    let short = had.1.keeps.of_slot.sending.short in
     let taken = had.1.joined.of_client.gathers.taken in
     omega (arith, short, taken)
 

@@ -12,13 +12,13 @@ use Rattle.q3_chan.specs.Tags.{tagged}
 use Rattle.q3_server.specs.declared.taking.ServerTook.TheVariants as answer
 use Rattle.q3_server.specs.Server.{SlotState, slot_at}
 use Rattle.q3_server.specs.Taking as hears
+use Rattle.q3_server.specs.Taking.{runs}
 use Rattle.q3_client.specs.Client.{ClientState}
-use Rattle.q3_client.specs.Sending.{said_bytes}
-use Rattle.q3_world.specs.declared.answer.Answer.TheVariants.{ToServer}
-use Rattle.q3_world.specs.declared.sent.Direction.TheVariants as direction
-use Rattle.q3_world.specs.Ends.{Ends, client_at, address_at}
+use Rattle.q3_client.specs.Sending.{Said, said_bytes}
+use Rattle.q3_world.specs.declared.made.Direction.TheVariants as direction
+use Rattle.q3_world.specs.Ends.{Ends, Answered, client_at, address_at, ran}
 use Rattle.q3_world.specs.Kept.{SentBytes, Kept, KeptStep, kept_step}
-use Rattle.q3_world.specs.World.{Tag, Whole, History, history_at, said_under, step}
+use Rattle.q3_world.specs.World.{Tag, Whole, History, history_at, said_at, said_under, step}
 use Rattle.q3_world.specs.StandsFor.{IsClient, IsJoined, StandsFor, bytes_of}
 use Rattle.q3_world.specs.Moves.{TimesRise, StandAmong}
 use Rattle.q3_world.specs.Layers.{Layers}
@@ -35,31 +35,48 @@ abbrev WereIssued : History → Type 0
 WereIssued history = StandAmong history.run history.issued × TimesRise 0 history.run
 
 -- of a client, wherever it is
-issued_by : (profile : Profile) (slot : Option SlotState) (client : Option ClientState) (address : Address) (history : History) (whole : Whole)
-    → IsClient profile slot client address history → IsJoined profile whole.ends.server.map slot client history → WereIssued history
-issued_by profile None None address history whole is joined = rw is (tt, tt)
-issued_by profile None (Some client) address history whole is joined = absurd is
-issued_by profile (Some slot) None address history whole is joined = absurd is
-issued_by profile (Some slot) (Some client) address history whole is joined =
+issued_by : (profile : Profile) (slot : Option SlotState) (client : Option ClientState) (address : Address) (history : History)
+    → IsClient profile slot client address history → IsJoined profile slot client history → WereIssued history
+issued_by profile None None address history is joined = rw is (tt, tt)
+issued_by profile None (Some client) address history is joined = absurd is
+issued_by profile (Some slot) None address history is joined = absurd is
+issued_by profile (Some slot) (Some client) address history is joined =
     (stand_among 0 0 history.issued history.run is.of_client.rise is.of_slot.rise joined.of_slot.ran, is.of_slot.rise)
 
 pub moves_were_issued : BytesFollowTags → MovesWereIssued
 moves_were_issued law profile all c is are within =
     let stands : StandsFor profile (kept_then profile all) (whole_then profile all) = (law profile all is are).0 in
     let whole = whole_then profile all in
-    issued_by profile (slot_at whole.ends.server c) (client_at whole.ends c) (address_at whole.ends c) (history_at whole.histories c) whole
+    issued_by profile (slot_at whole.ends.server c) (client_at whole.ends c) (address_at whole.ends c) (history_at whole.histories c)
     (stands.facts.each c within) (stands.joined c within)
 
 -- ---- newer messages
 
+abbrev ran_so : ℕ → hears.SlotTaken → Answered
+ran_so number taken = ran number taken.answer taken.moves
+
 -- what a delivery to the server answers, by its tag
 answers_said : (profile : Profile) (whole : Whole) (number : ℕ) (tag : Tag) (from : Address) (slot : SlotState) → slice_get whole.sent (number - 1) ≡ Some tag
     → tag.direction ≡ direction.ToServer from → slot_at whole.ends.server tag.client ≡ Some slot
-    → (step profile whole (events.Deliver number)).answer.answer
-    ≡ ToServer number (hears.take_gathered (record slot { address = from }) tag.client
-    (tagged slot.gathering tag.number (said_bytes profile (said_under whole.histories tag)) tag.index) (λ n. Ok (said_under whole.histories tag))).answer
+    → (step profile whole (events.Deliver number)).answer
+    ≡ ran_so number (hears.take_gathered (record slot { address = from }) tag.client
+    (tagged slot.gathering tag.number (said_bytes profile (said_under whole.histories tag)) tag.index) (λ n. Ok (said_under whole.histories tag)))
 unfolding step
 answers_said profile whole number tag from slot at way found = rw (at, way, found) refl
+
+-- the message that came whole is the one that the tag names
+heard_whole : TaggedDoes → (profile : Profile) (whole : Whole) (tag : Tag) (slot : SlotState) (n count : ℕ)
+    → (tagged slot.gathering tag.number (said_bytes profile (said_under whole.histories tag)) tag.index).answer ≡ CameWhole n count
+    → (n ≡ tag.number) × (slot.gathering.taken < tag.number)
+heard_whole does_so profile whole tag slot n count e =
+    let does = does_so slot.gathering tag.number (said_bytes profile (said_under whole.histories tag)) tag.index in
+    elim does.either [
+      | inl waits ↦ absurd (subst IsQuiet e waits.quiet)
+      | inr came ↦ (whole_is (sym e ∙ came.answer), came.newer)
+    ]
+  where
+    whole_is : {count' number' : ℕ} → CameWhole n count ≡ CameWhole number' count' → n ≡ number'
+    whole_is same = cc
 
 pub newer_is_run : BytesFollowTags → Layers → NewerIsRun
 newer_is_run law below profile all number n count sent from slot is are at way found came =
@@ -79,9 +96,13 @@ newer_is_run law below profile all number n count sent from slot is are at way f
     let whole_is : took.answer ≡ CameWhole n count =
     ap (λ (t : Took). t.answer) (sym (said_tag_is profile whole tag.0 from slot cited sent_is slot_is holds))
     ∙ (ap (λ (s : SentBytes). (gathered_of slot.gathering s.bytes).answer) tag.2 ∙ came) in
-    let by_bytes = ap (λ (k : Kept). (kept_step k (events.Deliver number)).answer.answer) (kept_is profile kept whole stands)
-    ∙ ap (λ (s : KeptStep). s.answer.answer) (delivers_agree profile whole number cited holds).same in
+    let number_is = (heard_whole below.does profile whole tag.0 slot n count whole_is).0 in
+    let said_is : said ≡ said_at (history_then profile all sent.client).said n =
+    ap (λ (s : SentBytes). said_at (history_at whole.histories s.client).said tag.0.number) tag.2 ∙ ap (λ (k : ℕ). said_at (history_at whole.histories sent.client).said k) (sym number_is) in
+    let by_bytes = ap (λ (k : Kept). (kept_step k (events.Deliver number)).answer) (kept_is profile kept whole stands)
+    ∙ ap (λ (s : KeptStep). s.answer) (delivers_agree profile whole number cited holds).same in
     by_bytes
     ∙ (answers_said profile whole number tag.0 from slot tag.1 goes slot_is
-    ∙ (ap (λ (a : Gathered). ToServer number (hears.take_answer (record slot { address = from; gathering = took.gathering }) tag.0.client a (λ k. Ok said)).answer) whole_is
-    ∙ ap (λ (s : SentBytes). ToServer number (answer.Ran s.client n)) tag.2))
+    ∙ (ap (λ (a : Gathered). ran_so number (hears.take_answer (record slot { address = from; gathering = took.gathering }) tag.0.client a (λ k. Ok said))) whole_is
+    ∙ (ap (λ (s : SentBytes). ran number (answer.Ran s.client n) (runs slot.last_run said.moves)) tag.2
+    ∙ ap (λ (s : Said). ran number (answer.Ran sent.client n) (runs slot.last_run s.moves)) said_is)))

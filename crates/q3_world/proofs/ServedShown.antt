@@ -260,7 +260,7 @@ shown law accepted applied bytes profile all c t slot client is are made_so foun
     let lt : c < places = let zero_is : c ≡ 0 = parts.0.0 in omega arith in
     let had = has_client profile start c client lt there holds in
     let slot_is : had.0 ≡ slot = some_one (sym had.1.slot_is ∙ found) in
-    let begun : length (history_at start.histories c).built ≡ slot.sending.number = sym had.1.keeps.of_slot.begun ∙ ap (λ (s : SlotState). s.sending.number) slot_is in
+    let begun : length (history_at start.histories c).built ≡ slot.sending.number = sym had.1.keeps.of_slot.sending.begun ∙ ap (λ (s : SlotState). s.sending.number) slot_is in
     let taken = had.1.joined.of_client.gathers.taken in
     let served = all ++ serves in
     let served_are = both_are all serves are parts.0 in

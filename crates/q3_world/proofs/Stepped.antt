@@ -8,8 +8,8 @@ use Rattle.q3_chan.specs.Sending.{Piece}
 use Rattle.q3_server.specs.Server.{emit_at}
 use Rattle.q3_client.specs.Client.{ClientState}
 use Rattle.q3_client.specs.Sending as speaks
-use Rattle.q3_world.specs.declared.sent.Direction.{Direction}
-use Rattle.q3_world.specs.declared.sent.Direction.TheVariants.{ToClient, ToServer}
+use Rattle.q3_world.specs.declared.made.Direction.{Direction}
+use Rattle.q3_world.specs.declared.made.Direction.TheVariants.{ToClient, ToServer}
 use Rattle.q3_world.specs.Ends.{client_at, address_at}
 use Rattle.q3_world.specs.Kept.{SentBytes, Kept, datagrams_after, kept_send, kept_to_client, kept_arrive, kept_deliver, kept_step}
 

@@ -78,8 +78,8 @@ alone answer = record { answer = answer; snapshot = None; moves = [] }
 abbrev pub served : ℕ → Emitted → ℕ → Answered
 served c emission datagram = alone (Serve c emission datagram)
 
-abbrev pub said : ℕ → Result Sent NoClient → ℕ → Answered
-said c emission datagram = alone (Send c emission datagram)
+abbrev pub sent : ℕ → Result Sent NoClient → ℕ → Answered
+sent c emission datagram = alone (Send c emission datagram)
 
 -- the answers of a `deliver`, to a client and to the server, which ran these moves
 abbrev pub delivered : ℕ → ℕ → ClientTook → Answered

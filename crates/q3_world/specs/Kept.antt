@@ -8,9 +8,9 @@ use Rattle.q3_server.specs.Server.{Emission, emit_at}
 use Rattle.q3_server.specs.Taking as hears
 use Rattle.q3_client.specs.Client.{ClientState, Taken, take_at}
 use Rattle.q3_client.specs.Sending as speaks
-use Rattle.q3_world.specs.declared.sent.Direction.{Direction}
-use Rattle.q3_world.specs.declared.sent.Direction.TheVariants.{ToClient, ToServer}
-use Rattle.q3_world.specs.Ends.{Ends, EndsStep, Answered, answered, client_at, with_client, address_at, new_ends, served, said, unknown, delivered, ran, join, set_time, set_entity, remove_entity, set_player, set_area, add_move, show}
+use Rattle.q3_world.specs.declared.made.Direction.{Direction}
+use Rattle.q3_world.specs.declared.made.Direction.TheVariants.{ToClient, ToServer}
+use Rattle.q3_world.specs.Ends.{Ends, EndsStep, Answered, answered, client_at, with_client, address_at, new_ends, served, sent, unknown, delivered, ran, join, set_time, set_entity, remove_entity, set_player, set_area, add_move, show}
 
 -- a datagram that was made: the client that it is for or comes from, which of the two, and its bytes
 pub record SentBytes : Type 0 where
@@ -65,12 +65,12 @@ kept_said kept c emission =
         ends = with_client kept.ends c emission.client;
         datagrams = datagrams_after kept.datagrams c (ToServer (address_at kept.ends c)) emission.piece;
       };
-      answer = said c (Ok emission.answer) (length kept.datagrams + 1);
+      answer = sent c (Ok emission.answer) (length kept.datagrams + 1);
     }
 
 -- a datagram of the client at a place, if there is one
 abbrev pub kept_send : Kept → ℕ → Option ClientState → KeptStep
-kept_send kept c None = record { kept = kept; answer = said c (Err (record {})) (length kept.datagrams + 1) }
+kept_send kept c None = record { kept = kept; answer = sent c (Err (record {})) (length kept.datagrams + 1) }
 kept_send kept c (Some from) = kept_said kept c (speaks.emit_at from)
 
 -- a client took a datagram

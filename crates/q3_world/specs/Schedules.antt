@@ -19,13 +19,14 @@ use Rattle.q3_chan.specs.Sending.{IsIdle}
 use Rattle.q3_chan.specs.Gathering.{gathered}
 use Rattle.q3_world.specs.declared.answer.Answer.{Answer}
 use Rattle.q3_world.specs.declared.answer.Answer.TheVariants.{Send, Deliver, ToServer}
-use Rattle.q3_world.specs.declared.sent.Direction.TheVariants as direction
+use Rattle.q3_world.specs.declared.made.Direction.TheVariants as direction
 use Rattle.q3_server.specs.Server.{MapState, SlotState, Built, places, slot_at, next_snapshot, next_message, built_bytes}
+use Rattle.q3_server.specs.Taking.{runs}
 use Rattle.q3_client.specs.Client.{ClientState}
 use Rattle.q3_world.specs.Moves.{TimesRise, StandAmong}
-use Rattle.q3_world.specs.Ends.{Ends, client_at, newest, delivered}
+use Rattle.q3_world.specs.Ends.{Ends, client_at, newest, unknown, delivered, ran}
 use Rattle.q3_world.specs.Kept.{SentBytes, Kept, opening_kept, kept_step, kept_after, kept_answers}
-use Rattle.q3_world.specs.World.{Tag, Whole, History, history_at, built_at, opening, step, after, answers}
+use Rattle.q3_world.specs.World.{Tag, Whole, History, history_at, built_at, said_at, opening, step, after, answers}
 use Rattle.q3_world.specs.StandsFor.{StandsFor, WasBuilt, Rise}
 
 -- a step by bytes of what stands for a whole world gives what stands for its step by tags, and answers the same
@@ -72,6 +73,12 @@ abbrev pub AlwaysLegible : Type 0
 AlwaysLegible = (profile : Profile) (all : List Event) → IsCodec profile → AllByRecursion IsReplayEvent all
     → AllByRecursion (λ given. IsLegible given.answer) (kept_answers (opening_kept profile) all)
 
+-- a delivery is unknown where no datagram of its number was made, and there alone
+abbrev pub UnknownWasNotMade : Type 0
+UnknownWasNotMade = (profile : Profile) (all : List Event) (number : ℕ) → IsCodec profile → AllByRecursion IsReplayEvent all
+    → (kept_step (kept_then profile all) (events.Deliver number)).answer ≡ unknown number
+    ↔ (slice_get (kept_then profile all).datagrams (number - 1) ≡ None)
+
 -- each snapshot that a client accepted is the one that the server built for it under that number, and the numbers rise
 abbrev pub AcceptedWereBuilt : Type 0
 AcceptedWereBuilt = (profile : Profile) (all : List Event) (c : ℕ) → IsCodec profile → AllByRecursion IsReplayEvent all → c < places
@@ -113,14 +120,16 @@ NewerIsAccepted = (profile : Profile) (all : List Event) (number n count : ℕ) 
     → (gathered client.gathering sent.bytes).answer ≡ CameWhole n count
     → (kept_step (kept_then profile all) (events.Deliver number)).answer ≡ delivered number sent.client (Applied n (Accepted 0))
 
--- where the bytes of a client's datagram bring a message whole to its slot, it is run
+-- where the bytes of a client's datagram bring a message whole to its slot, it is run: of its moves those that are later than
+-- the last one that was run
 abbrev pub NewerIsRun : Type 0
 NewerIsRun = (profile : Profile) (all : List Event) (number n count : ℕ) (sent : SentBytes) (from : Address) (slot : SlotState) → IsCodec profile
     → AllByRecursion IsReplayEvent all
     → slice_get (kept_then profile all).datagrams (number - 1) ≡ Some sent → sent.direction ≡ direction.ToServer from
     → slot_at (kept_then profile all).ends.server sent.client ≡ Some slot
     → (gathered slot.gathering sent.bytes).answer ≡ CameWhole n count
-    → (kept_step (kept_then profile all) (events.Deliver number)).answer.answer ≡ ToServer number (took.Ran sent.client n)
+    → (kept_step (kept_then profile all) (events.Deliver number)).answer
+    ≡ ran number (took.Ran sent.client n) (runs slot.last_run (said_at (history_then profile all sent.client).said n).moves)
 
 -- the moves of a client that the server ran stand among those that the client issued, each once and in their order, and their
 -- times rise

@@ -8,6 +8,7 @@ use Rattle.q3_io.specs.declared.address.Address.{Address}
 use Rattle.q3_chan.specs.declared.side.Side.{Side}
 use Rattle.q3_chan.specs.declared.side.Side.TheVariants.{Server, Client}
 use Rattle.q3_chan.specs.Datagrams.{sequence_end, piece_count, datagram}
+use Rattle.q3_chan.specs.Sending.{Sending}
 use Rattle.q3_chan.specs.Laws.{IsSendable, Gathers, Sends}
 use Rattle.q3_clmsg.specs.declared.moves.Move.{Move}
 use Rattle.q3_clmsg.specs.Moves.{IsMove}
@@ -20,8 +21,8 @@ use Rattle.q3_client.specs.declared.moves.Issued.{Issued}
 use Rattle.q3_client.specs.Client.{ClientState}
 use Rattle.q3_client.specs.Moves.{most_moves}
 use Rattle.q3_client.specs.Sending.{said_bytes, Said}
-use Rattle.q3_world.specs.declared.sent.Direction.{Direction}
-use Rattle.q3_world.specs.declared.sent.Direction.TheVariants.{ToClient, ToServer}
+use Rattle.q3_world.specs.declared.made.Direction.{Direction}
+use Rattle.q3_world.specs.declared.made.Direction.TheVariants.{ToClient, ToServer}
 use Rattle.q3_world.specs.Ends.{client_at, address_at}
 use Rattle.q3_world.specs.Kept.{SentBytes, Kept}
 use Rattle.q3_world.specs.World.{Tag, History, Whole, no_history, history_at, built_at, said_at}
@@ -39,20 +40,24 @@ abbrev pub messages_said : Profile → List Said → ℕ → List ℕ
 messages_said profile said zero = []
 messages_said profile said (suc number) = said_bytes profile (said_at said (suc number))
 
+-- an end, by its side and its qport, began so many messages, each of which may be sent, and has one of them under way or none
+pub record BeginsMessages (side : Side) (qport : ℕ) (messages : ℕ → List ℕ) (count : ℕ) (sending : Sending) : Type 0 where
+  pub begun : sending.number ≡ count
+  pub short : count < sequence_end
+  pub side_is : sending.side ≡ side
+  pub qport_is : sending.qport ≡ qport
+  pub sends : Sends messages sending
+  pub sendable : (number : ℕ) → 1 ≤ number → number ≤ count → IsSendable (messages number)
+
 -- what the server keeps of a client that joined with this qport from this host, what it built for it, and the moves of it that
 -- it ran: their times rise, and it keeps the last
 pub record KeepsSlot (profile : Profile) (slot : SlotState) (of_qport of_host : ℕ) (began : List Built) (ran : List Move) : Type 0 where
   pub qport : slot.qport ≡ of_qport
   pub host : slot.address.host ≡ of_host
-  pub begun : slot.sending.number ≡ length began
-  pub short : length began < sequence_end
-  pub side : slot.sending.side ≡ Server
-  pub no_qport : slot.sending.qport ≡ 0
-  pub sends : Sends (messages_of profile began) slot.sending
+  pub sending : BeginsMessages Server 0 (messages_of profile began) (length began) slot.sending
   pub player : IsHeld profile slot.player
   pub area : IsArea slot.area.items
   pub built : (k : ℕ) (d : Built) → k < length began → IsBuilt profile (k + 1) (slice_index_or began k d)
-  pub sendable : (k : ℕ) (d : Built) → k < length began → IsSendable (built_bytes profile (slice_index_or began k d))
   pub from : slot.gathering.side ≡ Client
   pub last : slot.last_run ≡ last_time 0 ran
   pub rise : TimesRise 0 ran
@@ -76,13 +81,8 @@ pub record KeepsClient (profile : Profile) (client : ClientState) (of_qport : �
   pub by : client.profile ≡ profile
   pub from : client.gathering.side ≡ Server
   pub fits : of_qport < 2 ^ 16
-  pub begun : client.sending.number ≡ length began
-  pub short : length began < sequence_end
-  pub side : client.sending.side ≡ Client
-  pub qport : client.sending.qport ≡ of_qport
-  pub sends : Sends (messages_said profile began) client.sending
+  pub sending : BeginsMessages Client of_qport (messages_said profile began) (length began) client.sending
   pub said : (k : ℕ) (d : Said) → k < length began → IsMessage (slice_index_or began k d)
-  pub sendable : (k : ℕ) (d : Said) → k < length began → IsSendable (said_bytes profile (slice_index_or began k d))
   pub last : client.last_time ≡ last_time 0 issued
   pub rise : TimesRise 0 issued
   pub moves : KeepsMoves client.moves (length began) issued
@@ -118,7 +118,8 @@ pub record IsSent (profile : Profile) (histories : List History) (tag : Tag) : T
   pub client : tag.client < places
   pub way : IsWay profile (history_at histories tag.client) tag tag.direction
 
--- what holds of the whole world: each client is found by its host and its qport
+-- what holds of the whole world: its parts have a place for each client, what the game handed in is as the server holds it, each
+-- client is at both ends or at none, the server finds it by its host and its qport, and each tag is so
 pub record Facts (profile : Profile) (whole : Whole) : Type 0 where
   pub codec : IsCodec profile
   pub by : whole.ends.server.profile ≡ profile
@@ -167,19 +168,19 @@ pub record TakesSaid (profile : Profile) (slot : SlotState) (said : List Said) (
   pub ran : All (Contains issued) run
 
 -- what joins the two ends of a client
-pub record AreJoined (profile : Profile) (map : MapState) (slot : SlotState) (client : ClientState) (history : History) : Type 0 where
+pub record AreJoined (profile : Profile) (slot : SlotState) (client : ClientState) (history : History) : Type 0 where
   pub of_client : TakesBuilt profile client history.built history.accepted
   pub of_slot : TakesSaid profile slot history.said history.issued history.run
 
 -- of a client that is at both ends
-abbrev pub IsJoined : Profile → MapState → Option SlotState → Option ClientState → History → Type 0
-IsJoined profile map (Some slot) (Some client) history = AreJoined profile map slot client history
-IsJoined profile map slot client history = Unit {0}
+abbrev pub IsJoined : Profile → Option SlotState → Option ClientState → History → Type 0
+IsJoined profile (Some slot) (Some client) history = AreJoined profile slot client history
+IsJoined profile slot client history = Unit {0}
 
 -- of every client
 abbrev pub AllJoined : Profile → Whole → Type 0
 AllJoined profile whole = (c : ℕ) → c < places
-    → IsJoined profile whole.ends.server.map (slot_at whole.ends.server c) (client_at whole.ends c) (history_at whole.histories c)
+    → IsJoined profile (slot_at whole.ends.server c) (client_at whole.ends c) (history_at whole.histories c)
 
 -- ---- the two worlds
 

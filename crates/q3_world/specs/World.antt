@@ -20,9 +20,9 @@ use Rattle.q3_client.specs.Sending as speaks
 use Rattle.q3_client.specs.Sending.{Said, said_bytes}
 use Rattle.q3_world.specs.declared.answer.Answer.{Answer}
 use Rattle.q3_world.specs.declared.answer.Answer.TheVariants as answer
-use Rattle.q3_world.specs.declared.sent.Direction.{Direction}
-use Rattle.q3_world.specs.declared.sent.Direction.TheVariants.{ToClient, ToServer}
-use Rattle.q3_world.specs.Ends.{Ends, EndsStep, Answered, answered, client_at, with_client, address_at, new_ends, served, said, unknown, delivered, ran, join, set_time, set_entity, remove_entity, set_player, set_area, add_move, show}
+use Rattle.q3_world.specs.declared.made.Direction.{Direction}
+use Rattle.q3_world.specs.declared.made.Direction.TheVariants.{ToClient, ToServer}
+use Rattle.q3_world.specs.Ends.{Ends, EndsStep, Answered, answered, client_at, with_client, address_at, new_ends, served, sent, unknown, delivered, ran, join, set_time, set_entity, remove_entity, set_player, set_area, add_move, show}
 
 -- a datagram that was made: the client that it is for or comes from, which of the two, its message's number, which of its
 -- pieces it carries, and its bytes
@@ -154,12 +154,12 @@ say whole c emission =
         histories = with_history whole.histories c (with_said (history_at whole.histories c) emission.began);
         sent = sent_after whole.sent c (ToServer (address_at whole.ends c)) emission.piece;
       };
-      answer = said c (Ok emission.answer) (length whole.sent + 1);
+      answer = sent c (Ok emission.answer) (length whole.sent + 1);
     }
 
 -- a datagram of the client at a place, if there is one
 abbrev pub send : Whole → ℕ → Option ClientState → Step
-send whole c None = record { whole = whole; answer = said c (Err (record {})) (length whole.sent + 1) }
+send whole c None = record { whole = whole; answer = sent c (Err (record {})) (length whole.sent + 1) }
 send whole c (Some from) = say whole c (speaks.emit_at from)
 
 -- the message that the tag of a datagram for a client names

@@ -3,10 +3,10 @@
 
 pub mod answer;
 pub mod laws;
+mod made;
 mod places;
 mod replay;
 mod report;
-mod sent;
 pub mod world;
 
 pub use answer::{Answer, MoveRefused, Shown};

@@ -11,7 +11,7 @@ ghost use Rattle.q3_world.specs.Outcome.{TakesMemory};
 
 use crate::answer::{Answer, MoveRefused, Shown};
 use crate::places::{empty_places, no_addresses};
-use crate::sent::{Direction, Sent, arrive, keep, room_for_one};
+use crate::made::{Direction, Made, arrive, keep, room_for_one};
 use arrayvec::ArrayVec;
 use q3_bits::NoMemory;
 use q3_chan::Datagram;
@@ -34,7 +34,7 @@ pub(crate) struct Replay {
     server: Server,
     clients: Vec<Option<Client>>,
     addresses: Vec<Address>,
-    datagrams: Vec<Sent>,
+    datagrams: Vec<Made>,
 }
 
 impl Model for Replay {

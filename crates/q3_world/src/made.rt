@@ -26,13 +26,13 @@ pub(crate) enum Direction {
 
 /// A datagram that was made, and the client that it is for or comes from.
 #[derive(Drop)]
-pub(crate) struct Sent {
+pub(crate) struct Made {
     pub client: u8,
     pub direction: Direction,
     pub bytes: Vec<u8>,
 }
 
-impl Model for Sent {
+impl Model for Made {
     ghost use Rattle.std.specs.Prelude.{◌<◌};
     ghost use Rattle.q3_server.specs.Server.{places};
     ghost use Rattle.q3_world.specs.Kept.{SentBytes};
@@ -45,7 +45,7 @@ impl Model for Sent {
 }
 
 /// Room among the datagrams for one more, and for its bytes. `Err` is want of memory.
-pub(crate) fn room_for_one(alloc: Global, datagrams: &mut Vec<Sent>) -> Result<Vec<u8>, NoMemory>
+pub(crate) fn room_for_one(alloc: Global, datagrams: &mut Vec<Made>) -> Result<Vec<u8>, NoMemory>
     ensures same { datagrams.new.items ≡ datagrams.old.items }
     ensures room { OnOk result (length datagrams.new.items + 1 ≤ vec_capacity datagrams.new) }
     ensures bytes { IfOk result (λ bytes. (bytes.items ≡ []) × (DATAGRAM_ROOM ≤ vec_capacity bytes)) }
@@ -57,7 +57,7 @@ pub(crate) fn room_for_one(alloc: Global, datagrams: &mut Vec<Sent>) -> Result<V
 
 /// Keeps what was handed out for a client, or by it, if anything was: there is room for it.
 pub(crate) fn keep(
-    datagrams: &mut Vec<Sent>,
+    datagrams: &mut Vec<Made>,
     client: u8,
     direction: Direction,
     bytes: Vec<u8>,
@@ -73,7 +73,7 @@ pub(crate) fn keep(
         bytes.extend_from_slice(out).unwrap();
         bytes.shrink_to_fit();
         datagrams
-            .push(Sent {
+            .push(Made {
                 client,
                 direction,
                 bytes,
@@ -87,7 +87,7 @@ pub(crate) fn arrive(
     server: &mut Server,
     clients: &mut Vec<Option<Client>>,
     number: u32,
-    sent: &Sent,
+    sent: &Made,
     heard: &mut Heard,
 ) -> Answer
     requires places { length clients.old.items ≡ places }
@@ -113,7 +113,7 @@ pub(crate) fn arrive(
 }
 
 /// The client that a datagram is for takes it.
-fn to_client(clients: &mut Vec<Option<Client>>, number: u32, sent: &Sent) -> Answer
+fn to_client(clients: &mut Vec<Option<Client>>, number: u32, sent: &Made) -> Answer
     requires { length clients.old.items ≡ places }
     ensures places { length clients.new.items ≡ places }
     ensures takes { (kept : Kept) → kept.ends.clients ≡ clients.old.items → kept_to_client kept number sent.now (client_at kept.ends sent.now.client)
