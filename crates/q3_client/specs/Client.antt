@@ -1,5 +1,5 @@
 -- A client's end. Each call gives the client after it, and its answer.
-use Rattle.std.specs.Prelude.{ℕ, Bool, true, false, List, [], Option, Some, None, Result, Ok, Err}
+use Rattle.std.specs.Prelude.{ℕ, ◌==◌, if◌then◌else◌, Bool, true, false, List, [], Option, Some, None, Result, Ok, Err}
 use Rattle.q3_profile.specs.declared.profile.Profile.{Profile}
 use Rattle.q3_bits.specs.Bits.{bits_of}
 use Rattle.q3_chan.specs.declared.side.Side.TheVariants.{Server, Client}
@@ -128,3 +128,13 @@ take_unless client datagram (Some cause) = answers client (Dropped cause)
 -- a client takes a datagram, by its bytes
 unfoldable pub take_at : ClientState → List ℕ → Taken
 take_at client datagram = take_unless client datagram client.dropped
+
+-- the number of the newest snapshot accepted, 0 for none
+abbrev pub number_of_newest : Option Snapshot → ℕ
+number_of_newest None = 0
+number_of_newest (Some snapshot) = snapshot.head.number
+
+-- the snapshot of a number, if it is the newest accepted; the interim rule: a client keeps that one alone
+abbrev pub view_of : ℕ → Option Snapshot → Option Snapshot
+view_of number None = None
+view_of number (Some snapshot) = if snapshot.head.number == number then Some snapshot else None

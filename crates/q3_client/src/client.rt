@@ -6,7 +6,7 @@
 ghost use Rattle.std.specs.Prelude.{◌≡◌, IfOk, option_map};
 ghost use Rattle.q3_chan.specs.Sending.{HandsOut};
 ghost use Rattle.q3_clmsg.specs.Values.{said_of};
-ghost use Rattle.q3_client.specs.Client.{new_client, take_at};
+ghost use Rattle.q3_client.specs.Client.{new_client, take_at, number_of_newest, view_of};
 ghost use Rattle.q3_client.specs.Moves.{most_moves, add_move_at, carried};
 ghost use Rattle.q3_client.specs.Sending.{message_with, emit_at};
 ghost use Rattle.q3_client.specs.Views.{snapshot_of, delta_after, dropped_after};
@@ -258,11 +258,18 @@ impl Client {
         Sent::Message { number, bytes }
     }
 
-    /// The newest snapshot accepted.
-    pub fn newest(&self) -> Option<SnapshotView<'_>>
-        ensures { option_map snapshot_of result ≡ self.now.accepted }
+    /// The number of the newest snapshot accepted, 0 for none.
+    pub fn newest(&self) -> u32
+        ensures { result ≡ number_of_newest self.now.accepted }
     {
         self.snapshots.newest()
+    }
+
+    /// The snapshot of a number, if it is the newest accepted: the interim rule, until a client keeps more than that one.
+    pub fn view(&self, number: u32) -> Option<SnapshotView<'_>>
+        ensures { option_map snapshot_of result ≡ view_of number self.now.accepted }
+    {
+        self.snapshots.view(number)
     }
 }
 

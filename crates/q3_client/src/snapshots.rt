@@ -3,7 +3,7 @@
 
 ghost use Rattle.std.specs.Prelude.{◌≡◌, ◌≢◌, ◌<◌, Some, None, IfOk, option_map};
 ghost use Rattle.q3_entity.specs.Baselines.{no_lines};
-ghost use Rattle.q3_client.specs.Client.{read_by};
+ghost use Rattle.q3_client.specs.Client.{read_by, number_of_newest, view_of};
 ghost use Rattle.q3_client.specs.Views.{snapshot_of, newest_read, answer_read};
 
 use crate::bases::NoBases;
@@ -90,11 +90,24 @@ impl Snapshots {
         ClientTook::Applied { number, snap }
     }
 
-    /// The newest snapshot accepted.
-    pub fn newest(&self) -> Option<SnapshotView<'_>>
-        ensures { option_map snapshot_of result ≡ self.now }
+    /// The number of the newest snapshot accepted, 0 for none.
+    pub fn newest(&self) -> u32
+        ensures { result ≡ number_of_newest self.now }
+    {
+        match self.newest {
+            Some(place) => self.messages[place].head.number,
+            None => 0,
+        }
+    }
+
+    /// The snapshot of a number, if it is the newest accepted.
+    pub fn view(&self, number: u32) -> Option<SnapshotView<'_>>
+        ensures { option_map snapshot_of result ≡ view_of number self.now }
     {
         let message = &self.messages[self.newest?];
+        if message.head.number != number {
+            return None;
+        }
         Some(SnapshotView {
             head: &message.head,
             entities: &message.entities,
