@@ -39,7 +39,7 @@ use Rattle.q3_world.specs.Kept.{kept_client_took, kept_to_client, kept_server_to
 use Rattle.q3_world.specs.World.{Tag, Whole, History, no_message, history_at, named, client_took, to_client, said_under, server_took, to_server, arrive, deliver, step}
 use Rattle.q3_world.specs.StandsFor.{BeginsMessages, KeepsSlot, IsPiece, IsSent, IsClient, IsWay, WasBuilt, messages_of, messages_said, bytes_of}
 use Rattle.q3_world.proofs.MoveLists.{consecutive_issued, runs_are}
-use Rattle.q3_world.proofs.Clients.{no_client, at_number, said_number, KeepsSlot-ran, TakesBuilt-gathered, TakesBuilt-accepted}
+use Rattle.q3_world.proofs.Clients.{no_client, no_end, at_number, said_number, KeepsSlot-ran, TakesBuilt-gathered, TakesBuilt-accepted}
 use Rattle.q3_world.proofs.Events.{Holds, Holds-taken, Holds-heard, has_slot, has_client, tag_was_built, names_built}
 use Rattle.q3_world.proofs.Agree.{ReadsBack, HearsBack, Cited, kept_of, Agree, found_or}
 
@@ -101,6 +101,23 @@ abbrev pub IsFor : Profile → Whole → Tag → Type 0
 IsFor profile whole tag =
     (tag.client < places)
     × IsPiece Server 0 (messages_of profile (history_at whole.histories tag.client).built) (length (history_at whole.histories tag.client).built) tag
+
+-- its client is there
+pub client_of_tag : (profile : Profile) (whole : Whole) (tag : Tag) → IsFor profile whole tag → Holds profile whole
+    → (client : ClientState) × (client_at whole.ends tag.client ≡ Some client)
+client_of_tag profile whole tag is holds =
+    let c = tag.client in
+    let history = history_at whole.histories c in
+    elim (found_or (client_at whole.ends c)) [
+      | inl at ↦
+          let none = no_end profile (slot_at whole.ends.server c) (address_at whole.ends c) history
+          (subst (λ (e : Option ClientState). IsClient profile (slot_at whole.ends.server c) e (address_at whole.ends c) history) at (holds.facts.each c is.0)) in
+          let some = is.1.some in
+          let begun = is.1.begun in
+          let nothing : length history.built ≡ 0 = ap (λ (h : History). length h.built) none in
+          absurd (omega (arith, some, begun, nothing))
+      | inr found ↦ found
+    ]
 
 -- what a datagram that was made does by its bytes it does by its tag
 pub tag_is : (profile : Profile) (whole : Whole) (tag : Tag) (client : ClientState) → Cited profile → IsFor profile whole tag

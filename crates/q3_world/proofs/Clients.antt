@@ -26,12 +26,12 @@ use Rattle.q3_svmsg.specs.Values.{Snapshot}
 use Rattle.q3_server.specs.Built.{IsHeld, IsArea, AreHeld, IsBuilt}
 use Rattle.q3_server.specs.Server.{MapState, SlotState, Built, new_slot, next_snapshot, next_message, built_bytes}
 use Rattle.q3_server.specs.Taking.{last_run_of, last_time, runs}
-use Rattle.q3_client.specs.Client.{ClientState, new_client}
+use Rattle.q3_client.specs.Client.{number_of_newest, ClientState, new_client}
 use Rattle.circular_buffer.specs.Buffer.{keep_last}
 use Rattle.q3_client.specs.Moves.{most_moves, carried, asks_delta, issue}
 use Rattle.q3_client.specs.Sending.{said_bytes, Said, next_message as next_said}
 use Rattle.q3_world.specs.World.{Tag, History, no_history, no_message, built_at, said_at}
-use Rattle.q3_world.specs.StandsFor.{messages_of, messages_said, KeepsSlot, KeepsClient, AreEnds, IsClient, IsPiece, WasBuilt, number_of_newest, Rise, KeepsMoves, TakesBuilt, TakesSaid}
+use Rattle.q3_world.specs.StandsFor.{messages_of, messages_said, KeepsSlot, KeepsClient, AreEnds, IsClient, IsPiece, WasBuilt, Rise, KeepsMoves, TakesBuilt, TakesSaid}
 use Rattle.q3_world.specs.Moves.{TimesRise, AreConsecutive}
 use Rattle.q3_world.proofs.Growth.{was_built_more, each_more, messages_stay, messages_said_stay}
 use Rattle.q3_world.proofs.Beginning.{BeginsMessages-new, BeginsMessages-handed, BeginsMessages-started}
@@ -45,6 +45,11 @@ use Rattle.q3_server.proofs.Rising.{few_taken}
 pub no_client : (profile : Profile) (client : Option ClientState) (address : Address) (history : History) → IsClient profile None client address history → history ≡ no_history
 no_client profile None address history none = none
 no_client profile (Some client) address history none = absurd none
+
+-- with no client there is no history
+pub no_end : (profile : Profile) (slot : Option SlotState) (address : Address) (history : History) → IsClient profile slot None address history → history ≡ no_history
+no_end profile None address history none = none
+no_end profile (Some slot) address history none = absurd none
 
 -- with a slot there is a client
 pub a_client : (profile : Profile) (slot : SlotState) (client : Option ClientState) (address : Address) (history : History) → IsClient profile (Some slot) client address history

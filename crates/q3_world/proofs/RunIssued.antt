@@ -22,7 +22,7 @@ use Rattle.q3_world.specs.World.{Tag, Whole, History, history_at, said_at, said_
 use Rattle.q3_world.specs.StandsFor.{IsClient, IsJoined, StandsFor, bytes_of}
 use Rattle.q3_world.specs.Moves.{TimesRise, StandAmong}
 use Rattle.q3_world.specs.Layers.{Layers}
-use Rattle.q3_world.specs.Schedules.{kept_then, whole_then, BytesFollowTags, NewerIsRun, MovesWereIssued}
+use Rattle.q3_world.specs.Schedules.{kept_then, whole_then, history_then, BytesFollowTags, NewerIsRun, MovesWereIssued}
 use Rattle.q3_world.proofs.MoveLists.{stand_among}
 use Rattle.q3_world.proofs.Events.{Holds}
 use Rattle.q3_world.proofs.Arriving.{is_sent, is_of_client, said_tag_is, delivers_agree}

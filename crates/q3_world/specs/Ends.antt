@@ -147,11 +147,11 @@ add_move ends c one = add_move_to ends c one (client_at ends c)
 -- what a client shows
 abbrev pub shown_of : Option ClientState → Shown
 shown_of None = shown.NoClient
-shown_of (Some client) = accepted_shown client.accepted
+shown_of (Some client) = what_of client.accepted
   where
-    accepted_shown : Option Snapshot → Shown
-    accepted_shown None = shown.Nothing
-    accepted_shown (Some snapshot) = shown.Newest
+    what_of : Option Snapshot → Shown
+    what_of None = shown.Nothing
+    what_of (Some snapshot) = shown.Newest
 
 -- a client is shown, and nothing changes
 abbrev pub show : Ends → ℕ → EndsStep

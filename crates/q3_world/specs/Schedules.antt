@@ -1,5 +1,5 @@
 -- Laws over every list of events.
-use Rattle.std.specs.Prelude.{◌≡◌, ℕ, ◌+◌, ◌-◌, ◌<◌, List, [], ◌∷◌, ◌++◌, length, map, replicate, ◌≤◌, Some, Ok, slice_get, slice_index_or}
+use Rattle.std.specs.Prelude.{◌≡◌, ◌↔◌, ℕ, ◌+◌, ◌-◌, ◌<◌, List, [], ◌∷◌, ◌++◌, length, map, replicate, ◌≤◌, Some, None, Ok, slice_get, slice_index_or}
 use Rattle.std.specs.List.{AllByRecursion, range_with_len}
 use Rattle.q3_profile.specs.declared.profile.Profile.{Profile}
 use Rattle.q3_profile.specs.Profile.{IsCodec}
@@ -76,7 +76,7 @@ AlwaysLegible = (profile : Profile) (all : List Event) → IsCodec profile → A
 -- a delivery is unknown where no datagram of its number was made, and there alone
 abbrev pub UnknownWasNotMade : Type 0
 UnknownWasNotMade = (profile : Profile) (all : List Event) (number : ℕ) → IsCodec profile → AllByRecursion IsReplayEvent all
-    → (kept_step (kept_then profile all) (events.Deliver number)).answer ≡ unknown number
+    → ((kept_step (kept_then profile all) (events.Deliver number)).answer ≡ unknown number)
     ↔ (slice_get (kept_then profile all).datagrams (number - 1) ≡ None)
 
 -- each snapshot that a client accepted is the one that the server built for it under that number, and the numbers rise

@@ -18,7 +18,7 @@ use Rattle.q3_server.specs.Built.{message_of, IsHeld, IsArea, AreHeld, IsBuilt}
 use Rattle.q3_server.specs.Server.{MapState, SlotState, Built, places, slot_at, built_bytes}
 use Rattle.q3_server.specs.Taking.{last_time, sender_of}
 use Rattle.q3_client.specs.declared.moves.Issued.{Issued}
-use Rattle.q3_client.specs.Client.{ClientState}
+use Rattle.q3_client.specs.Client.{ClientState, number_of_newest}
 use Rattle.q3_client.specs.Moves.{most_moves}
 use Rattle.q3_client.specs.Sending.{said_bytes, Said}
 use Rattle.q3_world.specs.declared.made.Direction.{Direction}
@@ -141,11 +141,6 @@ pub record Facts (profile : Profile) (whole : Whole) : Type 0 where
 abbrev pub WasBuilt : List Built → Snapshot → Type 0
 WasBuilt built snapshot =
     (1 ≤ snapshot.head.number) × (snapshot.head.number ≤ length built) × (message_of snapshot ≡ built_at built snapshot.head.number)
-
--- the number of the newest snapshot, 0 for none
-abbrev pub number_of_newest : Option Snapshot → ℕ
-number_of_newest None = 0
-number_of_newest (Some snapshot) = snapshot.head.number
 
 -- numbers rise
 abbrev pub Rise : List Snapshot → Type 0

@@ -2,7 +2,7 @@
 
 ghost use Rattle.q3_world.specs.MessageLaws.{BuiltIsRead, SaidIsRead};
 ghost use Rattle.q3_world.specs.Layers.{Layers};
-ghost use Rattle.q3_world.specs.Schedules.{StepFollows, BytesFollowTags, AlwaysLegible, AcceptedWereBuilt, ShownWasBuilt, AppliedWasBuilt, NewerIsAccepted, NewerIsRun, MovesWereIssued, InOrderIsAccepted, ServedIsShown};
+ghost use Rattle.q3_world.specs.Schedules.{StepFollows, BytesFollowTags, AlwaysLegible, UnknownWasNotMade, AcceptedWereBuilt, ShownWasBuilt, AppliedWasBuilt, NewerIsAccepted, NewerIsRun, MovesWereIssued, InOrderIsAccepted, ServedIsShown};
 
 use q3_bits::laws as bits;
 use q3_chan::laws as chan;
@@ -67,6 +67,14 @@ pub fn always_legible()
 {
     step_follows();
     chan::tagged_does();
+}
+
+/// In a replay a delivery is unknown where no datagram of its number was made, and there alone.
+pub fn unknown_was_not_made()
+    ensures { UnknownWasNotMade }
+{
+    bytes_follow_tags();
+    layers();
 }
 
 /// Each snapshot that a client accepted is the one that the server built for it under that number, and the numbers rise.

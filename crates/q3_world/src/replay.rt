@@ -10,8 +10,8 @@ ghost use Rattle.q3_world.specs.Kept.{most_datagrams, opening_kept, kept_step, k
 ghost use Rattle.q3_world.specs.Outcome.{TakesMemory};
 
 use crate::answer::{Answer, MoveRefused, Shown};
-use crate::places::{empty_places, no_addresses};
 use crate::made::{Direction, Made, arrive, keep, room_for_one};
+use crate::places::{empty_places, no_addresses};
 use arrayvec::ArrayVec;
 use q3_bits::NoMemory;
 use q3_chan::Datagram;
@@ -76,11 +76,11 @@ impl Replay {
     pub fn apply(&mut self, event: &Event, heard: &mut Heard) -> Result<Answer, NoMemory>
         requires event { IsReplayEvent event.now }
         requires few { length self.old.datagrams < most_datagrams }
-        requires heard { heard.old.moves.items ≡ [] }
         ensures ok { IfOk result (λ answer. kept_step self.old event.now
             ≡ record { kept = self.new; answer = record { answer = answer; snapshot = lent self.new.ends answer; moves = heard.new.moves.items } }) }
         ensures err { OnErr result (TakesMemory event.now × (self.new ≡ self.old)) }
     {
+        heard.moves.clear();
         match event {
             Event::Client {
                 c,
@@ -268,13 +268,14 @@ impl Replay {
         arrive(&mut self.server, &mut self.clients, number, sent, heard)
     }
 
+    #[tactic(auto, using(crate::proofs::Views::newest_is_viewed))]
     fn show(&self, c: u8) -> Answer
         requires { c < places }
         ensures { result ≡ Answer.Show c (shown_of (client_at self.now.ends c)) }
     {
         let shown = match &self.clients[c as usize] {
             None => Shown::NoClient,
-            Some(client) if client.newest().is_none() => Shown::Nothing,
+            Some(client) if client.view(client.newest()).is_none() => Shown::Nothing,
             Some(_) => Shown::Newest,
         };
         Answer::Show { c, shown }
@@ -291,9 +292,11 @@ impl Replay {
     }
 
     /// The newest snapshot that a client accepted.
+    #[tactic(auto, using(crate::proofs::Views::newest_is_viewed))]
     fn newest(&self, c: u8) -> Option<SnapshotView<'_>>
         ensures { option_map snapshot_of result ≡ newest (client_at self.now.ends c) }
     {
-        self.clients.get(c as usize)?.as_ref()?.newest()
+        let client = self.clients.get(c as usize)?.as_ref()?;
+        client.view(client.newest())
     }
 }

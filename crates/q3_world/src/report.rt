@@ -47,48 +47,15 @@ fn print_lines<O: Sink>(
 {
     match answer {
         Answer::Client { c, outcome } => print_joined(*c, *outcome, out),
-        Answer::Entity { number } => print_all(
-            &[
-                Piece::Text(b"entity "),
-                Piece::Number(u64::from(*number)),
-                Piece::Text(b" ok\n"),
-            ],
-            out,
-        ),
-        Answer::Remove { number } => print_all(
-            &[
-                Piece::Text(b"remove "),
-                Piece::Number(u64::from(*number)),
-                Piece::Text(b" ok\n"),
-            ],
-            out,
-        ),
-        Answer::Player { c, outcome } => print_all(
-            &[
-                Piece::Text(b"player "),
-                Piece::Number(u64::from(*c)),
-                Piece::Text(given(*outcome)),
-            ],
-            out,
-        ),
-        Answer::Area { c, outcome } => print_all(
-            &[
-                Piece::Text(b"area "),
-                Piece::Number(u64::from(*c)),
-                Piece::Text(given(*outcome)),
-            ],
-            out,
-        ),
+        Answer::Entity { number } => print_line(b"entity ", u32::from(*number), b" ok\n", out),
+        Answer::Remove { number } => print_line(b"remove ", u32::from(*number), b" ok\n", out),
+        Answer::Player { c, outcome } => {
+            print_line(b"player ", u32::from(*c), given(*outcome), out)
+        }
+        Answer::Area { c, outcome } => print_line(b"area ", u32::from(*c), given(*outcome), out),
         Answer::Time => print_all(&[Piece::Text(b"time ok\n")], out),
         Answer::Move { c, outcome } => print_moved(*c, *outcome, out),
-        Answer::Unknown { datagram } => print_all(
-            &[
-                Piece::Text(b"deliver "),
-                Piece::Number(u64::from(*datagram)),
-                Piece::Text(b" unknown\n"),
-            ],
-            out,
-        ),
+        Answer::Unknown { datagram } => print_line(b"deliver ", *datagram, b" unknown\n", out),
         Answer::Serve {
             c,
             emitted,
@@ -103,18 +70,31 @@ fn print_lines<O: Sink>(
             c,
             sent: Err(NoClient),
             ..
-        } => print_all(
-            &[
-                Piece::Text(b"send "),
-                Piece::Number(u64::from(*c)),
-                Piece::Text(b" noclient\n"),
-            ],
-            out,
-        ),
+        } => print_line(b"send ", u32::from(*c), b" noclient\n", out),
         Answer::Deliver { datagram, c, took } => print_delivered(*datagram, *c, took, out),
         Answer::ToServer { datagram, took } => print_heard(*datagram, took, heard, out),
         Answer::Show { c, shown } => print_shown(*c, *shown, lent, out),
     }
+}
+
+/// Prints a line, or its front: a word, the number of what it is about, and the rest.
+fn print_line<'a, O: Sink>(
+    word: &'a [u8],
+    number: u32,
+    rest: &'a [u8],
+    out: &mut O,
+) -> Result<(), Failed>
+    ensures adds { Adds (O.written out.old) (O.written out.new) (concat (word.now ∷ decimal number ∷ rest.now ∷ [])) result }
+    ensures cause { HasCause (O.faults out.old) (O.faults out.new) result }
+{
+    print_all(
+        &[
+            Piece::Text(word),
+            Piece::Number(u64::from(number)),
+            Piece::Text(rest),
+        ],
+        out,
+    )
 }
 
 /// Prints the line of a client that joins.
@@ -123,14 +103,7 @@ fn print_joined<O: Sink>(c: u8, outcome: Result<(), SlotError>, out: &mut O) -> 
     ensures cause { HasCause (O.faults out.old) (O.faults out.new) result }
 {
     match outcome {
-        Ok(()) => print_all(
-            &[
-                Piece::Text(b"client "),
-                Piece::Number(u64::from(c)),
-                Piece::Text(b" ok\n"),
-            ],
-            out,
-        ),
+        Ok(()) => print_line(b"client ", u32::from(c), b" ok\n", out),
         Err(error) => print_refused(c, error, out),
     }
 }
@@ -152,14 +125,7 @@ fn print_refusal<O: Sink>(line: &[u8], c: u8, out: &mut O) -> Result<(), Failed>
     ensures adds { Adds (O.written out.old) (O.written out.new) (concat (line.now ∷ decimal c ∷ codes " refused " ∷ [])) result }
     ensures cause { HasCause (O.faults out.old) (O.faults out.new) result }
 {
-    print_all(
-        &[
-            Piece::Text(line),
-            Piece::Number(u64::from(c)),
-            Piece::Text(b" refused "),
-        ],
-        out,
-    )
+    print_line(line, u32::from(c), b" refused ", out)
 }
 
 /// Prints the line of a move.
@@ -172,14 +138,7 @@ fn print_moved<O: Sink>(c: u8, outcome: Result<(), MoveRefused>, out: &mut O) ->
         Err(MoveRefused::NoClient) => b" refused noclient\n",
         Err(MoveRefused::Error(error)) => return print_move_refused(c, error, out),
     };
-    print_all(
-        &[
-            Piece::Text(b"move "),
-            Piece::Number(u64::from(c)),
-            Piece::Text(word),
-        ],
-        out,
-    )
+    print_line(b"move ", u32::from(c), word, out)
 }
 
 /// Prints the line of a move that the client's end refuses.
@@ -250,14 +209,7 @@ fn print_shown<O: Sink>(
         (Shown::NoClient, _) => b" noclient\n",
         _ => b" none\n",
     };
-    print_all(
-        &[
-            Piece::Text(b"show "),
-            Piece::Number(u64::from(c)),
-            Piece::Text(word),
-        ],
-        out,
-    )
+    print_line(b"show ", u32::from(c), word, out)
 }
 
 /// Prints the lines of a `show` that shows a snapshot.

@@ -87,7 +87,6 @@ impl World {
         let _ = files;
         // What the clauses on the whole world cite.
         laws::step_follows();
-        self.heard.moves.clear();
         let Ok(answer) = self.replay.apply(event, &mut self.heard) else {
             return Err(StepError::NoMemory);
         };
