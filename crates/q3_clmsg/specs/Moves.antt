@@ -16,7 +16,7 @@ no_move = record { time = 0; angles = 0 ∷ 0 ∷ 0 ∷ []; forward = pos 0; rig
 abbrev pub IsStep : ℤ → Type 0
 IsStep value = (neg_ℤ (pos 127) ≤ℤ value) × (value ≤ℤ pos 127)
 
--- a move as the program's type holds it and as an end may issue it
+-- a move as the program's type holds it and as an end may send it
 pub record IsMove (one : Move) : Type 0 where
   pub time : one.time < 2 ^ 32
   pub three : length one.angles ≡ 3

@@ -14,9 +14,13 @@ move_words one =
     decimal one.time ∷ map decimal one.angles
     ++ signed_decimal one.forward ∷ signed_decimal one.right ∷ signed_decimal one.up ∷ decimal one.buttons ∷ decimal one.weapon ∷ []
 
+-- words, each behind a space
+abbrev pub spaced : List (List ℕ) → List ℕ
+spaced words = flat_map (λ word. codes " " ++ word) words
+
 -- the line of a move that was run
 abbrev pub move_text : Move → List ℕ
-move_text one = codes "+ move" ++ flat_map (λ word. codes " " ++ word) (move_words one) ++ codes "\n"
+move_text one = codes "+ move" ++ spaced (move_words one) ++ codes "\n"
 
 -- the word of a fault of bits
 abbrev pub bits_word : ReadError → List ℕ

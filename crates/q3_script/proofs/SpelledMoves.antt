@@ -8,9 +8,9 @@ use Rattle.q3_clmsg.specs.declared.moves.Move.{Move as MoveValue}
 use Rattle.q3_clmsg.specs.Report.{move_words}
 use Rattle.q3_script.specs.declared.event.Event.{Event}
 use Rattle.q3_script.specs.declared.event.Event.TheVariants.{Move}
-use Rattle.q3_script.specs.Lines.{number_word, client_word, step_word, angles_at, steps_at, move_with, move_line}
+use Rattle.q3_script.specs.Lines.{number_word, client_word, signed_byte_word, angles_at, steps_at, move_with, move_line}
 use Rattle.q3_script.specs.Grammar.{IsSignedByte, IsHeldMove, SpellsEvent}
-use Rattle.q3_script.proofs.NumberWords.{ok_is, number_word-spelled, number_word-again, SpellsStep, step_word-spelled, step_word-again}
+use Rattle.q3_script.proofs.NumberWords.{ok_is, number_word-spelled, number_word-again, SpellsSignedByte, signed_byte_word-spelled, signed_byte_word-again}
 
 -- a number below 2^16
 abbrev IsAngle : ℕ → Type 0
@@ -48,21 +48,21 @@ angles_at-spelled pitch yaw roll angles e =
 
 -- three words that spell steps
 record AreSteps (forward right up : List ℕ) (steps : ℤ × ℤ × ℤ) : Type 0 where
-  first : SpellsStep forward steps.0
-  second : SpellsStep right steps.1
-  third : SpellsStep up steps.2
+  first : SpellsSignedByte forward steps.0
+  second : SpellsSignedByte right steps.1
+  third : SpellsSignedByte up steps.2
 
 -- steps that are read were spelled so
 steps_at-spelled : (forward right up : List ℕ) (steps : ℤ × ℤ × ℤ) → steps_at forward right up ≡ Ok steps → AreSteps forward right up steps
 steps_at-spelled forward right up steps e =
-    let a = bind_ok (step_word forward) (λ a. step_word right >>= λ b. step_word up >>= λ d. Ok (a, b, d)) steps e in
-    let b = bind_ok (step_word right) (λ b. step_word up >>= λ d. Ok (a.0, b, d)) steps a.2 in
-    let d = bind_ok (step_word up) (λ d. Ok (a.0, b.0, d)) steps b.2 in
+    let a = bind_ok (signed_byte_word forward) (λ a. signed_byte_word right >>= λ b. signed_byte_word up >>= λ d. Ok (a, b, d)) steps e in
+    let b = bind_ok (signed_byte_word right) (λ b. signed_byte_word up >>= λ d. Ok (a.0, b, d)) steps a.2 in
+    let d = bind_ok (signed_byte_word up) (λ d. Ok (a.0, b.0, d)) steps b.2 in
     let value : ℤ × ℤ × ℤ = (a.0, b.0, d.0) in
     subst (λ (x : ℤ × ℤ × ℤ). AreSteps forward right up x) {x = value} (ok_is value steps d.2) (record {
-      first = step_word-spelled forward a.0 a.1;
-      second = step_word-spelled right b.0 b.1;
-      third = step_word-spelled up d.0 d.1;
+      first = signed_byte_word-spelled forward a.0 a.1;
+      second = signed_byte_word-spelled right b.0 b.1;
+      third = signed_byte_word-spelled up d.0 d.1;
     })
 
 -- the words of a move, each read
@@ -135,7 +135,7 @@ angles_at-again a b d each =
 
 -- steps that are spelled are read
 steps_at-again : (forward right up : ℤ) → IsSignedByte forward → IsSignedByte right → IsSignedByte up → steps_at (signed_decimal forward) (signed_decimal right) (signed_decimal up) ≡ Ok (forward, right, up)
-steps_at-again forward right up first second third = rw (step_word-again forward first, step_word-again right second, step_word-again up third) refl
+steps_at-again forward right up first second third = rw (signed_byte_word-again forward first, signed_byte_word-again right second, signed_byte_word-again up third) refl
 
 -- a move of three angles that is spelled is read
 again_from : (c time a b d : ℕ) (forward right up : ℤ) (buttons weapon : ℕ) → c ≡ 0 → IsHeldMove (move_with time (a ∷ b ∷ d ∷ []) (forward, right, up) buttons weapon)

@@ -36,14 +36,14 @@ abbrev pub client_word : List ℕ → Result ℕ LineCause
 client_word word = number_word 0 0 word
 
 -- a number from -128 to 127, with a `-` in front where it is below 0
-unfoldable pub step_at : List ℕ → Option ℤ
-step_at word =
+unfoldable pub signed_byte_at : List ℕ → Option ℤ
+signed_byte_at word =
     option_map_or (λ digits. option_map (λ size. neg_ℤ (pos size)) (number_at 1 128 digits))
     (behind (codes "-") word) (option_map pos (number_at 0 127 word))
 
 -- how fast a player walks or rises
-abbrev pub step_word : List ℕ → Result ℤ LineCause
-step_word word = ok_or (step_at word) causes.Number
+abbrev pub signed_byte_word : List ℕ → Result ℤ LineCause
+signed_byte_word word = ok_or (signed_byte_at word) causes.Number
 
 unfoldable pub client_line : List (List ℕ) → Result Event LineCause
 client_line (c ∷ challenge ∷ qport ∷ dup ∷ address ∷ []) = do
@@ -99,9 +99,9 @@ angles_at pitch yaw roll = do
 -- forward, right and up
 abbrev pub steps_at : List ℕ → List ℕ → List ℕ → Result (ℤ × ℤ × ℤ) LineCause
 steps_at forward right up = do
-  forward ← step_word forward
-  right ← step_word right
-  up ← step_word up
+  forward ← signed_byte_word forward
+  right ← signed_byte_word right
+  up ← signed_byte_word up
   Ok (forward, right, up)
 
 -- the move of these parts

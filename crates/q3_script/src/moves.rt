@@ -6,12 +6,12 @@ ghost use Rattle.q3_script.specs.Lines.{number_word, angles_at, steps_at, move_w
 
 use crate::cause::LineCause;
 use crate::event::Event;
-use crate::numbers::{client_word, number_word, step};
+use crate::numbers::{client_word, number_word, signed_byte};
 use crate::words::{next_three, only_word};
 use q3_clmsg::Move;
 
 /// A number of 16 bits: an angle, or the buttons.
-fn angle(word: &[u8]) -> Result<u16, LineCause>
+fn short(word: &[u8]) -> Result<u16, LineCause>
     ensures { result ≡ number_word 0 65535 word.now }
 {
     Ok(number_word(word, 0, 65_535)? as u16)
@@ -21,14 +21,14 @@ fn angle(word: &[u8]) -> Result<u16, LineCause>
 fn angles(pitch: &[u8], yaw: &[u8], roll: &[u8]) -> Result<[u16; 3], LineCause>
     ensures { result ≡ angles_at pitch.now yaw.now roll.now }
 {
-    Ok([angle(pitch)?, angle(yaw)?, angle(roll)?])
+    Ok([short(pitch)?, short(yaw)?, short(roll)?])
 }
 
 /// Forward, right and up.
 fn steps(forward: &[u8], right: &[u8], up: &[u8]) -> Result<(i8, i8, i8), LineCause>
     ensures { result ≡ steps_at forward.now right.now up.now }
 {
-    Ok((step(forward)?, step(right)?, step(up)?))
+    Ok((signed_byte(forward)?, signed_byte(right)?, signed_byte(up)?))
 }
 
 /// The move of these parts.
@@ -60,7 +60,7 @@ pub fn move_line(left: &[u8]) -> Result<Event, LineCause>
     let time = number_word(time, 0, u32::MAX)?;
     let angles = angles(pitch, yaw, roll)?;
     let steps = steps(forward, right, up)?;
-    let buttons = angle(buttons)?;
+    let buttons = short(buttons)?;
     let weapon = number_word(weapon, 0, 255)? as u8;
     Ok(Event::Move {
         c,

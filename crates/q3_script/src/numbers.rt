@@ -1,7 +1,7 @@
 //! The numbers in a line.
 
 ghost use Rattle.std.specs.Prelude.{◌≡◌, ◌≤◌, IfOk, pos, neg_ℤ};
-ghost use Rattle.q3_script.specs.Lines.{number_word, entity_word, client_word, step_word};
+ghost use Rattle.q3_script.specs.Lines.{number_word, entity_word, client_word, signed_byte_word};
 
 use crate::cause::LineCause;
 use crate::words::behind;
@@ -38,9 +38,9 @@ fn negative(size: u32) -> i8
 }
 
 /// The number of a step: -128 to 127, with a `-` in front where it is below 0.
-#[tactic(auto, unfolding(crate::specs::Lines::step_at))]
-pub fn step(word: &[u8]) -> Result<i8, LineCause>
-    ensures { result ≡ step_word word.now }
+#[tactic(auto, unfolding(crate::specs::Lines::signed_byte_at))]
+pub fn signed_byte(word: &[u8]) -> Result<i8, LineCause>
+    ensures { result ≡ signed_byte_word word.now }
 {
     if let Some(digits) = behind(b"-", word) {
         let size = number_word(digits, 1, 128)?;

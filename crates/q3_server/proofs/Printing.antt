@@ -7,7 +7,7 @@ use Rattle.std.proofs.lemmas.List.{append-nil}
 use Rattle.std.proofs.lemmas.List.Concat.{flat_map-append}
 use Rattle.q3_clmsg.specs.declared.moves.Move.{Move}
 use Rattle.q3_clmsg.specs.Report.{move_words, move_text}
-use Rattle.q3_server.specs.Report.{spaced}
+use Rattle.q3_clmsg.specs.Report.{spaced}
 
 -- a number of 8 bits as it is handed on
 abbrev pub passed : ℤ → ℤ

@@ -49,10 +49,6 @@ illegible_text slot word (Some number) =
 abbrev pub ran_text : ℕ → ℕ → List ℕ
 ran_text slot number = concat (codes " server " ∷ decimal slot ∷ codes " ran " ∷ decimal number ∷ codes "\n" ∷ [])
 
--- words, each behind a space
-abbrev pub spaced : List (List ℕ) → List ℕ
-spaced words = flat_map (λ word. codes " " ++ word) words
-
 -- what stands behind `deliver D` where the server took a datagram: the rest of that line, and a line for each move that was run
 abbrev pub server_text : ServerTook → List Move → List ℕ
 server_text Runt moves = codes " server runt\n"

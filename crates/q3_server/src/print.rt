@@ -6,7 +6,8 @@ ghost use Rattle.std.specs.List.{concat, flat_map};
 ghost use Rattle.q3_io.specs.Faults.{HasCause};
 ghost use Rattle.q3_io.specs.Written.{Adds};
 ghost use Rattle.q3_clmsg.specs.Report.{move_text, cause_word, cause_number};
-ghost use Rattle.q3_server.specs.Report.{serve_text, slot_error_text, slot_text, illegible_text, ran_text, server_text, spaced};
+ghost use Rattle.q3_server.specs.Report.{serve_text, slot_error_text, slot_text, illegible_text, ran_text, server_text};
+ghost use Rattle.q3_clmsg.specs.Report.{spaced};
 
 use crate::server::{Emitted, SlotError};
 use crate::taking::{Heard, ServerTook};

@@ -2,7 +2,7 @@ use Rattle.std.proofs.Common.{[], ◌∷◌, ◌++◌, codes, decimal, refl}
 use Rattle.std.specs.List.{concat}
 use Rattle.std.specs.Fmt.{signed_decimal}
 use Rattle.std.proofs.lemmas.Result.{err_from_is_err_and}
-use Rattle.q3_server.specs.Report.{spaced}
+use Rattle.q3_clmsg.specs.Report.{spaced}
 use Rattle.q3_server.proofs.Printing.{move_in_parts}
 use Rattle.q3_server.proofs.print.print_move.Goals as goal
 
