@@ -1,0 +1,10 @@
+-- What is kept of a snapshot whose entities lie in a ring.
+use Rattle.std.specs.Prelude.{List}
+use Rattle.q3_entity.specs.declared.state.EntityState.{EntityState}
+use Rattle.q3_ring.specs.declared.kept.Kept.{Kept}
+use Rattle.q3_ring.specs.Snapshots.{Snapshot}
+use Rattle.q3_ring.specs.Ring.{RingState, entities_from}
+
+-- the snapshot, as far as the ring still has its entities
+abbrev pub snapshot_in : RingState → Kept → Snapshot
+snapshot_in ring kept = record { head = kept.head; entities = entities_from ring kept.first kept.count }
