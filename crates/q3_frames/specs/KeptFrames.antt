@@ -5,7 +5,7 @@ use Rattle.q3_ring.specs.declared.kept.Kept.{Kept}
 use Rattle.q3_ring.specs.Ring.{RingState}
 use Rattle.q3_ring.specs.Kept.{snapshot_in}
 use Rattle.q3_frames.specs.declared.frames.Frames.TheInside.{Inside}
-use Rattle.q3_frames.specs.Frames.{Frame, FramesState, has_entities, left_of}
+use Rattle.q3_frames.specs.Frames.{Frame, FramesState, has_entities, frame_remains}
 
 abbrev pub frame_in : RingState → Kept → Frame
 frame_in ring kept = record { snapshot = snapshot_in ring kept; first = kept.first }
@@ -14,7 +14,7 @@ abbrev pub frames_in : Inside → FramesState
 frames_in f = record {
   ring = length f.ring.recent;
   placed = f.ring.placed;
-  slots = map (λ places. map (option_map (λ kept. left_of (length f.ring.recent) f.ring.placed (frame_in f.ring kept))) places) f.slots.items;
+  slots = map (λ places. map (option_map (λ kept. frame_remains (length f.ring.recent) f.ring.placed (frame_in f.ring kept))) places) f.slots.items;
 }
 
 -- the entities of what is kept were placed, and rise where they are there

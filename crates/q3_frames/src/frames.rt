@@ -4,7 +4,7 @@
 ghost use Rattle.std.specs.Prelude.{◌≡◌, ◌^◌, ◌<◌, ◌≤◌, length, option_map, replicate, IfOk, IfSome};
 ghost use Rattle.q3_entity.specs.Entities.{Rises, run_of};
 ghost use Rattle.q3_ring.specs.Places.{no_places};
-ghost use Rattle.q3_frames.specs.Frames.{no_frames, is_near, base_at, build_at};
+ghost use Rattle.q3_frames.specs.Frames.{no_frames, is_near, base_of, build_at};
 
 use q3_entity::{EntityState, Run};
 use q3_player::{PlayerState, SnapHead};
@@ -78,14 +78,15 @@ impl Frames {
     /// none. `None` comes exactly where that isn't below the message, or by more than 28, where no frame of this very number
     /// stands in its place, or where its first entity with the ring's room isn't above the count of entities placed.
     pub fn base_for(&self, slot: u8, number: u32, delta: u32) -> Option<Base<'_>>
-        ensures base { option_map loan_of result ≡ option_map loan_from (base_at self.now slot number delta) }
+        ensures base { option_map loan_of result ≡ option_map loan_from (base_of self.now slot number delta) }
         ensures rises { IfSome result (λ base. Rises (run_of base.entities)) }
     {
         if !is_near(number, delta) {
             return None;
         }
         let frame = self.slots.get(slot as usize)?.at(delta)?;
-        if frame.head.number != delta || self.ring.placed() >= frame.first + self.ring.room() as u64
+        if frame.head.number != delta
+            || self.ring.placed() >= frame.first + self.ring.room() as u64
         {
             return None;
         }

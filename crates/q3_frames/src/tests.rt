@@ -41,14 +41,24 @@ fn build(frames: &mut Frames, slot: u8, number: u32, count: u16)
 }
 
 /// Checks that the base is lent, with so many entities in the ring's two pieces.
-fn check(rt: &impl Abort, frames: &Frames, slot: u8, number: u32, delta: u32, pieces: (usize, usize)) {
+fn check(
+    rt: &impl Abort,
+    frames: &Frames,
+    slot: u8,
+    number: u32,
+    delta: u32,
+    pieces: (usize, usize),
+) {
     let Some(base) = frames.base_for(slot, number, delta) else {
         assert!(rt; false, "no base {delta} for {number}");
         return;
     };
     assert_eq!(rt; base.number, delta);
     assert_eq!(rt; base.player.words[0], delta);
-    assert_eq!(rt; (base.entities.head.len(), base.entities.tail.len()), pieces);
+    assert_eq!(rt;
+        (base.entities.head.len(), base.entities.tail.len()),
+        pieces
+    );
     for state in base.entities.head {
         assert_eq!(rt; state.words[0], delta);
     }

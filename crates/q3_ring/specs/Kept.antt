@@ -2,7 +2,7 @@
 use Rattle.std.specs.Prelude.{List}
 use Rattle.q3_entity.specs.declared.state.EntityState.{EntityState}
 use Rattle.q3_ring.specs.declared.kept.Kept.{Kept}
-use Rattle.q3_ring.specs.Snapshots.{Snapshot}
+use Rattle.q3_ring.specs.Snapshot.{Snapshot}
 use Rattle.q3_ring.specs.Ring.{RingState, entities_from}
 
 -- the snapshot, as far as the ring still has its entities

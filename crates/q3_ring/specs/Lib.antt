@@ -1,4 +1,4 @@
-pub mod Snapshots
+pub mod Snapshot
 pub mod Places
 pub mod Ring
 pub mod Turned

@@ -5,7 +5,7 @@ use Rattle.q3_ring.specs.declared.kept.Kept.{Kept}
 use Rattle.q3_ring.specs.Ring.{RingState}
 use Rattle.q3_ring.specs.Kept.{snapshot_in}
 use Rattle.q3_rings.specs.declared.rings.Rings.TheInside.{Inside}
-use Rattle.q3_rings.specs.Rings.{HeldSnapshot, RingsState, is_young, left_of}
+use Rattle.q3_rings.specs.Rings.{HeldSnapshot, RingsState, is_young, held_remains}
 
 -- a snapshot at its age
 abbrev pub held_in : RingState → Kept → HeldSnapshot
@@ -13,10 +13,10 @@ held_in ring kept = record { snapshot = snapshot_in ring kept; age = ring.placed
 
 abbrev pub rings_in : Inside → RingsState
 rings_in r = record {
-  snapshots = record {
+  held = record {
     ring = length r.ring.recent;
     newest = r.newest;
-    places = map (option_map (λ kept. left_of (length r.ring.recent) (held_in r.ring kept))) r.places;
+    places = map (option_map (λ kept. held_remains (length r.ring.recent) (held_in r.ring kept))) r.places;
   };
   placed = r.ring.placed;
 }

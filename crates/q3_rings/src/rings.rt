@@ -4,7 +4,7 @@
 ghost use Rattle.std.specs.Prelude.{◌≡◌, ◌<◌, ◌≤◌, option_map, slice_index_or, None, IfOk, IfSome};
 ghost use Rattle.q3_entity.specs.Entities.{Rises, run_of};
 ghost use Rattle.q3_rings.specs.Loans.{snapshot_of};
-ghost use Rattle.q3_rings.specs.Rings.{AreSnapshots, no_rings, base_at, view_at, accept_in};
+ghost use Rattle.q3_rings.specs.Rings.{AreHeldSnapshots, no_rings, held_snapshot, view_at, accept_in};
 
 use crate::views::{Held, SnapView};
 use q3_entity::{EntityState, Run};
@@ -68,7 +68,7 @@ impl Rings {
     /// else `Overwritten` exactly where that one has another number, which it carries, and else `EntitiesGone` exactly where
     /// its age, which it carries, is above the ring's room less 256.
     pub fn base(&self, number: u32) -> Result<SnapView<'_>, NoBase>
-        ensures base { viewed result ≡ base_at self.now.snapshots number }
+        ensures base { viewed result ≡ held_snapshot self.now.held number }
         ensures rises { IfOk result (λ view. Rises (run_of view.entities)) }
     {
         if number == 0 {
@@ -89,7 +89,7 @@ impl Rings {
 
     /// Lends the snapshot of a number, if it is held.
     pub fn view(&self, number: u32) -> Option<SnapView<'_>>
-        ensures view { option_map snapshot_of result ≡ view_at self.now.snapshots number }
+        ensures view { option_map snapshot_of result ≡ view_at self.now.held number }
         ensures rises { IfSome result (λ view. Rises (run_of view.entities)) }
     {
         self.base(number).ok()
@@ -99,7 +99,7 @@ impl Rings {
     /// exactly where none stands there.
     pub fn held(&self, place: u8) -> Option<Held<'_>>
         requires { place < 32 }
-        ensures { option_map head_of result ≡ option_map head_from (slice_index_or self.now.snapshots.places place None) }
+        ensures { option_map head_of result ≡ option_map head_from (slice_index_or self.now.held.places place None) }
     {
         let kept = self.places.at(u32::from(place))?;
         Some(Held {
@@ -111,7 +111,7 @@ impl Rings {
     /// Accepts a snapshot, whose number is above the newest: all others are older by its entities. What stood in the place
     /// of its number is gone. The entities rise by number, and there are at most 256.
     pub fn accept(&mut self, head: &SnapHead, entities: &[EntityState])
-        requires newer { self.old.snapshots.newest < head.now.number }
+        requires newer { self.old.held.newest < head.now.number }
         requires rises { Rises entities.now }
         ensures { self.new ≡ accept_in self.old (record { head = head.now; entities = entities.now }) }
     {
@@ -123,7 +123,7 @@ impl Rings {
 
     /// Holds nothing more, and counts entities anew.
     pub fn wipe(&mut self)
-        ensures { self.new ≡ no_rings self.old.snapshots.ring }
+        ensures { self.new ≡ no_rings self.old.held.ring }
     {
         self.ring.clear();
         self.places.clear();
@@ -139,8 +139,8 @@ impl Rings {
 
     /// The newest number accepted since `new` or the last `wipe`, 0 for none.
     pub fn newest(&self) -> u32
-        ensures newest { result ≡ self.now.snapshots.newest }
-        ensures held { AreSnapshots self.now.snapshots }
+        ensures newest { result ≡ self.now.held.newest }
+        ensures held { AreHeldSnapshots self.now.held }
     {
         self.newest
     }

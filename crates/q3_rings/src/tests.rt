@@ -52,7 +52,10 @@ fn check(rt: &impl Abort, rings: &Rings, number: u32, pieces: (usize, usize)) {
     assert_eq!(rt; (view.number, view.time, view.flags), (number, 1_000, 0));
     assert_eq!(rt; view.area.len(), 0);
     assert_eq!(rt; view.player.words[0], number);
-    assert_eq!(rt; (view.entities.head.len(), view.entities.tail.len()), pieces);
+    assert_eq!(rt;
+        (view.entities.head.len(), view.entities.tail.len()),
+        pieces
+    );
     for state in view.entities.head {
         assert_eq!(rt; state.words[0], number);
     }
