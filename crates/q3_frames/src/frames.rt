@@ -12,7 +12,7 @@ use q3_ring::{Places, Ring};
 use std::alloc::{AllocError as NoMemory, Global};
 use std::marker::Model;
 
-/// A base is at most this far below its message, less one: the engine's `PACKET_BACKUP - 3`.
+/// A base is nearer to its message than this: the engine's `PACKET_BACKUP - 3`.
 const DISTANCE_END: u32 = 29;
 
 /// A frame that a message is written against, where it lies.
