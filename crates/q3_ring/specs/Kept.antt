@@ -1,6 +1,4 @@
 -- What is kept of a snapshot whose entities lie in a ring.
-use Rattle.std.specs.Prelude.{List}
-use Rattle.q3_entity.specs.declared.state.EntityState.{EntityState}
 use Rattle.q3_ring.specs.declared.kept.Kept.{Kept}
 use Rattle.q3_ring.specs.Snapshot.{Snapshot}
 use Rattle.q3_ring.specs.Ring.{RingState, entities_from}

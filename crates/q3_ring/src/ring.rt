@@ -1,7 +1,7 @@
 //! Entities in one ring. Keeps the rules "server frames and their shared entity ring" and "held snapshots of a client", the
 //! engine's `svs.snapshotEntities` (sv_snapshot.c) and `cl.parseEntities` (cl_parse.c).
 
-ghost use Rattle.std.specs.Prelude.{◌≡◌, ◌+◌, ◌-◌, ◌%◌, ◌^◌, ◌<◌, ◌≤◌, ◌++◌, length, drop, min, IfOk};
+ghost use Rattle.std.specs.Prelude.{◌≡◌, ◌+◌, ◌-◌, ◌%◌, ◌^◌, ◌<◌, ◌≤◌, ◌++◌, length, take, drop, min, IfOk};
 ghost use Rattle.q3_entity.specs.Entities.{run_of};
 ghost use Rattle.q3_ring.specs.Ring.{new_ring, with_entities, entities_from};
 ghost use Rattle.q3_ring.specs.Turned.{turned};
@@ -110,9 +110,17 @@ fn put_round(cells: &mut Vec<EntityState>, start: usize, entities: &[EntityState
 {
     let behind = cells.len() - start;
     if entities.len() <= behind {
-        cells[start..start + entities.len()].copy_from_slice(entities);
+        put_at(cells, start, entities);
         return;
     }
-    cells[start..].copy_from_slice(&entities[..behind]);
-    cells[..entities.len() - behind].copy_from_slice(&entities[behind..]);
+    put_at(cells, start, &entities[..behind]);
+    put_at(cells, 0, &entities[behind..]);
+}
+
+/// Puts entities into the places from one on.
+fn put_at(cells: &mut Vec<EntityState>, place: usize, entities: &[EntityState])
+    requires within { place + length entities.now ≤ length cells.old.items }
+    ensures { cells.new.items ≡ take place cells.old.items ++ entities.now ++ drop (place + length entities.now) cells.old.items }
+{
+    cells[place..place + entities.len()].copy_from_slice(entities);
 }
