@@ -8,7 +8,7 @@ ghost use Rattle.q3_frames.specs.Frames.{no_frames, is_near, base_of, build_at};
 
 use q3_entity::{EntityState, Run};
 use q3_player::{PlayerState, SnapHead};
-use q3_ring::{Places, Ring};
+use q3_ring::{Places, Ring, laws};
 use std::alloc::{AllocError as NoMemory, Global};
 use std::marker::Model;
 
@@ -69,6 +69,8 @@ impl Frames {
         requires rises { Rises entities.now }
         ensures { self.new ≡ build_at self.old slot (record { head = head.now; entities = entities.now }) }
     {
+        laws::placed_is_there();
+        laws::others_stay();
         let first = self.ring.placed();
         self.ring.place(entities);
         self.slots[slot as usize].keep(head, first, entities.len());
@@ -86,7 +88,7 @@ impl Frames {
         }
         let frame = self.slots.get(slot as usize)?.at(delta)?;
         if frame.head.number != delta
-            || self.ring.placed() >= frame.first + self.ring.room() as u64
+            || self.ring.placed() - frame.first >= self.ring.room() as u64
         {
             return None;
         }
