@@ -1,5 +1,5 @@
 -- All that was ever built, and what is kept of it.
-use Rattle.std.proofs.Common.{◌≡◌, ℕ, ◌+◌, ◌<◌, ◌≤◌, Bool, true, false, List, [], ◌∷◌, ◌++◌, ◌==◌, ◌&&◌, cond, length, map, get_or, slice_index_or, Option, Some, None, inl, inr, ◌⊎◌, refl, sym, ap, ◌∙◌, arith}
+use Rattle.std.proofs.Common.{◌≡◌, ℕ, ◌+◌, ◌<◌, ◌≤◌, Bool, true, false, List, [], ◌∷◌, ◌++◌, ◌==◌, ◌&&◌, cond, length, get_or, slice_index_or, Option, Some, None, inl, inr, refl, sym, ap, ◌∙◌, arith}
 use Rattle.std.proofs.Math.ListN.{get_or-map}
 use Rattle.std.proofs.lemmas.Bool.{cases_Bool}
 use Rattle.std.proofs.lemmas.List.{append-nil, length-set, length-map, length-replicate, get_or-replicate}
@@ -7,10 +7,9 @@ use Rattle.std.proofs.lemmas.List.Elements.{filter-append}
 use Rattle.std.proofs.lemmas.List.Sums.{sum_by-cons, sum_by_push}
 use Rattle.std.specs.List.{last_or, filter}
 use Rattle.std.specs.Option.{option_map}
-use Rattle.q3_ring.specs.Snapshot.{Snapshot}
-use Rattle.q3_ring.specs.Places.{most_places, place_of, no_places, at_number, put_at_number}
-use Rattle.q3_frames.specs.Frames.{Frame, FramesState, no_frames, frame_under, frame_remains, has_entities, with_frame, build_at}
-use Rattle.q3_frames.specs.Built.{Build, placed_by, frames_from, last_built, FramesStandFor}
+use Rattle.q3_ring.specs.Places.{place_of, no_places, at_number, put_at_number}
+use Rattle.q3_frames.specs.Frames.{Frame, frame_under, frame_remains, with_frame, build_at}
+use Rattle.q3_frames.specs.Built.{Build, placed_by, frames_from, last_built}
 use Rattle.q3_frames.specs.Laws.{NothingIsHeld, HeldWasBuilt, NothingStands, BuildIsAdded}
 use Rattle.q3_frames.proofs.Remains.{all_remain_twice, under_remains, under-is, under-earlier}
 use Rattle.q3_frames.proofs.Standing.{each, at_each, none_at, with_frame_read, with_frame_at, with_frame-count}
@@ -24,14 +23,14 @@ held_was_built frames c slot number built held is =
     let frame : Frame = record { snapshot = built; first = frames.placed } in
     let slots = with_frame frames.slots c frame in
     let read : frame_under frames.ring placed number (at_number (slice_index_or slots slot []) number) ≡ Some held =
-      sym (ap (frame_under frames.ring placed number) (at_each (frame_remains frames.ring placed) slots slot number)
-        ∙ under_remains frames.ring placed number (at_number (slice_index_or slots slot []) number)) ∙ is in
+    sym (ap (frame_under frames.ring placed number) (at_each (frame_remains frames.ring placed) slots slot number)
+    ∙ under_remains frames.ring placed number (at_number (slice_index_or slots slot []) number)) ∙ is in
     elim (with_frame_read frames.slots c frame slot number) [
-    | inl e ↦ inr (under-earlier frames.ring frames.placed placed number (at_number (slice_index_or frames.slots slot []) number) held (omega arith)
-        (sym (ap (frame_under frames.ring placed number) e) ∙ read))
-    | inr e ↦
-      let it = under-is frames.ring placed number frame held (sym (ap (frame_under frames.ring placed number) e.2) ∙ read) in
-      inl (e.0, sym it.named, sym it.same)
+      | inl e ↦ inr (under-earlier frames.ring frames.placed placed number (at_number (slice_index_or frames.slots slot []) number) held (omega arith)
+          (sym (ap (frame_under frames.ring placed number) e) ∙ read))
+      | inr e ↦
+          let it = under-is frames.ring placed number frame held (sym (ap (frame_under frames.ring placed number) e.2) ∙ read) in
+          inl (e.0, sym it.named, sym it.same)
     ]
 
 -- ---- the list of all that was built
@@ -55,8 +54,8 @@ frames_from-push placed (b ∷ builds) one =
 
 pub last_built-push : (builds : List Build) (one : Build) (slot number : ℕ)
     → last_built (builds ++ one ∷ []) slot number
-      ≡ cond (one.slot == slot && place_of one.snapshot.head.number == place_of number)
-          (Some (record { snapshot = one.snapshot; first = placed_by builds })) (last_built builds slot number)
+    ≡ cond (one.slot == slot && place_of one.snapshot.head.number == place_of number)
+    (Some (record { snapshot = one.snapshot; first = placed_by builds })) (last_built builds slot number)
 last_built-push builds one slot number =
     let test : ℕ × Frame → Bool = λ frame. frame.0 == slot && place_of frame.1.snapshot.head.number == place_of number in
     let frame : Frame = record { snapshot = one.snapshot; first = placed_by builds } in
@@ -64,14 +63,14 @@ last_built-push builds one slot number =
     let before = frames_from 0 builds in
     let last : List (ℕ × Frame) → Option Frame = λ frames. option_map (λ (one : ℕ × Frame). one.1) (last_or None frames) in
     let pushed : frames_from 0 (builds ++ one ∷ []) ≡ before ++ new ∷ [] =
-      frames_from-push 0 builds one ∙ ap (λ (k : ℕ). before ++ (one.slot, record { snapshot = one.snapshot; first = k }) ∷ []) (omega arith) in
+    frames_from-push 0 builds one ∙ ap (λ (k : ℕ). before ++ (one.slot, record { snapshot = one.snapshot; first = k }) ∷ []) (omega arith) in
     let filtered : filter test (frames_from 0 (builds ++ one ∷ [])) ≡ filter test before ++ cond (test new) (new ∷ []) [] =
-      ap (filter test) pushed ∙ filter-append test before (new ∷ []) in
+    ap (filter test) pushed ∙ filter-append test before (new ∷ []) in
     let pick : Bool → Option Frame = λ b. cond b (Some frame) (last_built builds slot number) in
     let behind : Bool → Option Frame = λ b. last (filter test before ++ cond b (new ∷ []) []) in
     ap last filtered ∙ elim (cases_Bool (test new)) [
-    | inl holds ↦ ap behind holds ∙ ap (option_map (λ (one : ℕ × Frame). one.1)) (last_or-push None (filter test before) new) ∙ sym (ap pick holds)
-    | inr fails ↦ ap behind fails ∙ ap last (append-nil (filter test before)) ∙ sym (ap pick fails)
+      | inl holds ↦ ap behind holds ∙ ap (option_map (λ (one : ℕ × Frame). one.1)) (last_or-push None (filter test before) new) ∙ sym (ap pick holds)
+      | inr fails ↦ ap behind fails ∙ ap last (append-nil (filter test before)) ∙ sym (ap pick fails)
     ]
 
 -- ---- and the frames
@@ -99,8 +98,12 @@ build_is_added builds frames slot snapshot within h =
     let slots = with_frame frames.slots slot frame in
     let left : Option Frame → Option Frame = option_map (frame_remains frames.ring placed) in
     let inside : (at : ℕ) → at < length (build_at frames slot snapshot).slots → at < length frames.slots = λ at lt.
-      omega (arith, lt, length-map slots (each (frame_remains frames.ring placed)),
-        length-set frames.slots slot (put_at_number (get_or frames.slots slot []) snapshot.head.number frame)) in
+    omega (
+      arith,
+      lt,
+      length-map slots (each (frame_remains frames.ring placed)),
+      length-set frames.slots slot (put_at_number (get_or frames.slots slot []) snapshot.head.number frame),
+    ) in
     record {
       placed = ap (λ (k : ℕ). k + length snapshot.entities) h.placed ∙ sym (sum_by_push (λ (one : Build). length one.snapshot.entities) builds one);
       count = λ at lt.

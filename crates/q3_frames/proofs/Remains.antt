@@ -20,13 +20,13 @@ pub remains_twice : (ring p q : ℕ) (frame : Frame) → p ≤ q → frame_remai
 remains_twice ring p q frame least = elim (cases_Bool (has_entities ring p frame)) [
   | inl is ↦ ap (frame_remains ring q) (remains-there ring p frame is)
   | inr is ↦
-    let gone : has_entities ring q frame ≡ false = elim (cases_Bool (has_entities ring q frame)) [
-      | inl there ↦ absurd (false≢true (sym is ∙ has-earlier ring p q frame least there))
-      | inr gone ↦ gone
+      let gone : has_entities ring q frame ≡ false = elim (cases_Bool (has_entities ring q frame)) [
+        | inl there ↦ absurd (false≢true (sym is ∙ has-earlier ring p q frame least there))
+        | inr gone ↦ gone
       ] in
-    ap (frame_remains ring q) (remains-gone ring p frame is)
-    ∙ remains-gone ring q (record { snapshot = without_entities frame.snapshot; first = frame.first }) gone ∙ sym (remains-gone ring q frame gone)
-  ]
+      ap (frame_remains ring q) (remains-gone ring p frame is)
+      ∙ remains-gone ring q (record { snapshot = without_entities frame.snapshot; first = frame.first }) gone ∙ sym (remains-gone ring q frame gone)
+]
 
 pub all_remain_twice : (ring p q : ℕ) (frame : Option Frame) → p ≤ q
     → option_map (frame_remains ring q) (option_map (frame_remains ring p) frame) ≡ option_map (frame_remains ring q) frame
@@ -44,10 +44,10 @@ under_remains ring placed number None = refl
 under_remains ring placed number (Some frame) = elim (cases_Bool (has_entities ring placed frame)) [
   | inl is ↦ ap (λ (f : Frame). frame_under ring placed number (Some f)) (remains-there ring placed frame is)
   | inr is ↦
-    ap (λ (f : Frame). frame_under ring placed number (Some f)) (remains-gone ring placed frame is)
-    ∙ under-gone ring placed number (record { snapshot = without_entities frame.snapshot; first = frame.first }) is
-    ∙ sym (under-gone ring placed number frame is)
-  ]
+      ap (λ (f : Frame). frame_under ring placed number (Some f)) (remains-gone ring placed frame is)
+      ∙ under-gone ring placed number (record { snapshot = without_entities frame.snapshot; first = frame.first }) is
+      ∙ sym (under-gone ring placed number frame is)
+]
 
 -- what is read of a frame is its own
 pub record IsUnder (ring placed number : ℕ) (frame : Frame) (held : Snapshot) : Type 0 where
@@ -59,13 +59,13 @@ pub under-is : (ring placed number : ℕ) (frame : Frame) (held : Snapshot) → 
 under-is ring placed number frame held is =
     let test : Bool = frame.snapshot.head.number == number && has_entities ring placed frame in
     elim (cases_Bool test) [
-    | inl holds ↦
-      let parts = and_parts (frame.snapshot.head.number == number) (has_entities ring placed frame) holds in
-      let found : Some frame.snapshot ≡ Some held = sym (ap (λ (b : Bool). cond b (Some frame.snapshot) None) holds) ∙ is in
-      record { named = eqb-true frame.snapshot.head.number number parts.0; there = parts.1; same = cc }
-    | inr fails ↦
-      let none : None ≡ Some held = sym (ap (λ (b : Bool). cond b (Some frame.snapshot) None) fails) ∙ is in
-      absurd cc
+      | inl holds ↦
+          let parts = and_parts (frame.snapshot.head.number == number) (has_entities ring placed frame) holds in
+          let found : Some frame.snapshot ≡ Some held = sym (ap (λ (b : Bool). cond b (Some frame.snapshot) None) holds) ∙ is in
+          record { named = eqb-true frame.snapshot.head.number number parts.0; there = parts.1; same = cc }
+      | inr fails ↦
+          let none : None ≡ Some held = sym (ap (λ (b : Bool). cond b (Some frame.snapshot) None) fails) ∙ is in
+          absurd cc
     ]
 
 -- what can be read of a frame could be read of it earlier
@@ -75,5 +75,5 @@ under-earlier ring p q number None held least is = is
 under-earlier ring p q number (Some frame) held least is =
     let it = under-is ring q number frame held is in
     let test = and_from (frame.snapshot.head.number == number) (has_entities ring p frame)
-      (eq-eqb frame.snapshot.head.number number it.named) (has-earlier ring p q frame least it.there) in
+    (eq-eqb frame.snapshot.head.number number it.named) (has-earlier ring p q frame least it.there) in
     ap (λ (b : Bool). cond b (Some frame.snapshot) None) test ∙ ap Some it.same

@@ -1,5 +1,5 @@
 -- How frames are kept: their entities lie in one ring.
-use Rattle.std.specs.Prelude.{◌≡◌, ◌+◌, ◌^◌, ◌<◌, ◌≤◌, ℕ, true, List, length, map, All, Option, option_map, IfSome}
+use Rattle.std.specs.Prelude.{◌≡◌, ◌+◌, ◌^◌, ◌<◌, ◌≤◌, true, length, map, All, option_map, IfSome}
 use Rattle.q3_entity.specs.Entities.{Rises, most_entities}
 use Rattle.q3_ring.specs.declared.kept.Kept.{Kept}
 use Rattle.q3_ring.specs.Ring.{RingState}

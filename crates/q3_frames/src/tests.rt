@@ -1,6 +1,6 @@
 //! Bases worked by hand.
 
-ghost use Rattle.std.specs.Prelude.{◌≡◌, ◌<◌, ◌≤◌, length, IfOk};
+ghost use Rattle.std.specs.Prelude.{◌≡◌, ◌+◌, ◌<◌, ◌≤◌, length, IfOk};
 ghost use Rattle.q3_entity.specs.Entities.{Rises};
 
 use crate::Frames;
@@ -20,7 +20,8 @@ fn head(number: u32, word: u32) -> SnapHead {
 /// So many entities, numbered from 1, each with this in its first word.
 fn entities(count: u16, word: u32) -> List
     requires { count ≤ 256 }
-    ensures { Rises result.items }
+    ensures rises { Rises result.items }
+    ensures count { length result.items ≡ count }
 {
     let mut list = List::new();
     for number in 0..count {
@@ -36,6 +37,8 @@ fn build(frames: &mut Frames, slot: u8, number: u32, count: u16)
     requires slot { slot < length frames.old.slots }
     requires placed { frames.old.placed ≤ 1000000 }
     requires count { count ≤ 256 }
+    ensures slots { length frames.new.slots ≡ length frames.old.slots }
+    ensures placed { frames.new.placed ≡ frames.old.placed + count }
 {
     frames.build(slot, &head(number, number), &entities(count, number));
 }
