@@ -1,0 +1,4 @@
+pub mod Remains
+pub mod Standing
+pub mod Building
+pub mod Lasting

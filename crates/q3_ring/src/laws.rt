@@ -1,0 +1,13 @@
+//! Laws of a ring of entities, each the contract of a call that does nothing.
+
+ghost use Rattle.q3_ring.specs.Laws.{PlacedIsThere, OthersStay};
+
+/// Entities that were just placed are those from the count before them on.
+pub fn placed_is_there()
+    ensures { PlacedIsThere }
+{}
+
+/// Entities that were placed before stay the same, as long as none has another in its place.
+pub fn others_stay()
+    ensures { OthersStay }
+{}

@@ -1,0 +1,126 @@
+//! Entities in one ring. Keeps the rules "server frames and their shared entity ring" and "held snapshots of a client", the
+//! engine's `svs.snapshotEntities` (sv_snapshot.c) and `cl.parseEntities` (cl_parse.c).
+
+ghost use Rattle.std.specs.Prelude.{◌≡◌, ◌+◌, ◌-◌, ◌%◌, ◌^◌, ◌<◌, ◌≤◌, ◌++◌, length, take, drop, min, IfOk};
+ghost use Rattle.q3_entity.specs.Entities.{run_of};
+ghost use Rattle.q3_ring.specs.Ring.{new_ring, with_entities, entities_from};
+ghost use Rattle.q3_ring.specs.Turned.{turned};
+
+use q3_entity::{EntityState, Run};
+use std::alloc::{AllocError as NoMemory, Global};
+use std::marker::Model;
+
+/// Entities, in as many places as there is room for: the one that was placed k-th of all, counted from 0, lies in the
+/// place k modulo their number. It has memory of its own, which `new` takes and no other call does.
+#[derive(Drop)]
+pub struct Ring {
+    cells: Vec<EntityState>,
+    placed: u64,
+}
+
+impl Model for Ring {
+    ghost use Rattle.q3_ring.specs.Ring.{RingState};
+
+    ghost Value = { RingState };
+
+    ghost use Rattle.q3_ring.specs.Cells.{ring_in, IsRing};
+
+    ghost view = { ring_in };
+
+    ghost invariant = { IsRing };
+}
+
+impl Ring {
+    /// Room for so many entities, and none was placed. `Err` is want of memory.
+    pub fn new(alloc: Global, room: u32) -> Result<Ring, NoMemory>
+        requires { 0 < room }
+        ensures { IfOk result (λ ring. ring ≡ new_ring room) }
+    {
+        Ok(Ring {
+            cells: vec![in alloc; EntityState::zero(0); room as usize]?,
+            placed: 0,
+        })
+    }
+
+    /// How many entities were placed since `new` or the last `clear`.
+    pub fn placed(&self) -> u64
+        ensures { result ≡ self.now.placed }
+    {
+        self.placed
+    }
+
+    /// For how many entities there is room.
+    pub fn room(&self) -> usize
+        ensures room { result ≡ length self.now.recent }
+        ensures some { 0 < result }
+    {
+        self.cells.len()
+    }
+
+    /// Places entities behind all others. Each takes the place of the one that was placed `room` before it.
+    pub fn place(&mut self, entities: &[EntityState])
+        requires few { length entities.now ≤ length self.old.recent }
+        requires count { self.old.placed + length entities.now < 2 ^ 64 }
+        ensures { self.new ≡ with_entities self.old entities.now }
+    {
+        let start = (self.placed % self.cells.len() as u64) as usize;
+        put_round(&mut self.cells, start, entities);
+        self.placed += entities.len() as u64;
+    }
+
+    /// Lends so many entities from one on, which has its number among all that were placed, from 0. All of them were
+    /// placed, and none has another in its place by now. `head` goes to the ring's end at most, and `tail` on from the
+    /// ring's first place.
+    pub fn lend(&self, first: u64, count: usize) -> Run<'_>
+        requires placed { first + count ≤ self.now.placed }
+        requires there { self.now.placed ≤ first + length self.now.recent }
+        ensures entities { run_of result ≡ entities_from self.now first count }
+        ensures head { length result.head.now ≡ min count (length self.now.recent - first % length self.now.recent) }
+    {
+        let start = (first % self.cells.len() as u64) as usize;
+        let behind = self.cells.len() - start;
+        if count <= behind {
+            return Run {
+                head: &self.cells[start..][..count],
+                tail: &[],
+            };
+        }
+        Run {
+            head: &self.cells[start..],
+            tail: &self.cells[..count - behind],
+        }
+    }
+
+    /// Forgets all entities: the next is placed as the first.
+    pub fn clear(&mut self)
+        ensures placed { self.new.placed ≡ 0 }
+        ensures room { length self.new.recent ≡ length self.old.recent }
+    {
+        self.placed = 0;
+    }
+}
+
+/// Puts entities into the places from one on, and behind the last place into those from the first.
+fn put_round(cells: &mut Vec<EntityState>, start: usize, entities: &[EntityState])
+    requires within { start < length cells.old.items }
+    requires few { length entities.now ≤ length cells.old.items }
+    ensures count { length cells.new.items ≡ length cells.old.items }
+    ensures cells { turned ((start + length entities.now) % length cells.old.items) cells.new.items
+        ≡ drop (length entities.now) (turned start cells.old.items ++ entities.now) }
+{
+    let behind = cells.len() - start;
+    if entities.len() <= behind {
+        put_at(cells, start, entities);
+        return;
+    }
+    put_at(cells, start, &entities[..behind]);
+    put_at(cells, 0, &entities[behind..]);
+}
+
+/// Puts entities into the places from one on.
+fn put_at(cells: &mut Vec<EntityState>, place: usize, entities: &[EntityState])
+    requires within { place + length entities.now ≤ length cells.old.items }
+    ensures { cells.new.items ≡ take place cells.old.items ++ entities.now ++ drop (place + length entities.now) cells.old.items }
+{
+    cells[place..place + entities.len()].copy_from_slice(entities);
+}

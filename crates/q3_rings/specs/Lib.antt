@@ -1,0 +1,5 @@
+pub mod Rings
+pub mod Accepted
+pub mod Loans
+pub mod KeptRings
+pub mod Laws

@@ -1,0 +1,134 @@
+//! Bases, ages and places worked by hand.
+
+ghost use Rattle.std.specs.Prelude.{◌≡◌, ◌<◌, ◌≤◌};
+ghost use Rattle.q3_entity.specs.Entities.{Rises};
+
+use crate::{NoBase, Rings};
+use q3_entity::{EntityState, List};
+use q3_player::SnapHead;
+use std::process::Abort;
+use std::test::*;
+
+/// A head under a number, with this in the player's first word.
+fn head(number: u32, word: u32) -> SnapHead
+    ensures { result.number ≡ number }
+{
+    let mut head = SnapHead::new();
+    head.number = number;
+    head.time = 1_000;
+    head.player.words[0] = word;
+    head
+}
+
+/// So many entities, numbered from 1, each with this in its first word.
+fn entities(count: u16, word: u32) -> List
+    requires { count ≤ 256 }
+    ensures { Rises result.items }
+{
+    let mut list = List::new();
+    for number in 0..count {
+        let mut state = EntityState::zero(number + 1);
+        state.words[0] = word;
+        list.push(state);
+    }
+    list
+}
+
+/// Accepts a snapshot whose player and entities have its number in their first word.
+fn accept(rt: &impl Abort, rings: &mut Rings, number: u32, count: u16)
+    requires { count ≤ 256 }
+{
+    assert!(rt; rings.newest() < number);
+    rings.accept(&head(number, number), &entities(count, number));
+    assert_eq!(rt; rings.newest(), number);
+}
+
+/// Checks that a snapshot is lent, with so many entities in the ring's two pieces.
+fn check(rt: &impl Abort, rings: &Rings, number: u32, pieces: (usize, usize)) {
+    let Ok(view) = rings.base(number) else {
+        assert!(rt; false, "no base {number}");
+        return;
+    };
+    assert_eq!(rt; (view.number, view.time, view.flags), (number, 1_000, 0));
+    assert_eq!(rt; view.area.len(), 0);
+    assert_eq!(rt; view.player.words[0], number);
+    assert_eq!(rt;
+        (view.entities.head.len(), view.entities.tail.len()),
+        pieces
+    );
+    for state in view.entities.head {
+        assert_eq!(rt; state.words[0], number);
+    }
+    for state in view.entities.tail {
+        assert_eq!(rt; state.words[0], number);
+    }
+}
+
+/// Checks why a number isn't held.
+fn check_none(rt: &impl Abort, rings: &Rings, number: u32, cause: NoBase) {
+    let Err(e) = rings.base(number) else {
+        assert!(rt; false, "base {number}");
+        return;
+    };
+    assert_eq!(rt; e, cause);
+    assert!(rt; rings.view(number).is_none());
+}
+
+#[test]
+fn third_of_three_lies_round_the_end(rt: HostRuntime) -> Result<(), Fail> {
+    let mut rings = Rings::new(rt.alloc(), 512)?;
+    accept(&rt, &mut rings, 1, 200);
+    accept(&rt, &mut rings, 2, 200);
+    accept(&rt, &mut rings, 3, 200);
+    check(&rt, &rings, 3, (112, 88));
+    check_none(&rt, &rings, 2, NoBase::EntitiesGone(400));
+    check_none(&rt, &rings, 1, NoBase::EntitiesGone(600));
+    check_none(&rt, &rings, 0, NoBase::NeverHeld);
+    check_none(&rt, &rings, 4, NoBase::NeverHeld);
+    check_none(&rt, &rings, 35, NoBase::Overwritten(3));
+    assert_eq!(rt; rings.placed(), 600);
+    rings.wipe();
+    check_none(&rt, &rings, 3, NoBase::NeverHeld);
+    assert_eq!(rt; (rings.placed(), rings.newest()), (0, 0));
+    accept(&rt, &mut rings, 1, 256);
+    check(&rt, &rings, 1, (256, 0));
+    Ok(())
+}
+
+#[test]
+fn lost_snapshots_leave_their_places(rt: HostRuntime) -> Result<(), Fail> {
+    let mut rings = Rings::new(rt.alloc(), 512)?;
+    accept(&rt, &mut rings, 5, 200);
+    check(&rt, &rings, 5, (200, 0));
+    accept(&rt, &mut rings, 7, 200);
+    check_none(&rt, &rings, 5, NoBase::EntitiesGone(400));
+    check_none(&rt, &rings, 6, NoBase::NeverHeld);
+    check(&rt, &rings, 7, (200, 0));
+    let ages = [(5, 5, 400), (7, 7, 200)];
+    for (place, number, age) in ages {
+        let Some(held) = rings.held(place) else {
+            assert!(rt; false, "nothing in {place}");
+            return Ok(());
+        };
+        assert_eq!(rt; (held.head.number, held.age), (number, age));
+    }
+    assert!(rt; rings.held(6).is_none());
+    Ok(())
+}
+
+#[test]
+fn place_is_used_again_after_32(rt: HostRuntime) -> Result<(), Fail> {
+    let mut rings = Rings::new(rt.alloc(), 1_024)?;
+    for number in 1..34 {
+        accept(&rt, &mut rings, number, 24);
+    }
+    check_none(&rt, &rings, 1, NoBase::Overwritten(33));
+    // 32 lists of 24 are 768, the ring's room less 256
+    check(&rt, &rings, 2, (24, 0));
+    check(&rt, &rings, 33, (24, 0));
+    accept(&rt, &mut rings, 40, 1);
+    check_none(&rt, &rings, 2, NoBase::EntitiesGone(769));
+    check_none(&rt, &rings, 8, NoBase::Overwritten(40));
+    check(&rt, &rings, 3, (24, 0));
+    Ok(())
+}
