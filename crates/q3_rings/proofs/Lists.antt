@@ -1,0 +1,24 @@
+-- The last of a list, and of what passes a test.
+use Rattle.std.proofs.Common.{◌≡◌, ℕ, ◌<◌, Bool, true, false, List, [], ◌∷◌, ◌++◌, length, get_or, Option, Some, None, inl, inr, ◌⊎◌, zero, suc, refl, arith}
+use Rattle.std.specs.Prelude.{IfSome}
+use Rattle.std.specs.List.{All, Contains, filter, last_or}
+use Rattle.std.proofs.lemmas.List.Elements.{All-head, All-tail, Contains-append_cases}
+
+pub last_push : {X : Type 0} (o : Option X) (xs : List X) (x : X) → last_or o (xs ++ x ∷ []) ≡ Some x
+last_push o [] x = refl
+last_push o (y ∷ xs) x = last_push (Some y) xs x
+
+pub last_holds : {X : Type 0} (P : X → Type 0) (o : Option X) (xs : List X) → IfSome o P → All P xs → IfSome (last_or o xs) P
+last_holds P o [] first each = first
+last_holds P o (x ∷ xs) first each = last_holds P (Some x) xs (All-head P x xs each) (All-tail P x xs each)
+
+-- nothing passes
+pub filter_none : {X : Type 0} (test : X → Bool) (xs : List X) → All (λ x. test x ≡ false) xs → filter test xs ≡ []
+filter_none test [] each = refl
+filter_none test (x ∷ xs) each =
+    let fails : test x ≡ false = All-head (λ x. test x ≡ false) x xs each in
+    rw fails (filter_none test xs (All-tail (λ x. test x ≡ false) x xs each))
+
+pub contains_cases : {X : Type 0} (x : X) (xs : List X) (y : X) → Contains (x ∷ xs) y → (x ≡ y) ⊎ Contains xs y
+contains_cases x xs y (zero, lt, is) = inl is
+contains_cases x xs y (suc k, lt, is) = inr (k, omega arith, is)
