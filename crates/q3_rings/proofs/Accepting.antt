@@ -1,12 +1,12 @@
 -- What is held stays what it is.
-use Rattle.std.proofs.Common.{◌≡◌, ℕ, ◌+◌, ◌%◌, ◌<◌, ◌≤◌, ◌≢◌, List, length, map, get_or, replicate, zero, suc, Option, Some, None, inl, inr, refl, sym, ap, ◌∙◌, subst, arith}
+use Rattle.std.proofs.Common.{◌≡◌, ℕ, ◌+◌, ◌<◌, ◌≤◌, ◌≢◌, length, map, get_or, replicate, zero, suc, Option, Some, None, inl, inr, refl, sym, ap, ◌∙◌, subst, arith}
 use Rattle.std.specs.Prelude.{IfSome, option_map}
 use Rattle.std.proofs.lemmas.Bool.{cases_eq}
-use Rattle.std.proofs.lemmas.List.{length-set, length-map, get_or-set_same, get_or-set_other, get_or-replicate}
+use Rattle.std.proofs.lemmas.List.{length-set, length-map, get_or-set_same, get_or-set_other}
 use Rattle.std.proofs.Math.ListN.{get_or-map}
 use Rattle.q3_ring.specs.Snapshot.{Snapshot}
-use Rattle.q3_ring.specs.Places.{most_places, place_of, no_places, put_at_number}
-use Rattle.q3_rings.specs.Rings.{HeldSnapshot, HeldSnapshots, IsHeldIn, AreHeldSnapshots, no_snapshots, held_remains, older, accept_at}
+use Rattle.q3_ring.specs.Places.{most_places, place_of}
+use Rattle.q3_rings.specs.Rings.{HeldSnapshot, HeldSnapshots, IsHeldIn, AreHeldSnapshots, no_snapshots, older, accept_at}
 use Rattle.q3_rings.proofs.Aging.{remains_head}
 
 -- what was held in a place is held there behind a higher number, and older

@@ -1,7 +1,7 @@
 -- What is accepted is one more of all that were accepted.
-use Rattle.std.proofs.Common.{◌≡◌, ℕ, ◌+◌, ◌-◌, ◌%◌, ◌<◌, ◌≤◌, ◌≢◌, Bool, true, false, eqb, leb, List, [], ◌∷◌, ◌++◌, length, get_or, Option, Some, None, inl, inr, refl, sym, ap, ◌∙◌, arith}
+use Rattle.std.proofs.Common.{◌≡◌, ℕ, ◌+◌, ◌<◌, ◌≤◌, ◌≢◌, true, false, eqb, leb, List, [], ◌∷◌, ◌++◌, length, get_or, Option, Some, None, inl, inr, refl, sym, ap, ◌∙◌, arith}
 use Rattle.std.specs.Prelude.{IfSome, option_map, unwrap_or}
-use Rattle.std.specs.List.{All, filter, sum_by, last_or}
+use Rattle.std.specs.List.{filter, sum_by, last_or}
 use Rattle.std.proofs.lemmas.Bool.{cases_eq, eq-eqb, ne_eqb, le-leb, lt-leb}
 use Rattle.std.proofs.lemmas.List.{append-nil}
 use Rattle.std.proofs.lemmas.List.Elements.{All-filter, All-weaker, filter-append}
@@ -9,7 +9,7 @@ use Rattle.std.proofs.lemmas.List.Sums.{sum_by_push}
 use Rattle.q3_entity.specs.Entities.{most_entities}
 use Rattle.q3_ring.specs.Snapshot.{Snapshot}
 use Rattle.q3_ring.specs.Places.{place_of, at_number}
-use Rattle.q3_rings.specs.Rings.{HeldSnapshot, HeldSnapshots, held_remains, older, no_snapshots, accept_at}
+use Rattle.q3_rings.specs.Rings.{HeldSnapshots, held_remains, older, accept_at}
 use Rattle.q3_rings.specs.Accepted.{AreAccepted, newest_of, last_accepted, age_of, aged, SnapshotsStandFor}
 use Rattle.q3_rings.proofs.Lists.{last_push, last_holds, filter_none}
 use Rattle.q3_rings.proofs.Aging.{older_remains, new_remains}

@@ -1,5 +1,5 @@
 -- How a snapshot that is held grows older.
-use Rattle.std.proofs.Common.{◌≡◌, ℕ, ◌+◌, ◌-◌, ◌≤◌, true, false, leb, List, Option, Some, None, inl, inr, refl, ap, arith}
+use Rattle.std.proofs.Common.{◌≡◌, ℕ, ◌+◌, ◌-◌, ◌≤◌, true, false, List, inl, inr, refl, arith}
 use Rattle.std.proofs.lemmas.Bool.{cases_Bool, leb-false, le-leb, lt-leb}
 use Rattle.q3_entity.specs.declared.state.EntityState.{EntityState}
 use Rattle.q3_player.specs.declared.head.SnapHead.{SnapHead}

@@ -1,5 +1,5 @@
 -- What is kept of snapshots, behind one that is accepted.
-use Rattle.std.proofs.Common.{◌≡◌, ℕ, ◌+◌, ◌-◌, ◌*◌, ◌^◌, ◌<◌, ◌≤◌, true, leb, List, [], ◌∷◌, ◌++◌, length, map, get_or, drop, set, Option, Some, None, refl, sym, ap, ◌∙◌, subst, arith}
+use Rattle.std.proofs.Common.{◌≡◌, ℕ, ◌+◌, ◌-◌, ◌<◌, ◌≤◌, List, [], ◌∷◌, ◌++◌, length, map, get_or, Option, Some, None, refl, sym, ap, ◌∙◌, subst, arith}
 use Rattle.std.specs.Prelude.{IfSome, option_map}
 use Rattle.std.specs.List.{All}
 use Rattle.std.proofs.lemmas.Bool.{leb-true, le-leb}
@@ -10,13 +10,12 @@ use Rattle.q3_entity.specs.declared.state.EntityState.{EntityState}
 use Rattle.q3_player.specs.declared.head.SnapHead.{SnapHead}
 use Rattle.q3_entity.specs.Entities.{Rises, most_entities}
 use Rattle.q3_ring.specs.declared.kept.Kept.{Kept}
-use Rattle.q3_ring.specs.Snapshot.{Snapshot}
 use Rattle.q3_ring.specs.Ring.{RingState, with_entities, entities_from}
 use Rattle.q3_ring.specs.Places.{most_places, place_of, no_places, at_number, put_at_number}
 use Rattle.q3_ring.specs.Laws.{PlacedIsThere, OthersStay}
 use Rattle.q3_rings.specs.declared.rings.Rings.TheInside.{Inside}
 use Rattle.q3_rings.specs.Loans.{head_from}
-use Rattle.q3_rings.specs.Rings.{HeldSnapshot, RingsState, AreHeldSnapshots, is_young, held_remains, older, accept_in}
+use Rattle.q3_rings.specs.Rings.{HeldSnapshot, RingsState, AreHeldSnapshots, held_remains, older, accept_in}
 use Rattle.q3_rings.specs.KeptRings.{held_in, rings_in, IsKept, AreKept}
 use Rattle.q3_rings.proofs.Aging.{older_remains, remain_alike, new_remains, remains_head_from}
 use Rattle.q3_rings.proofs.Accepting.{accept_stays, none_are_held}

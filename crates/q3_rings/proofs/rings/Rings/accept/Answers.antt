@@ -1,4 +1,4 @@
-use Rattle.std.proofs.Common.{◌<◌, arith, ap, subst, sym, refl, ◌∙◌}
+use Rattle.std.proofs.Common.{◌<◌, ap, subst, sym, ◌∙◌}
 use Rattle.q3_rings.specs.Rings.{RingsState, accept_in}
 use Rattle.q3_rings.proofs.Kept.{accepted_is, accepted_stays}
 use Rattle.q3_rings.proofs.rings.Rings.accept.Goals as goal

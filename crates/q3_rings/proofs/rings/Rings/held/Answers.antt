@@ -1,4 +1,4 @@
-use Rattle.std.proofs.Common.{None, Some, ap, ◌∙◌}
+use Rattle.std.proofs.Common.{None, Some}
 use Rattle.q3_rings.proofs.Kept.{head_at}
 use Rattle.q3_rings.proofs.rings.Rings.held.Goals as goal
 
