@@ -125,6 +125,7 @@ impl Rings {
     }
 
     /// Holds nothing more, and counts entities anew.
+    #[tactic(auto, using(crate::proofs::Kept::nothing_is_kept))]
     pub fn wipe(&mut self)
         ensures { self.new ≡ no_rings self.old.held.ring }
     {
