@@ -5,7 +5,7 @@ use Rattle.q3_ring.specs.declared.kept.Kept.{Kept}
 use Rattle.q3_ring.specs.Ring.{RingState}
 use Rattle.q3_ring.specs.Kept.{snapshot_in}
 use Rattle.q3_rings.specs.declared.rings.Rings.TheInside.{Inside}
-use Rattle.q3_rings.specs.Rings.{HeldSnapshot, RingsState, is_young, held_remains}
+use Rattle.q3_rings.specs.Rings.{HeldSnapshot, RingsState, AreHeldSnapshots, is_young, held_remains}
 
 -- a snapshot at its age
 abbrev pub held_in : RingState → Kept → HeldSnapshot
@@ -26,8 +26,8 @@ pub record IsKept (ring : RingState) (kept : Kept) : Type 0 where
   pub placed : kept.first + kept.count ≤ ring.placed
   pub rises : is_young (length ring.recent) (held_in ring kept).age ≡ true → Rises (snapshot_in ring kept).entities
 
--- there is room for two lists; numbers rise, so of each number at most one list was placed
+-- numbers rise, so of each number at most one list was placed
 pub record AreKept (r : Inside) : Type 0 where
-  pub room : 512 ≤ length r.ring.recent
+  pub held : AreHeldSnapshots (rings_in r).held
   pub placed : r.ring.placed ≤ 2 ^ 32 + most_entities * r.newest
   pub each : All (λ place. IfSome place (IsKept r.ring)) r.places

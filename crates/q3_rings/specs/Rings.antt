@@ -1,9 +1,9 @@
 -- The snapshots that a client accepted, as far as they are held.
-use Rattle.std.specs.Prelude.{◌≡◌, ℕ, ◌+◌, ◌-◌, ◌≤◌, ◌==◌, nat_le, if◌then◌else◌, Bool, List, length, map, Option, Some, None, option_map, Result, Ok, Err}
+use Rattle.std.specs.Prelude.{◌≡◌, ℕ, ◌+◌, ◌-◌, ◌<◌, ◌≤◌, ◌==◌, nat_le, if◌then◌else◌, Bool, List, length, map, slice_index_or, Option, Some, None, option_map, IfSome, Result, Ok, Err}
 use Rattle.std.specs.Result.{result_ok}
 use Rattle.q3_entity.specs.Entities.{most_entities}
 use Rattle.q3_ring.specs.Snapshot.{Snapshot, without_entities}
-use Rattle.q3_ring.specs.Places.{most_places, no_places, at_number, put_at_number}
+use Rattle.q3_ring.specs.Places.{most_places, place_of, no_places, at_number, put_at_number}
 use Rattle.q3_rings.specs.declared.rings.NoBase.{NoBase}
 use Rattle.q3_rings.specs.declared.rings.NoBase.TheVariants.{NeverHeld, Overwritten, EntitiesGone}
 
@@ -78,7 +78,14 @@ no_rings ring = record { held = no_snapshots ring; placed = 0 }
 abbrev pub accept_in : RingsState → Snapshot → RingsState
 accept_in rings snapshot = record { held = accept_at rings.held snapshot; placed = rings.placed + length snapshot.entities }
 
+-- a snapshot that is held in a place: its number belongs there, isn't 0, and isn't above the newest
+pub record IsHeldIn (newest place : ℕ) (held : HeldSnapshot) : Type 0 where
+  pub here : place_of held.snapshot.head.number ≡ place
+  pub some : 0 < held.snapshot.head.number
+  pub accepted : held.snapshot.head.number ≤ newest
+
 -- what every such value is
 pub record AreHeldSnapshots (snapshots : HeldSnapshots) : Type 0 where
   pub ring : 512 ≤ snapshots.ring
   pub count : length snapshots.places ≡ most_places
+  pub each : (place : ℕ) → IfSome (slice_index_or snapshots.places place None) (IsHeldIn snapshots.newest place)

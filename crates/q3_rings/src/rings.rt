@@ -9,6 +9,7 @@ ghost use Rattle.q3_rings.specs.Rings.{AreHeldSnapshots, no_rings, held_snapshot
 use crate::views::{Held, SnapView};
 use q3_entity::{EntityState, Run};
 use q3_player::SnapHead;
+use q3_ring::laws::{others_stay, placed_is_there};
 use q3_ring::{Kept, Places, Ring};
 use std::alloc::{AllocError as NoMemory, Global};
 use std::marker::Model;
@@ -115,6 +116,8 @@ impl Rings {
         requires rises { Rises entities.now }
         ensures { self.new ≡ accept_in self.old (record { head = head.now; entities = entities.now }) }
     {
+        placed_is_there();
+        others_stay();
         let first = self.ring.placed();
         self.ring.place(entities);
         self.places.keep(head, first, entities.len());
@@ -122,6 +125,7 @@ impl Rings {
     }
 
     /// Holds nothing more, and counts entities anew.
+    #[tactic(auto, using(crate::proofs::Kept::nothing_is_kept))]
     pub fn wipe(&mut self)
         ensures { self.new ≡ no_rings self.old.held.ring }
     {
