@@ -8,7 +8,8 @@ use Rattle.q3_script.specs.declared.event.Event.TheVariants as events
 use Rattle.q3_chan.specs.declared.gatherer.Gathered.{Gathered}
 use Rattle.q3_chan.specs.declared.gatherer.Gathered.TheVariants.{Whole as CameWhole}
 use Rattle.q3_chan.specs.Gathering.{Took, gathered as gathered_of}
-use Rattle.q3_chan.specs.Tags.{tagged}
+use Rattle.q3_chan.specs.Tags.{tagged, IsQuiet}
+use Rattle.q3_chan.specs.Laws.{TaggedDoes}
 use Rattle.q3_server.specs.declared.taking.ServerTook.TheVariants as answer
 use Rattle.q3_server.specs.Server.{SlotState, slot_at}
 use Rattle.q3_server.specs.Taking as hears
