@@ -1,5 +1,5 @@
 -- What holds of one client, and stays so.
-use Rattle.std.proofs.Common.{◌≡◌, ℕ, zero, suc, ◌+◌, ◌-◌, ◌^◌, ◌<◌, ◌≤◌, Bool, true, false, List, [], ◌∷◌, ◌++◌, length, get_or, Option, Some, None, refl, sym, ap, subst, ◌∙◌, inl, inr, arith, lit<}
+use Rattle.std.proofs.Common.{◌≡◌, ℕ, zero, suc, ◌+◌, ◌-◌, ◌^◌, ◌<◌, ◌≤◌, Bool, true, false, List, [], ◌∷◌, ◌++◌, length, get_or, Option, Some, None, refl, sym, ap, subst, ◌∙◌, inl, inr, arith}
 use Rattle.std.specs.Prelude.{All, Contains}
 use Rattle.std.specs.List.{last_or}
 use Rattle.std.proofs.lemmas.List.{length_push, get_or_append_left, get_or_push}
@@ -11,12 +11,11 @@ use Rattle.q3_player.specs.State.{zero_player}
 use Rattle.q3_player.specs.declared.state.PlayerState.{PlayerState}
 use Rattle.q3_io.specs.declared.address.Address.{Address}
 use Rattle.q3_entity.specs.Entities.{most_entities}
-use Rattle.q3_chan.specs.declared.side.Side.{Side}
 use Rattle.q3_chan.specs.declared.side.Side.TheVariants.{Server, Client}
-use Rattle.q3_chan.specs.Datagrams.{sequence_end, piece_count}
-use Rattle.q3_chan.specs.Sending.{Sending, UnderWay, started, next_of}
+use Rattle.q3_chan.specs.Datagrams.{sequence_end}
+use Rattle.q3_chan.specs.Sending.{started, next_of}
 use Rattle.q3_chan.specs.Gathering.{Gathering}
-use Rattle.q3_chan.specs.Laws.{IsSendable, Gathers, Sends, EndsGather, EndsSend}
+use Rattle.q3_chan.specs.Laws.{IsSendable, Gathers, EndsGather, EndsSend}
 use Rattle.q3_clmsg.specs.declared.moves.Move.{Move}
 use Rattle.q3_clmsg.specs.Moves.{IsMove}
 use Rattle.q3_clmsg.specs.Laws.{IsMessage}
@@ -30,8 +29,8 @@ use Rattle.q3_client.specs.Client.{number_of_newest, ClientState, new_client}
 use Rattle.circular_buffer.specs.Buffer.{keep_last}
 use Rattle.q3_client.specs.Moves.{most_moves, carried, asks_delta, issue}
 use Rattle.q3_client.specs.Sending.{said_bytes, Said, next_message as next_said}
-use Rattle.q3_world.specs.World.{Tag, History, no_history, no_message, built_at, said_at}
-use Rattle.q3_world.specs.StandsFor.{messages_of, messages_said, KeepsSlot, KeepsClient, AreEnds, IsClient, IsPiece, WasBuilt, Rise, KeepsMoves, TakesBuilt, TakesSaid}
+use Rattle.q3_world.specs.World.{History, no_history, no_message, built_at, said_at}
+use Rattle.q3_world.specs.StandsFor.{messages_of, messages_said, KeepsSlot, KeepsClient, AreEnds, IsClient, WasBuilt, Rise, KeepsMoves, TakesBuilt, TakesSaid}
 use Rattle.q3_world.specs.Moves.{TimesRise, AreConsecutive}
 use Rattle.q3_world.proofs.Growth.{was_built_more, each_more, messages_stay, messages_said_stay}
 use Rattle.q3_world.proofs.Beginning.{BeginsMessages-new, BeginsMessages-handed, BeginsMessages-started}

@@ -30,7 +30,7 @@ use Rattle.q3_world.specs.declared.answer.Answer.TheVariants.{Unknown, Deliver}
 use Rattle.q3_world.specs.declared.made.Direction.{Direction}
 use Rattle.q3_world.specs.declared.made.Direction.TheVariants.{ToClient, ToServer}
 use Rattle.q3_world.specs.Layers.{Layers}
-use Rattle.q3_server.specs.Server.{MapState, SlotState, Built, places, slot_at, built_bytes}
+use Rattle.q3_server.specs.Server.{SlotState, Built, places, slot_at, built_bytes}
 use Rattle.q3_client.specs.Client.{ClientState, Taken, apply_message, take_answer, take_gathered}
 use Rattle.q3_world.specs.Ends.{Ends, Answered, unknown, delivered, ran, client_at, address_at, with_client, newest}
 use Rattle.q3_world.specs.Kept.{SentBytes, Kept, KeptStep, opening_kept, kept_step, kept_after, kept_answers}

@@ -15,7 +15,7 @@ use Rattle.q3_clmsg.specs.Moves.{IsMove}
 use Rattle.q3_clmsg.specs.Laws.{IsMessage}
 use Rattle.q3_svmsg.specs.Values.{Snapshot}
 use Rattle.q3_server.specs.Built.{message_of, IsHeld, IsArea, AreHeld, IsBuilt}
-use Rattle.q3_server.specs.Server.{MapState, SlotState, Built, places, slot_at, built_bytes}
+use Rattle.q3_server.specs.Server.{SlotState, Built, places, slot_at, built_bytes}
 use Rattle.q3_server.specs.Taking.{last_time, sender_of}
 use Rattle.q3_client.specs.declared.moves.Issued.{Issued}
 use Rattle.q3_client.specs.Client.{ClientState, number_of_newest}
