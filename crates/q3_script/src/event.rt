@@ -10,7 +10,8 @@ use q3_player::PlayerState;
 /// `c` is the number of a client, of which there is one at this stage, 0.
 #[derive(Debug, Drop, PartialEq, Eq)]
 pub enum Event {
-    /// A client joins, with its challenge, its qport, how many old moves it repeats, and its address.
+    /// A client joins, with its challenge, its qport, of how many messages before it each message repeats the moves, and its
+    /// address.
     Client {
         c: u8,
         challenge: u32,

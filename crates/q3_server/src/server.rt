@@ -1,6 +1,6 @@
 //! The server's end: pure state, one call an event.
-//! Keeps the rules "what the server sends", "fragmentation", by q3_chan, and "end of message numbers", which is this
-//! project's own.
+//! Keeps the rules "what the server sends", "how a datagram finds its slot", "fragmentation" and "what a receiver answers",
+//! by q3_chan, and "end of message numbers", which is this project's own.
 
 ghost use Rattle.std.specs.Prelude.{◌≡◌, ◌<◌, ◌≤◌, None, IfOk, IfSome, option_map, length, nat_lt, position, replicate};
 ghost use Rattle.q3_server.specs.Server.{places, most_numbers, new_server, is_of, add_client_at, set_time_at, set_entity_at, remove_entity_at, set_player_at, set_area_at, emit_at, slot_at};
@@ -183,7 +183,7 @@ impl Server {
         self.slots[slot as usize].set_area(area)
     }
 
-    /// The address of a client, with the port that its newest datagram came from: `None` exactly where no client was added
+    /// The address of a client, with the port that its last datagram came from: `None` exactly where no client was added
     /// in the slot.
     pub fn address(&self, slot: u8) -> Option<Address>
         ensures { result ≡ option_map (λ joined. joined.address) (slot_at self.now slot) }
@@ -227,8 +227,10 @@ impl Server {
         )
     }
 
-    /// Makes the next datagram for a client: it is empty where nothing is handed out. `NoClient` comes exactly where no
-    /// client was added in the slot.
+    /// Makes the next datagram for a client: it is empty where nothing is handed out. In this order: `NoClient` exactly
+    /// where no client was added in the slot; `Fragment` where pieces of a message are left; `SequenceEnd` where message
+    /// numbers have ended; `Overlong` where the next message has more than 16,384 bytes, and nothing changes; else
+    /// `Snapshot`.
     #[tactic(auto, unfolding(crate::specs::Server::emit_at))]
     pub fn emit(&mut self, slot: u8, out: &mut Datagram) -> Emitted
         ensures server { self.new ≡ (emit_at self.old slot).server }
