@@ -9,7 +9,7 @@ ghost use Rattle.q3_clmsg.specs.Values.{said_of};
 ghost use Rattle.q3_client.specs.Client.{new_client, take_at, number_of_newest, view_of};
 ghost use Rattle.q3_client.specs.Moves.{most_moves, add_move_at, carried};
 ghost use Rattle.q3_client.specs.Sending.{message_with, emit_at};
-ghost use Rattle.q3_client.specs.Views.{snapshot_of, delta_after, dropped_after};
+ghost use Rattle.q3_client.specs.Views.{snapshot_of};
 
 use crate::bases::NoBases;
 use crate::moves::{Issued, MOST_MOVES, carry, is_issuable};
@@ -102,7 +102,6 @@ pub struct Client {
     whole: Vec<u8>,
     bases: NoBases,
     snapshots: Snapshots,
-    delta: bool,
     dropped: Option<Illegible>,
     sender: Sender,
     moves: HeapCircularBuffer<Issued>,
@@ -126,8 +125,8 @@ impl Model for Client {
       qport = c.qport;
       dup = c.dup;
       gathering = c.gatherer;
-      accepted = c.snapshots;
-      delta = c.delta;
+      accepted = c.snapshots.accepted;
+      delta = c.snapshots.delta;
       dropped = c.dropped;
       sending = c.sender;
       moves = c.moves.items;
@@ -159,7 +158,6 @@ impl Client {
             whole: vec![in alloc; 0; LONGEST_MESSAGE]?,
             bases: NoBases::new(alloc)?,
             snapshots: Snapshots::new(alloc)?,
-            delta: false,
             dropped: None,
             sender: Sender::new(alloc, Side::Client, qport)?,
             moves: HeapCircularBuffer::with_capacity(alloc, MOST_MOVES)?,
@@ -171,7 +169,7 @@ impl Client {
 
     /// Takes a datagram, any bytes. A message that came whole is read; by one that isn't legible the client is dropped, and
     /// nothing else changes. `Dropped` comes exactly where it was dropped before, and nothing changes then.
-    #[tactic(auto, using(crate::proofs::Heard::read_is), unfolding(crate::specs::Client::take_at))]
+    #[tactic(auto, unfolding(crate::specs::Client::take_at))]
     pub fn take(&mut self, datagram: &[u8]) -> ClientTook
         ensures client { self.new ≡ (take_at self.old datagram.now).client }
         ensures answer { result ≡ (take_at self.old datagram.now).answer }
@@ -188,12 +186,16 @@ impl Client {
             Gathered::Runt => return ClientTook::Runt,
             Gathered::Connectionless => return ClientTook::Connectionless,
         };
-        let took = self
+        let read = self
             .snapshots
             .read(&self.profile, &self.bases, number, &self.whole[..length]);
-        self.delta = took.delta_after(self.delta);
-        self.dropped = took.dropped_after(self.dropped);
-        took
+        match read {
+            Ok(snap) => ClientTook::Applied { number, snap },
+            Err(cause) => {
+                self.dropped = Some(cause);
+                ClientTook::Illegible(cause)
+            }
+        }
     }
 
     /// Issues a move: the messages that are begun next carry it. `Err` is the first of: `NotLater` exactly where its time
@@ -243,7 +245,7 @@ impl Client {
         fill(
             message,
             acknowledged,
-            self.delta,
+            self.snapshots.delta(),
             &self.moves,
             number,
             self.dup,
@@ -270,28 +272,6 @@ impl Client {
         ensures { option_map snapshot_of result ≡ view_of number self.now.accepted }
     {
         self.snapshots.view(number)
-    }
-}
-
-impl ClientTook {
-    /// Whether the newest message's snapshot was accepted, once a take answered this.
-    fn delta_after(self, delta: bool) -> bool
-        ensures { result ≡ delta_after delta self }
-    {
-        match self {
-            ClientTook::Applied { snap, .. } => matches!(snap, SnapOutcome::Accepted { .. }),
-            _ => delta,
-        }
-    }
-
-    /// Why a client was dropped, if it was, once a take answered this.
-    fn dropped_after(self, dropped: Option<Illegible>) -> Option<Illegible>
-        ensures { result ≡ dropped_after dropped self }
-    {
-        match self {
-            ClientTook::Illegible(cause) => Some(cause),
-            _ => dropped,
-        }
     }
 }
 

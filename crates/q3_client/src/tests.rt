@@ -1,10 +1,12 @@
-//! What a client sends, with bytes worked by hand, by the plain code, entity widths 0, 8, -16 and player widths 0, 16.
+//! What a client takes and sends, with bytes worked by hand, by the plain code, entity widths 0, 8, -16 and player widths
+//! 0, 16, and what is printed of its answers.
 
 use super::*;
-use q3_bits::{Code, NoMemory};
+use q3_bits::{Code, NoMemory, ReadError};
 use q3_chan::Datagram;
 use q3_clmsg::Move;
 use q3_fields::Table;
+use q3_memory::MemSink;
 use q3_profile::Profile;
 use q3_svmsg::Illegible;
 use std::alloc::Global;
@@ -14,6 +16,11 @@ use std::test::*;
 /// The datagram of server message 1: no commands, and a snapshot without a base, of the time 1000, with no entity.
 const SNAPSHOT: [u8; 20] = [
     1, 0, 0, 0, 0, 0, 0, 0, 7, 0xe8, 3, 0, 0, 0, 2, 0, 0, 0xfe, 0x47, 0,
+];
+
+/// The datagram of server message 2, with a snapshot against that of message 1, of the time 1000, with no entity.
+const DELTA_SNAPSHOT: [u8; 20] = [
+    2, 0, 0, 0, 0, 0, 0, 0, 7, 0xe8, 3, 0, 0, 1, 2, 0, 0, 0xfe, 0x47, 0,
 ];
 
 /// The datagram of server message 2, which has nothing in it.
@@ -160,4 +167,175 @@ fn dropped_client_keeps_the_first_cause(rt: HostRuntime) -> Result<(), Fail> {
     assert_eq!(rt; client.emit(&mut out), Sent::Dropped(cause));
     assert!(rt; out.is_empty());
     Ok(())
+}
+
+/// The time of the snapshot that a client has under a number.
+fn time_of(client: &Client, number: u32) -> Option<u32> {
+    Some(client.view(number)?.head.time)
+}
+
+/// The operation of the move section of the message that a client sends next.
+fn operation_sent(client: &mut Client) -> Option<u8> {
+    let mut out = Datagram::new();
+    client.emit(&mut out);
+    out.get(18).copied()
+}
+
+/// The number of the newest snapshot.
+fn newest_of(client: &Client) -> u32 {
+    client.newest()
+}
+
+#[test]
+fn skipped_snapshot_ends_deltas(rt: HostRuntime) -> Result<(), Fail> {
+    let mut client = client(&rt, rt.alloc(), 0)?;
+    assert_eq!(rt; newest_of(&client), 0);
+    assert_eq!(rt; time_of(&client, 0), None);
+    take(&mut client, &SNAPSHOT);
+    assert_eq!(rt; issue(&mut client, 500, 10), Ok(()));
+    assert_eq!(rt; operation_sent(&mut client), Some(2));
+    let skipped = ClientTook::Applied {
+        number: 2,
+        snap: SnapOutcome::Skipped {
+            base: 1,
+            cause: NoBase::NeverHeld,
+        },
+    };
+    assert_eq!(rt; take(&mut client, &DELTA_SNAPSHOT), skipped);
+    assert_eq!(rt; issue(&mut client, 520, 10), Ok(()));
+    assert_eq!(rt; operation_sent(&mut client), Some(3));
+    assert_eq!(rt; newest_of(&client), 1);
+    assert_eq!(rt; time_of(&client, 1), Some(1000));
+    assert_eq!(rt; time_of(&client, 2), None);
+    Ok(())
+}
+
+/// A datagram's first bytes, its length, where the others are 0, and what a client answers.
+type Row = (&'static [u8], usize, ClientTook);
+
+/// Datagrams that a client takes one after the other. The pieces are of message 5, but for one of message 0.
+fn hostile() -> [Row; 13] {
+    let nothing = ClientTook::Applied {
+        number: 2,
+        snap: SnapOutcome::NoSnap,
+    };
+    let bad = Illegible::BadOp(0);
+    [
+        (&[1, 2, 3], 3, ClientTook::Runt),
+        (&[255, 255, 255, 255], 5, ClientTook::Connectionless),
+        (&[0, 0, 0, 0], 10, ClientTook::Old),
+        (&[0, 0, 0, 0x80], 8, ClientTook::Old),
+        (&[2, 0, 0, 0, 0, 0, 0, 0, 8], 10, nothing),
+        (&[2, 0, 0, 0, 0, 0, 0, 0, 9], 10, ClientTook::Old),
+        // the header of a fragment has 8 bytes
+        (&[5, 0, 0, 0x80], 7, ClientTook::Runt),
+        (&[5, 0, 0, 0x80, 1, 0], 8, ClientTook::OutOfOrder),
+        // two bytes are said, and one is there; 1,301 are; a message of 16,385 bytes
+        (&[5, 0, 0, 0x80, 0, 0, 2, 0], 9, ClientTook::BadFragment),
+        (
+            &[5, 0, 0, 0x80, 0, 0, 0x15, 5],
+            1309,
+            ClientTook::BadFragment,
+        ),
+        (&[5, 0, 0, 0], 16_389, ClientTook::BadFragment),
+        // 1,300 bytes, and the end, by which the message has no operation that may stand there
+        (&[5, 0, 0, 0x80, 0, 0, 0x14, 5], 1308, ClientTook::Partial),
+        (
+            &[5, 0, 0, 0x80, 0x14, 5, 0, 0],
+            8,
+            ClientTook::Illegible(bad),
+        ),
+    ]
+}
+
+/// A datagram with these first bytes, and zeros behind them.
+fn with_zeros(rt: &impl Abort, alloc: Global, front: &[u8], length: usize) -> Vec<u8> {
+    let mut datagram = vec![in alloc; 0; length].expect(rt, "memory");
+    assert!(rt; front.len() <= length);
+    datagram[..front.len()].copy_from_slice(front);
+    datagram
+}
+
+#[test]
+fn hostile_datagrams_are_refused(rt: HostRuntime) -> Result<(), Fail> {
+    let mut client = client(&rt, rt.alloc(), 0)?;
+    for (front, length, answer) in hostile() {
+        let datagram = with_zeros(&rt, rt.alloc(), front, length);
+        assert_eq!(rt; take(&mut client, &datagram), answer);
+    }
+    Ok(())
+}
+
+/// Prints what a client answered to a datagram, which gives this text.
+fn took_prints(rt: &impl Abort, alloc: Global, c: u8, took: ClientTook, text: &[u8]) {
+    let mut out = MemSink::new(alloc, 128, &[]).expect(rt, "memory");
+    assert_eq!(rt; print_took(c, &took, &mut out), Ok(()));
+    assert_eq!(rt; out.bytes(), text);
+}
+
+#[test]
+fn takes_are_printed(rt: HostRuntime) {
+    let alloc = rt.alloc();
+    let dropped = ClientTook::Dropped(Illegible::BadOp(9));
+    took_prints(&rt, alloc, 3, dropped, b" client 3 dropped\n");
+    let old = ClientTook::Old;
+    took_prints(&rt, alloc, 0, old, b" client 0 old\n");
+    let op = ClientTook::Illegible(Illegible::BadOp(255));
+    took_prints(&rt, alloc, 15, op, b" client 15 illegible op 255\n");
+    let end = ClientTook::Illegible(Illegible::Bits(ReadError::End));
+    took_prints(&rt, alloc, 1, end, b" client 1 illegible end\n");
+    let nothing = ClientTook::Applied {
+        number: 2,
+        snap: SnapOutcome::NoSnap,
+    };
+    took_prints(&rt, alloc, 0, nothing, b" client 0 applied 2\n");
+    let accepted = ClientTook::Applied {
+        number: 40,
+        snap: SnapOutcome::Accepted { base: 39 },
+    };
+    let lines = b" client 7 applied 40\n+ accepted 40 base 39\n";
+    took_prints(&rt, alloc, 7, accepted, lines);
+    let skipped = ClientTook::Applied {
+        number: 40,
+        snap: SnapOutcome::Skipped {
+            base: 8,
+            cause: NoBase::NeverHeld,
+        },
+    };
+    let lines = b" client 0 applied 40\n+ skipped 40 base 8 neverheld\n";
+    took_prints(&rt, alloc, 0, skipped, lines);
+}
+
+/// Prints what a client answered to a `send`, which gives this text.
+fn sent_prints(rt: &impl Abort, alloc: Global, sent: Sent, datagram: u32, text: &[u8]) {
+    let mut out = MemSink::new(alloc, 128, &[]).expect(rt, "memory");
+    assert_eq!(rt; print_sent(3, &sent, datagram, &mut out), Ok(()));
+    assert_eq!(rt; out.bytes(), text);
+}
+
+/// Prints why a move can't be issued, which gives this text.
+fn error_prints(rt: &impl Abort, alloc: Global, error: MoveError, text: &[u8]) {
+    let mut out = MemSink::new(alloc, 128, &[]).expect(rt, "memory");
+    assert_eq!(rt; print_move_error(error, &mut out), Ok(()));
+    assert_eq!(rt; out.bytes(), text);
+}
+
+#[test]
+fn sends_and_move_errors_are_printed(rt: HostRuntime) {
+    let alloc = rt.alloc();
+    let message = Sent::Message {
+        number: 2,
+        bytes: 22,
+    };
+    let line = b"send 3 message 2 bytes 22 datagram 5\n";
+    sent_prints(&rt, alloc, message, 5, line);
+    let fragment = Sent::Fragment { number: 7 };
+    let line = b"send 3 fragment 7 datagram 12\n";
+    sent_prints(&rt, alloc, fragment, 12, line);
+    let dropped = Sent::Dropped(Illegible::BadOp(9));
+    sent_prints(&rt, alloc, dropped, 0, b"send 3 dropped\n");
+    sent_prints(&rt, alloc, Sent::SequenceEnd, 0, b"send 3 sequenceend\n");
+    sent_prints(&rt, alloc, Sent::Overlong, 0, b"send 3 overlong\n");
+    error_prints(&rt, alloc, MoveError::NotLater(530), b"notlater 530");
+    error_prints(&rt, alloc, MoveError::Range, b"range");
 }
