@@ -49,11 +49,11 @@ ages_grow ring count (Some one) (Some other) are =
     let same : (older ring count one).snapshot.head.number ≡ one.snapshot.head.number = ap (λ head. head.number) grown.head in
     let equal : (older ring count other).snapshot.head.number ≡ other.snapshot.head.number = ap (λ head. head.number) behind.head in
     λ lower.
-        let before = are (omega arith) in
-        let age = grown.age in
-        let few = grown.few in
-        let later = behind.age in
-        omega arith
+    let before = are (omega arith) in
+    let age = grown.age in
+    let few = grown.few in
+    let later = behind.age in
+    omega arith
 
 -- all are older than the one that is accepted, which is older than none
 older_than_new : (ring newest place : ℕ) (one : Option HeldSnapshot) (snapshot : Snapshot) → IfSome one (IsHeldIn newest place)

@@ -131,7 +131,13 @@ fn place_is_used_again_after_32(rt: HostRuntime) -> Result<(), Fail> {
     for place in 0..32 {
         assert!(rt; rings.held(place).is_some());
     }
-    let ages = [(0, 32, 48), (1, 33, 24), (2, 2, 768), (17, 17, 408), (31, 31, 72)];
+    let ages = [
+        (0, 32, 48),
+        (1, 33, 24),
+        (2, 2, 768),
+        (17, 17, 408),
+        (31, 31, 72),
+    ];
     for (place, number, age) in ages {
         check_held(&rt, &rings, place, number, age);
     }
