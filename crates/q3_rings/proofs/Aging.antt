@@ -1,5 +1,5 @@
 -- How a snapshot that is held grows older.
-use Rattle.std.proofs.Common.{◌≡◌, ℕ, ◌+◌, ◌-◌, ◌≤◌, true, false, List, inl, inr, refl, arith}
+use Rattle.std.proofs.Common.{◌≡◌, ℕ, ◌+◌, ◌-◌, ◌≤◌, true, false, List, length, inl, inr, refl, arith}
 use Rattle.std.proofs.lemmas.Bool.{cases_Bool, leb-false, le-leb, lt-leb}
 use Rattle.q3_entity.specs.declared.state.EntityState.{EntityState}
 use Rattle.q3_player.specs.declared.head.SnapHead.{SnapHead}
@@ -42,4 +42,11 @@ pub remains_head_from : (ring : ℕ) (held : HeldSnapshot) → head_from (held_r
 remains_head_from ring held = elim (cases_Bool (is_young ring held.age)) [
   | inl young ↦ rw young refl
   | inr old ↦ rw old refl
+]
+
+-- and there are no more entities
+pub remains_few : (ring : ℕ) (held : HeldSnapshot) → length (held_remains ring held).snapshot.entities ≤ length held.snapshot.entities
+remains_few ring held = elim (cases_Bool (is_young ring held.age)) [
+  | inl young ↦ rw young (omega arith)
+  | inr old ↦ rw old (omega arith)
 ]

@@ -4,5 +4,6 @@ pub mod Aging
 pub mod Accepting
 pub mod Rising
 pub mod Near
+pub mod Behind
 pub mod Added
 pub mod Kept

@@ -17,13 +17,13 @@ use Rattle.q3_rings.proofs.Rising.{has_place, counts, size, IsBelow, all_below}
 
 -- ---- what is held was accepted
 
-abbrev ok : Snapshot → Result Snapshot NoBase
+abbrev pub ok : Snapshot → Result Snapshot NoBase
 ok snapshot = Ok snapshot
 
-abbrev err : NoBase → Result Snapshot NoBase
+abbrev pub err : NoBase → Result Snapshot NoBase
 err cause = Err cause
 
-young_is : (ring : ℕ) (held : HeldSnapshot) (snapshot : Snapshot) → young ring held ≡ Ok snapshot → held.snapshot ≡ snapshot
+pub young_is : (ring : ℕ) (held : HeldSnapshot) (snapshot : Snapshot) → young ring held ≡ Ok snapshot → held.snapshot ≡ snapshot
 young_is ring held snapshot is = elim (cases_Bool (is_young ring held.age)) [
   | inl there ↦ let e : ok held.snapshot ≡ ok snapshot = rw there at is in cc
   | inr gone ↦ let e : err (EntitiesGone held.age) ≡ ok snapshot = rw gone at is in absurd cc

@@ -1,5 +1,5 @@
 -- Laws of the snapshots that a client holds.
-use Rattle.std.specs.Prelude.{◌≡◌, ℕ, ◌+◌, ◌<◌, ◌≤◌, if◌then◌else◌, List, [], ◌∷◌, ◌++◌, length, Contains, Ok, Err}
+use Rattle.std.specs.Prelude.{◌≡◌, ◌⊎◌, ℕ, ◌+◌, ◌<◌, ◌≤◌, if◌then◌else◌, List, [], ◌∷◌, ◌++◌, length, Contains, Ok, Err}
 use Rattle.q3_entity.specs.Entities.{most_entities}
 use Rattle.q3_ring.specs.Snapshot.{Snapshot}
 use Rattle.q3_rings.specs.declared.rings.NoBase.TheVariants.{EntitiesGone}
@@ -10,6 +10,13 @@ use Rattle.q3_rings.specs.Accepted.{AreAccepted, newest_of, age_of, held_among, 
 abbrev pub AcceptedIsHeld : Type 0
 AcceptedIsHeld = (snapshots : HeldSnapshots) (snapshot : Snapshot) → AreHeldSnapshots snapshots → snapshots.newest < snapshot.head.number
     → length snapshot.entities ≤ most_entities → held_snapshot (accept_at snapshots snapshot) snapshot.head.number ≡ Ok snapshot
+
+-- what is held behind a snapshot that is accepted is that one, or was held before
+abbrev pub HeldWasHeld : Type 0
+HeldWasHeld = (snapshots : HeldSnapshots) (accepted : Snapshot) (number : ℕ) (held : Snapshot) → AreHeldSnapshots snapshots
+    → held_snapshot (accept_at snapshots accepted) number ≡ Ok held
+    → ((number ≡ accepted.head.number) × (held ≡ accepted))
+    ⊎ ((number ≡ accepted.head.number → ⊥) × (held_snapshot snapshots number ≡ Ok held))
 
 -- ---- over the list of all snapshots accepted
 

@@ -78,14 +78,21 @@ no_rings ring = record { held = no_snapshots ring; placed = 0 }
 abbrev pub accept_in : RingsState → Snapshot → RingsState
 accept_in rings snapshot = record { held = accept_at rings.held snapshot; placed = rings.placed + length snapshot.entities }
 
--- a snapshot that is held in a place: its number belongs there, isn't 0, and isn't above the newest
+-- a snapshot that is held in a place: its number belongs there, isn't 0, and isn't above the newest, and its age counts its
+-- entities that are there
 pub record IsHeldIn (newest place : ℕ) (held : HeldSnapshot) : Type 0 where
   pub here : place_of held.snapshot.head.number ≡ place
   pub some : 0 < held.snapshot.head.number
   pub accepted : held.snapshot.head.number ≤ newest
+  pub counted : length held.snapshot.entities ≤ held.age
+
+-- of two snapshots the one of the lower number is older, by its entities that are there at least
+abbrev pub IsOlder : HeldSnapshot → HeldSnapshot → Type 0
+IsOlder one other = one.snapshot.head.number < other.snapshot.head.number → length one.snapshot.entities + other.age ≤ one.age
 
 -- what every such value is
 pub record AreHeldSnapshots (snapshots : HeldSnapshots) : Type 0 where
   pub ring : 512 ≤ snapshots.ring
   pub count : length snapshots.places ≡ most_places
   pub each : (place : ℕ) → IfSome (slice_index_or snapshots.places place None) (IsHeldIn snapshots.newest place)
+  pub ages : (place other : ℕ) → IfSome (slice_index_or snapshots.places place None) (λ one. IfSome (slice_index_or snapshots.places other None) (IsOlder one))

@@ -1,10 +1,15 @@
 //! Laws of the snapshots that a client holds, each the contract of a call that does nothing.
 
-ghost use Rattle.q3_rings.specs.Laws.{AcceptedIsHeld, NothingStands, AcceptIsAdded, BaseIsOfList, HeldWasAccepted, NearIsHeldByAge, UsualRingHolds};
+ghost use Rattle.q3_rings.specs.Laws.{AcceptedIsHeld, HeldWasHeld, NothingStands, AcceptIsAdded, BaseIsOfList, HeldWasAccepted, NearIsHeldByAge, UsualRingHolds};
 
 /// A snapshot that is accepted is held then.
 pub fn accepted_is_held()
     ensures { AcceptedIsHeld }
+{}
+
+/// What is held behind a snapshot that is accepted is that one, or was held before.
+pub fn held_was_held()
+    ensures { HeldWasHeld }
 {}
 
 /// Where none was accepted none is held.

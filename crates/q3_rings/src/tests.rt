@@ -64,6 +64,17 @@ fn check(rt: &impl Abort, rings: &Rings, number: u32, pieces: (usize, usize)) {
     }
 }
 
+/// Checks which snapshot stands in a place, and its age.
+fn check_held(rt: &impl Abort, rings: &Rings, place: u8, number: u32, age: u64)
+    requires { place < 32 }
+{
+    let Some(held) = rings.held(place) else {
+        assert!(rt; false, "nothing in {place}");
+        return;
+    };
+    assert_eq!(rt; (held.head.number, held.age), (number, age));
+}
+
 /// Checks why a number isn't held.
 fn check_none(rt: &impl Abort, rings: &Rings, number: u32, cause: NoBase) {
     let Err(e) = rings.base(number) else {
@@ -104,14 +115,8 @@ fn lost_snapshots_leave_their_places(rt: HostRuntime) -> Result<(), Fail> {
     check_none(&rt, &rings, 5, NoBase::EntitiesGone(400));
     check_none(&rt, &rings, 6, NoBase::NeverHeld);
     check(&rt, &rings, 7, (200, 0));
-    let ages = [(5, 5, 400), (7, 7, 200)];
-    for (place, number, age) in ages {
-        let Some(held) = rings.held(place) else {
-            assert!(rt; false, "nothing in {place}");
-            return Ok(());
-        };
-        assert_eq!(rt; (held.head.number, held.age), (number, age));
-    }
+    check_held(&rt, &rings, 5, 5, 400);
+    check_held(&rt, &rings, 7, 7, 200);
     assert!(rt; rings.held(6).is_none());
     Ok(())
 }
@@ -123,6 +128,19 @@ fn place_is_used_again_after_32(rt: HostRuntime) -> Result<(), Fail> {
         accept(&rt, &mut rings, number, 24);
     }
     check_none(&rt, &rings, 1, NoBase::Overwritten(33));
+    for place in 0..32 {
+        assert!(rt; rings.held(place).is_some());
+    }
+    let ages = [
+        (0, 32, 48),
+        (1, 33, 24),
+        (2, 2, 768),
+        (17, 17, 408),
+        (31, 31, 72),
+    ];
+    for (place, number, age) in ages {
+        check_held(&rt, &rings, place, number, age);
+    }
     // 32 lists of 24 are 768, the ring's room less 256
     check(&rt, &rings, 2, (24, 0));
     check(&rt, &rings, 33, (24, 0));
@@ -130,5 +148,53 @@ fn place_is_used_again_after_32(rt: HostRuntime) -> Result<(), Fail> {
     check_none(&rt, &rings, 2, NoBase::EntitiesGone(769));
     check_none(&rt, &rings, 8, NoBase::Overwritten(40));
     check(&rt, &rings, 3, (24, 0));
+    Ok(())
+}
+
+#[test]
+fn only_the_newest_of_ten_large_ones_is_held(rt: HostRuntime) -> Result<(), Fail> {
+    let mut rings = Rings::new(rt.alloc(), 512)?;
+    for number in 1..11 {
+        accept(&rt, &mut rings, number, 200);
+    }
+    // the last list begins behind 1,800, which is 264 behind three rounds
+    check(&rt, &rings, 10, (200, 0));
+    check_none(&rt, &rings, 9, NoBase::EntitiesGone(400));
+    check_none(&rt, &rings, 8, NoBase::EntitiesGone(600));
+    check_none(&rt, &rings, 7, NoBase::EntitiesGone(800));
+    check_held(&rt, &rings, 7, 7, 800);
+    for number in 1..10 {
+        assert!(rt; rings.view(number).is_none());
+    }
+    Ok(())
+}
+
+#[test]
+fn snapshot_without_entities_grows_old(rt: HostRuntime) -> Result<(), Fail> {
+    let mut rings = Rings::new(rt.alloc(), 512)?;
+    accept(&rt, &mut rings, 1, 0);
+    accept(&rt, &mut rings, 2, 256);
+    check(&rt, &rings, 1, (0, 0));
+    accept(&rt, &mut rings, 3, 1);
+    check_none(&rt, &rings, 1, NoBase::EntitiesGone(257));
+    check_none(&rt, &rings, 2, NoBase::EntitiesGone(257));
+    check(&rt, &rings, 3, (1, 0));
+    Ok(())
+}
+
+#[test]
+fn view_shows_area_and_flags(rt: HostRuntime) -> Result<(), Fail> {
+    let mut rings = Rings::new(rt.alloc(), 512)?;
+    let mut marked = head(9, 9);
+    marked.flags = 5;
+    let _ = marked.area.try_extend_from_slice(&[0xA5, 0x3C]);
+    rings.accept(&marked, &entities(2, 9));
+    let Some(view) = rings.view(9) else {
+        assert!(rt; false, "no view");
+        return Ok(());
+    };
+    assert_eq!(rt; (view.number, view.flags), (9, 5));
+    assert_eq!(rt; view.area, [0xA5, 0x3C].as_slice());
+    assert_eq!(rt; view.entities.head.len(), 2);
     Ok(())
 }

@@ -1,0 +1,5 @@
+use Rattle.q3_rings.proofs.Behind.{held_behind}
+use Rattle.q3_rings.proofs.laws.held_was_held.Goals as goal
+
+pub returns : goal.returns
+returns c = held_behind
