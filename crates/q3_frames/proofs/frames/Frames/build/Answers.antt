@@ -41,11 +41,11 @@ invariant_of-self c =
     record {
       room = omega (arith, c.self.invariant.room);
       places = All-set (λ places. length places ≡ most_places) slots c.args.slot c.keep.new.self (ap (λ (places : List (Option Kept)). length places) c.keep.ensures
-      ∙ length-set at (place_of c.args.head.now.number) (Some (record { head = c.args.head.now; first = c.placed-first.result; count = length c.args.entities.now }))
-      ∙ all (λ places. length places ≡ most_places) c.self.invariant.places) c.self.invariant.places;
+          ∙ length-set at (place_of c.args.head.now.number) (Some (record { head = c.args.head.now; first = c.placed-first.result; count = length c.args.entities.now }))
+          ∙ all (λ places. length places ≡ most_places) c.self.invariant.places) c.self.invariant.places;
       placed = omega (arith, c.requires.rises.few, c.requires.placed, ap (λ (r : RingState). r.placed) c.place.ensures);
       each = subst (λ (r : RingState). All (Kept_in r) (set slots c.args.slot c.keep.new.self)) (sym c.place.ensures)
-      (subst (λ (places : List (Option Kept)). All (Kept_in (with_entities ring c.args.entities.now)) (set slots c.args.slot places)) (sym c.keep.ensures)
-      (all-kept c.others_stay.ensures c.placed_is_there.ensures ring c.args.entities.now c.args.head.now slots c.args.slot c.placed-first.result
-      at c.placed-first.ensures few c.requires.rises (all (Kept_in ring) c.self.invariant.each) c.self.invariant.each));
+          (subst (λ (places : List (Option Kept)). All (Kept_in (with_entities ring c.args.entities.now)) (set slots c.args.slot places)) (sym c.keep.ensures)
+          (all-kept c.others_stay.ensures c.placed_is_there.ensures ring c.args.entities.now c.args.head.now slots c.args.slot c.placed-first.result
+          at c.placed-first.ensures few c.requires.rises (all (Kept_in ring) c.self.invariant.each) c.self.invariant.each));
     }

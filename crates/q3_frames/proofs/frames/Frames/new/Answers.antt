@@ -17,7 +17,7 @@ invariant_of-result c =
     record {
       room = omega arith;
       places = All-same (λ places. length places ≡ most_places) c.in_ok-empty_slots.field-0.items (replicate c.args.slots no_places) slots
-      (All-replicate (λ (places : List (Option Kept)). length places ≡ most_places) c.args.slots no_places (length-replicate {A = Option Kept} most_places None));
+          (All-replicate (λ (places : List (Option Kept)). length places ≡ most_places) c.args.slots no_places (length-replicate {A = Option Kept} most_places None));
       placed = omega arith;
       each = empty-kept c.in_ok-new.field-0 c.args.slots c.in_ok-empty_slots.field-0.items slots;
     }
