@@ -40,7 +40,7 @@ none_at {X = X} slots slot number =
 
 -- ---- a frame in its place
 
--- what was put in the place itself isn't there only where there is no such place
+-- what is read behind a `set` was there before, and is the default at the place itself, or it was put there
 set_read : {X : Type 0} (xs : List X) (i j : ℕ) (y d : X)
     → ((get_or (set xs i y) j d ≡ get_or xs j d) × (j ≡ i → get_or (set xs i y) j d ≡ d)) ⊎ ((j ≡ i) × (get_or (set xs i y) j d ≡ y))
 set_read xs i j y d = elim (cases_eq j i) [
@@ -53,7 +53,7 @@ set_read xs i j y d = elim (cases_eq j i) [
   ]
 ]
 
--- what stands in a place stood there before, and nothing if it is the frame's own, or it is the frame
+-- what stands in a place stood there before, and in the frame's own place nothing does, or it is the frame
 pub with_frame_read : (slots : List (List (Option Frame))) (c : ℕ) (frame : Frame) (slot number : ℕ)
     → ((at_number (slice_index_or (with_frame slots c frame) slot []) number ≡ at_number (slice_index_or slots slot []) number)
     × (slot ≡ c → place_of number ≡ place_of frame.snapshot.head.number → at_number (slice_index_or (with_frame slots c frame) slot []) number ≡ None))
