@@ -1,17 +1,18 @@
 -- A frame that is built, in the ring that keeps its entities.
-use Rattle.std.proofs.Common.{◌≡◌, ℕ, zero, suc, ◌+◌, ◌<◌, ◌≤◌, List, [], ◌∷◌, ◌++◌, length, map, get_or, replicate, slice_index_or, slice_set, Option, Some, None, inl, inr, refl, sym, ap, ◌∙◌, arith, All}
-use Rattle.std.proofs.lemmas.Bool.{cases_Bool, ltb-true}
-use Rattle.std.proofs.lemmas.List.{length-append, length-drop, length-replicate, get_or_default}
-use Rattle.std.proofs.lemmas.List.Elements.{All-head, All-tail, All-same, All-replicate}
+use Rattle.std.proofs.Common.{◌≡◌, ℕ, zero, suc, ◌+◌, ◌<◌, ◌≤◌, List, [], ◌∷◌, ◌++◌, length, map, get_or, set, replicate, slice_index_or, slice_set, Option, Some, None, inl, inr, refl, sym, ap, ◌∙◌, subst, arith, All}
+use Rattle.std.proofs.Math.ListN.{get_or-map}
+use Rattle.std.proofs.lemmas.Bool.{cases_Bool, ltb-true, lt-ltb}
+use Rattle.std.proofs.lemmas.List.{length-append, length-drop, length-map, length-replicate, get_or_default}
+use Rattle.std.proofs.lemmas.List.Elements.{All-nil, All-cons, All-get_or, All-head, All-tail, All-same, All-replicate, All-set}
 use Rattle.std.specs.Option.{option_map, IfSome}
 use Rattle.q3_entity.specs.declared.state.EntityState.{EntityState}
-use Rattle.q3_entity.specs.Entities.{zero_entity}
+use Rattle.q3_entity.specs.Entities.{Rises, zero_entity}
 use Rattle.q3_player.specs.declared.head.SnapHead.{SnapHead}
 use Rattle.q3_ring.specs.declared.kept.Kept.{Kept}
 use Rattle.q3_ring.specs.Ring.{RingState, new_ring, with_entities, entities_from}
-use Rattle.q3_ring.specs.Places.{most_places, no_places, put_at_number}
+use Rattle.q3_ring.specs.Places.{most_places, place_of, no_places, put_at_number}
 use Rattle.q3_ring.specs.Laws.{PlacedIsThere, OthersStay}
-use Rattle.q3_frames.specs.Frames.{Frame, FramesState, no_frames, has_entities, frame_remains, with_frame, build_at}
+use Rattle.q3_frames.specs.Frames.{Frame, FramesState, AreFrames, no_frames, has_entities, frame_remains, with_frame, build_at}
 use Rattle.q3_frames.specs.KeptFrames.{frame_in, IsKept}
 use Rattle.q3_frames.proofs.Remains.{remains-there, remains-gone, remains_twice}
 use Rattle.q3_frames.proofs.Standing.{each, each-put}
@@ -143,3 +144,60 @@ empty-kept ring count slots is =
     let P : List (Option Kept) → Type 0 = λ places. All (λ place. IfSome place (IsKept ring)) places in
     All-same P slots (replicate count no_places) is
     (All-replicate P count no_places (All-replicate (λ (place : Option Kept). IfSome place (IsKept ring)) most_places None tt))
+
+-- all places of each slot are there
+pub places_all : (ring : RingState) (slots : List (List (Option Kept))) → All (λ places. length places ≡ most_places) slots
+    → AreFrames (record { ring = length ring.recent; placed = ring.placed; slots = map (each (left_in ring)) slots })
+places_all ring slots all = record {
+  places = λ slot within.
+      ap (λ (places : List (Option Frame)). length places) (get_or-map (each (left_in ring)) slots slot [])
+      ∙ length-map (get_or slots slot []) (option_map (left_in ring))
+      ∙ All-get_or (λ (places : List (Option Kept)). length places ≡ most_places) slots slot []
+      (omega (arith, within, length-map slots (each (left_in ring)))) all;
+}
+
+-- ---- what is kept stays so
+
+all-more : {X : Type 0} (P Q : X → Type 0) → ((x : X) → P x → Q x) → (xs : List X) → All P xs → All Q xs
+all-more P Q more [] all = All-nil Q
+all-more P Q more (x ∷ xs) all = All-cons Q x xs (more x (All-head P x xs all)) (all-more P Q more xs (All-tail P x xs all))
+
+if-more : {X : Type 0} (P Q : X → Type 0) → ((x : X) → P x → Q x) → (place : Option X) → IfSome place P → IfSome place Q
+if-more P Q more None is = tt
+if-more P Q more (Some x) is = more x is
+
+kept-stays : OthersStay → (ring : RingState) (entities : List EntityState) (kept : Kept) → length entities ≤ length ring.recent → IsKept ring kept
+    → IsKept (with_entities ring entities) kept
+kept-stays stay ring entities kept few is =
+    let new = with_entities ring entities in
+    let room = room-stays ring entities few in
+    record {
+      placed = omega (arith, is.placed);
+      rises = λ there.
+          let below : ring.placed + length entities < kept.first + length ring.recent = omega (arith, room, ltb-true new.placed (kept.first + length new.recent) there) in
+          let same : entities_from new kept.first kept.count ≡ entities_from ring kept.first kept.count = stay ring entities kept.first kept.count is.placed (omega arith) in
+          subst Rises (sym same) (is.rises (lt-ltb ring.placed (kept.first + length ring.recent) (omega arith)));
+    }
+
+kept-new : PlacedIsThere → (ring : RingState) (entities : List EntityState) (head : SnapHead) → length entities ≤ length ring.recent → Rises entities
+    → IsKept (with_entities ring entities) (record { head = head; first = ring.placed; count = length entities })
+kept-new there ring entities head few rise = record {
+  placed = omega arith;
+  rises = λ _. subst Rises (sym (there ring entities few)) rise;
+}
+
+pub all-kept : OthersStay → PlacedIsThere → (ring : RingState) (entities : List EntityState) (head : SnapHead) (slots : List (List (Option Kept))) (slot first : ℕ)
+    → (at : List (Option Kept)) → first ≡ ring.placed → length entities ≤ length ring.recent → Rises entities
+    → All (λ place. IfSome place (IsKept ring)) at → All (λ places. All (λ place. IfSome place (IsKept ring)) places) slots
+    → All (λ places. All (λ place. IfSome place (IsKept (with_entities ring entities))) places)
+    (set slots slot (put_at_number at head.number (record { head = head; first = first; count = length entities })))
+all-kept stay there ring entities head slots slot first at first_is few rise here kept =
+    let Old : Option Kept → Type 0 = λ place. IfSome place (IsKept ring) in
+    let New : Option Kept → Type 0 = λ place. IfSome place (IsKept (with_entities ring entities)) in
+    let more : (places : List (Option Kept)) → All Old places → All New places = λ places all.
+    all-more Old New (if-more (IsKept ring) (IsKept (with_entities ring entities)) (λ one is. kept-stays stay ring entities one few is)) places all in
+    let one : Kept = record { head = head; first = first; count = length entities } in
+    let new : New (Some one) = subst (λ (k : ℕ). New (Some (record { head = head; first = k; count = length entities }))) (sym first_is) (kept-new there ring entities head few rise) in
+    All-set (λ places. All New places) slots slot (put_at_number at head.number one)
+    (All-set New at (place_of head.number) (Some one) new (more at here))
+    (all-more (λ places. All Old places) (λ places. All New places) more slots kept)

@@ -1,9 +1,9 @@
 -- What is left of a frame, and what may be read of it.
-use Rattle.std.proofs.Common.{◌≡◌, ℕ, ◌+◌, ◌≤◌, Bool, true, false, ◌==◌, ◌&&◌, cond, Option, Some, None, inl, inr, refl, sym, ap, ◌∙◌, arith}
+use Rattle.std.proofs.Common.{◌≡◌, ℕ, ◌+◌, ◌-◌, ◌<◌, ◌≤◌, nat_lt, Bool, true, false, ◌==◌, ◌&&◌, cond, Option, Some, None, inl, inr, refl, sym, ap, ◌∙◌, arith}
 use Rattle.std.proofs.lemmas.Bool.{cases_Bool, false≢true, and_parts, and_from, and_right, eqb-true, eq-eqb, ltb-true, lt-ltb}
 use Rattle.std.specs.Option.{option_map}
 use Rattle.q3_ring.specs.Snapshot.{Snapshot, without_entities}
-use Rattle.q3_frames.specs.Frames.{Frame, has_entities, frame_remains, frame_under}
+use Rattle.q3_frames.specs.Frames.{Frame, is_near, has_entities, frame_remains, frame_under}
 
 pub remains-there : (ring placed : ℕ) (frame : Frame) → has_entities ring placed frame ≡ true → frame_remains ring placed frame ≡ frame
 remains-there ring placed frame is = ap (λ (b : Bool). cond b frame (record { snapshot = without_entities frame.snapshot; first = frame.first })) is
@@ -68,6 +68,12 @@ under-is ring placed number frame held is =
           absurd cc
     ]
 
+pub under-named : (ring placed number : ℕ) (frame : Option Frame) (held : Snapshot) → frame_under ring placed number frame ≡ Some held → held.head.number ≡ number
+under-named ring placed number None held is = absurd cc
+under-named ring placed number (Some frame) held is =
+    let it = under-is ring placed number frame held is in
+    ap (λ (s : Snapshot). s.head.number) (sym it.same) ∙ it.named
+
 -- what can be read of a frame could be read of it earlier
 pub under-earlier : (ring p q number : ℕ) (frame : Option Frame) (held : Snapshot) → p ≤ q
     → frame_under ring q number frame ≡ Some held → frame_under ring p number frame ≡ Some held
@@ -77,3 +83,10 @@ under-earlier ring p q number (Some frame) held least is =
     let test = and_from (frame.snapshot.head.number == number) (has_entities ring p frame)
     (eq-eqb frame.snapshot.head.number number it.named) (has-earlier ring p q frame least it.there) in
     ap (λ (b : Bool). cond b (Some frame.snapshot) None) test ∙ ap Some it.same
+
+-- by how much a number is near
+pub near_parts : (number base : ℕ) → is_near number base ≡ true → (0 < base) × (base < number) × (number < base + 29)
+near_parts number base is =
+    let all = and_parts (nat_lt 0 base && nat_lt base number) (nat_lt (number - base) 29) is in
+    let low = and_parts (nat_lt 0 base) (nat_lt base number) all.0 in
+    (ltb-true 0 base low.0, ltb-true base number low.1, omega (arith, ltb-true base number low.1, ltb-true (number - base) 29 all.1))

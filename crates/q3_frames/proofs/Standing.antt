@@ -40,27 +40,32 @@ none_at {X = X} slots slot number =
 
 -- ---- a frame in its place
 
-set_read : {X : Type 0} (xs : List X) (i j : ℕ) (y d : X) → (get_or (set xs i y) j d ≡ get_or xs j d) ⊎ ((j ≡ i) × (get_or (set xs i y) j d ≡ y))
+-- what is read behind a `set` was there before, and is the default at the place itself, or it was put there
+set_read : {X : Type 0} (xs : List X) (i j : ℕ) (y d : X)
+    → ((get_or (set xs i y) j d ≡ get_or xs j d) × (j ≡ i → get_or (set xs i y) j d ≡ d)) ⊎ ((j ≡ i) × (get_or (set xs i y) j d ≡ y))
 set_read xs i j y d = elim (cases_eq j i) [
-  | inr other ↦ inl (get_or-set_other xs i j y d other)
+  | inr other ↦ inl (get_or-set_other xs i j y d other, λ same. absurd (other same))
   | inl same ↦ elim (cases_lt i (length xs)) [
     | inl within ↦ inr (same, get_or-set_at xs i j y d same within)
-    | inr past ↦ inl (get_or_past (set xs i y) j d (omega (arith, length-set xs i y)) ∙ sym (get_or_past xs j d (omega arith)))
+    | inr past ↦
+        let none : get_or (set xs i y) j d ≡ d = get_or_past (set xs i y) j d (omega (arith, length-set xs i y)) in
+        inl (none ∙ sym (get_or_past xs j d (omega arith)), λ same. none)
   ]
 ]
 
--- what stands in a place stood there before, or it is the frame
+-- what stands in a place stood there before, and in the frame's own place nothing does, or it is the frame
 pub with_frame_read : (slots : List (List (Option Frame))) (c : ℕ) (frame : Frame) (slot number : ℕ)
-    → (at_number (slice_index_or (with_frame slots c frame) slot []) number ≡ at_number (slice_index_or slots slot []) number)
+    → ((at_number (slice_index_or (with_frame slots c frame) slot []) number ≡ at_number (slice_index_or slots slot []) number)
+    × (slot ≡ c → place_of number ≡ place_of frame.snapshot.head.number → at_number (slice_index_or (with_frame slots c frame) slot []) number ≡ None))
     ⊎ ((slot ≡ c) × (place_of number ≡ place_of frame.snapshot.head.number)
     × (at_number (slice_index_or (with_frame slots c frame) slot []) number ≡ Some frame))
 with_frame_read slots c frame slot number =
     let named = frame.snapshot.head.number in
     let at : List (Option Frame) → Option Frame = λ places. at_number places number in
     elim (set_read slots c slot (put_at_number (get_or slots c []) named frame) []) [
-      | inl e ↦ inl (ap at e)
+      | inl e ↦ inl (ap at e.0, λ same place. ap at (e.1 same) ∙ get_or_past [] (place_of number) None (omega arith))
       | inr e ↦ elim (set_read (get_or slots c []) (place_of named) (place_of number) (Some frame) None) [
-        | inl k ↦ inl (ap at e.1 ∙ k ∙ ap (λ (s : ℕ). at (get_or slots s [])) (sym e.0))
+        | inl k ↦ inl (ap at e.1 ∙ k.0 ∙ ap (λ (s : ℕ). at (get_or slots s [])) (sym e.0), λ same place. ap at e.1 ∙ k.1 place)
         | inr k ↦ inr (e.0, k.0, ap at e.1 ∙ k.1)
       ]
     ]
@@ -85,7 +90,7 @@ with_frame_at slots c frame slot number within count =
           ∙ get_or-set_at (get_or slots c []) (place_of named) (place_of number) (Some frame) None place (subst (λ (n : ℕ). place_of named < n) (sym count) below)
           ∙ sym (ap pick holds)
       | inr fails ↦ elim (with_frame_read slots c frame slot number) [
-        | inl e ↦ e ∙ sym (ap pick fails)
+        | inl e ↦ e.0 ∙ sym (ap pick fails)
         | inr e ↦ absurd (false≢true (sym fails ∙ and_from (c == slot) (place_of named == place_of number)
             (eq-eqb c slot (sym e.0)) (eq-eqb (place_of named) (place_of number) (sym e.1))))
       ]
@@ -97,6 +102,6 @@ with_frame-count slots c frame slot =
     let new = put_at_number (get_or slots c []) frame.snapshot.head.number frame in
     let count : List (Option Frame) → ℕ = λ places. length places in
     elim (set_read slots c slot new []) [
-      | inl e ↦ ap count e
+      | inl e ↦ ap count e.0
       | inr e ↦ ap count e.1 ∙ length-set (get_or slots c []) (place_of frame.snapshot.head.number) (Some frame) ∙ ap (λ (s : ℕ). count (get_or slots s [])) (sym e.0)
     ]

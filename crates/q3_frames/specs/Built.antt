@@ -2,8 +2,8 @@
 use Rattle.std.specs.Prelude.{◌≡◌, ℕ, ◌+◌, ◌<◌, ◌==◌, ◌&&◌, if◌then◌else◌, List, [], ◌∷◌, length, filter, sum_by, slice_index_or, Option, None, option_map}
 use Rattle.std.specs.List.{last_or}
 use Rattle.q3_ring.specs.Snapshot.{Snapshot}
-use Rattle.q3_ring.specs.Places.{most_places, place_of, at_number}
-use Rattle.q3_frames.specs.Frames.{Frame, FramesState, frame_under, is_near, frame_remains}
+use Rattle.q3_ring.specs.Places.{place_of, at_number}
+use Rattle.q3_frames.specs.Frames.{Frame, FramesState, AreFrames, frame_under, is_near, frame_remains}
 
 -- what was built, and for which slot
 pub record Build : Type 0 where
@@ -34,6 +34,6 @@ base_built ring builds slot number delta =
 -- the frames that are kept stand for all that was built: in each place is the last one built for it, as it is left
 pub record FramesStandFor (builds : List Build) (frames : FramesState) : Type 0 where
   pub placed : frames.placed ≡ placed_by builds
-  pub count : (slot : ℕ) → slot < length frames.slots → length (slice_index_or frames.slots slot []) ≡ most_places
+  pub are : AreFrames frames
   pub places : (slot number : ℕ) → slot < length frames.slots
       → at_number (slice_index_or frames.slots slot []) number ≡ option_map (frame_remains frames.ring frames.placed) (last_built builds slot number)

@@ -1,7 +1,7 @@
 -- The frames of a server: what was built for each slot, as far as it may be a message's base.
-use Rattle.std.specs.Prelude.{ℕ, ◌+◌, ◌-◌, ◌==◌, ◌&&◌, nat_lt, if◌then◌else◌, Bool, List, [], length, map, replicate, slice_index_or, slice_set, Option, Some, None, option_map}
+use Rattle.std.specs.Prelude.{◌≡◌, ℕ, ◌+◌, ◌-◌, ◌<◌, ◌==◌, ◌&&◌, nat_lt, if◌then◌else◌, Bool, List, [], length, map, replicate, slice_index_or, slice_set, Option, Some, None, option_map}
 use Rattle.q3_ring.specs.Snapshot.{Snapshot, without_entities}
-use Rattle.q3_ring.specs.Places.{no_places, at_number, put_at_number}
+use Rattle.q3_ring.specs.Places.{most_places, no_places, at_number, put_at_number}
 
 -- a frame: a snapshot that was built, and how many entities were placed before its own
 pub record Frame : Type 0 where
@@ -18,6 +18,10 @@ pub record FramesState : Type 0 where
 -- so many slots for which nothing was built
 abbrev pub no_frames : ℕ → ℕ → FramesState
 no_frames slots ring = record { ring = ring; placed = 0; slots = replicate slots no_places }
+
+-- each slot has all its places
+pub record AreFrames (frames : FramesState) : Type 0 where
+  pub places : (slot : ℕ) → slot < length frames.slots → length (slice_index_or frames.slots slot []) ≡ most_places
 
 -- ---- a message's base
 

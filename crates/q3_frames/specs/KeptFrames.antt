@@ -4,6 +4,7 @@ use Rattle.q3_entity.specs.Entities.{Rises, most_entities}
 use Rattle.q3_ring.specs.declared.kept.Kept.{Kept}
 use Rattle.q3_ring.specs.Ring.{RingState}
 use Rattle.q3_ring.specs.Kept.{snapshot_in}
+use Rattle.q3_ring.specs.Places.{most_places}
 use Rattle.q3_frames.specs.declared.frames.Frames.TheInside.{Inside}
 use Rattle.q3_frames.specs.Frames.{Frame, FramesState, has_entities, frame_remains}
 
@@ -24,6 +25,6 @@ pub record IsKept (ring : RingState) (kept : Kept) : Type 0 where
 
 pub record AreKept (f : Inside) : Type 0 where
   pub room : most_entities ≤ length f.ring.recent
-  pub few : length f.slots.items ≤ 16
+  pub places : All (λ places. length places ≡ most_places) f.slots.items
   pub placed : f.ring.placed < 2 ^ 63
   pub each : All (λ places. All (λ place. IfSome place (IsKept f.ring)) places) f.slots.items

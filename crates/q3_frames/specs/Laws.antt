@@ -1,17 +1,36 @@
 -- Laws of frames.
-use Rattle.std.specs.Prelude.{◌≡◌, ◌⊎◌, ℕ, ◌<◌, List, [], ◌∷◌, ◌++◌, length, Some, None}
+use Rattle.std.specs.Prelude.{◌≡◌, ◌≢◌, ◌⊎◌, ℕ, ◌+◌, ◌<◌, List, [], ◌∷◌, ◌++◌, length, Some, None}
 use Rattle.q3_ring.specs.Snapshot.{Snapshot}
-use Rattle.q3_frames.specs.Frames.{FramesState, no_frames, held_frame, base_of, build_at}
+use Rattle.q3_ring.specs.Places.{place_of}
+use Rattle.q3_frames.specs.Frames.{FramesState, no_frames, AreFrames, held_frame, base_of, build_at}
 use Rattle.q3_frames.specs.Built.{Build, base_built, FramesStandFor}
 
 -- where nothing was built nothing is held
 abbrev pub NothingIsHeld : Type 0
 NothingIsHeld = (slots ring slot number : ℕ) → held_frame (no_frames slots ring) slot number ≡ None
 
--- what a slot holds behind a build is what was built for it, or it was held before, the same
+-- what a slot holds behind a build is what was built for it, or it was held before, the same, and another place was built in
 abbrev pub HeldWasBuilt : Type 0
 HeldWasBuilt = (frames : FramesState) (c slot number : ℕ) (built held : Snapshot) → held_frame (build_at frames c built) slot number ≡ Some held
-    → ((slot ≡ c) × (number ≡ built.head.number) × (held ≡ built)) ⊎ (held_frame frames slot number ≡ Some held)
+    → ((slot ≡ c) × (number ≡ built.head.number) × (held ≡ built))
+    ⊎ ((slot ≡ c → place_of number ≢ place_of built.head.number) × (held_frame frames slot number ≡ Some held))
+
+-- what is built is held under its number, if its entities are fewer than the ring has room for
+abbrev pub BuiltIsHeld : Type 0
+BuiltIsHeld = (frames : FramesState) (c : ℕ) (built : Snapshot) → AreFrames frames → c < length frames.slots → length built.entities < frames.ring
+    → held_frame (build_at frames c built) c built.head.number ≡ Some built
+
+-- each slot has all its places where nothing was built, and a build keeps them, the slots and the ring's room
+pub record BuildKeeps : Type 0 where
+  pub nothing : (slots ring : ℕ) → AreFrames (no_frames slots ring)
+  pub places : (frames : FramesState) (c : ℕ) (built : Snapshot) → AreFrames frames → AreFrames (build_at frames c built)
+  pub slots : (frames : FramesState) (c : ℕ) (built : Snapshot) → length (build_at frames c built).slots ≡ length frames.slots
+  pub ring : (frames : FramesState) (c : ℕ) (built : Snapshot) → (build_at frames c built).ring ≡ frames.ring
+
+-- a base is below its message, at most by 28, and it is held under the delta number, which is its own
+abbrev pub BaseIsNear : Type 0
+BaseIsNear = (frames : FramesState) (slot number delta : ℕ) (snapshot : Snapshot) → base_of frames slot number delta ≡ Some snapshot
+    → (0 < delta) × (delta < number) × (number < delta + 29) × (snapshot.head.number ≡ delta) × (held_frame frames slot delta ≡ Some snapshot)
 
 -- ---- over all that was ever built
 

@@ -45,6 +45,7 @@ impl Model for Frames {
 }
 
 impl Frames {
+    ghost use Rattle.q3_frames.specs.Frames.{AreFrames};
     ghost use Rattle.q3_frames.specs.Loans.{loan_of, loan_from};
 
     /// Frames of 1 to 16 slots, with a ring for 256 to 262,144 entities. `Err` is want of memory.
@@ -77,8 +78,8 @@ impl Frames {
     }
 
     /// Lends the base of a slot's message, whose own frame was built before: the frame of the client's delta number, 0 for
-    /// none. `None` comes exactly where that isn't below the message, or by more than 28, where no frame of this very number
-    /// stands in its place, or where its first entity with the ring's room isn't above the count of entities placed.
+    /// none. `None` comes exactly where there is no such slot, where that isn't below the message, or by more than 28, where no
+    /// frame of this very number stands in its place, or where its first entity with the ring's room isn't above the count of entities placed.
     pub fn base_for(&self, slot: u8, number: u32, delta: u32) -> Option<Base<'_>>
         ensures base { option_map loan_of result ≡ option_map loan_from (base_of self.now slot number delta) }
         ensures rises { IfSome result (λ base. Rises (run_of base.entities)) }
@@ -101,7 +102,8 @@ impl Frames {
 
     /// How many entities were ever placed, those of all slots together.
     pub fn placed(&self) -> u64
-        ensures { result ≡ self.now.placed }
+        ensures placed { result ≡ self.now.placed }
+        ensures frames { AreFrames self.now }
     {
         self.ring.placed()
     }

@@ -1,15 +1,31 @@
 //! Laws of frames, each the contract of a call that does nothing.
 
-ghost use Rattle.q3_frames.specs.Laws.{NothingIsHeld, HeldWasBuilt, NothingStands, BuildIsAdded, BaseWasBuiltLast};
+ghost use Rattle.q3_frames.specs.Laws.{NothingIsHeld, HeldWasBuilt, BuiltIsHeld, BuildKeeps, BaseIsNear, NothingStands, BuildIsAdded, BaseWasBuiltLast};
 
 /// Where nothing was built nothing is held.
 pub fn nothing_is_held()
     ensures { NothingIsHeld }
 {}
 
-/// What a slot holds behind a build is what was built for it, or it was held before, the same.
+/// What a slot holds behind a build is what was built for it, or it was held before, the same, and the build took another
+/// place.
 pub fn held_was_built()
     ensures { HeldWasBuilt }
+{}
+
+/// What is built is held under its number, if its entities are fewer than the ring has room for.
+pub fn built_is_held()
+    ensures { BuiltIsHeld }
+{}
+
+/// Each slot has all its places where nothing was built, and a build keeps them, the slots and the ring's room.
+pub fn build_keeps()
+    ensures { BuildKeeps }
+{}
+
+/// A base is below its message, at most by 28, and it is held under the delta number, which is its own.
+pub fn base_is_near()
+    ensures { BaseIsNear }
 {}
 
 /// Frames with nothing in them stand for nothing built.

@@ -1,9 +1,10 @@
-use Rattle.std.proofs.Common.{◌≡◌, List, Option, replicate, length, ap, ◌∙◌, arith}
+use Rattle.std.proofs.Common.{◌≡◌, List, Option, None, replicate, length, ap, ◌∙◌, arith}
 use Rattle.std.proofs.lemmas.List.{length-replicate}
+use Rattle.std.proofs.lemmas.List.Elements.{All-same, All-replicate}
 use Rattle.q3_entity.specs.Entities.{zero_entity}
 use Rattle.q3_ring.specs.declared.kept.Kept.{Kept}
 use Rattle.q3_ring.specs.Ring.{RingState, new_ring}
-use Rattle.q3_ring.specs.Places.{no_places}
+use Rattle.q3_ring.specs.Places.{most_places, no_places}
 use Rattle.q3_frames.proofs.Building.{empty-frames, empty-kept}
 use Rattle.q3_frames.proofs.frames.Frames.new.Goals as goal
 
@@ -15,7 +16,8 @@ invariant_of-result c =
     let slots : c.in_ok-empty_slots.field-0.items ≡ replicate c.args.slots no_places = c.in_ok-empty_slots.ensures in
     record {
       room = omega arith;
-      few = omega (arith, ap (λ (all : List (List (Option Kept))). length all) slots, length-replicate c.args.slots (no_places {X = Kept}));
+      places = All-same (λ places. length places ≡ most_places) c.in_ok-empty_slots.field-0.items (replicate c.args.slots no_places) slots
+          (All-replicate (λ (places : List (Option Kept)). length places ≡ most_places) c.args.slots no_places (length-replicate {A = Option Kept} most_places None));
       placed = omega arith;
       each = empty-kept c.in_ok-new.field-0 c.args.slots c.in_ok-empty_slots.field-0.items slots;
     }
