@@ -1,5 +1,4 @@
 pub mod Client
-pub mod Views
 pub mod Moves
 pub mod Sending
 pub mod Report

@@ -2,33 +2,18 @@
 use Rattle.std.specs.Prelude.{ℕ, List, [], ◌∷◌, codes, decimal, Option, Some, None}
 use Rattle.std.specs.List.{concat}
 use Rattle.q3_svmsg.specs.Report.{cause_word, cause_number}
+use Rattle.q3_clstate.specs.Report.{applied_text}
 use Rattle.q3_client.specs.declared.client.ClientTook.{ClientTook}
 use Rattle.q3_client.specs.declared.client.ClientTook.TheVariants.{Dropped, Runt, Connectionless, Old, OutOfOrder, BadFragment, Partial, Illegible, Applied}
-use Rattle.q3_client.specs.declared.client.SnapOutcome.{SnapOutcome}
-use Rattle.q3_client.specs.declared.client.SnapOutcome.TheVariants.{NoSnap, Accepted, Skipped}
 use Rattle.q3_client.specs.declared.client.MoveError.{MoveError}
 use Rattle.q3_client.specs.declared.client.MoveError.TheVariants.{NotLater, Range}
 use Rattle.q3_client.specs.declared.client.Sent.{Sent}
 use Rattle.q3_client.specs.declared.client.Sent.TheVariants as sent
-use Rattle.q3_client.specs.declared.client.NoBase.{NoBase}
-use Rattle.q3_client.specs.declared.client.NoBase.TheVariants.{NeverHeld}
 
 -- the line of a message that isn't legible
 abbrev pub illegible_text : List ℕ → Option ℕ → List ℕ
 illegible_text word None = concat (codes " illegible " ∷ word ∷ codes "\n" ∷ [])
 illegible_text word (Some number) = concat (codes " illegible " ∷ word ∷ codes " " ∷ decimal number ∷ codes "\n" ∷ [])
-
--- why a snapshot was skipped
-abbrev pub no_base_text : NoBase → List ℕ
-no_base_text NeverHeld = codes " neverheld\n"
-
--- what stands behind ` client C` where a message was applied: with no snapshot, its number alone
-abbrev pub outcome_text : ℕ → SnapOutcome → List ℕ
-outcome_text number NoSnap = concat (codes " applied " ∷ decimal number ∷ codes "\n" ∷ [])
-outcome_text number (Accepted base) =
-    concat (codes " applied " ∷ decimal number ∷ codes "\n+ accepted " ∷ decimal number ∷ codes " base " ∷ decimal base ∷ codes "\n" ∷ [])
-outcome_text number (Skipped base cause) =
-    concat (codes " applied " ∷ decimal number ∷ codes "\n+ skipped " ∷ decimal number ∷ codes " base " ∷ decimal base ∷ no_base_text cause ∷ [])
 
 -- what stands behind ` client C`
 abbrev pub took_text : ClientTook → List ℕ
@@ -40,7 +25,7 @@ took_text OutOfOrder = codes " outoforder\n"
 took_text BadFragment = codes " badfragment\n"
 took_text Partial = codes " partial\n"
 took_text (Illegible cause) = illegible_text (cause_word cause) (cause_number cause)
-took_text (Applied number snap) = outcome_text number snap
+took_text (Applied applied) = concat (codes " applied " ∷ decimal applied.number ∷ codes "\n" ∷ applied_text applied ∷ [])
 
 -- what stands behind `deliver D`
 abbrev pub client_text : ℕ → ClientTook → List ℕ

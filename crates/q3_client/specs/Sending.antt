@@ -67,7 +67,7 @@ emit_bits client said bits =
 abbrev pub emit_new : ClientState → Emission
 emit_new client =
     if nat_le sequence_end (client.sending.number + 1) then nothing client sent.SequenceEnd
-    else emit_bits client (next_message client) (said_bits client.profile (next_message client))
+    else emit_bits client (next_message client) (said_bits client.state.profile (next_message client))
 
 -- what is left of a message goes before another is begun
 abbrev pub emit_left : ClientState → Option UnderWay → Emission

@@ -3,44 +3,28 @@
 //! section", by q3_clmsg, "which moves may be issued", "which moves a message carries", and "end of message numbers", which
 //! is this project's own.
 
-ghost use Rattle.std.specs.Prelude.{◌≡◌, IfOk, option_map};
+ghost use Rattle.std.specs.Prelude.{◌≡◌, ◌≤◌, IfOk, IfSome, option_map};
+ghost use Rattle.q3_entity.specs.Entities.{Rises, run_of};
 ghost use Rattle.q3_chan.specs.Sending.{HandsOut};
 ghost use Rattle.q3_clmsg.specs.Values.{said_of};
-ghost use Rattle.q3_client.specs.Client.{new_client, take_at, number_of_newest, view_of};
+ghost use Rattle.q3_rings.specs.Loans.{snapshot_of};
+ghost use Rattle.q3_rings.specs.Rings.{view_at};
+ghost use Rattle.q3_client.specs.Client.{new_client, take_at, is_accepted, moves_behind};
 ghost use Rattle.q3_client.specs.Moves.{most_moves, add_move_at, carried};
 ghost use Rattle.q3_client.specs.Sending.{message_with, emit_at};
-ghost use Rattle.q3_client.specs.Views.{snapshot_of};
 
-use crate::bases::NoBases;
 use crate::moves::{Issued, MOST_MOVES, carry, is_issuable};
-use crate::snapshots::{SnapshotView, Snapshots};
 use circular_buffer::HeapCircularBuffer;
 use q3_bits::NoMemory;
 use q3_chan::{Datagram, Gathered, Gatherer, LONGEST_MESSAGE, SEQUENCE_END, Sender, Side};
 use q3_clmsg::{ClientMessage, Move, message_key, write_client_message};
+use q3_clstate::{Applied, ClState, SnapOutcome};
 use q3_profile::Profile;
+use q3_rings::SnapView;
 use q3_svmsg::Illegible;
 use q3_text::Text;
 use std::alloc::Global;
 use std::marker::Model;
-
-/// Why a snapshot's base isn't there.
-#[derive(Clone, Copy, Debug, PartialEq, Eq)]
-pub enum NoBase {
-    /// No snapshot of that number is held.
-    NeverHeld,
-}
-
-/// What became of the snapshot of a message.
-#[derive(Clone, Copy, Debug, PartialEq, Eq)]
-pub enum SnapOutcome {
-    /// The message has none.
-    NoSnap,
-    /// It was accepted: the number of its base, 0 for none.
-    Accepted { base: u32 },
-    /// It was read to its end, and nothing of it is kept: the number of its base, and why that isn't there.
-    Skipped { base: u32, cause: NoBase },
-}
 
 /// What a client's take answers.
 #[derive(Clone, Copy, Debug, PartialEq, Eq)]
@@ -61,8 +45,8 @@ pub enum ClientTook {
     Partial,
     /// The message isn't legible. The client is dropped.
     Illegible(Illegible),
-    /// The message was applied: its number, and what became of its snapshot.
-    Applied { number: u32, snap: SnapOutcome },
+    /// The message was applied: what became of it.
+    Applied(Applied),
 }
 
 /// Why a move can't be issued.
@@ -89,19 +73,18 @@ pub enum Sent {
     Message { number: u32, bytes: usize },
 }
 
-/// A client: a copy of the profile, what it gathers, a place for the bytes of a message that came whole, the newest
-/// snapshot, what it sends, the moves that it issued, and places where a message is put together and written. After `new`
+/// A client: what the messages that were applied left, with a copy of the profile, what it gathers, a place for the bytes of a
+/// message that came whole, whether the newest message's snapshot was accepted, what it sends, the moves that it issued, and places where a message is put together and written. After `new`
 /// no call takes memory.
 #[derive(Drop)]
 pub struct Client {
-    profile: Profile,
+    state: ClState,
     challenge: u32,
     qport: u16,
     dup: u8,
     gatherer: Gatherer,
     whole: Vec<u8>,
-    bases: NoBases,
-    snapshots: Snapshots,
+    delta: bool,
     dropped: Option<Illegible>,
     sender: Sender,
     moves: HeapCircularBuffer<Issued>,
@@ -113,33 +96,31 @@ pub struct Client {
 impl Model for Client {
     ghost use Rattle.std.specs.Prelude.{◌≡◌, ◌<◌, length};
     ghost use Rattle.q3_chan.specs.Datagrams.{longest_message, sequence_end};
-    ghost use Rattle.q3_entity.specs.Baselines.{no_lines};
     ghost use Rattle.q3_client.specs.Client.{ClientState};
     ghost use Rattle.q3_client.specs.Moves.{most_moves};
 
     ghost Value = { ClientState };
 
     ghost view = { λ c. record {
-      profile = c.profile;
+      state = c.state;
       challenge = c.challenge;
       qport = c.qport;
       dup = c.dup;
       gathering = c.gatherer;
-      accepted = c.snapshots.accepted;
-      delta = c.snapshots.delta;
+      delta = c.delta;
       dropped = c.dropped;
       sending = c.sender;
       moves = c.moves.items;
       last_time = c.last_time;
     } };
 
-    ghost invariant = { λ c. (c.bases.lines ≡ no_lines) × (length c.whole.items ≡ longest_message)
-        × (length c.buffer.items ≡ longest_message) × (c.sender.number < sequence_end)
+    ghost invariant = { λ c. (length c.whole.items ≡ longest_message) × (length c.buffer.items ≡ longest_message) × (c.sender.number < sequence_end)
         × (c.moves.capacity ≡ most_moves) };
 }
 
 impl Client {
-    /// A client that has taken nothing. Each message repeats the moves of `dup` messages before it. `Err` is want of memory.
+    /// A client that has taken nothing. Each message repeats the moves of `dup` messages before it. The profile's ring for a
+    /// client's entities has 512 to 65,536 places. `Err` is want of memory.
     pub fn new(
         alloc: Global,
         profile: &Profile,
@@ -147,17 +128,18 @@ impl Client {
         qport: u16,
         dup: u8,
     ) -> Result<Client, NoMemory>
+        requires least { 512 ≤ profile.now.parse_ring }
+        requires most { profile.now.parse_ring ≤ 65536 }
         ensures { IfOk result (λ client. client ≡ new_client profile.now challenge qport dup) }
     {
         Ok(Client {
-            profile: profile.copy()?,
+            state: ClState::new(alloc, profile)?,
             challenge,
             qport,
             dup,
             gatherer: Gatherer::new(alloc, Side::Server)?,
             whole: vec![in alloc; 0; LONGEST_MESSAGE]?,
-            bases: NoBases::new(alloc)?,
-            snapshots: Snapshots::new(alloc)?,
+            delta: false,
             dropped: None,
             sender: Sender::new(alloc, Side::Client, qport)?,
             moves: HeapCircularBuffer::with_capacity(alloc, MOST_MOVES)?,
@@ -186,15 +168,25 @@ impl Client {
             Gathered::Runt => return ClientTook::Runt,
             Gathered::Connectionless => return ClientTook::Connectionless,
         };
-        let read = self
-            .snapshots
-            .read(&self.profile, &self.bases, number, &self.whole[..length]);
-        match read {
-            Ok(snap) => ClientTook::Applied { number, snap },
+        match self.state.apply(number, &self.whole[..length]) {
+            Ok(applied) => {
+                self.note(&applied);
+                ClientTook::Applied(applied)
+            }
             Err(cause) => {
                 self.dropped = Some(cause);
                 ClientTook::Illegible(cause)
             }
+        }
+    }
+
+    /// Whether the newest message's snapshot was accepted; and a gamestate wipes the moves.
+    fn note(&mut self, applied: &Applied)
+        ensures { self.new ≡ record self.old { delta = is_accepted applied.now.snap; moves = moves_behind applied.now.game self.old.moves } }
+    {
+        self.delta = is_accepted(applied.snap);
+        if applied.game {
+            self.moves.clear();
         }
     }
 
@@ -245,13 +237,13 @@ impl Client {
         fill(
             message,
             acknowledged,
-            self.snapshots.delta(),
+            self.delta,
             &self.moves,
             number,
             self.dup,
         );
         let key = message_key(0, acknowledged, &Text::new());
-        let Ok(bytes) = write_client_message(&self.profile.code, message, key, &mut self.buffer)
+        let Ok(bytes) = write_client_message(&self.state.profile().code, message, key, &mut self.buffer)
         else {
             return Sent::Overlong;
         };
@@ -260,19 +252,26 @@ impl Client {
         Sent::Message { number, bytes }
     }
 
-    /// The number of the newest snapshot accepted, 0 for none.
-    pub fn newest(&self) -> u32
-        ensures { result ≡ number_of_newest self.now.accepted }
+    /// What the messages that were applied left.
+    pub fn state(&self) -> &ClState
+        ensures { result.now ≡ self.now.state }
     {
-        self.snapshots.newest()
+        &self.state
     }
 
-    /// The snapshot of a number, if it is the newest accepted: the interim rule, until a client keeps more than that one.
-    pub fn view(&self, number: u32) -> Option<SnapshotView<'_>>
-        ensures { option_map snapshot_of result ≡ view_of number self.now.accepted }
+    /// Lends the snapshot of a number, if it is held.
+    pub fn view(&self, number: u32) -> Option<SnapView<'_>>
+        ensures view { option_map snapshot_of result ≡ view_at self.now.state.held number }
+        ensures rises { IfSome result (λ view. Rises (run_of view.entities)) }
     {
-        self.snapshots.view(number)
+        self.state.view(number)
     }
+}
+
+fn is_accepted(outcome: SnapOutcome) -> bool
+    ensures { result ≡ is_accepted outcome }
+{
+    matches!(outcome, SnapOutcome::Accepted { .. })
 }
 
 /// Puts the message of a number together, with the moves that it carries.

@@ -5,10 +5,12 @@ ghost use Rattle.std.specs.List.{concat};
 ghost use Rattle.q3_io.specs.Faults.{HasCause};
 ghost use Rattle.q3_io.specs.Written.{Adds};
 ghost use Rattle.q3_svmsg.specs.Report.{cause_word, cause_number};
-ghost use Rattle.q3_client.specs.Report.{illegible_text, outcome_text, client_text, move_error_text, send_text};
+ghost use Rattle.q3_client.specs.declared.client.ClientTook.TheVariants.{Applied};
+ghost use Rattle.q3_client.specs.Report.{illegible_text, client_text, move_error_text, send_text};
 
-use crate::client::{ClientTook, MoveError, NoBase, Sent, SnapOutcome};
-use q3_io::{Failed, Piece, Sink, print_all};
+use crate::client::{ClientTook, MoveError, Sent};
+use q3_clstate::{Applied, print_applied};
+use q3_io::{Failed, Piece, Sink, laws, print_all};
 use q3_svmsg::{Illegible, cause_number, cause_word};
 
 /// Prints what stands behind `deliver D`, or `arrive`, where a client took a datagram: the rest of that line, and the line
@@ -19,9 +21,7 @@ pub fn print_took<O: Sink>(c: u8, took: &ClientTook, out: &mut O) -> Result<(), 
     ensures cause { HasCause (O.faults out.old) (O.faults out.new) result }
 {
     let word: &[u8] = match took {
-        ClientTook::Applied { number, snap } => {
-            return print_applied(c, *number, *snap, out);
-        }
+        ClientTook::Applied(applied) => return print_delivered(c, applied, out),
         ClientTook::Illegible(cause) => return print_illegible(c, *cause, out),
         ClientTook::Dropped(_) => b" dropped\n",
         ClientTook::Runt => b" runt\n",
@@ -74,54 +74,30 @@ fn print_illegible<O: Sink>(c: u8, cause: Illegible, out: &mut O) -> Result<(), 
 }
 
 /// Prints the lines of a delivery of what was applied.
-fn print_applied<O: Sink>(c: u8, number: u32, snap: SnapOutcome, out: &mut O) -> Result<(), Failed>
-    ensures adds { Adds (O.written out.old) (O.written out.new)
-        (concat (codes " client " ∷ decimal c ∷ outcome_text number snap ∷ [])) result }
+fn print_delivered<O: Sink>(c: u8, applied: &Applied, out: &mut O) -> Result<(), Failed>
+    ensures adds { Adds (O.written out.old) (O.written out.new) (client_text c (Applied applied.now)) result }
     ensures cause { HasCause (O.faults out.old) (O.faults out.new) result }
 {
-    match snap {
-        SnapOutcome::NoSnap => print_all(
-            &[
-                Piece::Text(b" client "),
-                Piece::Number(u64::from(c)),
-                Piece::Text(b" applied "),
-                Piece::Number(u64::from(number)),
-                Piece::Text(b"\n"),
-            ],
-            out,
-        ),
-        SnapOutcome::Accepted { base } => print_all(
-            &[
-                Piece::Text(b" client "),
-                Piece::Number(u64::from(c)),
-                Piece::Text(b" applied "),
-                Piece::Number(u64::from(number)),
-                Piece::Text(b"\n+ accepted "),
-                Piece::Number(u64::from(number)),
-                Piece::Text(b" base "),
-                Piece::Number(u64::from(base)),
-                Piece::Text(b"\n"),
-            ],
-            out,
-        ),
-        SnapOutcome::Skipped {
-            base,
-            cause: NoBase::NeverHeld,
-        } => print_all(
-            &[
-                Piece::Text(b" client "),
-                Piece::Number(u64::from(c)),
-                Piece::Text(b" applied "),
-                Piece::Number(u64::from(number)),
-                Piece::Text(b"\n+ skipped "),
-                Piece::Number(u64::from(number)),
-                Piece::Text(b" base "),
-                Piece::Number(u64::from(base)),
-                Piece::Text(b" neverheld\n"),
-            ],
-            out,
-        ),
-    }
+    laws::texts_follow();
+    print_number(c, applied.number, out)?;
+    print_applied(applied, out)
+}
+
+fn print_number<O: Sink>(c: u8, number: u32, out: &mut O) -> Result<(), Failed>
+    ensures adds { Adds (O.written out.old) (O.written out.new)
+        (concat (codes " client " ∷ decimal c ∷ codes " applied " ∷ decimal number ∷ codes "\n" ∷ [])) result }
+    ensures cause { HasCause (O.faults out.old) (O.faults out.new) result }
+{
+    print_all(
+        &[
+            Piece::Text(b" client "),
+            Piece::Number(u64::from(c)),
+            Piece::Text(b" applied "),
+            Piece::Number(u64::from(number)),
+            Piece::Text(b"\n"),
+        ],
+        out,
+    )
 }
 
 /// Prints why a move can't be issued: a word, and the time of the last move. `Failed` comes where the sink failed, behind a

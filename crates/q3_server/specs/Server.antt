@@ -1,6 +1,6 @@
 -- The server's end: what the game handed in for all clients, and a slot for each of them. Each call gives the server
 -- after it, and its answer.
-use Rattle.std.specs.Prelude.{ℕ, ◌+◌, ◌==◌, ◌&&◌, if◌then◌else◌, Bool, false, not, position, List, [], ◌∷◌, length, replicate, take, nat_le, nat_lt, Option, Some, None, slice_set, slice_index_or, Result, Ok, Err}
+use Rattle.std.specs.Prelude.{ℕ, ◌+◌, ◌==◌, ◌^◌, ◌&&◌, ◌||◌, if◌then◌else◌, Bool, false, not, position, List, [], ◌∷◌, length, replicate, take, nat_le, nat_lt, Option, Some, None, option_map, slice_set, slice_index_or, Result, Ok, Err}
 use Rattle.std.specs.List.{filter}
 use Rattle.arrayvec.specs.ArrayVec.{ArrayVec}
 use Rattle.q3_profile.specs.declared.profile.Profile.{Profile}
@@ -10,7 +10,7 @@ use Rattle.q3_player.specs.State.{zero_player, normal_player}
 use Rattle.q3_entity.specs.declared.state.EntityState.{EntityState}
 use Rattle.q3_entity.specs.Entities.{normal_entity, most_entities}
 use Rattle.q3_entity.specs.Baselines.{no_lines}
-use Rattle.q3_svmsg.specs.Values.{Message, Snapshot}
+use Rattle.q3_svmsg.specs.Values.{base_from}
 use Rattle.q3_svmsg.specs.Texts.{message_text}
 use Rattle.q3_io.specs.declared.address.Address.{Address}
 use Rattle.q3_server.specs.declared.server.Emitted.{Emitted}
@@ -22,7 +22,9 @@ use Rattle.q3_chan.specs.declared.side.Side.TheVariants.{Server, Client}
 use Rattle.q3_chan.specs.Datagrams.{sequence_end, longest_message}
 use Rattle.q3_chan.specs.Gathering.{Gathering, new_gathering}
 use Rattle.q3_chan.specs.Sending.{Sending, UnderWay, Piece, new_sending, started, next_of}
-use Rattle.q3_server.specs.Built.{message_of}
+use Rattle.q3_ring.specs.Snapshot.{Snapshot}
+use Rattle.q3_frames.specs.Frames.{FramesState, no_frames, base_of, build_at}
+use Rattle.q3_server.specs.Built.{Built, number_of, built_of}
 
 -- how many clients there may be
 abbrev pub places : ℕ
@@ -38,26 +40,26 @@ pub record MapState : Type 0 where
   pub entities : List EntityState
 
 -- a client at the server: how it joined and from where, what is being sent to it, what was gathered of what it sends, the
--- time of its last move that was run, 0 for none, its player in normal form, and its area bytes
+-- number of the snapshot that it asks to write the next one against, 0 for none, the time of its last move that was run, 0 for
+-- none, its player in normal form, and its area bytes
 pub record SlotState : Type 0 where
   pub challenge : ℕ
   pub address : Address
   pub qport : ℕ
   pub sending : Sending
   pub gathering : Gathering
+  pub delta : ℕ
   pub last_run : ℕ
   pub player : PlayerState
   pub area : ArrayVec ℕ
 
--- the server: by which profile, what the game handed in, and each client's slot at its place
+-- the server: by which profile, what the game handed in, each client's slot at its place, and the frames that were built for
+-- each slot
 pub record ServerState : Type 0 where
   pub profile : Profile
   pub map : MapState
   pub slots : List (Option SlotState)
-
--- the whole value of a message that was begun
-abbrev pub Built : Type 0
-Built = Message
+  pub frames : FramesState
 
 -- a client's slot, by its place
 abbrev pub slot_at : ServerState → ℕ → Option SlotState
@@ -69,7 +71,12 @@ with_slot server c slot = record server { slots = slice_set server.slots c (Some
 
 -- a server of so many slots with no client and no entity, at the time 0
 abbrev pub new_server : Profile → ℕ → ServerState
-new_server profile slots = record { profile = profile; map = record { time = 0; entities = [] }; slots = replicate slots None }
+new_server profile slots = record {
+  profile = profile;
+  map = record { time = 0; entities = [] };
+  slots = replicate slots None;
+  frames = no_frames slots profile.server_ring;
+}
 
 -- ---- what the game hands in
 
@@ -86,6 +93,7 @@ new_slot challenge qport address = record {
   qport = qport;
   sending = new_sending Server 0;
   gathering = new_gathering Client;
+  delta = 0;
   last_run = 0;
   player = zero_player;
   area = record { items = [] };
@@ -168,55 +176,70 @@ next_snapshot map slot =
       entities = take most_entities map.entities;
     }
 
--- the message that goes to a slot next
-abbrev pub next_message : MapState → SlotState → Built
-next_message map slot = message_of (next_snapshot map slot)
+-- the frames with the next snapshot of a client's slot
+abbrev pub next_frames : MapState → FramesState → ℕ → SlotState → FramesState
+next_frames map frames c slot = build_at frames c (next_snapshot map slot)
 
--- the bits of a message: there is no base, and there are no baselines
+-- the message that goes to a client next: its snapshot, against the base that these frames have for it
+abbrev pub next_built : MapState → FramesState → ℕ → SlotState → Built
+next_built map frames c slot = built_of (base_of frames c (slot.sending.number + 1) slot.delta) (next_snapshot map slot)
+
+-- the bits of a message; there are no baselines
 abbrev pub built_bits : Profile → Built → List Bool
-built_bits profile built = message_text profile no_lines None built
+built_bits profile built = message_text profile no_lines (option_map base_from built.base) built.message
 
 -- and its bytes
 abbrev pub built_bytes : Profile → Built → List ℕ
 built_bytes profile built = message_bytes (built_bits profile built)
 
--- what an emit of a slot gives: the slot after it, the answer, the message that it began, and the datagram that it hands out
+-- what an emit of a slot gives: the slot after it, and the frames, the answer, the message that it began, and the datagram that
+-- it hands out
 pub record SlotEmission : Type 0 where
   pub slot : SlotState
+  pub frames : FramesState
   pub answer : Emitted
   pub began : Option Built
   pub piece : Option Piece
 
 -- no message was begun, and nothing is handed out
-abbrev pub nothing : SlotState → Emitted → SlotEmission
-nothing slot answer = record { slot = slot; answer = answer; began = None; piece = None }
+abbrev pub nothing : SlotState → FramesState → Emitted → SlotEmission
+nothing slot frames answer = record { slot = slot; frames = frames; answer = answer; began = None; piece = None }
 
 -- the piece at an index of the message under way is handed out
-abbrev pub hand_out : SlotState → ℕ → Emitted → Option Built → SlotEmission
-hand_out slot index answer began = record {
+abbrev pub hand_out : SlotState → FramesState → ℕ → Emitted → Option Built → SlotEmission
+hand_out slot frames index answer began = record {
   slot = record slot { sending = (next_of slot.sending).sending };
+  frames = frames;
   answer = answer;
   began = began;
   piece = Some (record { number = slot.sending.number; index = index; bytes = (next_of slot.sending).datagram });
 }
 
 -- a message of these bits is begun, unless it is too long, and its first piece is handed out
-abbrev pub emit_bits : SlotState → Built → List Bool → SlotEmission
-emit_bits slot built bits =
-    if nat_lt longest_message (message_length (length bits)) then nothing slot emitted.Overlong
-    else hand_out (record slot { sending = started slot.sending (message_bytes bits) }) 0
-    (emitted.Snapshot (slot.sending.number + 1) 0 (message_length (length bits))) (Some built)
+abbrev pub emit_bits : SlotState → FramesState → Built → List Bool → SlotEmission
+emit_bits slot frames built bits =
+    if nat_lt longest_message (message_length (length bits)) then nothing slot frames emitted.Overlong
+    else hand_out (record slot { sending = started slot.sending (message_bytes bits) }) frames 0
+    (emitted.Snapshot (slot.sending.number + 1) (number_of built.base) (message_length (length bits))) (Some built)
 
--- the next message of a slot, unless message numbers have ended
-abbrev pub emit_new : Profile → MapState → SlotState → SlotEmission
-emit_new profile map slot =
-    if nat_le sequence_end (slot.sending.number + 1) then nothing slot emitted.SequenceEnd
-    else emit_bits slot (next_message map slot) (built_bits profile (next_message map slot))
+abbrev pub emit_built : Profile → SlotState → FramesState → Built → SlotEmission
+emit_built profile slot frames built = emit_bits slot frames built (built_bits profile built)
+
+-- how many entities may have been placed where a message is begun
+abbrev pub most_placed : ℕ
+most_placed = 2 ^ 62
+
+-- the next message of a client, unless message numbers have ended or too many entities were placed; its frame is built before
+-- its base is chosen, and stays where the message proves too long
+abbrev pub emit_new : Profile → MapState → FramesState → ℕ → SlotState → SlotEmission
+emit_new profile map frames c slot =
+    if nat_le sequence_end (slot.sending.number + 1) || nat_lt most_placed frames.placed then nothing slot frames emitted.SequenceEnd
+    else emit_built profile slot (next_frames map frames c slot) (next_built map (next_frames map frames c slot) c slot)
 
 -- what is left of a message goes before another is begun
-abbrev pub emit_slot : Profile → MapState → SlotState → Option UnderWay → SlotEmission
-emit_slot profile map slot None = emit_new profile map slot
-emit_slot profile map slot (Some left) = hand_out slot left.next (emitted.Fragment slot.sending.number) None
+abbrev pub emit_slot : Profile → MapState → FramesState → ℕ → SlotState → Option UnderWay → SlotEmission
+emit_slot profile map frames c slot None = emit_new profile map frames c slot
+emit_slot profile map frames c slot (Some left) = hand_out slot frames left.next (emitted.Fragment slot.sending.number) None
 
 -- what an emit of the server gives
 pub record Emission : Type 0 where
@@ -227,13 +250,17 @@ pub record Emission : Type 0 where
 
 -- the emission of a slot in its place
 abbrev pub emission_at : ServerState → ℕ → SlotEmission → Emission
-emission_at server c emission =
-    record { server = with_slot server c emission.slot; answer = emission.answer; began = emission.began; piece = emission.piece }
+emission_at server c emission = record {
+  server = record (with_slot server c emission.slot) { frames = emission.frames };
+  answer = emission.answer;
+  began = emission.began;
+  piece = emission.piece;
+}
 
 -- an emission for the client at a place, if there is one
 abbrev pub emit_from : ServerState → ℕ → Option SlotState → Emission
 emit_from server c None = record { server = server; answer = emitted.NoClient; began = None; piece = None }
-emit_from server c (Some slot) = emission_at server c (emit_slot server.profile server.map slot slot.sending.under_way)
+emit_from server c (Some slot) = emission_at server c (emit_slot server.profile server.map server.frames c slot slot.sending.under_way)
 
 -- the server makes a datagram for a client
 unfoldable pub emit_at : ServerState → ℕ → Emission

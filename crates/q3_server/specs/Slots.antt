@@ -14,7 +14,10 @@ use Rattle.q3_server.specs.declared.server.NoClient.{NoClient}
 use Rattle.q3_server.specs.Server.{MapState, SlotState, SlotEmission, emit_slot}
 use Rattle.q3_server.specs.declared.taking.ServerTook.{ServerTook}
 use Rattle.q3_server.specs.declared.taking.ServerTook.TheVariants as took
-use Rattle.q3_server.specs.Taking.{last_run_of, runs, take_slot}
+use Rattle.q3_ring.specs.Snapshot.{Snapshot}
+use Rattle.q3_svmsg.specs.declared.message.ServerMessage.{ServerMessage}
+use Rattle.q3_frames.specs.Frames.{FramesState}
+use Rattle.q3_server.specs.Taking.{delta_behind, last_run_of, runs, take_slot}
 
 -- what is being sent to a client, what was gathered of what it sends, and what is kept of it beside that
 abbrev pub slot_of : Sending → Gathering → Joined → SlotState
@@ -24,31 +27,40 @@ slot_of sending gathering client = record {
   qport = client.qport;
   sending = sending;
   gathering = gathering;
+  delta = client.delta;
   last_run = client.last_run;
   player = client.player;
   area = client.area;
 }
+
+-- the snapshot that a message has room for
+abbrev pub snapshot_in : ServerMessage → Snapshot
+snapshot_in message = record { head = message.head; entities = message.entities.value.items }
 
 -- what is answered where something is handed in for the client of a slot
 abbrev pub given : Option SlotState → Result (Unit {0}) NoClient
 given None = Err (record {})
 given (Some slot) = Ok tt
 
--- what an emit of a slot's client gives
-abbrev pub emission_of : Profile → MapState → SlotState → SlotEmission
-emission_of profile map slot = emit_slot profile map slot slot.sending.under_way
+-- what an emit of the client in a slot gives
+abbrev pub emission_of : Profile → MapState → FramesState → ℕ → SlotState → SlotEmission
+emission_of profile map frames c slot = emit_slot profile map frames c slot slot.sending.under_way
 
--- the slot after an emit, the answer, and what is handed out
-abbrev pub slot_after : Profile → MapState → Option SlotState → Option SlotState
-slot_after profile map found = option_map (λ slot. (emission_of profile map slot).slot) found
+-- the slot after an emit, the frames, the answer, and what is handed out
+abbrev pub slot_after : Profile → MapState → FramesState → ℕ → Option SlotState → Option SlotState
+slot_after profile map frames c found = option_map (λ slot. (emission_of profile map frames c slot).slot) found
 
-abbrev pub answer_of : Profile → MapState → Option SlotState → Emitted
-answer_of profile map None = emitted.NoClient
-answer_of profile map (Some slot) = (emission_of profile map slot).answer
+abbrev pub frames_after : Profile → MapState → FramesState → ℕ → Option SlotState → FramesState
+frames_after profile map frames c None = frames
+frames_after profile map frames c (Some slot) = (emission_of profile map frames c slot).frames
 
-abbrev pub piece_of : Profile → MapState → Option SlotState → Option Piece
-piece_of profile map None = None
-piece_of profile map (Some slot) = (emission_of profile map slot).piece
+abbrev pub answer_of : Profile → MapState → FramesState → ℕ → Option SlotState → Emitted
+answer_of profile map frames c None = emitted.NoClient
+answer_of profile map frames c (Some slot) = (emission_of profile map frames c slot).answer
+
+abbrev pub piece_of : Profile → MapState → FramesState → ℕ → Option SlotState → Option Piece
+piece_of profile map frames c None = None
+piece_of profile map frames c (Some slot) = (emission_of profile map frames c slot).piece
 
 -- the slot after a datagram, the answer, and the moves that were run
 abbrev pub slot_behind : Profile → ℕ → Address → List ℕ → Option SlotState → Option SlotState
@@ -62,7 +74,12 @@ abbrev pub moves_of : Profile → ℕ → Address → List ℕ → Option SlotSt
 moves_of profile c from datagram None = []
 moves_of profile c from datagram (Some slot) = (take_slot profile c from datagram slot).moves
 
--- the time of the last move run behind what was read, the answer, and the moves that were run
+-- behind what was read, the number of the snapshot that the client asks for, the time of the last move run, the answer, and the
+-- moves that were run
+abbrev pub delta_read : ℕ → Result Message ClientIllegible → ℕ
+delta_read before (Ok message) = delta_behind before message
+delta_read before (Err cause) = before
+
 abbrev pub last_run_read : ℕ → Result Message ClientIllegible → ℕ
 last_run_read last (Ok message) = last_run_of last message.moves
 last_run_read last (Err cause) = last

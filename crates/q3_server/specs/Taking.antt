@@ -35,6 +35,15 @@ last_time before (one ∷ moves) = last_time one.time moves
 abbrev pub last_run_of : ℕ → List Move → ℕ
 last_run_of last moves = last_time last (runs last moves)
 
+-- the number of the snapshot that a client asks for behind a message: the one that its message acknowledges, or none; a message
+-- without moves doesn't say
+abbrev pub delta_behind : ℕ → Message → ℕ
+delta_behind before message = asked message.moves
+  where
+    asked : List Move → ℕ
+    asked [] = before
+    asked (one ∷ moves) = if message.delta then message.acknowledged else 0
+
 -- what a take of a slot gives: the slot after it, the answer, and the moves that were run
 pub record SlotTaken : Type 0 where
   pub slot : SlotState
@@ -48,7 +57,7 @@ answers slot answer = record { slot = slot; answer = answer; moves = [] }
 -- what a message does to a slot
 abbrev pub run_message : SlotState → ℕ → ℕ → Message → SlotTaken
 run_message slot c number message = record {
-  slot = record slot { last_run = last_run_of slot.last_run message.moves };
+  slot = record slot { delta = delta_behind slot.delta message; last_run = last_run_of slot.last_run message.moves };
   answer = Ran c number;
   moves = runs slot.last_run message.moves;
 }

@@ -1,5 +1,5 @@
 //! The server's end: pure state, one call an event.
-//! Keeps the rules "what the server sends", "how a datagram finds its slot", "fragmentation" and "what a receiver answers",
+//! Keeps the rules "what the server sends", "choice of the delta base", by q3_frames, "how a datagram finds its slot", "fragmentation" and "what a receiver answers",
 //! by q3_chan, and "end of message numbers", which is this project's own.
 
 ghost use Rattle.std.specs.Prelude.{◌≡◌, ◌<◌, ◌≤◌, None, IfOk, IfSome, option_map, length, nat_lt, position, replicate};
@@ -14,6 +14,7 @@ use q3_bits::NoMemory;
 use q3_chan::{Datagram, LONGEST_MESSAGE, NoQport, qport_of};
 use q3_clmsg::ClientMessage;
 use q3_entity::{Baselines, EntityState};
+use q3_frames::Frames;
 use q3_io::Address;
 use q3_player::PlayerState;
 use q3_profile::Profile;
@@ -48,9 +49,9 @@ pub enum Emitted {
     Fragment {
         number: u32,
     },
-    /// Message numbers have ended.
+    /// Message numbers have ended, or more than 2^62 entities were placed.
     SequenceEnd,
-    /// The message has more than 16,384 bytes; its number is used again.
+    /// The message has more than 16,384 bytes; its number is used again, and its frame stays.
     Overlong,
     /// A datagram with a snapshot, or its first piece: its message's number, the number of the base, 0 for none, and the
     /// message's length.
@@ -61,13 +62,15 @@ pub enum Emitted {
     },
 }
 
-/// The server: a copy of the profile, what the game handed in, and a slot for each client; and places where a message is
+/// The server: a copy of the profile, what the game handed in, a slot for each client, and the frames that were built for
+/// them; and places where a message is
 /// put together and written, and where one that came whole stands and is read into. After `new` no call takes memory.
 #[derive(Drop)]
 pub struct Server {
     profile: Profile,
     map: Map,
     slots: Vec<Slot>,
+    frames: Frames,
     baselines: Baselines,
     message: ServerMessage,
     buffer: Vec<u8>,
@@ -83,23 +86,27 @@ impl Model for Server {
 
     ghost Value = { ServerState };
 
-    ghost view = { λ s. record { profile = s.profile; map = s.map; slots = s.slots.items } };
+    ghost view = { λ s. record { profile = s.profile; map = s.map; slots = s.slots.items; frames = s.frames } };
 
-    ghost invariant = { λ s. (length s.slots.items ≤ places) × (s.baselines ≡ no_lines)
+    ghost invariant = { λ s. (length s.slots.items ≤ places) × (length s.frames.slots ≡ length s.slots.items) × (s.baselines ≡ no_lines)
         × (length s.buffer.items ≡ longest_message) × (length s.whole.items ≡ longest_message) };
 }
 
 impl Server {
-    /// A server with 1 to 16 slots and no client, at the time 0. `Err` is want of memory.
+    /// A server with 1 to 16 slots and no client, at the time 0. The profile's ring for the frames' entities has 256 to 262,144
+    /// places. `Err` is want of memory.
     pub fn new(alloc: Global, profile: &Profile, slots: u8) -> Result<Server, NoMemory>
         requires some { 1 ≤ slots }
         requires most { slots ≤ places }
+        requires ring_least { 256 ≤ profile.now.server_ring }
+        requires ring_most { profile.now.server_ring ≤ 262144 }
         ensures { IfOk result (λ server. server ≡ new_server profile.now slots) }
     {
         Ok(Server {
             profile: profile.copy()?,
             map: Map::new(alloc)?,
             slots: empty_slots(alloc, slots)?,
+            frames: Frames::new(alloc, slots, profile.server_ring)?,
             baselines: Baselines::new(alloc)?,
             message: ServerMessage::new(alloc)?,
             buffer: vec![in alloc; 0; LONGEST_MESSAGE]?,
@@ -229,8 +236,8 @@ impl Server {
 
     /// Makes the next datagram for a client: it is empty where nothing is handed out. In this order: `NoClient` exactly
     /// where no client was added in the slot; `Fragment` where pieces of a message are left; `SequenceEnd` where message
-    /// numbers have ended; `Overlong` where the next message has more than 16,384 bytes, and nothing changes; else
-    /// `Snapshot`.
+    /// numbers have ended or more than 2^62 entities were placed; `Overlong` where the next message has more than 16,384
+    /// bytes: nothing changes then but the frames, which keep its own; else `Snapshot`.
     #[tactic(auto, unfolding(crate::specs::Server::emit_at))]
     pub fn emit(&mut self, slot: u8, out: &mut Datagram) -> Emitted
         ensures server { self.new ≡ (emit_at self.old slot).server }
@@ -242,8 +249,10 @@ impl Server {
             return Emitted::NoClient;
         }
         self.slots[slot as usize].emit(
+            slot,
             &self.profile,
             &self.map,
+            &mut self.frames,
             &self.baselines,
             &mut self.message,
             &mut self.buffer,

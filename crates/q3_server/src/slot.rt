@@ -1,23 +1,24 @@
 //! A place for a client at the server.
 
-ghost use Rattle.std.specs.Prelude.{◌≡◌, ◌+◌, ◌^◌, ◌<◌, ◌≤◌, [], None, Some, IfOk, length, option_map, take, true, is_some};
-ghost use Rattle.q3_chan.specs.Datagrams.{longest_message};
+ghost use Rattle.std.specs.Prelude.{◌≡◌, ◌+◌, ◌^◌, ◌<◌, ◌≤◌, [], None, Some, IfOk, length, option_map, nat_le, nat_lt, ◌||◌, is_some};
 ghost use Rattle.q3_entity.specs.Baselines.{no_lines};
 ghost use Rattle.q3_fields.specs.Kinds.{Layout, end_mark};
 ghost use Rattle.q3_entity.specs.Entities.{most_entities, IsList};
 ghost use Rattle.q3_player.specs.State.{normal_player};
 ghost use Rattle.q3_svmsg.specs.Values.{told_of};
-ghost use Rattle.q3_server.specs.Server.{most_numbers, is_of, new_slot, with_player, with_area, next_message};
+ghost use Rattle.q3_chan.specs.Datagrams.{longest_message, sequence_end};
+ghost use Rattle.q3_server.specs.Built.{message_of};
+ghost use Rattle.q3_server.specs.Server.{most_numbers, most_placed, is_of, new_slot, with_player, with_area, next_snapshot};
 ghost use Rattle.q3_bits.specs.Streams.{holding};
 ghost use Rattle.q3_chan.specs.declared.side.Side.TheVariants.{Client};
 ghost use Rattle.q3_chan.specs.Gathering.{new_gathering};
 ghost use Rattle.q3_chan.specs.Sending.{HandsOut};
 ghost use Rattle.q3_clmsg.specs.Values.{said_of};
-ghost use Rattle.q3_server.specs.Slots.{slot_of, given, slot_after, answer_of, piece_of, slot_behind, took_of, moves_of, last_run_read, took_read, moves_read};
+ghost use Rattle.q3_server.specs.Slots.{slot_of, snapshot_in, given, slot_after, frames_after, answer_of, piece_of, slot_behind, took_of, moves_of, delta_read, last_run_read, took_read, moves_read};
 
 use crate::entities::Map;
 use crate::server::{Emitted, NoClient};
-use crate::taking::{Heard, ServerTook, read_message, run_moves};
+use crate::taking::{Heard, ServerTook, delta_behind, read_message, run_moves};
 use arrayvec::ArrayVec;
 use q3_bits::NoMemory;
 use q3_chan::{Datagram, Gathered, Gatherer, SEQUENCE_END, Sender, Side};
@@ -26,16 +27,23 @@ use q3_entity::Baselines;
 use q3_io::Address;
 use q3_player::PlayerState;
 use q3_profile::Profile;
-use q3_svmsg::{Section, ServerMessage, write_snap};
+use q3_frames::laws::build_keeps;
+use q3_frames::{Base, Frames};
+use q3_svmsg::{BaseView, Section, ServerMessage, write_snap};
 use std::alloc::Global;
 use std::marker::Model;
 
-/// How a client joined and from where, the time of its last move that was run, and what the game handed in for it alone.
+/// How many entities may have been placed where a message is begun.
+const MOST_PLACED: u64 = 1 << 62;
+
+/// How a client joined and from where, the number of the snapshot that it asks to write the next one against, 0 for none, the
+/// time of its last move that was run, and what the game handed in for it alone.
 #[derive(Drop)]
 pub(crate) struct Joined {
     pub challenge: u32,
     pub address: Address,
     pub qport: u16,
+    pub delta: u32,
     pub last_run: u32,
     pub player: PlayerState,
     pub area: ArrayVec<u8, 32>,
@@ -99,24 +107,27 @@ impl Joined {
         heard: &mut Heard,
     ) -> ServerTook
         requires { heard.old.moves.items ≡ [] }
-        ensures client { self.new ≡ record self.old { last_run = last_run_read self.old.last_run (holding (said_of message.now) read) } }
+        ensures client { self.new ≡ record self.old {
+          delta = delta_read self.old.delta (holding (said_of message.now) read);
+          last_run = last_run_read self.old.last_run (holding (said_of message.now) read);
+        } }
         ensures answer { result ≡ took_read slot number (holding (said_of message.now) read) }
         ensures moves { heard.new.moves.items ≡ moves_read self.old.last_run (holding (said_of message.now) read) }
     {
         if let Err(cause) = read {
             return ServerTook::Illegible(slot, cause);
         }
+        self.delta = delta_behind(self.delta, message);
         self.last_run = run_moves(self.last_run, &message.moves, &mut heard.moves);
         ServerTook::Ran { slot, number }
     }
 
-    /// Makes the message that this sender sends to the client next. What was gathered doesn't count.
+    /// Makes the whole snapshot that this sender sends to the client next. What was gathered doesn't count.
     fn fill(&self, sender: &Sender, map: &Map, message: &mut ServerMessage)
         requires { sender.now.number + 1 < 2 ^ 32 }
-        ensures told { told_of message.new ≡ next_message map.now (slot_of sender.now (new_gathering Client) self.now) }
-        ensures section { message.new.section ≡ Section.Snap 0 true }
-        ensures entities { message.new.entities.value.items ≡ take most_entities map.now.entities }
-        ensures list { (table : Layout) → end_mark table ≡ most_numbers → IsList table (take most_entities map.now.entities) }
+        ensures told { told_of message.new ≡ message_of None (next_snapshot map.now (slot_of sender.now (new_gathering Client) self.now)) }
+        ensures snapshot { snapshot_in message.new ≡ next_snapshot map.now (slot_of sender.now (new_gathering Client) self.now) }
+        ensures list { (table : Layout) → end_mark table ≡ most_numbers → IsList table message.new.entities.value.items }
     {
         message.ack = 0;
         message.commands.clear();
@@ -171,6 +182,7 @@ impl Slot {
             challenge,
             address,
             qport,
+            delta: 0,
             last_run: 0,
             player: PlayerState::zero(),
             area: ArrayVec::new(),
@@ -246,24 +258,32 @@ impl Slot {
         client.run(slot, number, read, message, heard)
     }
 
-    /// Hands out what is left of a message, or begins the next, with a whole snapshot, and hands out its first piece.
+    /// Hands out what is left of a message, or begins the next and hands out its first piece: its frame is built, and it is
+    /// written against the base that the client asks for, if that is there.
     pub fn emit(
         &mut self,
+        slot: u8,
         profile: &Profile,
         map: &Map,
+        frames: &mut Frames,
         baselines: &Baselines,
         message: &mut ServerMessage,
         buffer: &mut [u8],
         out: &mut Datagram,
     ) -> Emitted
         requires out { out.old.items ≡ [] }
+        requires slot { slot < length frames.old.slots }
         requires lines { baselines.now ≡ no_lines }
         requires buffer { length buffer.old ≡ longest_message }
-        ensures slot { self.new ≡ slot_after profile.now map.now self.old }
-        ensures answer { result ≡ answer_of profile.now map.now self.old }
-        ensures piece { HandsOut (piece_of profile.now map.now self.old) out.new.items }
+        ensures slot { self.new ≡ slot_after profile.now map.now frames.old slot self.old }
+        ensures frames { frames.new ≡ frames_after profile.now map.now frames.old slot self.old }
+        ensures slots { length frames.new.slots ≡ length frames.old.slots }
+        ensures answer { result ≡ answer_of profile.now map.now frames.old slot self.old }
+        ensures piece { HandsOut (piece_of profile.now map.now frames.old slot self.old) out.new.items }
         ensures buffer { length buffer.new ≡ longest_message }
     {
+        // what the clause on the frames' slots cites
+        build_keeps();
         let Some(client) = &self.client else {
             return Emitted::NoClient;
         };
@@ -274,23 +294,54 @@ impl Slot {
             };
         }
         let number = self.sender.number() + 1;
-        if number >= SEQUENCE_END {
+        if has_ended(number, frames.placed()) {
             return Emitted::SequenceEnd;
         }
         client.fill(&self.sender, map, message);
+        frames.build(slot, &message.head, &message.entities);
         // the entities' numbers are below the end mark
         prove!(profile.entity.end() == 1023);
-        let Ok(bytes) = write_snap(profile, message, baselines, None, buffer) else {
+        let base = frames.base_for(slot, number, client.delta);
+        let named = number_of(base);
+        message.section = Section::Snap {
+            base: named,
+            held: true,
+        };
+        let Ok(bytes) = write_snap(profile, message, baselines, view_of(base), buffer) else {
             return Emitted::Overlong;
         };
         self.sender.start(&buffer[..bytes]);
         self.sender.next(out);
         Emitted::Snapshot {
             number,
-            base: 0,
+            base: named,
             bytes,
         }
     }
+}
+
+/// The number of a base, 0 for none.
+fn number_of(base: Option<Base>) -> u32 {
+    match base {
+        Some(base) => base.number,
+        None => 0,
+    }
+}
+
+/// A base, as a message is written against it.
+fn view_of<'a>(base: Option<Base<'a>>) -> Option<BaseView<'a>> {
+    let base = base?;
+    Some(BaseView {
+        player: base.player,
+        entities: base.entities,
+    })
+}
+
+/// Whether no message of a number may be begun any more, where so many entities were placed.
+fn has_ended(number: u32, placed: u64) -> bool
+    ensures { result ≡ (nat_le sequence_end number || nat_lt most_placed placed) }
+{
+    number >= SEQUENCE_END || placed > MOST_PLACED
 }
 
 fn copy_area(from: &[u8], into: &mut ArrayVec<u8, 32>)

@@ -1,11 +1,11 @@
-//! What a client's message does to its slot. Keeps the rules "layout of a client message", "move key and text hash" and
+//! What a client's message does to its slot. Keeps the rules "layout of a client message", "move section", "move key and text hash" and
 //! "which moves run", the engine's `SV_ExecuteClientMessage` and `SV_UserMove` (sv_client.c). That a move runs exactly
 //! where its time is above that of the last one run is this project's own.
 
 ghost use Rattle.std.specs.Prelude.{◌≡◌, ◌≤◌, [], length};
 ghost use Rattle.q3_bits.specs.Streams.{holding};
 ghost use Rattle.q3_clmsg.specs.Values.{said_of};
-ghost use Rattle.q3_server.specs.Taking.{said_by, runs, last_run_of};
+ghost use Rattle.q3_server.specs.Taking.{said_by, delta_behind, runs, last_run_of};
 
 use arrayvec::ArrayVec;
 use q3_clmsg::{
@@ -85,4 +85,19 @@ pub(crate) fn run_moves(last: u32, moves: &[Move], into: &mut ArrayVec<Move, 32>
         }
     }
     last
+}
+
+/// The number of the snapshot that a client asks for behind a message: the one that its message acknowledges, or 0; a message
+/// without moves doesn't say.
+pub(crate) fn delta_behind(before: u32, message: &ClientMessage) -> u32
+    ensures { result ≡ delta_behind before (said_of message.now) }
+{
+    if message.moves.is_empty() {
+        return before;
+    }
+    if message.delta {
+        message.acknowledged
+    } else {
+        0
+    }
 }

@@ -14,10 +14,10 @@ use Rattle.q3_strings.specs.Laws.{IsCommand, NopIsSpelled}
 use Rattle.q3_profile.specs.declared.profile.Profile.{Profile}
 use Rattle.q3_profile.specs.Profile.{IsCodec}
 use Rattle.q3_svmsg.specs.declared.error.Illegible.TheVariants.{BadOp}
-use Rattle.q3_svmsg.specs.Values.{Context, Told, Nothing, Message}
+use Rattle.q3_svmsg.specs.Values.{Context, Told, Nothing, Message, HasNumber}
 use Rattle.q3_svmsg.specs.Reading.{field_read, commands_after, game_after, section_after, ending_after, operations_after, message_after}
 use Rattle.q3_svmsg.specs.Spelling.{SpellsSection}
-use Rattle.q3_svmsg.specs.Laws.{IsContext, HasNumber, IsReadTold, ReadIsSpelled}
+use Rattle.q3_svmsg.specs.Laws.{IsContext, IsReadTold, ReadIsSpelled}
 use Rattle.q3_svmsg.proofs.Below.{WasRead}
 use Rattle.q3_svmsg.proofs.Fields.{field_was}
 use Rattle.q3_svmsg.proofs.CommandsSpelled.{ReadCommand, command_was_spelled}

@@ -23,10 +23,10 @@ use Rattle.q3_entity.specs.Laws as entity
 use Rattle.q3_profile.specs.declared.profile.Profile.{Profile}
 use Rattle.q3_profile.specs.Profile.{IsCodec}
 use Rattle.q3_svmsg.specs.declared.error.Illegible.TheVariants.{Player, Entity}
-use Rattle.q3_svmsg.specs.Values.{Base, base_player, base_entities, number_of_base, IsNamed, Context, Told, Snap, Skipped}
+use Rattle.q3_svmsg.specs.Values.{Base, base_player, base_entities, number_of_base, IsNamed, Context, Told, Snap, Skipped, HasNumber}
 use Rattle.q3_svmsg.specs.Reading.{player_read, entities_read, field_read, held_base, snapshot_after, snapshot_skipped, against_base, area_after, section_after}
 use Rattle.q3_svmsg.specs.Spelling.{SpellsHead, SpellsSnapshot, SpellsSkippedSnapshot, SpellsSection}
-use Rattle.q3_svmsg.specs.Laws.{IsHead, AreEntities, IsContext, HasNumber, IsReadTold}
+use Rattle.q3_svmsg.specs.Laws.{IsHead, AreEntities, IsContext, IsReadTold}
 use Rattle.q3_svmsg.proofs.Fields.{field_was}
 use Rattle.q3_svmsg.proofs.Turns.{ReadsSection}
 use Rattle.q3_svmsg.proofs.CommandsSpelled.{area_was_spelled, area_is_read}

@@ -8,11 +8,11 @@ use Rattle.q3_player.specs.Delta.{player_delta}
 use Rattle.q3_entity.specs.Lists.{list_text}
 use Rattle.q3_profile.specs.declared.profile.Profile.{Profile}
 use Rattle.q3_profile.specs.Profile.{IsCodec}
-use Rattle.q3_svmsg.specs.Values.{Base, base_player, base_entities, Context, Told, Nothing, Game, Snap, Skipped, IsNamed, distance_to, number_of_base}
+use Rattle.q3_svmsg.specs.Values.{Base, base_player, base_entities, Context, Told, Nothing, Game, Snap, Skipped, IsNamed, distance_to, number_of_base, HasNumber}
 use Rattle.q3_svmsg.specs.Texts.{head_bits, snapshot_bits, section_bits, message_text}
 use Rattle.q3_svmsg.specs.Reading.{held_base}
 use Rattle.q3_svmsg.specs.Spelling.{SpellsSection}
-use Rattle.q3_svmsg.specs.Laws.{IsContext, IsTold, HasNumber, base_in, normal_told, WrittenIsSpelled}
+use Rattle.q3_svmsg.specs.Laws.{IsContext, IsTold, base_in, normal_told, WrittenIsSpelled}
 use Rattle.q3_svmsg.proofs.Below.{WasWritten}
 use Rattle.q3_svmsg.proofs.Held.{held_is_normal}
 

@@ -9,7 +9,7 @@ use Rattle.q3_entity.specs.Baselines.{AreLines}
 use Rattle.q3_profile.specs.declared.profile.Profile.{Profile}
 use Rattle.q3_profile.specs.Profile.{IsCodec}
 use Rattle.q3_gamestate.specs.Laws.{IsGamestate}
-use Rattle.q3_svmsg.specs.Values.{Base, IsNamed, Context, Told, Nothing, Game, Snap, Skipped, Message}
+use Rattle.q3_svmsg.specs.Values.{Base, IsNamed, Context, Told, Nothing, Game, Snap, Skipped, HasNumber, Message}
 use Rattle.q3_svmsg.specs.Texts.{message_text}
 use Rattle.q3_svmsg.specs.Spelling.{SpellsMessage}
 use Rattle.q3_svmsg.specs.Reading.{held_base, message_after}
@@ -47,11 +47,6 @@ IsTold profile context (Game game) = IsGamestate profile game
 IsTold profile context (Snap base head entities) =
     IsHead head × AreEntities profile entities × IsNamed (held_base context base) head.number base
 IsTold profile context (Skipped base) = ⊥
-
--- the number of a message is that of its snapshot
-abbrev pub HasNumber : ℕ → Told → Type 0
-HasNumber number (Snap base head entities) = head.number ≡ number
-HasNumber number other = Unit {0}
 
 pub record IsMessage (profile : Profile) (context : Context) (number : ℕ) (message : Message) : Type 0 where
   pub ack : message.ack < 2 ^ 32

@@ -8,6 +8,7 @@ use Rattle.q3_entity.specs.declared.state.EntityState.{EntityState}
 use Rattle.q3_fields.specs.Kinds.{Layout}
 use Rattle.q3_entity.specs.Entities.{IsList, run_of}
 use Rattle.q3_entity.specs.Baselines.{Lines}
+use Rattle.q3_ring.specs.Snapshot.{Snapshot}
 use Rattle.q3_gamestate.specs.Values.{Gamestate, gamestate_of}
 use Rattle.q3_svmsg.specs.declared.message.Section.{Section}
 use Rattle.q3_svmsg.specs.declared.message.Section.TheVariants as sections
@@ -18,6 +19,10 @@ use Rattle.q3_svmsg.specs.declared.bases.BaseView.{BaseView}
 pub record Base : Type 0 where
   pub player : PlayerState
   pub entities : List EntityState
+
+-- a snapshot as the base of another
+abbrev pub base_from : Snapshot → Base
+base_from snapshot = record { player = snapshot.head.player; entities = snapshot.entities }
 
 -- the player and the entities of a base; without one the zero player and no entities
 abbrev pub base_player : Option Base → PlayerState
@@ -71,13 +76,18 @@ abbrev pub HasList : Layout → Told → Type 0
 HasList table (Snap base head entities) = IsList table entities
 HasList table other = Unit {0}
 
+-- the number of a message is that of its snapshot
+abbrev pub HasNumber : ℕ → Told → Type 0
+HasNumber number (Snap base head entities) = head.number ≡ number
+HasNumber number other = Unit {0}
+
 -- the message with nothing in it
 abbrev pub empty_message : Message
 empty_message = record { ack = 0; commands = []; section = Nothing }
 
 -- a view of a base, as what it is
-abbrev pub base_of : BaseView → Base
-base_of view = record { player = view.player.now; entities = run_of view.entities }
+abbrev pub base_viewed : BaseView → Base
+base_viewed view = record { player = view.player.now; entities = run_of view.entities }
 
 -- how far a base is below a message's number; 0 for none
 abbrev pub distance_to : ℕ → ℕ → ℕ
@@ -102,8 +112,3 @@ HasSnap section against number = ⊥
 abbrev pub HasText : Section → Option Base → ℕ → Type 0
 HasText sections.Game against number = Unit {0}
 HasText section against number = HasSnap section against number
-
--- a snapshot: what is said of it, and its entities by rising number
-pub record Snapshot : Type 0 where
-  pub head : SnapHead
-  pub entities : List EntityState

@@ -3,7 +3,7 @@
 ghost use Rattle.std.specs.Prelude.{◌≡◌, option_map, IfSome};
 ghost use Rattle.q3_player.specs.State.{zero_player};
 ghost use Rattle.q3_entity.specs.Entities.{Rises, run_of};
-ghost use Rattle.q3_svmsg.specs.Values.{Context, base_of, base_player, base_entities};
+ghost use Rattle.q3_svmsg.specs.Values.{Context, base_viewed, base_player, base_entities};
 
 use q3_entity::{Baselines, Run};
 use q3_player::PlayerState;
@@ -22,7 +22,7 @@ pub trait Bases {
 
     /// The snapshot of a number, if it is held. Its entities rise by number, and there are at most 256.
     fn base(&self, number: u32) -> Option<BaseView<'_>>
-        ensures held { option_map base_of result ≡ (context self.now).base number }
+        ensures held { option_map base_viewed result ≡ (context self.now).base number }
         ensures rises { IfSome result (λ base. Rises (run_of base.entities)) };
 
     /// The baselines.
@@ -33,8 +33,8 @@ pub trait Bases {
 /// A base, or the zero player and no entities where there is none.
 pub(crate) fn base_or<'a>(against: Option<BaseView<'a>>, zero: &'a PlayerState) -> BaseView<'a>
     requires { zero.now ≡ zero_player }
-    ensures player { result.player.now ≡ base_player (option_map base_of against.entry) }
-    ensures entities { run_of result.entities ≡ base_entities (option_map base_of against.entry) }
+    ensures player { result.player.now ≡ base_player (option_map base_viewed against.entry) }
+    ensures entities { run_of result.entities ≡ base_entities (option_map base_viewed against.entry) }
 {
     match against {
         Some(base) => base,

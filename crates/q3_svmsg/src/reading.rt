@@ -8,7 +8,7 @@ ghost use Rattle.q3_bits.specs.Streams.{Reads, holding};
 ghost use Rattle.q3_player.specs.State.{zero_player};
 ghost use Rattle.q3_entity.specs.Entities.{Rises};
 ghost use Rattle.q3_gamestate.specs.Values.{Gamestate};
-ghost use Rattle.q3_svmsg.specs.Values.{Base, Game, Message, base_of, base_player, base_entities, number_of_base, game_of, told_of, section_of, HasList};
+ghost use Rattle.q3_svmsg.specs.Values.{Base, Game, Message, base_viewed, base_player, base_entities, number_of_base, game_of, told_of, section_of, HasList, HasNumber};
 ghost use Rattle.q3_svmsg.specs.Reading.{ack_at, area_after, game_after, held_base, snapshot_after, snapshot_skipped, against_base, section_after, ending_after, operations_after, commands_after, message_at, telling};
 
 use crate::bases::{BaseView, Bases, base_or};
@@ -72,8 +72,8 @@ fn base_at(number: u32, distance: u32) -> u32
 
 /// The snapshot of a number, if it is held.
 fn held<B: Bases>(bases: &B, number: u32) -> Option<BaseView<'_>>
-    ensures held { option_map base_of result ≡ held_base (B.context bases.now) number }
-    ensures rises { Rises (base_entities (option_map base_of result)) }
+    ensures held { option_map base_viewed result ≡ held_base (B.context bases.now) number }
+    ensures rises { Rises (base_entities (option_map base_viewed result)) }
 {
     if number == 0 {
         return None;
@@ -92,10 +92,11 @@ fn read_snapshot(
     head: &mut SnapHead,
     entities: &mut List,
 ) -> Result<Section, Illegible>
-    requires { Rises (base_entities (option_map base_of against)) }
-    ensures reads { (game : Gamestate) → Reads r.old r.new (snapshot_after (record profile.now { code = r.old.words }) baselines.now (option_map base_of against.entry) base head.old r.old.left)
+    requires { Rises (base_entities (option_map base_viewed against)) }
+    ensures reads { (game : Gamestate) → Reads r.old r.new (snapshot_after (record profile.now { code = r.old.words }) baselines.now (option_map base_viewed against.entry) base head.old r.old.left)
         (telling game head.new entities.new.items result) }
     ensures list { (game : Gamestate) → IfOk result (λ section. HasList profile.now.entity (section_of section game head.new entities.new.items)) }
+    ensures number { head.new.number ≡ head.old.number }
 {
     let zero = PlayerState::zero();
     let from = base_or(against, &zero);
@@ -129,6 +130,7 @@ fn read_against<B: Bases>(
     ensures reads { (game : Gamestate) → Reads r.old r.new (against_base (record profile.now { code = r.old.words }) (B.context bases.now) distance base (held_base (B.context bases.now) base) head.old r.old.left)
         (telling game head.new entities.new.items result) }
     ensures list { (game : Gamestate) → IfOk result (λ section. HasList profile.now.entity (section_of section game head.new entities.new.items)) }
+    ensures number { head.new.number ≡ head.old.number }
 {
     let against = held(bases, base);
     if against.is_none() && distance != 0 {
@@ -151,6 +153,7 @@ fn read_section<B: Bases>(
     ensures reads { (game : Gamestate) → Reads r.old r.new (section_after (record profile.now { code = r.old.words }) (B.context bases.now) number r.old.left)
         (telling game head.new entities.new.items result) }
     ensures list { (game : Gamestate) → IfOk result (λ section. HasList profile.now.entity (section_of section game head.new entities.new.items)) }
+    ensures number { head.new.number ≡ number }
 {
     *head = SnapHead::new();
     head.number = number;
@@ -208,10 +211,12 @@ fn read_operations<B: Bases>(
     into: &mut ServerMessage,
 ) -> Result<(), Illegible>
     requires list { HasList profile.now.entity (told_of into.old).section }
+    requires number { HasNumber number (told_of into.old).section }
     requires code { IsCode r.old.words }
     ensures reads { Reads r.old r.new (operations_after (record profile.now { code = r.old.words }) (B.context bases.now) number (length r.old.left) (told_of into.old) r.old.left)
         (holding (told_of into.new) result) }
     ensures list { OnOk result (HasList profile.now.entity (told_of into.new).section) }
+    ensures number { OnOk result (HasNumber number (told_of into.new).section) }
 {
     laws::turns_are_taken();
     laws::command_read_is_spelled();
@@ -261,6 +266,7 @@ pub fn read_server_message<B: Bases>(
 ) -> Result<(), Illegible>
     ensures reads { holding (told_of into.new) result ≡ message_at profile.now (B.context bases.now) number (bits_of bytes.now) }
     ensures list { OnOk result (HasList profile.now.entity (told_of into.new).section) }
+    ensures number { OnOk result (HasNumber number (told_of into.new).section) }
 {
     let mut r = Reader::new(&profile.code, bytes);
     into.commands.clear();

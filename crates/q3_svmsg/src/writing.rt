@@ -5,7 +5,7 @@ ghost use Rattle.std.specs.Prelude.{◌≡◌, ◌≤◌, length, None, option_m
 ghost use Rattle.q3_bits.specs.Streams.{Writes, Fills};
 ghost use Rattle.q3_entity.specs.Baselines.{Lines};
 ghost use Rattle.q3_entity.specs.Entities.{IsList};
-ghost use Rattle.q3_svmsg.specs.Values.{HasSnap, HasText, HasList, base_of, base_entities, distance_to, game_of, told_of};
+ghost use Rattle.q3_svmsg.specs.Values.{HasSnap, HasText, HasList, base_viewed, base_entities, distance_to, game_of, told_of};
 ghost use Rattle.q3_gamestate.specs.Values.{gamestate_of};
 ghost use Rattle.q3_svmsg.specs.Texts.{head_bits, snapshot_bits, section_bits, message_text};
 
@@ -30,12 +30,12 @@ pub fn write_snap(
     base: Option<BaseView>,
     into: &mut [u8],
 ) -> Result<usize, Overflow>
-    requires snap { HasSnap message.now.section (option_map base_of base) message.now.head.number }
+    requires snap { HasSnap message.now.section (option_map base_viewed base) message.now.head.number }
     requires entities { IsList profile.now.entity message.now.entities.value.items }
-    requires base_entities { IsList profile.now.entity (base_entities (option_map base_of base)) }
+    requires base_entities { IsList profile.now.entity (base_entities (option_map base_viewed base)) }
     requires some { 1 ≤ length into.old }
     requires most { length into.old ≤ 16384 }
-    ensures { Fills into.old into.new (message_text profile.now baselines.now (option_map base_of base.entry) (told_of message.now)) result }
+    ensures { Fills into.old into.new (message_text profile.now baselines.now (option_map base_viewed base.entry) (told_of message.now)) result }
 {
     fill(profile, message, baselines, base, into)
 }
@@ -63,12 +63,12 @@ fn fill(
     base: Option<BaseView>,
     into: &mut [u8],
 ) -> Result<usize, Overflow>
-    requires section { HasText message.now.section (option_map base_of base) message.now.head.number }
+    requires section { HasText message.now.section (option_map base_viewed base) message.now.head.number }
     requires entities { HasList profile.now.entity (told_of message.now).section }
-    requires base_entities { IsList profile.now.entity (base_entities (option_map base_of base)) }
+    requires base_entities { IsList profile.now.entity (base_entities (option_map base_viewed base)) }
     requires some { 1 ≤ length into.old }
     requires most { length into.old ≤ 16384 }
-    ensures { Fills into.old into.new (message_text profile.now baselines.now (option_map base_of base.entry) (told_of message.now)) result }
+    ensures { Fills into.old into.new (message_text profile.now baselines.now (option_map base_viewed base.entry) (told_of message.now)) result }
 {
     let mut w = Writer::new(&profile.code, into.len());
     write_message(&mut w, profile, message, baselines, base)?;
@@ -84,10 +84,10 @@ fn write_message(
     baselines: &Baselines,
     base: Option<BaseView>,
 ) -> Result<(), Overflow>
-    requires section { HasText message.now.section (option_map base_of base) message.now.head.number }
+    requires section { HasText message.now.section (option_map base_viewed base) message.now.head.number }
     requires entities { HasList profile.now.entity (told_of message.now).section }
-    requires base_entities { IsList profile.now.entity (base_entities (option_map base_of base)) }
-    ensures { Writes w.old w.new (message_text (record profile.now { code = w.old.words }) baselines.now (option_map base_of base.entry) (told_of message.now)) result }
+    requires base_entities { IsList profile.now.entity (base_entities (option_map base_viewed base)) }
+    ensures { Writes w.old w.new (message_text (record profile.now { code = w.old.words }) baselines.now (option_map base_viewed base.entry) (told_of message.now)) result }
 {
     laws::texts_are_written();
     w.put_all(&[(message.ack, 32)])?;
@@ -105,10 +105,10 @@ fn write_section(
     baselines: &Baselines,
     base: Option<BaseView>,
 ) -> Result<(), Overflow>
-    requires section { HasText message.now.section (option_map base_of base) message.now.head.number }
+    requires section { HasText message.now.section (option_map base_viewed base) message.now.head.number }
     requires entities { HasList profile.now.entity (told_of message.now).section }
-    requires base_entities { IsList profile.now.entity (base_entities (option_map base_of base)) }
-    ensures { Writes w.old w.new (section_bits (record profile.now { code = w.old.words }) baselines.now (option_map base_of base.entry) (told_of message.now).section) result }
+    requires base_entities { IsList profile.now.entity (base_entities (option_map base_viewed base)) }
+    ensures { Writes w.old w.new (section_bits (record profile.now { code = w.old.words }) baselines.now (option_map base_viewed base.entry) (told_of message.now).section) result }
 {
     match message.section {
         Section::Game => write_gamestate(
@@ -158,8 +158,8 @@ fn write_snapshot(
 ) -> Result<(), Overflow>
     requires number { number ≤ head.now.number }
     requires entities { IsList profile.now.entity entities.now }
-    requires base_entities { IsList profile.now.entity (base_entities (option_map base_of base)) }
-    ensures { Writes w.old w.new (snapshot_bits (record profile.now { code = w.old.words }) baselines.now (option_map base_of base.entry) number head.now entities.now) result }
+    requires base_entities { IsList profile.now.entity (base_entities (option_map base_viewed base)) }
+    ensures { Writes w.old w.new (snapshot_bits (record profile.now { code = w.old.words }) baselines.now (option_map base_viewed base.entry) number head.now entities.now) result }
 {
     laws::texts_are_written();
     let zero = PlayerState::zero();

@@ -39,6 +39,7 @@ loop-r-preserved-in-1 g c =
         reads = sym (operations_nop profile _ c.args.number _ c.loop-r.r.left c.get.new.self.left h.turns one.left read one.is) ∙ h.reads;
       };
       list = c.loop-r.invariant.list;
+      number = c.loop-r.invariant.number;
     }
 
 pub loop-r-smaller : goal.loop-r-smaller
@@ -72,6 +73,7 @@ loop-r-preserved g c =
         reads = sym (operations_command profile _ c.args.number (told_of c.loop-r.into) c.loop-r.r.left c.get.new.self.left c.read_next_command.new.r.left c.read_next_command.new.commands.items h.turns one.left read one.is command) ∙ h.reads;
       };
       list = c.loop-r.invariant.list;
+      number = c.loop-r.invariant.number;
     }
 
 pub returns-in_err-read_next_command-in-5-clause-reads : goal.returns-in_err-read_next_command-in-5-clause-reads

@@ -1,0 +1,28 @@
+-- How a client's state is kept, and what is done with a snapshot.
+use Rattle.std.specs.Prelude.{ℕ, if◌then◌else◌}
+use Rattle.q3_ring.specs.Snapshot.{Snapshot}
+use Rattle.q3_rings.specs.Rings.{HeldSnapshots, accept_at, held_snapshot}
+use Rattle.q3_clstate.specs.declared.applied.SnapOutcome.{SnapOutcome}
+use Rattle.q3_clstate.specs.declared.applied.SnapOutcome.TheVariants.{Accepted, Skipped, Stale}
+use Rattle.q3_clstate.specs.declared.state.ClState.TheInside.{Inside}
+use Rattle.q3_clstate.specs.State.{AppliedState, is_stale, skipped_for}
+
+abbrev pub state_in : Inside → AppliedState
+state_in s = record {
+  profile = s.profile;
+  number = s.number;
+  has_game = s.has_game;
+  lines = s.holding.baselines;
+  held = s.holding.rings.held;
+}
+
+-- what is held behind a snapshot that was read, and what is told of it
+abbrev pub held_behind : HeldSnapshots → ℕ → Snapshot → HeldSnapshots
+held_behind held number snapshot = if is_stale held number then held else accept_at held snapshot
+
+abbrev pub read_outcome : HeldSnapshots → ℕ → ℕ → SnapOutcome
+read_outcome held number base = if is_stale held number then Stale else Accepted base
+
+-- what is told of one that was skipped
+abbrev pub skipped_outcome : HeldSnapshots → ℕ → ℕ → SnapOutcome
+skipped_outcome held number base = if is_stale held number then Stale else Skipped base (skipped_for (held_snapshot held base))

@@ -1,0 +1,26 @@
+-- What became of a message, as reports print it.
+use Rattle.std.specs.Prelude.{ℕ, List, [], ◌∷◌, codes, decimal}
+use Rattle.std.specs.List.{concat}
+use Rattle.q3_rings.specs.declared.rings.NoBase.{NoBase}
+use Rattle.q3_rings.specs.declared.rings.NoBase.TheVariants.{NeverHeld, Overwritten, EntitiesGone}
+use Rattle.q3_clstate.specs.declared.applied.Applied.{Applied}
+use Rattle.q3_clstate.specs.declared.applied.SnapOutcome.{SnapOutcome}
+use Rattle.q3_clstate.specs.declared.applied.SnapOutcome.TheVariants.{NoSnap, Accepted, Skipped, Stale}
+
+-- why a base isn't held
+abbrev pub cause_text : NoBase → List ℕ
+cause_text NeverHeld = codes "neverheld"
+cause_text (Overwritten other) = concat (codes "overwritten " ∷ decimal other ∷ [])
+cause_text (EntitiesGone age) = concat (codes "entitiesgone " ∷ decimal age ∷ [])
+
+-- the line of a snapshot, where the message has one
+abbrev pub outcome_text : ℕ → SnapOutcome → List ℕ
+outcome_text number NoSnap = []
+outcome_text number (Accepted base) = concat (codes "+ accepted " ∷ decimal number ∷ codes " base " ∷ decimal base ∷ codes "\n" ∷ [])
+outcome_text number (Skipped base cause) =
+    concat (codes "+ skipped " ∷ decimal number ∷ codes " base " ∷ decimal base ∷ codes " " ∷ cause_text cause ∷ codes "\n" ∷ [])
+outcome_text number Stale = concat (codes "+ stale " ∷ decimal number ∷ codes "\n" ∷ [])
+
+-- the lines under an applied message
+abbrev pub applied_text : Applied → List ℕ
+applied_text applied = outcome_text applied.number applied.snap

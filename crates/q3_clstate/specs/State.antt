@@ -1,0 +1,125 @@
+-- What the messages that were applied left at a client, and what one more does.
+use Rattle.std.specs.Prelude.{ℕ, zero, suc, ◌+◌, nat_le, if◌then◌else◌, Bool, true, false, List, Option, Some, None, option_map, Result, Ok, Err, is_ok}
+use Rattle.q3_bits.specs.Bits.{bits_of}
+use Rattle.q3_bits.specs.ResultBind.{◌>>=◌}
+use Rattle.q3_profile.specs.declared.profile.Profile.{Profile}
+use Rattle.q3_entity.specs.Baselines.{Lines, no_lines}
+use Rattle.q3_gamestate.specs.Values.{Gamestate}
+use Rattle.q3_svmsg.specs.declared.error.Illegible.{Illegible}
+use Rattle.q3_svmsg.specs.Values as told
+use Rattle.q3_svmsg.specs.Values.{base_from, Context, Told, Message}
+use Rattle.q3_svmsg.specs.Reading.{message_at}
+use Rattle.q3_ring.specs.Snapshot.{Snapshot}
+use Rattle.q3_rings.specs.declared.rings.NoBase.{NoBase}
+use Rattle.q3_rings.specs.declared.rings.NoBase.TheVariants.{NeverHeld}
+use Rattle.q3_rings.specs.Rings.{HeldSnapshots, no_snapshots, held_snapshot, view_at, accept_at}
+use Rattle.q3_clstate.specs.declared.applied.Applied.{Applied}
+use Rattle.q3_clstate.specs.declared.applied.SnapOutcome.{SnapOutcome}
+use Rattle.q3_clstate.specs.declared.applied.SnapOutcome.TheVariants.{NoSnap, Accepted, Skipped, Stale}
+
+-- by which profile messages are read; the number of the last one that was applied, 0 for none; whether a gamestate was
+-- applied, and the baselines of the last; and the snapshots that are held since then
+pub record AppliedState : Type 0 where
+  pub profile : Profile
+  pub number : ℕ
+  pub has_game : Bool
+  pub lines : Lines
+  pub held : HeldSnapshots
+
+-- no message was applied
+abbrev pub new_state : Profile → AppliedState
+new_state profile = record { profile = profile; number = 0; has_game = false; lines = no_lines; held = no_snapshots profile.parse_ring }
+
+-- ---- what a message is read against
+
+-- the snapshots that are held, by number, and the baselines
+abbrev pub context_of : HeldSnapshots → Lines → Context
+context_of held lines = record { base = λ number. option_map base_from (view_at held number); lines = lines }
+
+-- ---- what a message does
+
+-- the state after a message, what became of it, and the snapshot that was accepted, if one was
+pub record Application : Type 0 where
+  pub state : AppliedState
+  pub answer : Applied
+  pub accepted : Option Snapshot
+
+-- a message is applied of which no snapshot is accepted
+abbrev pub passes : AppliedState → ℕ → SnapOutcome → Application
+passes state number outcome = record {
+  state = record state { number = number };
+  answer = record { number = number; game = false; snap = outcome };
+  accepted = None;
+}
+
+-- a snapshot is accepted, against the base of a number, 0 for none
+abbrev pub accepts : AppliedState → ℕ → ℕ → Snapshot → Application
+accepts state number base snapshot = record {
+  state = record state { number = number; held = accept_at state.held snapshot };
+  answer = record { number = number; game = false; snap = Accepted base };
+  accepted = Some snapshot;
+}
+
+-- a gamestate is applied: no snapshot of before is held any more, and its baselines take the place of others
+abbrev pub applies_game : AppliedState → ℕ → Gamestate → Application
+applies_game state number game = record {
+  state = record state { number = number; has_game = true; lines = game.lines; held = no_snapshots state.held.ring };
+  answer = record { number = number; game = true; snap = NoSnap };
+  accepted = None;
+}
+
+-- whether a snapshot isn't newer than all that were accepted
+abbrev pub is_stale : HeldSnapshots → ℕ → Bool
+is_stale held number = nat_le number held.newest
+
+-- why a snapshot was skipped: its base isn't held; one that is held is no cause
+abbrev pub skipped_for : Result Snapshot NoBase → NoBase
+skipped_for (Err cause) = cause
+skipped_for (Ok snapshot) = NeverHeld
+
+-- what the section of a message does, as it was read
+abbrev pub apply_section : AppliedState → ℕ → Told → Application
+apply_section state number told.Nothing = passes state number NoSnap
+apply_section state number (told.Game game) = applies_game state number game
+apply_section state number (told.Snap base head entities) =
+    if is_stale state.held number then passes state number Stale
+    else accepts state number base (record { head = head; entities = entities })
+apply_section state number (told.Skipped base) =
+    if is_stale state.held number then passes state number Stale
+    else passes state number (Skipped base (skipped_for (held_snapshot state.held base)))
+
+-- what a message of a number does, as it was read
+abbrev pub apply_read : AppliedState → ℕ → Message → Application
+apply_read state number message = apply_section state number message.section
+
+-- what bytes do as a message of a number
+abbrev pub apply_at : AppliedState → ℕ → List ℕ → Result Application Illegible
+apply_at state number message = do
+  read ← message_at state.profile (context_of state.held state.lines) number (bits_of message)
+  Ok (apply_read state number read)
+
+-- the state behind bytes: what isn't legible changes nothing
+abbrev pub state_behind : AppliedState → Result Application Illegible → AppliedState
+state_behind state (Ok applied) = applied.state
+state_behind state (Err e) = state
+
+-- and what is answered
+abbrev pub answered : Result Application Illegible → Result Applied Illegible
+answered (Ok applied) = Ok applied.answer
+answered (Err e) = Err e
+
+-- ---- the same of a message's whole value
+
+-- whether a snapshot can be read against the base of a number: 0 is that of a whole one, which needs none
+abbrev pub has_base : HeldSnapshots → ℕ → Bool
+has_base held zero = true
+has_base held (suc base) = is_ok (held_snapshot held (base + 1))
+
+-- a section as a client reads it: of a snapshot whose base isn't held nothing is kept
+abbrev pub received : HeldSnapshots → Told → Told
+received held (told.Snap base head entities) = if has_base held base then told.Snap base head entities else told.Skipped base
+received held section = section
+
+-- what the whole value of a message of a number does
+abbrev pub apply_message : AppliedState → ℕ → Message → Application
+apply_message state number message = apply_section state number (received state.held message.section)

@@ -1,0 +1,108 @@
+//! What a message is read against.
+
+ghost use Rattle.std.specs.Prelude.{◌≡◌, ◌≤◌, IfOk};
+ghost use Rattle.q3_entity.specs.Baselines.{no_lines};
+ghost use Rattle.q3_entity.specs.Entities.{Rises};
+ghost use Rattle.q3_rings.specs.Rings.{no_snapshots, held_snapshot};
+ghost use Rattle.q3_clstate.specs.State.{skipped_for};
+ghost use Rattle.q3_clstate.specs.Kept.{held_behind, read_outcome, skipped_outcome};
+
+use crate::applied::SnapOutcome;
+use q3_bits::NoMemory;
+use q3_entity::{Baselines, EntityState};
+use q3_player::SnapHead;
+use q3_rings::{NoBase, Rings};
+use q3_svmsg::{BaseView, Bases, ServerMessage};
+use std::alloc::Global;
+use std::mem::swap;
+
+/// The snapshots that are held, and the baselines of the last gamestate.
+#[derive(Drop)]
+pub(crate) struct Holding {
+    pub rings: Rings,
+    pub baselines: Baselines,
+}
+
+impl Holding {
+    /// Nothing is held, in a ring for 512 to 65,536 entities, and no baseline is set. `Err` is want of memory.
+    pub fn new(alloc: Global, ring: u32) -> Result<Holding, NoMemory>
+        requires least { 512 ≤ ring }
+        requires most { ring ≤ 65536 }
+        ensures held { IfOk result (λ holding. holding.rings.held ≡ no_snapshots ring) }
+        ensures lines { IfOk result (λ holding. holding.baselines ≡ no_lines) }
+    {
+        Ok(Holding {
+            rings: Rings::new(alloc, ring)?,
+            baselines: Baselines::new(alloc)?,
+        })
+    }
+
+    /// A gamestate was read: nothing of before is held any more, and its baselines take the place of the others.
+    pub fn start(&mut self, message: &mut ServerMessage)
+        ensures held { self.new.rings.held ≡ no_snapshots self.old.rings.held.ring }
+        ensures lines { self.new.baselines ≡ message.old.baselines }
+    {
+        self.rings.wipe();
+        swap(&mut self.baselines, &mut message.baselines);
+    }
+
+    /// What becomes of a snapshot that was read under a number: it is accepted where it is newer than all others.
+    pub fn accept(
+        &mut self,
+        number: u32,
+        base: u32,
+        head: &SnapHead,
+        entities: &[EntityState],
+    ) -> SnapOutcome
+        requires number { head.now.number ≡ number }
+        requires rises { Rises entities.now }
+        ensures held { self.new.rings.held ≡ held_behind self.old.rings.held number (record { head = head.now; entities = entities.now }) }
+        ensures lines { self.new.baselines ≡ self.old.baselines }
+        ensures outcome { result ≡ read_outcome self.old.rings.held number base }
+    {
+        if number <= self.rings.newest() {
+            return SnapOutcome::Stale;
+        }
+        self.rings.accept(head, entities);
+        SnapOutcome::Accepted { base }
+    }
+
+    /// What is told of a snapshot of a number that was skipped, since its base isn't held.
+    pub fn skip(&self, number: u32, base: u32) -> SnapOutcome
+        ensures { result ≡ skipped_outcome self.now.rings.held number base }
+    {
+        if number <= self.rings.newest() {
+            return SnapOutcome::Stale;
+        }
+        let cause = self.cause(base);
+        SnapOutcome::Skipped { base, cause }
+    }
+
+    /// Why a snapshot isn't held.
+    fn cause(&self, number: u32) -> NoBase
+        ensures { result ≡ skipped_for (held_snapshot self.now.rings.held number) }
+    {
+        match self.rings.base(number) {
+            Ok(_) => NoBase::NeverHeld,
+            Err(cause) => cause,
+        }
+    }
+}
+
+impl Bases for Holding {
+    ghost use Rattle.q3_clstate.specs.State.{context_of};
+
+    ghost context = { λ h. context_of h.rings.held h.baselines };
+
+    fn base(&self, number: u32) -> Option<BaseView<'_>> {
+        let view = self.rings.view(number)?;
+        Some(BaseView {
+            player: view.player,
+            entities: view.entities,
+        })
+    }
+
+    fn baselines(&self) -> &Baselines {
+        &self.baselines
+    }
+}

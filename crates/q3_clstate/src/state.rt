@@ -1,0 +1,144 @@
+//! What a client has of the messages that were applied. Keeps the rules "held snapshots of a client", "snapshot whose base
+//! is not held" and, as far as it is built, "what a gamestate resets": the engine's `CL_ParseServerMessage`,
+//! `CL_ParseSnapshot` and `CL_ParseGamestate` (cl_parse.c). Which bases are held, and that a snapshot without its base
+//! changes nothing, is this project's own.
+
+ghost use Rattle.std.specs.Prelude.{◌≡◌, ◌<◌, ◌≤◌, option_map, slice_index_or, None, IfOk, IfSome};
+ghost use Rattle.q3_entity.specs.Entities.{Rises, run_of};
+ghost use Rattle.q3_rings.specs.Loans.{snapshot_of, head_of, head_from};
+ghost use Rattle.q3_rings.specs.Rings.{AreHeldSnapshots, view_at};
+ghost use Rattle.q3_clstate.specs.State.{new_state, apply_at, state_behind, answered};
+
+use crate::applied::{Applied, SnapOutcome};
+use crate::holding::Holding;
+use q3_bits::NoMemory;
+use q3_profile::Profile;
+use q3_rings::{Held, NoBase, SnapView};
+use q3_svmsg::{Illegible, Section, ServerMessage, read_server_message};
+use std::alloc::Global;
+use std::marker::Model;
+
+/// What the messages that were applied left: a copy of the profile by which they are read, the number of the last, whether a
+/// gamestate was among them, and what others are read against; and a place to read into. After `new` no call takes memory.
+#[derive(Drop)]
+pub struct ClState {
+    profile: Profile,
+    number: u32,
+    has_game: bool,
+    holding: Holding,
+    message: ServerMessage,
+}
+
+impl Model for ClState {
+    ghost use Rattle.q3_clstate.specs.State.{AppliedState};
+
+    ghost Value = { AppliedState };
+
+    ghost use Rattle.q3_clstate.specs.Kept.{state_in};
+
+    ghost view = { state_in };
+}
+
+impl ClState {
+    /// No message was applied. The profile's ring for a client's entities has 512 to 65,536 places. `Err` is want of memory.
+    pub fn new(alloc: Global, profile: &Profile) -> Result<ClState, NoMemory>
+        requires least { 512 ≤ profile.now.parse_ring }
+        requires most { profile.now.parse_ring ≤ 65536 }
+        ensures { IfOk result (λ state. state ≡ new_state profile.now) }
+    {
+        Ok(ClState {
+            profile: profile.copy()?,
+            number: 0,
+            has_game: false,
+            holding: Holding::new(alloc, profile.parse_ring)?,
+            message: ServerMessage::new(alloc)?,
+        })
+    }
+
+    /// Applies a message of a number, any bytes. `Err` is why it isn't legible; nothing changes then.
+    ///
+    /// Of its snapshot `Stale` is told exactly where the number isn't above the newest accepted since the last gamestate, else
+    /// `Skipped` exactly where its base isn't held, and why, else `Accepted`. A gamestate ends what was held before.
+    pub fn apply(&mut self, number: u32, message: &[u8]) -> Result<Applied, Illegible>
+        ensures state { self.new ≡ state_behind self.old (apply_at self.old number message.now) }
+        ensures answer { result ≡ answered (apply_at self.old number message.now) }
+    {
+        read_server_message(
+            &self.profile,
+            number,
+            message,
+            &self.holding,
+            &mut self.message,
+        )?;
+        self.number = number;
+        let snap = match self.message.section {
+            Section::Nothing => SnapOutcome::NoSnap,
+            Section::Game => {
+                self.has_game = true;
+                self.holding.start(&mut self.message);
+                return Ok(Applied {
+                    number,
+                    game: true,
+                    snap: SnapOutcome::NoSnap,
+                });
+            }
+            Section::Snap { base, held: true } => {
+                let message = &self.message;
+                self.holding
+                    .accept(number, base, &message.head, &message.entities)
+            }
+            Section::Snap { base, held: false } => self.holding.skip(number, base),
+        };
+        Ok(Applied {
+            number,
+            game: false,
+            snap,
+        })
+    }
+
+    /// The profile by which messages are read.
+    pub fn profile(&self) -> &Profile
+        ensures { result.now ≡ self.now.profile }
+    {
+        &self.profile
+    }
+
+    /// The number of the last message applied, 0 for none.
+    pub fn number(&self) -> u32
+        ensures { result ≡ self.now.number }
+    {
+        self.number
+    }
+
+    /// Whether a gamestate was applied.
+    pub fn has_game(&self) -> bool
+        ensures { result ≡ self.now.has_game }
+    {
+        self.has_game
+    }
+
+    /// Lends the snapshot of a number, if it is held.
+    pub fn view(&self, number: u32) -> Option<SnapView<'_>>
+        ensures view { option_map snapshot_of result ≡ view_at self.now.held number }
+        ensures rises { IfSome result (λ view. Rises (run_of view.entities)) }
+    {
+        self.holding.rings.view(number)
+    }
+
+    /// Lends the head of the snapshot in a place below 32, and its age, also where its entities are gone. `None` comes
+    /// exactly where none stands there.
+    pub fn held(&self, place: u8) -> Option<Held<'_>>
+        requires { place < 32 }
+        ensures { option_map head_of result ≡ option_map head_from (slice_index_or self.now.held.places place None) }
+    {
+        self.holding.rings.held(place)
+    }
+
+    /// The newest number accepted since the last gamestate, 0 for none.
+    pub fn newest(&self) -> u32
+        ensures newest { result ≡ self.now.held.newest }
+        ensures held { AreHeldSnapshots self.now.held }
+    {
+        self.holding.rings.newest()
+    }
+}
