@@ -43,6 +43,16 @@ pub record AreHeld (profile : Profile) (entities : List EntityState) : Type 0 wh
   pub states : AreStates entities
   pub normal : AreNormal profile.entity entities
 
+-- a snapshot as it is built
+pub record IsSnapshot (profile : Profile) (snapshot : Snapshot) : Type 0 where
+  pub number : snapshot.head.number < sequence_end
+  pub time : snapshot.head.time < 2 ^ 32
+  pub flags : snapshot.head.flags ≡ 0
+  pub area : IsArea snapshot.head.area.items
+  pub player : IsHeld profile snapshot.head.player
+  pub entities : AreHeld profile snapshot.entities
+  pub few : length snapshot.entities ≤ most_entities
+
 -- a base is below its message, at most by 28
 pub record IsNear (n : ℕ) (base : Snapshot) : Type 0 where
   pub some : 0 < base.head.number
@@ -54,11 +64,5 @@ pub record IsBuilt (profile : Profile) (n : ℕ) (built : Built) : Type 0 where
   pub snapshot : Snapshot
   pub is : built ≡ built_of built.base snapshot
   pub number : snapshot.head.number ≡ n
-  pub fits : n < sequence_end
-  pub time : snapshot.head.time < 2 ^ 32
-  pub flags : snapshot.head.flags ≡ 0
-  pub area : IsArea snapshot.head.area.items
-  pub player : IsHeld profile snapshot.head.player
-  pub entities : AreHeld profile snapshot.entities
-  pub few : length snapshot.entities ≤ most_entities
+  pub are : IsSnapshot profile snapshot
   pub base_is : IfSome built.base (IsNear n)

@@ -35,14 +35,14 @@ last_time before (one ∷ moves) = last_time one.time moves
 abbrev pub last_run_of : ℕ → List Move → ℕ
 last_run_of last moves = last_time last (runs last moves)
 
--- the number of the snapshot that a client asks for behind a message: the one that its message acknowledges, or none; a message
--- without moves doesn't say
+-- the number of the snapshot that a client asks for behind a message with these moves: the one that it acknowledges, or none;
+-- one without moves doesn't say
+abbrev pub asked_with : ℕ → Message → List Move → ℕ
+asked_with before message [] = before
+asked_with before message (one ∷ moves) = if message.delta then message.acknowledged else 0
+
 abbrev pub delta_behind : ℕ → Message → ℕ
-delta_behind before message = asked message.moves
-  where
-    asked : List Move → ℕ
-    asked [] = before
-    asked (one ∷ moves) = if message.delta then message.acknowledged else 0
+delta_behind before message = asked_with before message message.moves
 
 -- what a take of a slot gives: the slot after it, the answer, and the moves that were run
 pub record SlotTaken : Type 0 where

@@ -1,7 +1,7 @@
 -- A step by bytes is a step by tags: what that rests on, and where nothing changes.
 use Rattle.std.proofs.Common.{◌≡◌, ℕ, ◌≤◌, List, map, Option, Some, None, Ok, refl, sym, subst, inl, inr}
-use Rattle.std.specs.Prelude.{◌⊎◌}
-use Rattle.q3_bits.specs.Bits.{bits_of, message_bytes}
+use Rattle.std.specs.Prelude.{◌⊎◌, IfSome}
+use Rattle.q3_bits.specs.Bits.{bits_of}
 use Rattle.q3_bits.specs.Laws.{MessageIsBytes}
 use Rattle.q3_profile.specs.declared.profile.Profile.{Profile}
 use Rattle.q3_player.specs.State.{zero_player, normal_player, IsState}
@@ -11,15 +11,19 @@ use Rattle.q3_fields.specs.Kinds.{end_mark}
 use Rattle.q3_entity.specs.declared.state.EntityState.{EntityState}
 use Rattle.q3_entity.specs.Entities.{normal_entity, IsNormal}
 use Rattle.q3_clmsg.specs.Laws.{IsMessage}
-use Rattle.q3_svmsg.specs.Values.{Message}
+use Rattle.q3_entity.specs.Baselines.{no_lines}
 use Rattle.q3_svmsg.specs.Reading.{message_at}
+use Rattle.q3_rings.specs.Rings.{HeldSnapshots}
+use Rattle.q3_clstate.specs.State.{context_of, received}
 use Rattle.q3_chan.specs.Senders.{QportIsTold}
 use Rattle.q3_chan.specs.Laws.{SentIsTagged, TaggedDoes, EndsGather, EndsSend}
-use Rattle.q3_client.specs.Client.{no_bases, ClientState}
+use Rattle.q3_client.specs.Client.{ClientState}
 use Rattle.q3_client.specs.Sending.{said_bytes, Said}
-use Rattle.q3_server.specs.Built.{IsHeld, IsBuilt}
-use Rattle.q3_server.specs.Server.{built_bits}
+use Rattle.q3_server.specs.Built.{Built, IsHeld, IsSnapshot, IsBuilt}
+use Rattle.q3_server.specs.Server.{built_bytes}
 use Rattle.q3_server.specs.Taking.{said_by}
+use Rattle.q3_world.specs.MessageLaws.{AreBuilt, HoldsThis}
+use Rattle.q3_world.specs.Layers.{FrameLaws, RingLaws}
 use Rattle.q3_world.specs.Ends.{client_at}
 use Rattle.q3_world.specs.Kept.{Kept, KeptStep}
 use Rattle.q3_world.specs.World.{Tag, Step, Whole, History, history_at, with_history}
@@ -31,15 +35,18 @@ use Rattle.q3_world.proofs.Events.{Holds, with_client_of, same_clients}
 
 -- a message that was built is read back
 abbrev pub ReadsBack : Profile → Type 0
-ReadsBack profile = (number : ℕ) (message : Message) → IsBuilt profile number message
-    → message_at profile no_bases number (bits_of (message_bytes (built_bits profile message))) ≡ Ok message
+ReadsBack profile = (held : HeldSnapshots) (number : ℕ) (built : Built) → IsBuilt profile number built
+    → AreBuilt profile held → IfSome built.base (λ base. IsSnapshot profile base × HoldsThis held base)
+    → message_at profile (context_of held no_lines) number (bits_of (built_bytes profile built))
+    ≡ Ok (record built.message { section = received held built.message.section })
 
 -- and one that a client said
 abbrev pub HearsBack : Profile → Type 0
 HearsBack profile = (said : Said) → IsMessage said → said_by profile (said_bytes profile said) ≡ Ok said
 
--- what is read back, which players and entities are in normal form, which numbers entities may have, what a datagram does that was
--- sent and which qport it tells, and how many bytes a message has
+-- what is read back, which players and entities are in normal form, which numbers entities may have, how much room a client's ring
+-- has, what a datagram does that was sent and which qport it tells, how many bytes a message has, and what a server's frames and
+-- a client hold
 pub record Cited (profile : Profile) : Type 0 where
   pub reads : ReadsBack profile
   pub hears : HearsBack profile
@@ -48,12 +55,15 @@ pub record Cited (profile : Profile) : Type 0 where
   pub normal_entity : (entity : EntityState) → AreWords 64 entity.words
       → AreWords 64 (normal_entity profile.entity entity).words × IsNormal profile.entity (normal_entity profile.entity entity)
   pub end : 1023 ≤ end_mark profile.entity
+  pub ring : 512 ≤ profile.parse_ring
   pub tags : SentIsTagged
   pub qport : QportIsTold
   pub does : TaggedDoes
   pub gathers : EndsGather
   pub sends : EndsSend
   pub bytes : MessageIsBytes
+  pub frames : FrameLaws
+  pub rings : RingLaws
 
 -- ---- what is kept of a whole world
 

@@ -1,9 +1,9 @@
 -- A datagram arrives by its bytes as by its tag.
-use Rattle.std.proofs.Common.{◌≡◌, ℕ, ◌-◌, ◌^◌, ◌<◌, true, List, [], length, Option, Some, None, Result, Ok, refl, sym, ap, subst, ◌∙◌, inl, inr, arith, lit<}
-use Rattle.std.specs.Prelude.{slice_get, All, Contains}
+use Rattle.std.proofs.Common.{◌≡◌, ℕ, ◌-◌, ◌^◌, ◌<◌, Bool, true, false, List, [], ◌∷◌, length, Option, Some, None, Result, Ok, refl, sym, ap, subst, ◌∙◌, inl, inr, arith, lit<}
+use Rattle.std.specs.Prelude.{slice_get, All, Contains, ◌⊎◌, IfSome}
 use Rattle.std.specs.Option.{option_map}
 use Rattle.std.proofs.lemmas.List.{append-nil}
-use Rattle.std.proofs.lemmas.List.Elements.{All-nil}
+use Rattle.std.proofs.lemmas.List.Elements.{All-nil, All-get_or}
 use Rattle.std.proofs.lemmas.Option.{slice_get-map, slice_get_within, get_or_from_slice_get}
 use Rattle.q3_profile.specs.declared.profile.Profile.{Profile}
 use Rattle.q3_io.specs.declared.address.Address.{Address}
@@ -14,7 +14,9 @@ use Rattle.q3_clmsg.specs.Laws.{IsMessage}
 use Rattle.q3_clmsg.specs.Values as client_told
 use Rattle.q3_clmsg.specs.Values.{empty_message}
 use Rattle.q3_svmsg.specs.declared.error.Illegible.{Illegible}
-use Rattle.q3_svmsg.specs.Values.{Message}
+use Rattle.q3_ring.specs.Snapshot.{Snapshot}
+use Rattle.q3_rings.specs.Rings.{accept_at}
+use Rattle.q3_clstate.specs.State.{AppliedState, Application, passes, accepts, apply_at, apply_message}
 use Rattle.q3_chan.specs.declared.side.Side.{Side}
 use Rattle.q3_chan.specs.declared.side.Side.TheVariants.{Server, Client}
 use Rattle.q3_chan.specs.declared.gatherer.Gathered.{Gathered}
@@ -26,21 +28,25 @@ use Rattle.q3_chan.specs.Gathering.{Gathering, Took, gathered as gathered_of}
 use Rattle.q3_chan.specs.Tags.{tagged, IsQuiet, PieceDoes}
 use Rattle.q3_chan.specs.Senders.{qport_of}
 use Rattle.q3_chan.specs.Laws.{HoldsFront, SentIsTagged, Gathers}
-use Rattle.q3_client.specs.Client.{ClientState, Taken, without_game, read_by, take_answer, take_gathered, take_unless, take_at}
+use Rattle.q3_client.specs.Client.{ClientState, Taken, applies, take_answer, take_gathered, take_unless, take_at}
 use Rattle.q3_client.specs.Sending.{said_bytes, Said}
-use Rattle.q3_server.specs.Built.{IsBuilt}
-use Rattle.q3_server.specs.Server.{SlotState, Built, places, slot_at, built_bytes}
+use Rattle.q3_server.specs.Built.{Built, number_of, message_of, IsNear, IsSnapshot, IsBuilt}
+use Rattle.q3_server.specs.Server.{SlotState, places, slot_at, built_bytes}
 use Rattle.q3_server.specs.Taking as hears
-use Rattle.q3_server.specs.Taking.{sender_of, runs, last_run_of, said_by}
+use Rattle.q3_server.specs.Taking.{sender_of, asked_with, delta_behind, runs, last_run_of, said_by}
 use Rattle.q3_world.specs.declared.made.Direction.{Direction}
 use Rattle.q3_world.specs.declared.made.Direction.TheVariants.{ToClient, ToServer}
+use Rattle.q3_world.specs.MessageLaws.{HoldsThis}
 use Rattle.q3_world.specs.Ends.{client_at, address_at}
 use Rattle.q3_world.specs.Kept.{kept_client_took, kept_to_client, kept_server_took, kept_arrive, kept_deliver, kept_step}
 use Rattle.q3_world.specs.World.{Tag, Whole, History, history_at, named, client_took, to_client, said_under, server_took, to_server, arrive, deliver, step}
-use Rattle.q3_world.specs.StandsFor.{BeginsMessages, KeepsSlot, IsPiece, IsSent, IsClient, IsWay, WasBuilt, messages_of, messages_said, bytes_of}
+use Rattle.q3_world.specs.StandsFor.{BeginsMessages, KeepsSlot, IsPiece, IsSent, IsClient, IsWay, WasBuilt, WasAccepted, TakesBuilt, messages_of, messages_said, bytes_of}
 use Rattle.q3_world.proofs.MoveLists.{consecutive_issued, runs_are}
-use Rattle.q3_world.proofs.Clients.{no_client, no_end, at_number, said_number, KeepsSlot-ran, TakesBuilt-gathered, TakesBuilt-accepted}
-use Rattle.q3_world.proofs.Events.{Holds, Holds-taken, Holds-heard, has_slot, has_client, tag_was_built, names_built}
+use Rattle.q3_world.proofs.Clients.{no_client, no_end, at_number, said_number, KeepsSlot-ran, TakesBuilt-gathered, TakesBuilt-passed, TakesBuilt-accepted}
+use Rattle.q3_world.proofs.Bases.{if_some_then}
+use Rattle.q3_world.proofs.Knowing.{KnownBase, known_base, was_built_is, held_are_built, holds_this}
+use Rattle.q3_world.proofs.Applying.{applies_built}
+use Rattle.q3_world.proofs.Events.{Holds, client_took as client_then, Has, Holds-taken, Holds-heard, has_slot, has_client, tag_was_built, names_built}
 use Rattle.q3_world.proofs.Agree.{ReadsBack, HearsBack, Cited, kept_of, Agree, found_or}
 
 -- ---- what a datagram does
@@ -59,7 +65,7 @@ piece_is messages g side qport count sending tag law front from fits begins is =
 -- ---- delivering to a client
 
 abbrev pub Read : Type 0
-Read = Result Message Illegible
+Read = Result Application Illegible
 
 -- where nothing came whole, nothing is read
 pub quiet_same : (client : ClientState) (answer : Gathered) (read other : ℕ → Read) → IsQuiet answer → take_answer client answer read ≡ take_answer client answer other
@@ -82,18 +88,15 @@ quiet_client client gathered.BadFragment read is = absurd is
 quiet_client client gathered.Runt read is = absurd is
 quiet_client client gathered.Connectionless read is = absurd is
 
--- a message that was built has no gamestate
-pub no_game : (profile : Profile) (number : ℕ) (message : Message) → IsBuilt profile number message → without_game message message.section ≡ Ok message
-no_game profile number message is = subst (λ (m : Message). without_game m m.section ≡ Ok m) (sym is.is) refl
-
--- what comes whole is read as the message that was built
-pub taken_alike : (profile : Profile) (client : ClientState) (took : Took) (number : ℕ) (built : Built) → ReadsBack profile → IsBuilt profile number built → client.profile ≡ profile
+-- what comes whole is applied as the message that was built
+pub taken_alike : (profile : Profile) (client : ClientState) (took : Took) (number : ℕ) (built : Built)
+    → apply_at client.state number (built_bytes profile built) ≡ Ok (apply_message client.state number built.message)
     → PieceDoes client.gathering number (built_bytes profile built) took
-    → take_gathered client took (read_by client.profile took.message) ≡ take_gathered client took (λ n. Ok built)
-taken_alike profile client took number built reads is by does =
+    → take_gathered client took (λ n. apply_at client.state n took.message) ≡ take_gathered client took (λ n. Ok (apply_message client.state n built.message))
+taken_alike profile client took number built applied does =
     elim does.either [
-      | inl waits ↦ quiet_same (record client { gathering = took.gathering }) took.answer (read_by client.profile took.message) (λ n. Ok built) waits.quiet
-      | inr came ↦ rw (came.answer, came.message_is, by, reads number built is, no_game profile number built is) refl
+      | inl waits ↦ quiet_same (record client { gathering = took.gathering }) took.answer (λ n. apply_at client.state n took.message) (λ n. Ok (apply_message client.state n built.message)) waits.quiet
+      | inr came ↦ rw (came.answer, came.message_is, applied) refl
     ]
 
 -- a tag of a datagram for a client
@@ -143,31 +146,77 @@ tag_gathers profile whole tag client cited is found holds =
     subst (λ (m : List ℕ). Gathers messages (length built) (tagged client.gathering tag.number m tag.index).gathering) (at_number profile built tag.number is.1.some)
     (cited.gathers.piece messages (length built) client.gathering tag.number tag.index had.1.joined.of_client.gathers is.1.begun)
 
+-- what is known of a message that is named by a tag
+pub record Named (profile : Profile) (whole : Whole) (c n : ℕ) (built : Built) : Type 0 where
+  pub is : IsBuilt profile n built
+  pub was : WasBuilt (history_at whole.histories c).built is.snapshot
+  pub base : IfSome built.base (KnownBase n (history_at whole.histories c).built (history_at whole.histories c).accepted)
+
+pub names : (profile : Profile) (whole : Whole) (tag : Tag) (client : ClientState) → IsFor profile whole tag → client_at whole.ends tag.client ≡ Some client → Holds profile whole
+    → Named profile whole tag.client tag.number (named whole.histories tag)
+names profile whole tag client is found holds =
+    let c = tag.client in
+    let history = history_at whole.histories c in
+    let had = has_client profile whole c client is.0 found holds in
+    let built = tag_was_built profile whole tag client is.0 is.1 found holds in
+    record {
+      is = built;
+      was = names_built profile whole tag is.1 built;
+      base = known_base profile had.0 client history tag.number is.1.some is.1.begun built had.1.keeps.of_slot had.1.joined.asked;
+    }
+
+-- by its bytes it is applied as the value that was built
+pub applied_alike : (profile : Profile) (whole : Whole) (c n : ℕ) (slot : SlotState) (client : ClientState) (built : Built) → Cited profile → Has profile whole c slot client
+    → Named profile whole c n built → apply_at client.state n (built_bytes profile built) ≡ Ok (apply_message client.state n built.message)
+applied_alike profile whole c n slot client built cited had named_is =
+    let history = history_at whole.histories c in
+    let takes = had.joined.of_client in
+    let are = had.keeps.of_slot.built in
+    let read = cited.reads client.state.held n built named_is.is
+    (held_are_built cited.rings profile client.state.held history.built history.accepted are takes.stands takes.accepted)
+    (if_some_then built.base (KnownBase n history.built history.accepted) (λ base. IsSnapshot profile base × HoldsThis client.state.held base)
+    (λ base known. (was_built_is profile history.built base are known.1, holds_this cited.rings client.state.held history.built history.accepted base takes.stands takes.accepted known.1))
+    named_is.base) in
+    rw (had.keeps.of_client.by, takes.lines, read) refl
+
 -- what arrives of a piece: what holds stays
-pub holds_piece : (profile : Profile) (whole : Whole) (c number n : ℕ) (client : ClientState) (took : Took) (built : Built) → c < places → client_at whole.ends c ≡ Some client
-    → PieceDoes client.gathering n (built_bytes profile built) took
+pub holds_piece : (profile : Profile) (whole : Whole) (c number n : ℕ) (slot : SlotState) (client : ClientState) (took : Took) (built : Built) → Cited profile → c < places
+    → Has profile whole c slot client → PieceDoes client.gathering n (built_bytes profile built) took
     → Gathers (messages_of profile (history_at whole.histories c).built) (length (history_at whole.histories c).built) took.gathering
-    → (is : IsBuilt profile n built) → WasBuilt (history_at whole.histories c).built is.snapshot
-    → Holds profile whole → Holds profile (client_took whole number c (take_gathered client took (λ n. Ok built))).whole
-holds_piece profile whole c number n client took built lt found does gathers is was holds =
+    → Named profile whole c n built
+    → Holds profile whole → Holds profile (client_took whole number c (take_gathered client took (λ k. Ok (apply_message client.state k built.message)))).whole
+holds_piece profile whole c number n slot client took built cited lt had does gathers named_is holds =
     let g = took.gathering in
     let history = history_at whole.histories c in
+    let state = client.state in
+    let is = named_is.is in
+    let snapshot = is.snapshot in
+    let joined = had.joined.of_client in
     elim does.either [
       | inl waits ↦
-          let same = quiet_client (record client { gathering = g }) took.answer (λ n. Ok built) waits.quiet in
-          rw (same.0, same.1) (Holds-taken profile whole c client g client.accepted client.delta None lt found does.side
+          let same = quiet_client (record client { gathering = g }) took.answer (λ k. Ok (apply_message state k built.message)) waits.quiet in
+          rw (same.0, same.1) (Holds-taken profile whole c client g state client.delta None lt had.client_is does.side refl refl
           (λ takes. TakesBuilt-gathered profile client history.built history.accepted g waits.taken gathers takes) holds)
       | inr came ↦
           let newer = came.newer in
+          let below = joined.below in
           let number_is = is.number in
-          rw (came.answer, is.is) (Holds-taken profile whole c client g (Some is.snapshot) true (Some is.snapshot) lt found does.side
-          (λ takes. TakesBuilt-accepted profile client history.built history.accepted g is.snapshot (came.taken ∙ sym number_is) gathers was
-          (omega (arith, newer, number_is)) takes) holds)
+          let message_is : built.message ≡ message_of built.base snapshot = ap (λ (b : Built). b.message) is.is in
+          let known = if_some_then built.base (KnownBase n history.built history.accepted) (λ base. IsNear n base × Contains history.accepted base) (λ base known. (known.0, known.2)) named_is.base in
+          let taken = came.taken in
+          rw (came.answer, message_is)
+          (elim (applies_built cited.rings state history.accepted n built.base snapshot joined.stands (omega (arith, newer, below)) known) [
+            | inl yes ↦ rw yes.1 (Holds-taken profile whole c client g (record state { number = n; held = accept_at state.held snapshot }) true (Some snapshot) lt had.client_is does.side refl refl
+                (λ takes. TakesBuilt-accepted cited.rings profile client history.built history.accepted g n snapshot (taken ∙ sym number_is) gathers is.are.few named_is.was
+                (omega (arith, newer, number_is)) takes) holds)
+            | inr no ↦ rw no.2 (Holds-taken profile whole c client g (record state { number = n }) false None lt had.client_is does.side refl refl
+                (λ takes. TakesBuilt-passed profile client history.built history.accepted g n (omega (arith, taken, newer)) gathers takes) holds)
+          ])
     ]
 
 -- a client takes a datagram by what its bytes do
 pub taken_by_bytes : (client : ClientState) (bytes : List ℕ) (took : Took) → client.dropped ≡ None → gathered_of client.gathering bytes ≡ took
-    → take_at client bytes ≡ take_gathered client took (read_by client.profile took.message)
+    → take_at client bytes ≡ take_gathered client took (λ n. apply_at client.state n took.message)
 unfolding take_at
 taken_by_bytes client bytes took legible e = ap (λ (dropped : Option Illegible). take_unless client bytes dropped) legible ∙ rw e refl
 
@@ -177,16 +226,15 @@ pub delivered_to : (profile : Profile) (whole : Whole) (number : ℕ) (tag : Tag
 delivered_to profile whole number tag None cited is at holds = record { same = refl; holds = holds }
 delivered_to profile whole number tag (Some client) cited is at holds =
     let built = named whole.histories tag in
-    let was_built = tag_was_built profile whole tag client is.0 is.1 at holds in
     let had = has_client profile whole tag.client client is.0 at holds in
+    let named_is = names profile whole tag client is at holds in
     let took = tagged client.gathering tag.number (built_bytes profile built) tag.index in
     let does = cited.does client.gathering tag.number (built_bytes profile built) tag.index in
     record {
       same = ap (λ (t : Taken). kept_client_took (kept_of profile whole) number tag.client t)
           (taken_by_bytes client tag.bytes took had.1.joined.of_client.legible (tag_is profile whole tag client cited is at holds)
-          ∙ taken_alike profile client took tag.number built cited.reads was_built had.1.keeps.of_client.by does);
-      holds = holds_piece profile whole tag.client number tag.number client took built is.0 at does (tag_gathers profile whole tag client cited is at holds) was_built
-          (names_built profile whole tag is.1 was_built) holds;
+          ∙ taken_alike profile client took tag.number built (applied_alike profile whole tag.client tag.number had.0 client built cited had.1 named_is) does);
+      holds = holds_piece profile whole tag.client number tag.number had.0 client took built cited is.0 had.1 does (tag_gathers profile whole tag client cited is at holds) named_is holds;
     }
 
 -- ---- delivering to the server
@@ -259,25 +307,40 @@ heard_by_bytes profile whole tag from slot cited is at holds =
     ∙ (ap (λ (o : Option SlotState). hears.take_by server c from tag.bytes o) at
     ∙ ap (λ (p : Profile). hears.taken_at server c (hears.take_slot p c from tag.bytes slot)) holds.facts.by))
 
+-- what a slot writes against behind a message was accepted, or is none
+asked_behind : (accepted : List Snapshot) (before : ℕ) (said : Said) → (before ≡ 0) ⊎ WasAccepted accepted before → (said.delta ≡ true → WasAccepted accepted said.acknowledged)
+    → (delta_behind before said ≡ 0) ⊎ WasAccepted accepted (delta_behind before said)
+asked_behind accepted before said was asks = with_moves said.moves
+  where
+    if_asked : (delta : Bool) → said.delta ≡ delta → ((if delta then said.acknowledged else 0) ≡ 0) ⊎ WasAccepted accepted (if delta then said.acknowledged else 0)
+    if_asked true so = inr (asks so)
+    if_asked false so = inl refl
+
+    with_moves : (moves : List Move) → (asked_with before said moves ≡ 0) ⊎ WasAccepted accepted (asked_with before said moves)
+    with_moves [] = was
+    with_moves (one ∷ moves) = if_asked said.delta refl
+
 -- what comes of a piece: what holds stays
 pub holds_heard : (profile : Profile) (whole : Whole) (c number n : ℕ) (from : Address) (slot : SlotState) (took : Took) (said : Said) → c < places → slot_at whole.ends.server c ≡ Some slot
     → from.host ≡ slot.address.host → PieceDoes slot.gathering n (said_bytes profile said) took
     → Gathers (messages_said profile (history_at whole.histories c).said) (length (history_at whole.histories c).said) took.gathering
-    → All (Contains (history_at whole.histories c).issued) said.moves → Holds profile whole
+    → All (Contains (history_at whole.histories c).issued) said.moves
+    → (slot.delta ≡ 0) ⊎ WasAccepted (history_at whole.histories c).accepted slot.delta
+    → (said.delta ≡ true → WasAccepted (history_at whole.histories c).accepted said.acknowledged) → Holds profile whole
     → Holds profile (server_took whole number c (hears.taken_at whole.ends.server c (hears.take_gathered (record slot { address = from }) c took (λ k. Ok said)))).whole
-holds_heard profile whole c number n from slot took said lt at host does gathers were holds =
+holds_heard profile whole c number n from slot took said lt at host does gathers were before asks holds =
     let g = took.gathering in
     let history = history_at whole.histories c in
     elim does.either [
       | inl waits ↦
           let same = quiet_slot (record slot { address = from; gathering = g }) c took.answer (λ k. Ok said) waits.quiet in
-          rw (same.0, same.1) (Holds-heard profile whole c slot from g slot.last_run [] lt at host does.side gathers
+          rw (same.0, same.1) (Holds-heard profile whole c slot from g slot.delta slot.last_run [] lt at host does.side gathers
           (λ keeps. subst (λ (run : List Move). KeepsSlot profile slot history.qport history.host history.built run) (sym (append-nil history.run)) keeps)
-          (All-nil (Contains history.issued)) holds)
+          (All-nil (Contains history.issued)) before holds)
       | inr came ↦
-          rw came.answer (Holds-heard profile whole c slot from g (last_run_of slot.last_run said.moves) (runs slot.last_run said.moves) lt at host does.side gathers
-          (λ keeps. KeepsSlot-ran profile slot history.qport history.host history.built history.run said.moves keeps)
-          (runs_are (Contains history.issued) slot.last_run said.moves were) holds)
+          rw came.answer (Holds-heard profile whole c slot from g (delta_behind slot.delta said) (last_run_of slot.last_run said.moves) (runs slot.last_run said.moves) lt at host does.side gathers
+          (λ keeps. KeepsSlot-ran profile slot history.qport history.host history.built history.run said.moves (delta_behind slot.delta said) keeps)
+          (runs_are (Contains history.issued) slot.last_run said.moves were) (asked_behind history.accepted slot.delta said before asks) holds)
     ]
 
 -- its client has a slot
@@ -341,7 +404,8 @@ heard_at profile whole number tag from cited is holds =
           ∙ ap (λ (t : hears.SlotTaken). hears.taken_at whole.ends.server c t)
           (heard_alike profile slot c took tag.number said cited.hears (keeps.of_client.said (tag.number - 1) empty_message within) does from)));
       holds = holds_heard profile whole c number tag.number from slot took said is.0 at (is.1 ∙ sym keeps.of_slot.host) does gathers
-          (consecutive_issued said.moves history.issued (keeps.of_client.carried (tag.number - 1) empty_message within)) holds;
+          (consecutive_issued said.moves history.issued (keeps.of_client.carried (tag.number - 1) empty_message within)) had.1.joined.asked.slot
+          (All-get_or (λ (s : Said). s.delta ≡ true → WasAccepted history.accepted s.acknowledged) history.said (tag.number - 1) empty_message within had.1.joined.asked.said) holds;
     })
 
 -- ---- every delivery

@@ -1,9 +1,9 @@
 -- What holds of one client, and stays so.
 use Rattle.std.proofs.Common.{◌≡◌, ℕ, zero, suc, ◌+◌, ◌-◌, ◌^◌, ◌<◌, ◌≤◌, Bool, true, false, List, [], ◌∷◌, ◌++◌, length, get_or, Option, Some, None, refl, sym, ap, subst, ◌∙◌, inl, inr, arith}
-use Rattle.std.specs.Prelude.{All, Contains}
+use Rattle.std.specs.Prelude.{All, Contains, IfSome, ◌⊎◌, option_map, unwrap_or}
 use Rattle.std.specs.List.{last_or}
 use Rattle.std.proofs.lemmas.List.{length_push, get_or_append_left, get_or_push}
-use Rattle.std.proofs.lemmas.List.Elements.{All-nil, All-append}
+use Rattle.std.proofs.lemmas.List.Elements.{All-nil, All-append, All-push, All-weaker, All-contains, Contains-push, Contains-append_left}
 use Rattle.std.proofs.lemmas.Bool.{cases_lt}
 use Rattle.arrayvec.specs.ArrayVec.{ArrayVec}
 use Rattle.q3_profile.specs.declared.profile.Profile.{Profile}
@@ -21,18 +21,24 @@ use Rattle.q3_clmsg.specs.Moves.{IsMove}
 use Rattle.q3_clmsg.specs.Laws.{IsMessage}
 use Rattle.q3_clmsg.specs.Values.{empty_message}
 use Rattle.q3_strings.specs.Laws.{IsCommand}
-use Rattle.q3_svmsg.specs.Values.{Snapshot}
-use Rattle.q3_server.specs.Built.{IsHeld, IsArea, AreHeld, IsBuilt}
-use Rattle.q3_server.specs.Server.{MapState, SlotState, Built, new_slot, next_snapshot, next_message, built_bytes}
+use Rattle.q3_ring.specs.Snapshot.{Snapshot}
+use Rattle.q3_frames.specs.Frames.{FramesState, base_of, build_at}
+use Rattle.q3_rings.specs.Rings.{accept_at}
+use Rattle.q3_rings.specs.Accepted.{AcceptedFrom}
+use Rattle.q3_clstate.specs.State.{AppliedState}
+use Rattle.q3_server.specs.Built.{Built, IsHeld, IsArea, AreHeld, IsSnapshot, IsNear, IsBuilt, built_of}
+use Rattle.q3_server.specs.Server.{MapState, SlotState, new_slot, next_snapshot, next_frames, next_built, built_bytes}
 use Rattle.q3_server.specs.Taking.{last_run_of, last_time, runs}
-use Rattle.q3_client.specs.Client.{number_of_newest, ClientState, new_client}
+use Rattle.q3_client.specs.Client.{ClientState, new_client}
 use Rattle.circular_buffer.specs.Buffer.{keep_last}
 use Rattle.q3_client.specs.Moves.{most_moves, carried, asks_delta, issue}
 use Rattle.q3_client.specs.Sending.{said_bytes, Said, next_message as next_said}
+use Rattle.q3_world.specs.Layers.{FrameLaws, RingLaws}
 use Rattle.q3_world.specs.World.{History, no_history, no_message, built_at, said_at}
-use Rattle.q3_world.specs.StandsFor.{messages_of, messages_said, KeepsSlot, KeepsClient, AreEnds, IsClient, WasBuilt, Rise, KeepsMoves, TakesBuilt, TakesSaid}
+use Rattle.q3_world.specs.StandsFor.{messages_of, messages_said, KeepsSlot, KeepsClient, AreEnds, IsClient, WasBuilt, AreOfBuilt, Rise, WasAccepted, KeepsMoves, TakesBuilt, TakesSaid, AreAsked}
 use Rattle.q3_world.specs.Moves.{TimesRise, AreConsecutive}
 use Rattle.q3_world.proofs.Growth.{was_built_more, each_more, messages_stay, messages_said_stay}
+use Rattle.q3_world.proofs.Bases.{was_built_one, if_some, if_some_then, was_accepted_more, found_base}
 use Rattle.q3_world.proofs.Beginning.{BeginsMessages-new, BeginsMessages-handed, BeginsMessages-started}
 use Rattle.q3_world.proofs.Held.{AreHeld-take}
 use Rattle.q3_world.proofs.MoveLists.{last_time-append, TimesRise-append, runs_rise, runs_are, carried_consecutive, carried_each, carried_few, AreConsecutive-more, contains_more, KeepsMoves-none, KeepsMoves-begun, KeepsMoves-push}
@@ -80,6 +86,7 @@ KeepsSlot-new profile challenge qport address chan first =
       player = first;
       area = no_area;
       built = λ k d lt. absurd (omega (arith, lt));
+      bases = All-nil _;
       from = refl;
       last = refl;
       rise = tt;
@@ -97,6 +104,7 @@ module _ (profile : Profile) (slot : SlotState) (qport host : ℕ) (built : List
         player = held;
         area = is;
         built = keeps.built;
+        bases = keeps.bases;
         from = keeps.from;
         last = keeps.last;
         rise = keeps.rise;
@@ -113,15 +121,16 @@ module _ (profile : Profile) (slot : SlotState) (qport host : ℕ) (built : List
         player = keeps.player;
         area = keeps.area;
         built = keeps.built;
+        bases = keeps.bases;
         from = side ∙ keeps.from;
         last = keeps.last;
         rise = keeps.rise;
       }
 
   -- moves were run
-  pub KeepsSlot-ran : (moves : List Move) → KeepsSlot profile slot qport host built run
-      → KeepsSlot profile (record slot { last_run = last_run_of slot.last_run moves }) qport host built (run ++ runs slot.last_run moves)
-  KeepsSlot-ran moves keeps =
+  pub KeepsSlot-ran : (moves : List Move) (delta : ℕ) → KeepsSlot profile slot qport host built run
+      → KeepsSlot profile (record slot { delta = delta; last_run = last_run_of slot.last_run moves }) qport host built (run ++ runs slot.last_run moves)
+  KeepsSlot-ran moves delta keeps =
       let behind = runs slot.last_run moves in
       record {
         qport = keeps.qport;
@@ -130,6 +139,7 @@ module _ (profile : Profile) (slot : SlotState) (qport host : ℕ) (built : List
         player = keeps.player;
         area = keeps.area;
         built = keeps.built;
+        bases = keeps.bases;
         from = keeps.from;
         last = ap (λ (last : ℕ). last_time last behind) keeps.last ∙ sym (last_time-append 0 run behind);
         rise = TimesRise-append 0 run behind keeps.rise (subst (λ (last : ℕ). TimesRise last behind) keeps.last (runs_rise slot.last_run moves));
@@ -146,20 +156,18 @@ module _ (profile : Profile) (slot : SlotState) (qport host : ℕ) (built : List
         player = keeps.player;
         area = keeps.area;
         built = keeps.built;
+        bases = keeps.bases;
         from = keeps.from;
         last = keeps.last;
         rise = keeps.rise;
       }
 
--- the message that goes to a slot next is built
-next_is_built : (profile : Profile) (map : MapState) (slot : SlotState) → map.time < 2 ^ 32 → AreHeld profile map.entities → slot.sending.number + 1 < sequence_end
-    → IsHeld profile slot.player → IsArea slot.area.items → IsBuilt profile (slot.sending.number + 1) (next_message map slot)
-next_is_built profile map slot time entities fits player area =
+-- the snapshot that goes to a slot next is one that may be built
+next_is_snapshot : (profile : Profile) (map : MapState) (slot : SlotState) → map.time < 2 ^ 32 → AreHeld profile map.entities → slot.sending.number + 1 < sequence_end
+    → IsHeld profile slot.player → IsArea slot.area.items → IsSnapshot profile (next_snapshot map slot)
+next_is_snapshot profile map slot time entities fits player area =
     record {
-      snapshot = next_snapshot map slot;
-      is = refl;
-      number = refl;
-      fits = fits;
+      number = fits;
       time = time;
       flags = refl;
       area = area;
@@ -168,30 +176,57 @@ next_is_built profile map slot time entities fits player area =
       few = few_taken most_entities map.entities;
     }
 
--- one message more was begun, and is under way
-abbrev pub slot_begun : Profile → MapState → SlotState → SlotState
-slot_begun profile map slot = record slot { sending = started slot.sending (built_bytes profile (next_message map slot)) }
+-- the message that a client's slot begins next, once its frame was built
+abbrev pub begun_next : MapState → FramesState → ℕ → SlotState → Built
+begun_next map frames c slot = next_built map (next_frames map frames c slot) c slot
 
-pub KeepsSlot-begun : (profile : Profile) (map : MapState) (slot : SlotState) (qport host : ℕ) (built : List Built) (run : List Move) → EndsSend
-    → map.time < 2 ^ 32 → AreHeld profile map.entities → slot.sending.number + 1 < sequence_end → IsSendable (built_bytes profile (next_message map slot))
-    → KeepsSlot profile slot qport host built run
-    → KeepsSlot profile (slot_begun profile map slot) qport host (built ++ next_message map slot ∷ []) run
-KeepsSlot-begun profile map slot qport host built run chan time entities fits sendable keeps =
-    let next = next_message map slot in
+-- what is known of its base: it is near, it was built, and its number is the one that was asked for
+abbrev pub BaseIs : ℕ → ℕ → List Built → Snapshot → Type 0
+BaseIs n delta began base = IsNear n base × WasBuilt began base × (base.head.number ≡ delta)
+
+pub next_base : FrameLaws → (map : MapState) (frames : FramesState) (c : ℕ) (slot : SlotState) (began : List Built) → slot.sending.number ≡ length began
+    → AreOfBuilt frames c began → IfSome (begun_next map frames c slot).base (BaseIs (slot.sending.number + 1) slot.delta began)
+next_base laws map frames c slot began begun are =
+    if_some (begun_next map frames c slot).base (BaseIs (slot.sending.number + 1) slot.delta began)
+    (λ base is. found_base laws frames c slot.delta began (next_snapshot map slot) base (omega (arith, begun)) are is)
+
+-- one message more was begun, and is under way
+abbrev pub slot_begun : Profile → SlotState → Built → SlotState
+slot_begun profile slot built = record slot { sending = started slot.sending (built_bytes profile built) }
+
+pub KeepsSlot-begun : FrameLaws → (profile : Profile) (map : MapState) (frames : FramesState) (c : ℕ) (slot : SlotState) (qport host : ℕ) (built : List Built) (run : List Move) → EndsSend
+    → map.time < 2 ^ 32 → AreHeld profile map.entities → slot.sending.number + 1 < sequence_end → IsSendable (built_bytes profile (begun_next map frames c slot))
+    → AreOfBuilt frames c built → KeepsSlot profile slot qport host built run
+    → KeepsSlot profile (slot_begun profile slot (begun_next map frames c slot)) qport host (built ++ begun_next map frames c slot ∷ []) run
+KeepsSlot-begun laws profile map frames c slot qport host built run chan time entities fits sendable are keeps =
+    let next = begun_next map frames c slot in
+    let n = slot.sending.number + 1 in
     let begun = keeps.sending.begun in
+    let base = next_base laws map frames c slot built begun are in
+    let is : IsBuilt profile n next = record {
+      snapshot = next_snapshot map slot;
+      is = refl;
+      number = refl;
+      are = next_is_snapshot profile map slot time entities fits keeps.player keeps.area;
+      base_is = if_some_then next.base (BaseIs n slot.delta built) (IsNear n) (λ b known. known.0) base;
+    } in
+    let more = built ++ next ∷ [] in
     let longer = length_push built next in
-    let last : messages_of profile (built ++ next ∷ []) (suc (length built)) ≡ built_bytes profile next =
+    let last : messages_of profile more (suc (length built)) ≡ built_bytes profile next =
     let place : length built ≡ suc (length built) - 1 = omega arith in
     ap (built_bytes profile) (get_or_push built next no_message (suc (length built) - 1) place) in
     record {
       qport = keeps.qport;
       host = keeps.host;
-      sending = BeginsMessages-started Server 0 (messages_of profile built) (messages_of profile (built ++ next ∷ [])) (length built) (length (built ++ next ∷ [])) slot.sending (built_bytes profile next) chan
+      sending = BeginsMessages-started Server 0 (messages_of profile built) (messages_of profile more) (length built) (length more) slot.sending (built_bytes profile next) chan
           (omega (arith, longer)) fits (messages_stay profile built (next ∷ [])) last sendable keeps.sending;
       player = keeps.player;
       area = keeps.area;
-      built = each_more (λ (k : ℕ) (b : Built). IsBuilt profile (k + 1) b) built next keeps.built
-          (subst (λ (n : ℕ). IsBuilt profile (n + 1) next) begun (next_is_built profile map slot time entities fits keeps.player keeps.area));
+      built = each_more (λ (k : ℕ) (b : Built). IsBuilt profile (k + 1) b) built next keeps.built (subst (λ (k : ℕ). IsBuilt profile (k + 1) next) begun is);
+      bases = All-push (λ (b : Built). IfSome b.base (WasBuilt more)) built next
+          (All-weaker (λ (b : Built). IfSome b.base (WasBuilt built)) (λ (b : Built). IfSome b.base (WasBuilt more))
+          (λ b. if_some_then b.base (WasBuilt built) (WasBuilt more) (was_built_more built (next ∷ []))) built keeps.bases)
+          (if_some_then next.base (BaseIs n slot.delta built) (WasBuilt more) (λ b known. was_built_more built (next ∷ []) b known.1) base);
       from = keeps.from;
       last = keeps.last;
       rise = keeps.rise;
@@ -205,6 +240,7 @@ unfolding last_time
 KeepsClient-new profile challenge qport dup chan fits =
     record {
       by = refl;
+      ring = refl;
       from = refl;
       fits = fits;
       sending = BeginsMessages-new Client qport (messages_said profile []) chan;
@@ -241,12 +277,14 @@ abbrev pub client_begun : Profile → ClientState → ClientState
 client_begun profile client = record client { sending = started client.sending (said_bytes profile (next_said client)) }
 
 module _ (profile : Profile) (client : ClientState) (qport : ℕ) (said : List Said) (issued : List Move) where
-  -- a datagram came, and with it a snapshot, if one did
-  pub KeepsClient-took : (g : Gathering) (accepted : Option Snapshot) (delta : Bool) → g.side ≡ client.gathering.side → KeepsClient profile client qport said issued
-      → KeepsClient profile (record client { gathering = g; accepted = accepted; delta = delta }) qport said issued
-  KeepsClient-took g accepted delta side keeps =
+  -- a datagram came, and with it a message, if one did
+  pub KeepsClient-took : (g : Gathering) (state : AppliedState) (delta : Bool) → g.side ≡ client.gathering.side → state.profile ≡ client.state.profile
+      → state.held.ring ≡ client.state.held.ring → KeepsClient profile client qport said issued
+      → KeepsClient profile (record client { gathering = g; state = state; delta = delta }) qport said issued
+  KeepsClient-took g state delta side by ring keeps =
       record {
-        by = keeps.by;
+        by = by ∙ keeps.by;
+        ring = ring ∙ keeps.ring;
         from = side ∙ keeps.from;
         fits = keeps.fits;
         sending = keeps.sending;
@@ -263,6 +301,7 @@ module _ (profile : Profile) (client : ClientState) (qport : ℕ) (said : List S
   KeepsClient-handed chan keeps =
       record {
         by = keeps.by;
+        ring = keeps.ring;
         from = keeps.from;
         fits = keeps.fits;
         sending = BeginsMessages-handed Client qport (messages_said profile said) (length said) client.sending chan keeps.sending;
@@ -281,6 +320,7 @@ module _ (profile : Profile) (client : ClientState) (qport : ℕ) (said : List S
       let last = keeps.last in
       record {
         by = keeps.by;
+        ring = keeps.ring;
         from = keeps.from;
         fits = keeps.fits;
         sending = keeps.sending;
@@ -304,6 +344,7 @@ module _ (profile : Profile) (client : ClientState) (qport : ℕ) (said : List S
       ap (said_bytes profile) (get_or_push said next empty_message (suc (length said) - 1) place) in
       record {
         by = keeps.by;
+        ring = keeps.ring;
         from = keeps.from;
         fits = keeps.fits;
         sending = BeginsMessages-started Client qport (messages_said profile said) (messages_said profile (said ++ next ∷ [])) (length said) (length (said ++ next ∷ [])) client.sending (said_bytes profile next) chan
@@ -330,30 +371,37 @@ said_number profile said (suc number) some = refl
 
 -- ---- what joins the ends
 
-pub TakesBuilt-new : (profile : Profile) (challenge qport dup : ℕ) → EndsGather → TakesBuilt profile (new_client profile challenge qport dup) [] []
-TakesBuilt-new profile challenge qport dup chan =
+pub TakesBuilt-new : RingLaws → (profile : Profile) (challenge qport dup : ℕ) → EndsGather → 512 ≤ profile.parse_ring → TakesBuilt profile (new_client profile challenge qport dup) [] []
+TakesBuilt-new laws profile challenge qport dup chan ring =
     record {
-      accepted = λ k d lt. absurd (omega (arith, lt));
+      accepted = All-nil (WasBuilt []);
       rise = λ j k d lt within. absurd (omega (arith, within));
-      newest = refl;
+      stands = laws.none profile.parse_ring ring;
+      lines = refl;
       below = omega arith;
+      asks = λ asks. absurd cc;
       gathers = chan.begin (messages_of profile []) 0 Server;
       legible = refl;
     }
+
+pub AreAsked-new : (challenge qport : ℕ) (address : Address) → AreAsked (new_slot challenge qport address) [] [] []
+AreAsked-new challenge qport address = record { said = All-nil _; slot = inl refl; bases = All-nil _ }
 
 pub TakesSaid-new : (profile : Profile) (challenge qport : ℕ) (address : Address) → EndsGather → TakesSaid profile (new_slot challenge qport address) [] [] []
 TakesSaid-new profile challenge qport address chan =
     record { gathers = chan.begin (messages_said profile []) 0 Client; ran = All-nil (Contains []) }
 
 -- another state of the client that takes as it did
-pub TakesBuilt-same : (profile : Profile) (client next : ClientState) (built : List Built) (accepted : List Snapshot) → next.gathering ≡ client.gathering → next.accepted ≡ client.accepted
-    → next.dropped ≡ client.dropped → TakesBuilt profile client built accepted → TakesBuilt profile next built accepted
-TakesBuilt-same profile client next built accepted gathering is dropped takes =
+pub TakesBuilt-same : (profile : Profile) (client next : ClientState) (built : List Built) (accepted : List Snapshot) → next.gathering ≡ client.gathering → next.state ≡ client.state
+    → next.delta ≡ client.delta → next.dropped ≡ client.dropped → TakesBuilt profile client built accepted → TakesBuilt profile next built accepted
+TakesBuilt-same profile client next built accepted gathering state delta dropped takes =
     record {
       accepted = takes.accepted;
       rise = takes.rise;
-      newest = is ∙ takes.newest;
-      below = rw (gathering, is) takes.below;
+      stands = rw state takes.stands;
+      lines = rw state takes.lines;
+      below = rw (gathering, state) takes.below;
+      asks = λ asks. rw gathering (takes.asks (sym delta ∙ asks));
       gathers = rw gathering takes.gathers;
       legible = dropped ∙ takes.legible;
     }
@@ -368,10 +416,12 @@ pub TakesBuilt-more : (profile : Profile) (client : ClientState) (built : List B
     → TakesBuilt profile client built accepted → TakesBuilt profile client (built ++ next ∷ []) accepted
 TakesBuilt-more profile client built accepted next chan takes =
     record {
-      accepted = λ k d lt. was_built_more built (next ∷ []) (get_or accepted k d) (takes.accepted k d lt);
+      accepted = All-weaker (WasBuilt built) (WasBuilt (built ++ next ∷ [])) (was_built_more built (next ∷ [])) accepted takes.accepted;
       rise = takes.rise;
-      newest = takes.newest;
+      stands = takes.stands;
+      lines = takes.lines;
       below = takes.below;
+      asks = takes.asks;
       gathers = chan.more (messages_of profile built) (messages_of profile (built ++ next ∷ [])) (length built) (length (built ++ next ∷ []))
           client.gathering takes.gathers (omega (arith, length_push built next)) (messages_stay profile built (next ∷ []));
       legible = takes.legible;
@@ -393,35 +443,14 @@ pub TakesSaid-issued : (profile : Profile) (slot : SlotState) (said : List Said)
 TakesSaid-issued profile slot said issued run one takes = record { gathers = takes.gathers; ran = contains_more run issued (one ∷ []) takes.ran }
 
 -- moves that were issued were run
-pub TakesSaid-ran : (profile : Profile) (slot : SlotState) (said : List Said) (issued run moves : List Move) (g : Gathering) (address : Address) (before last : ℕ)
+pub TakesSaid-ran : (profile : Profile) (slot : SlotState) (said : List Said) (issued run moves : List Move) (g : Gathering) (address : Address) (before last delta : ℕ)
     → Gathers (messages_said profile said) (length said) g → All (Contains issued) moves
     → TakesSaid profile slot said issued run
-    → TakesSaid profile (record slot { address = address; gathering = g; last_run = last }) said issued (run ++ runs before moves)
-TakesSaid-ran profile slot said issued run moves g address before last gathers are takes =
+    → TakesSaid profile (record slot { address = address; gathering = g; delta = delta; last_run = last }) said issued (run ++ runs before moves)
+TakesSaid-ran profile slot said issued run moves g address before last delta gathers are takes =
     record { gathers = gathers; ran = All-append (Contains issued) run (runs before moves) takes.ran (runs_are (Contains issued) before moves are) }
 
--- the last of a list, and of one more
-last_push : {X : Type 0} (o : Option X) (xs : List X) (x : X) → last_or o (xs ++ x ∷ []) ≡ Some x
-last_push o [] x = refl
-last_push o (y ∷ xs) x = last_push (Some y) xs x
-
-pub last_is : {X : Type 0} (o : Option X) (xs : List X) (d : X) → 0 < length xs → last_or o xs ≡ Some (get_or xs (length xs - 1) d)
-last_is o [] d some = absurd (omega arith)
-last_is o (x ∷ []) d some = refl
-last_is o (x ∷ y ∷ xs) d some =
-    let place : length (x ∷ y ∷ xs) - 1 ≡ suc (length (y ∷ xs) - 1) = omega arith in
-    last_is (Some x) (y ∷ xs) d (omega arith) ∙ ap (λ (k : ℕ). Some (get_or (x ∷ y ∷ xs) k d)) (sym place)
-
--- each accepted snapshot is at most the newest taken
-at_most : (accepted : List Snapshot) (k : ℕ) (d : Snapshot) → Rise accepted → k < length accepted
-    → (get_or accepted k d).head.number ≤ number_of_newest (last_or None accepted)
-at_most accepted k d rise lt =
-    let last = length accepted - 1 in
-    rw (last_is None accepted d (omega arith))
-    (elim (cases_lt k last) [
-      | inl below ↦ omega (arith, rise k last d below (omega arith))
-      | inr past ↦ let e : k ≡ last = omega arith in subst (λ (j : ℕ). (get_or accepted k d).head.number ≤ (get_or accepted j d).head.number) e (omega arith)
-    ])
+-- ---- what a client accepts
 
 -- numbers rise where one above all comes behind them
 rise_more : (accepted : List Snapshot) (next : Snapshot) → Rise accepted
@@ -434,27 +463,131 @@ rise_more accepted next rise above j k d lt within =
           rw (get_or_push accepted next d k e, get_or_append_left accepted (next ∷ []) d j (omega arith)) (above j d (omega arith))
     ]
 
+-- each accepted snapshot is at most the newest
+at_most_from : (least : ℕ) (o : Option Snapshot) (accepted : List Snapshot) (k : ℕ) (d : Snapshot) → AcceptedFrom least accepted → k < length accepted
+    → (get_or accepted k d).head.number ≤ unwrap_or (option_map (λ (s : Snapshot). s.head.number) (last_or o accepted)) 0
+at_most_from least o [] k d are lt = absurd (omega (arith, lt))
+at_most_from least o (first ∷ []) zero d are lt = omega arith
+at_most_from least o (first ∷ []) (suc k) d are lt = absurd (omega (arith, lt))
+at_most_from least o (first ∷ next ∷ others) zero d are lt =
+    let behind = at_most_from (first.head.number + 1) (Some first) (next ∷ others) 0 d are.2 (omega arith) in
+    let more = are.2.0 in
+    omega (arith, behind, more)
+at_most_from least o (first ∷ next ∷ others) (suc k) d are lt = at_most_from (first.head.number + 1) (Some first) (next ∷ others) k d are.2 (omega (arith, lt))
+
 -- more was gathered, or gathered anew, and no message came whole
 pub TakesBuilt-gathered : (profile : Profile) (client : ClientState) (built : List Built) (accepted : List Snapshot) (g : Gathering)
     → g.taken ≡ client.gathering.taken → Gathers (messages_of profile built) (length built) g
     → TakesBuilt profile client built accepted → TakesBuilt profile (record client { gathering = g }) built accepted
 TakesBuilt-gathered profile client built accepted g taken gathers takes =
     let below = takes.below in
-    record { accepted = takes.accepted; rise = takes.rise; newest = takes.newest; below = omega (arith, taken, below); gathers = gathers; legible = takes.legible }
-
--- a newer snapshot that was built came whole and is accepted
-pub TakesBuilt-accepted : (profile : Profile) (client : ClientState) (built : List Built) (accepted : List Snapshot) (g : Gathering) (snapshot : Snapshot)
-    → g.taken ≡ snapshot.head.number → Gathers (messages_of profile built) (length built) g
-    → WasBuilt built snapshot → client.gathering.taken < snapshot.head.number → TakesBuilt profile client built accepted
-    → TakesBuilt profile (record client { gathering = g; accepted = Some snapshot; delta = true }) built (accepted ++ snapshot ∷ [])
-TakesBuilt-accepted profile client built accepted g snapshot taken gathers was newer takes =
-    let newest = ap number_of_newest takes.newest in
-    let below = takes.below in
     record {
-      accepted = each_more (λ (k : ℕ) (s : Snapshot). WasBuilt built s) accepted snapshot takes.accepted was;
-      rise = rise_more accepted snapshot takes.rise (λ k d lt. omega (arith, at_most accepted k d takes.rise lt, newest, below));
-      newest = sym (last_push None accepted snapshot);
-      below = omega (arith, taken);
+      accepted = takes.accepted;
+      rise = takes.rise;
+      stands = takes.stands;
+      lines = takes.lines;
+      below = omega (arith, taken, below);
+      asks = λ asks. rw taken (takes.asks asks);
       gathers = gathers;
       legible = takes.legible;
     }
+
+-- a newer message came whole of which no snapshot is accepted
+pub TakesBuilt-passed : (profile : Profile) (client : ClientState) (built : List Built) (accepted : List Snapshot) (g : Gathering) (n : ℕ)
+    → client.gathering.taken < g.taken → Gathers (messages_of profile built) (length built) g
+    → TakesBuilt profile client built accepted
+    → TakesBuilt profile (record client { gathering = g; state = record client.state { number = n }; delta = false }) built accepted
+TakesBuilt-passed profile client built accepted g n newer gathers takes =
+    let below = takes.below in
+    record {
+      accepted = takes.accepted;
+      rise = takes.rise;
+      stands = takes.stands;
+      lines = takes.lines;
+      below = omega (arith, newer, below);
+      asks = λ asks. absurd cc;
+      gathers = gathers;
+      legible = takes.legible;
+    }
+
+-- a newer snapshot that was built came whole and is accepted
+pub TakesBuilt-accepted : RingLaws → (profile : Profile) (client : ClientState) (built : List Built) (accepted : List Snapshot) (g : Gathering) (n : ℕ) (snapshot : Snapshot)
+    → g.taken ≡ snapshot.head.number → Gathers (messages_of profile built) (length built) g → length snapshot.entities ≤ most_entities
+    → WasBuilt built snapshot → client.gathering.taken < snapshot.head.number → TakesBuilt profile client built accepted
+    → TakesBuilt profile (record client { gathering = g; state = record client.state { number = n; held = accept_at client.state.held snapshot }; delta = true }) built (accepted ++ snapshot ∷ [])
+TakesBuilt-accepted laws profile client built accepted g n snapshot taken gathers few was newer takes =
+    let below = takes.below in
+    let stands = takes.stands in
+    let newest = stands.newest in
+    record {
+      accepted = All-push (WasBuilt built) accepted snapshot takes.accepted was;
+      rise = rise_more accepted snapshot takes.rise (λ k d lt. let most = at_most_from 1 None accepted k d stands.accepted lt in omega (arith, most, newest, below, newer));
+      stands = laws.added accepted client.state.held snapshot stands (omega (arith, below, newer)) few;
+      lines = takes.lines;
+      below = omega (arith, taken);
+      asks = λ asks. (snapshot, Contains-push accepted snapshot, sym taken);
+      gathers = gathers;
+      legible = takes.legible;
+    }
+
+-- ---- what a client asks for
+
+-- another state of the slot that writes against the same
+pub AreAsked-same : (slot next : SlotState) (said : List Said) (built : List Built) (accepted : List Snapshot) → next.delta ≡ slot.delta
+    → AreAsked slot said built accepted → AreAsked next said built accepted
+AreAsked-same slot next said built accepted delta asked = record { said = asked.said; slot = rw delta asked.slot; bases = asked.bases }
+
+-- a snapshot more was accepted
+pub AreAsked-accepted : (slot : SlotState) (said : List Said) (built : List Built) (accepted : List Snapshot) (snapshot : Snapshot)
+    → AreAsked slot said built accepted → AreAsked slot said built (accepted ++ snapshot ∷ [])
+AreAsked-accepted slot said built accepted snapshot asked =
+    let more = accepted ++ snapshot ∷ [] in
+    record {
+      said = All-weaker (λ (s : Said). s.delta ≡ true → WasAccepted accepted s.acknowledged) (λ (s : Said). s.delta ≡ true → WasAccepted more s.acknowledged)
+          (λ s so asks. was_accepted_more accepted (snapshot ∷ []) s.acknowledged (so asks)) said asked.said;
+      slot = elim asked.slot [ inl none ↦ inl none | inr was ↦ inr (was_accepted_more accepted (snapshot ∷ []) slot.delta was) ];
+      bases = All-weaker (λ (b : Built). IfSome b.base (Contains accepted)) (λ (b : Built). IfSome b.base (Contains more))
+          (λ b. if_some_then b.base (Contains accepted) (Contains more) (λ base. Contains-append_left accepted (snapshot ∷ []) base)) built asked.bases;
+    }
+
+-- a message more was said
+pub AreAsked-said : (slot : SlotState) (said : List Said) (built : List Built) (accepted : List Snapshot) (next : Said)
+    → (next.delta ≡ true → WasAccepted accepted next.acknowledged) → AreAsked slot said built accepted → AreAsked slot (said ++ next ∷ []) built accepted
+AreAsked-said slot said built accepted next asks asked =
+    record {
+      said = All-push (λ (s : Said). s.delta ≡ true → WasAccepted accepted s.acknowledged) said next asked.said asks;
+      slot = asked.slot;
+      bases = asked.bases;
+    }
+
+-- a message was run, behind which a slot writes against another
+pub AreAsked-ran : (slot next : SlotState) (said : List Said) (built : List Built) (accepted : List Snapshot)
+    → (next.delta ≡ 0) ⊎ WasAccepted accepted next.delta → AreAsked slot said built accepted → AreAsked next said built accepted
+AreAsked-ran slot next said built accepted is asked = record { said = asked.said; slot = is; bases = asked.bases }
+
+-- the snapshot that was accepted under the number of one that was built is that one
+pub accepted_is_built : (built : List Built) (accepted : List Snapshot) (base : Snapshot) → All (WasBuilt built) accepted → WasBuilt built base
+    → WasAccepted accepted base.head.number → Contains accepted base
+accepted_is_built built accepted base were was one =
+    subst (Contains accepted) (was_built_one built one.0 base one.2 (All-contains (WasBuilt built) accepted one.0 were one.1) was) one.1
+
+-- a message more was built, against a base that was asked for
+pub AreAsked-built : (slot next : SlotState) (said : List Said) (built : List Built) (accepted : List Snapshot) (n : ℕ) (message : Built) → next.delta ≡ slot.delta
+    → All (WasBuilt built) accepted → IfSome message.base (BaseIs n slot.delta built)
+    → AreAsked slot said built accepted → AreAsked next said (built ++ message ∷ []) accepted
+AreAsked-built slot next said built accepted n message delta were base asked =
+    record {
+      said = asked.said;
+      slot = rw delta asked.slot;
+      bases = All-push (λ (b : Built). IfSome b.base (Contains accepted)) built message asked.bases
+          (if_some_then message.base (BaseIs n slot.delta built) (Contains accepted) (λ b known. accepted_is_built built accepted b were known.1 (asked_for b known)) base);
+    }
+  where
+    asked_for : (b : Snapshot) → BaseIs n slot.delta built b → WasAccepted accepted b.head.number
+    asked_for b known =
+        let near = known.0.some in
+        let number = known.2 in
+        elim asked.slot [
+          | inl none ↦ absurd (omega (arith, none, near, number))
+          | inr was ↦ subst (WasAccepted accepted) (sym number) was
+        ]

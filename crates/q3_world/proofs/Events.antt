@@ -1,11 +1,10 @@
 -- What holds between any two events holds after each event.
-use Rattle.std.proofs.Common.{◌≡◌, ℕ, zero, suc, ◌+◌, ◌-◌, ◌^◌, ◌<◌, List, [], ◌∷◌, ◌++◌, length, get_or, replicate, Bool, Option, Some, None, refl, sym, ap, subst, ◌∙◌, arith, lit<}
-use Rattle.std.specs.Prelude.{slice_set, position, All, Contains}
+use Rattle.std.proofs.Common.{◌≡◌, ℕ, zero, suc, ◌+◌, ◌-◌, ◌^◌, ◌<◌, List, [], ◌∷◌, ◌++◌, length, get_or, replicate, Bool, true, Option, Some, None, refl, sym, ap, subst, ◌∙◌, arith, lit<}
+use Rattle.std.specs.Prelude.{slice_set, position, All, Contains, ◌⊎◌}
 use Rattle.std.proofs.lemmas.List.{get_or-replicate, set-get_or}
 use Rattle.std.proofs.lemmas.List.Elements.{All-append}
 use Rattle.arrayvec.specs.ArrayVec.{ArrayVec}
 use Rattle.q3_profile.specs.declared.profile.Profile.{Profile}
-use Rattle.q3_profile.specs.Profile.{IsCodec}
 use Rattle.q3_player.specs.State.{zero_player, normal_player}
 use Rattle.q3_player.specs.declared.state.PlayerState.{PlayerState}
 use Rattle.q3_io.specs.declared.address.Address.{Address}
@@ -16,20 +15,25 @@ use Rattle.q3_chan.specs.Gathering.{Gathering}
 use Rattle.q3_chan.specs.Laws.{IsSendable, Gathers, EndsGather, EndsSend}
 use Rattle.q3_clmsg.specs.declared.moves.Move.{Move}
 use Rattle.q3_clmsg.specs.Moves.{IsMove}
-use Rattle.q3_svmsg.specs.Values.{Snapshot}
-use Rattle.q3_server.specs.Built.{IsHeld, IsArea, AreHeld, IsBuilt}
-use Rattle.q3_server.specs.Server.{MapState, SlotState, ServerState, Built, places, slot_at, with_slot, is_of, new_slot, with_player, with_area}
+use Rattle.q3_ring.specs.Snapshot.{Snapshot}
+use Rattle.q3_ring.specs.Places.{most_places, no_places}
+use Rattle.q3_frames.specs.Frames.{Frame, FramesState, build_at}
+use Rattle.q3_clstate.specs.State.{AppliedState}
+use Rattle.q3_server.specs.Built.{Built, IsHeld, IsArea, AreHeld, IsSnapshot, IsBuilt}
+use Rattle.q3_server.specs.Server.{MapState, SlotState, ServerState, places, slot_at, with_slot, is_of, new_slot, with_player, with_area, next_snapshot, next_frames, built_bytes}
 use Rattle.q3_client.specs.Client.{ClientState, new_client}
-use Rattle.q3_client.specs.Moves.{issue}
+use Rattle.q3_client.specs.Moves.{issue, asks_delta}
 use Rattle.q3_client.specs.Sending.{said_bytes, next_message as next_said}
 use Rattle.q3_world.specs.declared.made.Direction.TheVariants.{ToClient, ToServer}
+use Rattle.q3_world.specs.Layers.{FrameLaws, RingLaws}
 use Rattle.q3_world.specs.Ends.{Ends, client_at, with_client, no_address, address_at}
 use Rattle.q3_world.specs.World.{Tag, History, Whole, no_history, no_message, history_at, with_history, built_at, with_built, with_accepted, with_said, with_run, named, opening}
-use Rattle.q3_world.specs.StandsFor.{messages_of, messages_said, KeepsSlot, AreEnds, IsClient, IsPiece, IsWay, IsSent, Facts, TakesBuilt, AreJoined, IsJoined, AllJoined, WasBuilt}
+use Rattle.q3_world.specs.StandsFor.{IsChecked, messages_of, messages_said, KeepsSlot, AreEnds, IsClient, IsPiece, IsWay, IsSent, KeepsFrames, Facts, snapshot_in, WasBuilt, AreOfBuilt, WasAccepted, TakesBuilt, AreAsked, AreJoined, IsJoined, AllJoined}
 use Rattle.q3_world.proofs.OnePlace.{set_there, OnlyAt-set, OnlyAt-same, DifferAt, each_at}
 use Rattle.q3_world.proofs.Growth.{HistoryGrows, HistoryGrows-same, HistoryGrows-built, HistoryGrows-accepted, HistoryGrows-said, HistoryGrows-issued, HistoryGrows-run, HistoryGrows-joined, Grow-at, noted_same, AllSent, all_sent_grow, each_more}
+use Rattle.q3_world.proofs.Bases.{KeepsFrames-built, KeepsFrames-same, frames_begun, frames_too_long}
 use Rattle.q3_world.proofs.Found.{AllFound, found_changed, found_joined}
-use Rattle.q3_world.proofs.Clients.{no_client, a_client, a_slot, KeepsSlot-new, KeepsSlot-given, KeepsSlot-came, KeepsSlot-handed, KeepsClient-new, KeepsClient-took, KeepsClient-handed, KeepsClient-issued, KeepsClient-begun, client_begun, TakesBuilt-new, TakesSaid-new, TakesBuilt-same, TakesSaid-same, TakesBuilt-more, TakesSaid-more, TakesSaid-issued}
+use Rattle.q3_world.proofs.Clients.{no_client, a_client, a_slot, KeepsSlot-new, KeepsSlot-given, KeepsSlot-came, KeepsSlot-handed, KeepsClient-new, KeepsClient-took, KeepsClient-handed, KeepsClient-issued, KeepsClient-begun, client_begun, begun_next, next_base, slot_begun, KeepsSlot-begun, TakesBuilt-new, TakesSaid-new, AreAsked-new, TakesBuilt-same, TakesSaid-same, TakesBuilt-more, TakesSaid-more, TakesSaid-issued, BaseIs, AreAsked-same, AreAsked-accepted, AreAsked-said, AreAsked-ran, AreAsked-built}
 use Rattle.q3_world.proofs.Beginning.{handed_piece}
 use Rattle.q3_world.proofs.Held.{AreHeld-none}
 
@@ -42,14 +46,14 @@ abbrev none_slot : Option SlotState
 none_slot = None
 
 -- at the beginning
-pub Holds-opening : (profile : Profile) → IsCodec profile → Holds profile (opening profile)
+pub Holds-opening : (profile : Profile) → IsChecked profile → Holds profile (opening profile)
 unfolding opening
-Holds-opening profile codec =
+Holds-opening profile checked =
     let no_slots = λ (c : ℕ) (lt : c < places). get_or-replicate {A = Option SlotState} places c None None lt in
     let no_clients = λ (c : ℕ) (lt : c < places). get_or-replicate {A = Option ClientState} places c None None lt in
     record {
       facts = record {
-        codec = codec;
+        checked = checked;
         by = refl;
         slots = refl;
         clients = refl;
@@ -60,10 +64,23 @@ Holds-opening profile codec =
         each = λ c lt. rw (no_slots c lt, no_clients c lt, get_or-replicate places c no_history no_history lt) refl;
         found = λ c slot at. absurd (none_some (sym (nobody places c) ∙ at));
         sent = λ k d lt. absurd (omega (arith, lt));
+        frames = record {
+          are = record { places = λ slot lt. rw (get_or-replicate places slot no_frame [] lt) refl };
+          count = refl;
+          each = λ c lt number snapshot held some few. absurd (nothing_built c lt number some few);
+        };
       };
       joined = λ c lt. rw (no_slots c lt) tt;
     }
   where
+    no_frame : List (Option Frame)
+    no_frame = no_places
+
+    nothing_built : (c : ℕ) → c < places → (number : ℕ) → 1 ≤ number → number ≤ length (history_at (replicate places no_history) c).built → ⊥
+    nothing_built c lt number some few =
+        let none : length (history_at (replicate places no_history) c).built ≡ 0 = ap (λ (h : History). length h.built) (get_or-replicate places c no_history no_history lt) in
+        omega (arith, some, few, none)
+
     nobody : (count c : ℕ) → get_or (replicate count (none_slot)) c none_slot ≡ none_slot
     nobody zero c = refl
     nobody (suc count) zero = refl
@@ -81,6 +98,7 @@ pub record Differ (profile : Profile) (c : ℕ) (old new : Whole) : Type 0 where
   pub at : DifferAt c old.ends new.ends old.histories new.histories
   pub found : AllFound new.ends.server.slots
   pub sent : AllSent profile new.histories new.sent
+  pub frames : KeepsFrames new.ends.server.frames new.histories
 
 -- what joins the ends of a client
 abbrev OfJoined : Profile → Option SlotState → Option ClientState → Address → History → Type 0
@@ -96,7 +114,7 @@ Holds-at profile c old new differ client joined holds =
     let at = differ.at in
     record {
       facts = record {
-        codec = facts.codec;
+        checked = facts.checked;
         by = differ.by ∙ facts.by;
         slots = at.slots.count ∙ facts.slots;
         clients = at.clients.count ∙ facts.clients;
@@ -107,6 +125,7 @@ Holds-at profile c old new differ client joined holds =
         each = each_at (IsClient profile) c old.ends new.ends old.histories new.histories at client facts.each;
         found = differ.found;
         sent = differ.sent;
+        frames = differ.frames;
       };
       joined = each_at (OfJoined profile) c old.ends new.ends old.histories new.histories at joined holds.joined;
     }
@@ -125,10 +144,10 @@ with_new whole c qport address slot client =
       histories = with_history whole.histories c (record (history_at whole.histories c) { qport = qport; host = address.host });
     }
 
-pub Holds-new : (profile : Profile) (whole : Whole) (c challenge qport dup : ℕ) (address : Address) → EndsSend → EndsGather → IsHeld profile zero_player → c < places
+pub Holds-new : RingLaws → (profile : Profile) (whole : Whole) (c challenge qport dup : ℕ) (address : Address) → 512 ≤ profile.parse_ring → EndsSend → EndsGather → IsHeld profile zero_player → c < places
     → qport < 2 ^ 16 → slot_at whole.ends.server c ≡ None → position (is_of address.host qport) whole.ends.server.slots ≡ None → Holds profile whole
     → Holds profile (with_new whole c qport address (new_slot challenge qport address) (new_client profile challenge qport dup))
-Holds-new profile whole c challenge qport dup address sends gathers first lt fits none alone holds =
+Holds-new laws profile whole c challenge qport dup address ring sends gathers first lt fits none alone holds =
     let facts = holds.facts in
     let ends = whole.ends in
     let slots = ends.server.slots in
@@ -146,7 +165,11 @@ Holds-new profile whole c challenge qport dup address sends gathers first lt fit
     let keeps : AreEnds profile slot client address there = subst (λ (h : History). AreEnds profile slot client address (record h { qport = qport; host = address.host })) (sym history_is)
     (record { of_slot = KeepsSlot-new profile challenge qport address sends first; of_client = KeepsClient-new profile challenge qport dup sends fits; host = refl }) in
     let joins : AreJoined profile slot client there = subst (λ (h : History). AreJoined profile slot client (record h { qport = qport; host = address.host })) (sym history_is)
-    (record { of_client = TakesBuilt-new profile challenge qport dup gathers; of_slot = TakesSaid-new profile challenge qport address gathers }) in
+    (record {
+      of_client = TakesBuilt-new laws profile challenge qport dup gathers ring;
+      of_slot = TakesSaid-new profile challenge qport address gathers;
+      asked = AreAsked-new challenge qport address;
+    }) in
     Holds-at profile c whole (with_new whole c qport address slot client)
     (record {
       by = refl;
@@ -160,6 +183,7 @@ Holds-new profile whole c challenge qport dup address sends gathers first lt fit
       found = found_joined slots c slot facts.slots lt none alone facts.found;
       sent = all_sent_grow profile whole.histories (with_history whole.histories c there) whole.sent
           (Grow-at whole.histories c there facts.histories lt (HistoryGrows-joined history there history_is)) facts.sent;
+      frames = KeepsFrames-same whole.ends.server.frames whole.histories c there lt facts.histories refl facts.frames;
     })
     (rw (slot_is, client_is, address_is, noted) keeps)
     (rw (slot_is, client_is, noted) joins)
@@ -206,35 +230,40 @@ has_client profile whole c client lt found holds =
     (subst (λ (e : Option ClientState). IsJoined profile (slot_at whole.ends.server c) e history) found (holds.joined c lt)) in
     (had.0, record { slot_is = had.1; client_is = found; keeps = had.2; joined = joined })
 
--- the world in which its slot, its end, and what is noted of it are these, and this was sent
-abbrev pub changed : Whole → ℕ → SlotState → ClientState → History → List Tag → Whole
-changed whole c slot client history sent =
+-- the server with another slot and other frames
+abbrev pub with_both : ServerState → ℕ → SlotState → FramesState → ServerState
+with_both server c slot frames = record (with_slot server c slot) { frames = frames }
+
+-- the world in which its slot, its end, the frames, and what is noted of it are these, and this was sent
+abbrev pub changed : Whole → ℕ → SlotState → ClientState → FramesState → History → List Tag → Whole
+changed whole c slot client frames history sent =
     record {
-      ends = record whole.ends { server = with_slot whole.ends.server c slot; clients = slice_set whole.ends.clients c (Some client) };
+      ends = record whole.ends { server = with_both whole.ends.server c slot frames; clients = slice_set whole.ends.clients c (Some client) };
       histories = with_history whole.histories c history;
       sent = sent;
     }
 
 -- a change of a client that is there
-pub record Changes (profile : Profile) (whole : Whole) (c : ℕ) (slot : SlotState) (client : ClientState) (slot' : SlotState) (client' : ClientState) (history : History) (tags : List Tag) : Type 0 where
+pub record Changes (profile : Profile) (whole : Whole) (c : ℕ) (slot : SlotState) (client : ClientState) (slot' : SlotState) (client' : ClientState) (frames : FramesState) (history : History) (tags : List Tag) : Type 0 where
   pub host : slot'.address.host ≡ slot.address.host
   pub qport : slot'.qport ≡ slot.qport
   pub grows : HistoryGrows (history_at whole.histories c) history
   pub keeps : AreEnds profile slot' client' (address_at whole.ends c) history
   pub joined : AreJoined profile slot' client' history
   pub sent : AllSent profile (with_history whole.histories c history) tags
+  pub kept : KeepsFrames frames (with_history whole.histories c history)
 
-pub Holds-changed : (profile : Profile) (whole : Whole) (c : ℕ) (slot slot' : SlotState) (client client' : ClientState) (history : History) (sent : List Tag) → c < places
-    → Has profile whole c slot client → Changes profile whole c slot client slot' client' history sent → Holds profile whole
-    → Holds profile (changed whole c slot' client' history sent)
-Holds-changed profile whole c slot slot' client client' history sent lt had changes holds =
+pub Holds-changed : (profile : Profile) (whole : Whole) (c : ℕ) (slot slot' : SlotState) (client client' : ClientState) (frames : FramesState) (history : History) (sent : List Tag) → c < places
+    → Has profile whole c slot client → Changes profile whole c slot client slot' client' frames history sent → Holds profile whole
+    → Holds profile (changed whole c slot' client' frames history sent)
+Holds-changed profile whole c slot slot' client client' frames history sent lt had changes holds =
     let facts = holds.facts in
     let ends = whole.ends in
     let slots = ends.server.slots in
     let slot_is = set_there slots c None (Some slot') facts.slots lt in
     let client_is = set_there ends.clients c None (Some client') facts.clients lt in
     let noted = set_there whole.histories c no_history history facts.histories lt in
-    Holds-at profile c whole (changed whole c slot' client' history sent)
+    Holds-at profile c whole (changed whole c slot' client' frames history sent)
     (record {
       by = refl;
       map = refl;
@@ -246,6 +275,7 @@ Holds-changed profile whole c slot slot' client client' history sent lt had chan
       };
       found = found_changed slots c slot slot' facts.slots lt had.slot_is changes.host changes.qport facts.found;
       sent = changes.sent;
+      frames = changes.kept;
     })
     (rw (slot_is, client_is, noted) changes.keeps)
     (rw (slot_is, client_is, noted) changes.joined)
@@ -278,20 +308,26 @@ same_server server c slot found =
 pub same_clients : (ends : Ends) (c : ℕ) (client : ClientState) → client_at ends c ≡ Some client → slice_set ends.clients c (Some client) ≡ ends.clients
 same_clients ends c client found = ap (λ (s : Option ClientState). slice_set ends.clients c s) (sym found) ∙ set-get_or ends.clients c None
 
--- only the slot changes, and what is noted
-abbrev pub with_server_of : Whole → ℕ → SlotState → History → List Tag → Whole
-with_server_of whole c slot history sent =
-    record { ends = record whole.ends { server = with_slot whole.ends.server c slot }; histories = with_history whole.histories c history; sent = sent }
+-- only the slot and the frames change, and what is noted
+abbrev pub with_server_of : Whole → ℕ → SlotState → FramesState → History → List Tag → Whole
+with_server_of whole c slot frames history sent =
+    record { ends = record whole.ends { server = with_both whole.ends.server c slot frames }; histories = with_history whole.histories c history; sent = sent }
 
-pub Holds-slot : (profile : Profile) (whole : Whole) (c : ℕ) (slot slot' : SlotState) (client : ClientState) (history : History) (sent : List Tag) → c < places
-    → Has profile whole c slot client → Changes profile whole c slot client slot' client history sent → Holds profile whole
-    → Holds profile (with_server_of whole c slot' history sent)
-Holds-slot profile whole c slot slot' client history sent lt had changes holds =
+pub Holds-slot : (profile : Profile) (whole : Whole) (c : ℕ) (slot slot' : SlotState) (client : ClientState) (frames : FramesState) (history : History) (sent : List Tag) → c < places
+    → Has profile whole c slot client → Changes profile whole c slot client slot' client frames history sent → Holds profile whole
+    → Holds profile (with_server_of whole c slot' frames history sent)
+Holds-slot profile whole c slot slot' client frames history sent lt had changes holds =
     subst (λ (clients : List (Option ClientState)). Holds profile (record {
-      ends = record whole.ends { server = with_slot whole.ends.server c slot'; clients = clients };
+      ends = record whole.ends { server = with_both whole.ends.server c slot' frames; clients = clients };
       histories = with_history whole.histories c history;
       sent = sent;
-    })) (same_clients whole.ends c client had.client_is) (Holds-changed profile whole c slot slot' client client history sent lt had changes holds)
+    })) (same_clients whole.ends c client had.client_is) (Holds-changed profile whole c slot slot' client client frames history sent lt had changes holds)
+
+-- frames that are kept where no message was begun
+pub frames_stay : (profile : Profile) (whole : Whole) (c : ℕ) (history : History) → c < places → history.built ≡ (history_at whole.histories c).built → Holds profile whole
+    → KeepsFrames whole.ends.server.frames (with_history whole.histories c history)
+frames_stay profile whole c history lt built holds =
+    KeepsFrames-same whole.ends.server.frames whole.histories c history lt holds.facts.histories built holds.facts.frames
 
 -- only the client's own end changes, and what is noted
 abbrev pub with_client_of : Whole → ℕ → ClientState → History → List Tag → Whole
@@ -299,14 +335,14 @@ with_client_of whole c client history sent =
     record { ends = with_client whole.ends c client; histories = with_history whole.histories c history; sent = sent }
 
 pub Holds-client : (profile : Profile) (whole : Whole) (c : ℕ) (slot : SlotState) (client client' : ClientState) (history : History) (sent : List Tag) → c < places
-    → Has profile whole c slot client → Changes profile whole c slot client slot client' history sent → Holds profile whole
+    → Has profile whole c slot client → Changes profile whole c slot client slot client' whole.ends.server.frames history sent → Holds profile whole
     → Holds profile (with_client_of whole c client' history sent)
 Holds-client profile whole c slot client client' history sent lt had changes holds =
     subst (λ (server : ServerState). Holds profile (record {
       ends = record whole.ends { server = server; clients = slice_set whole.ends.clients c (Some client') };
       histories = with_history whole.histories c history;
       sent = sent;
-    })) (same_server whole.ends.server c slot had.slot_is) (Holds-changed profile whole c slot slot client client' history sent lt had changes holds)
+    })) (same_server whole.ends.server c slot had.slot_is) (Holds-changed profile whole c slot slot client client' whole.ends.server.frames history sent lt had changes holds)
 
 -- ---- what the game hands in for a client
 
@@ -326,7 +362,7 @@ Holds-given profile whole c slot player area lt found held is holds =
     let joined = had.1.joined in
     subst (λ (histories : List History). Holds profile (record { ends = record whole.ends { server = with_slot whole.ends.server c next }; histories = histories; sent = whole.sent }))
     (noted_same whole.histories c)
-    (Holds-slot profile whole c slot next client history whole.sent lt had.1
+    (Holds-slot profile whole c slot next client whole.ends.server.frames history whole.sent lt had.1
     (record {
       host = refl;
       qport = refl;
@@ -336,8 +372,13 @@ Holds-given profile whole c slot player area lt found held is holds =
         of_client = keeps.of_client;
         host = keeps.host;
       };
-      joined = record { of_client = joined.of_client; of_slot = TakesSaid-same profile slot next history.said history.issued history.run refl joined.of_slot };
+      joined = record {
+        of_client = joined.of_client;
+        of_slot = TakesSaid-same profile slot next history.said history.issued history.run refl joined.of_slot;
+        asked = AreAsked-same slot next history.said history.built history.accepted refl joined.asked;
+      };
       sent = sent_grows profile whole c history lt (HistoryGrows-same history) holds;
+      kept = frames_stay profile whole c history lt refl holds;
     }) holds)
 
 pub Holds-player : (profile : Profile) (whole : Whole) (c : ℕ) (slot : SlotState) (player : PlayerState) → c < places
@@ -360,58 +401,97 @@ slot_handed slot = record slot { sending = (next_of slot.sending).sending }
 abbrev pub handed_tag : ℕ → SlotState → UnderWay → Tag
 handed_tag c slot left = record { client = c; direction = ToClient; number = slot.sending.number; index = left.next; bytes = (next_of slot.sending).datagram }
 
--- a slot's message is begun, or goes on
-pub record Begins (profile : Profile) (slot slot' : SlotState) (of_qport of_host : ℕ) (built built' : List Built) (run : List Move) : Type 0 where
-  pub host : slot'.address.host ≡ slot.address.host
-  pub qport : slot'.qport ≡ slot.qport
-  pub gathering : slot'.gathering ≡ slot.gathering
-  pub keeps : KeepsSlot profile slot of_qport of_host built run → KeepsSlot profile slot' of_qport of_host built' run
-
--- and behind it what is left of it is handed out
-pub Holds-handed : (profile : Profile) (whole : Whole) (c : ℕ) (old slot : SlotState) (left : UnderWay) (began : Option Built) → EndsSend → EndsGather → c < places
-    → slot_at whole.ends.server c ≡ Some old → slot.sending.under_way ≡ Some left
-    → Begins profile old slot (history_at whole.histories c).qport (history_at whole.histories c).host (history_at whole.histories c).built (with_built (history_at whole.histories c) began).built (history_at whole.histories c).run
-    → Holds profile whole
-    → Holds profile (with_server_of whole c (slot_handed slot) (with_built (history_at whole.histories c) began) (whole.sent ++ handed_tag c slot left ∷ []))
-Holds-handed profile whole c old slot left None sends gathers lt found way begins holds =
+-- a piece of a message that was begun before is handed out
+pub Holds-handed : (profile : Profile) (whole : Whole) (c : ℕ) (slot : SlotState) (left : UnderWay) → EndsSend → c < places
+    → slot_at whole.ends.server c ≡ Some slot → slot.sending.under_way ≡ Some left → Holds profile whole
+    → Holds profile (with_server_of whole c (slot_handed slot) whole.ends.server.frames (history_at whole.histories c) (whole.sent ++ handed_tag c slot left ∷ []))
+Holds-handed profile whole c slot left sends lt found way holds =
     let history = history_at whole.histories c in
     let next = slot_handed slot in
-    let had = has_slot profile whole c old lt found holds in
+    let had = has_slot profile whole c slot lt found holds in
     let keeps = had.1.keeps in
     let joined = had.1.joined in
-    let starts = begins.keeps keeps.of_slot in
-    let grows = HistoryGrows-built history None in
-    Holds-slot profile whole c old next had.0 history (whole.sent ++ handed_tag c slot left ∷ []) lt had.1
+    let grows = HistoryGrows-same history in
+    Holds-slot profile whole c slot next had.0 whole.ends.server.frames history (whole.sent ++ handed_tag c slot left ∷ []) lt had.1
     (record {
-      host = begins.host;
-      qport = begins.qport;
+      host = refl;
+      qport = refl;
       grows = grows;
-      keeps = record { of_slot = KeepsSlot-handed profile slot history.qport history.host history.built history.run sends starts; of_client = keeps.of_client; host = keeps.host };
-      joined = record { of_client = joined.of_client; of_slot = TakesSaid-same profile old next history.said history.issued history.run begins.gathering joined.of_slot };
+      keeps = record { of_slot = KeepsSlot-handed profile slot history.qport history.host history.built history.run sends keeps.of_slot; of_client = keeps.of_client; host = keeps.host };
+      joined = record {
+        of_client = joined.of_client;
+        of_slot = TakesSaid-same profile slot next history.said history.issued history.run refl joined.of_slot;
+        asked = AreAsked-same slot next history.said history.built history.accepted refl joined.asked;
+      };
       sent = sent_more profile whole c history (handed_tag c slot left) lt grows refl
-          (handed_piece Server 0 (messages_of profile history.built) (length history.built) slot.sending left (handed_tag c slot left) sends starts.sending way refl refl refl) holds;
+          (handed_piece Server 0 (messages_of profile history.built) (length history.built) slot.sending left (handed_tag c slot left) sends keeps.of_slot.sending way refl refl refl) holds;
+      kept = frames_stay profile whole c history lt refl holds;
     }) holds
-Holds-handed profile whole c old slot left (Some built) sends gathers lt found way begins holds =
+
+-- a message is begun, and its first piece is handed out
+pub Holds-begun : FrameLaws → (profile : Profile) (whole : Whole) (c : ℕ) (slot : SlotState) (left : UnderWay) → EndsSend → EndsGather → c < places
+    → slot_at whole.ends.server c ≡ Some slot → slot.sending.number + 1 < sequence_end
+    → IsSendable (built_bytes profile (begun_next whole.ends.server.map whole.ends.server.frames c slot))
+    → (slot_begun profile slot (begun_next whole.ends.server.map whole.ends.server.frames c slot)).sending.under_way ≡ Some left → Holds profile whole
+    → Holds profile (with_server_of whole c (slot_handed (slot_begun profile slot (begun_next whole.ends.server.map whole.ends.server.frames c slot)))
+    (next_frames whole.ends.server.map whole.ends.server.frames c slot) (with_built (history_at whole.histories c) (Some (begun_next whole.ends.server.map whole.ends.server.frames c slot)))
+    (whole.sent ++ handed_tag c (slot_begun profile slot (begun_next whole.ends.server.map whole.ends.server.frames c slot)) left ∷ []))
+Holds-begun laws profile whole c slot left sends gathers lt found fits sendable way holds =
     let history = history_at whole.histories c in
+    let map = whole.ends.server.map in
+    let frames = whole.ends.server.frames in
+    let built = begun_next map frames c slot in
+    let starts = slot_begun profile slot built in
     let more = history.built ++ built ∷ [] in
-    let next = slot_handed slot in
-    let had = has_slot profile whole c old lt found holds in
+    let noted = record history { built = more } in
+    let next = slot_handed starts in
+    let had = has_slot profile whole c slot lt found holds in
     let keeps = had.1.keeps in
     let joined = had.1.joined in
-    let starts = begins.keeps keeps.of_slot in
+    let facts = holds.facts in
+    let begun = keeps.of_slot.sending.begun in
+    let are = facts.frames.each c lt in
+    let kept = KeepsSlot-begun laws profile map frames c slot history.qport history.host history.built history.run sends facts.time facts.entities fits sendable are keeps.of_slot in
     let grows = HistoryGrows-built history (Some built) in
-    Holds-slot profile whole c old next had.0 (record history { built = more }) (whole.sent ++ handed_tag c slot left ∷ []) lt had.1
+    let asked = AreAsked-built slot next history.said history.built history.accepted (slot.sending.number + 1) built refl joined.of_client.accepted
+    (next_base laws map frames c slot history.built begun are) joined.asked in
+    Holds-slot profile whole c slot next had.0 (next_frames map frames c slot) noted (whole.sent ++ handed_tag c starts left ∷ []) lt had.1
     (record {
-      host = begins.host;
-      qport = begins.qport;
+      host = refl;
+      qport = refl;
       grows = grows;
-      keeps = record { of_slot = KeepsSlot-handed profile slot history.qport history.host more history.run sends starts; of_client = keeps.of_client; host = keeps.host };
+      keeps = record { of_slot = KeepsSlot-handed profile starts history.qport history.host more history.run sends kept; of_client = keeps.of_client; host = keeps.host };
       joined = record {
         of_client = TakesBuilt-more profile had.0 history.built history.accepted built gathers joined.of_client;
-        of_slot = TakesSaid-same profile old next history.said history.issued history.run begins.gathering joined.of_slot;
+        of_slot = TakesSaid-same profile slot next history.said history.issued history.run refl joined.of_slot;
+        asked = asked;
       };
-      sent = sent_more profile whole c (record history { built = more }) (handed_tag c slot left) lt grows refl
-          (handed_piece Server 0 (messages_of profile more) (length more) slot.sending left (handed_tag c slot left) sends starts.sending way refl refl refl) holds;
+      sent = sent_more profile whole c noted (handed_tag c starts left) lt grows refl
+          (handed_piece Server 0 (messages_of profile more) (length more) starts.sending left (handed_tag c starts left) sends kept.sending way refl refl refl) holds;
+      kept = KeepsFrames-built laws frames whole.histories c noted (next_snapshot map slot) lt facts.histories
+          (frames_begun laws frames c history.built built.base (next_snapshot map slot) (omega (arith, begun)) are) facts.frames;
+    }) holds
+
+-- a message proves too long, and its frame stays
+pub Holds-too_long : FrameLaws → (profile : Profile) (whole : Whole) (c : ℕ) (slot : SlotState) → c < places → slot_at whole.ends.server c ≡ Some slot → Holds profile whole
+    → Holds profile (with_server_of whole c slot (next_frames whole.ends.server.map whole.ends.server.frames c slot) (history_at whole.histories c) whole.sent)
+Holds-too_long laws profile whole c slot lt found holds =
+    let history = history_at whole.histories c in
+    let map = whole.ends.server.map in
+    let frames = whole.ends.server.frames in
+    let had = has_slot profile whole c slot lt found holds in
+    let begun = had.1.keeps.of_slot.sending.begun in
+    let facts = holds.facts in
+    Holds-slot profile whole c slot slot had.0 (next_frames map frames c slot) history whole.sent lt had.1
+    (record {
+      host = refl;
+      qport = refl;
+      grows = HistoryGrows-same history;
+      keeps = had.1.keeps;
+      joined = had.1.joined;
+      sent = sent_grows profile whole c history lt (HistoryGrows-same history) holds;
+      kept = KeepsFrames-built laws frames whole.histories c history (next_snapshot map slot) lt facts.histories
+          (frames_too_long laws frames c history.built (next_snapshot map slot) (omega (arith, begun)) (facts.frames.each c lt)) facts.frames;
     }) holds
 
 -- ---- a client hands out a datagram
@@ -440,11 +520,12 @@ Holds-goes profile whole c client left sends lt found way holds =
       qport = refl;
       grows = grows;
       keeps = record { of_slot = keeps.of_slot; of_client = KeepsClient-handed profile client history.qport history.said history.issued sends keeps.of_client; host = keeps.host };
-      joined = record { of_client = TakesBuilt-same profile client (client_handed client) history.built history.accepted refl refl refl joined.of_client; of_slot = joined.of_slot };
+      joined = record { of_client = TakesBuilt-same profile client (client_handed client) history.built history.accepted refl refl refl refl joined.of_client; of_slot = joined.of_slot; asked = joined.asked };
       sent = sent_more profile whole c history tag lt grows refl (
         keeps.host,
         handed_piece Client history.qport (messages_said profile history.said) (length history.said) client.sending left tag sends keeps.of_client.sending way refl refl refl,
       ) holds;
+      kept = frames_stay profile whole c history lt refl holds;
     }) holds
 
 -- a client's message is begun, and its first piece goes out
@@ -472,14 +553,23 @@ Holds-said profile whole c client left sends gathers lt found way fits taken sen
       grows = grows;
       keeps = record { of_slot = keeps.of_slot; of_client = KeepsClient-handed profile begun history.qport more history.issued sends starts; host = keeps.host };
       joined = record {
-        of_client = TakesBuilt-same profile client (client_handed begun) history.built history.accepted refl refl refl joined.of_client;
+        of_client = TakesBuilt-same profile client (client_handed begun) history.built history.accepted refl refl refl refl joined.of_client;
         of_slot = TakesSaid-more profile had.0 history.said history.issued history.run next gathers joined.of_slot;
+        asked = AreAsked-said had.0 history.said history.built history.accepted next (λ so. joined.of_client.asks (asks_only client so)) joined.asked;
       };
       sent = sent_more profile whole c (record history { said = more }) tag lt grows refl (
         keeps.host,
         handed_piece Client history.qport (messages_said profile more) (length more) begun.sending left tag sends starts.sending way refl refl refl,
       ) holds;
+      kept = frames_stay profile whole c (record history { said = more }) lt refl holds;
     }) holds
+  where
+    asks_so : (delta : Bool) (moves : List Move) → asks_delta delta moves ≡ true → delta ≡ true
+    asks_so delta [] so = absurd cc
+    asks_so delta (one ∷ moves) so = so
+
+    asks_only : (client : ClientState) → (next_said client).delta ≡ true → client.delta ≡ true
+    asks_only client so = asks_so client.delta (next_said client).moves so
 
 -- ---- a client issues a move
 
@@ -501,87 +591,104 @@ Holds-issued profile whole c client one lt found is later holds =
       grows = grows;
       keeps = record { of_slot = keeps.of_slot; of_client = KeepsClient-issued profile client history.qport history.said history.issued one is later keeps.of_client; host = keeps.host };
       joined = record {
-        of_client = TakesBuilt-same profile client next history.built history.accepted refl refl refl joined.of_client;
+        of_client = TakesBuilt-same profile client next history.built history.accepted refl refl refl refl joined.of_client;
         of_slot = TakesSaid-issued profile had.0 history.said history.issued history.run one joined.of_slot;
+        asked = joined.asked;
       };
       sent = sent_grows profile whole c noted lt grows holds;
+      kept = frames_stay profile whole c noted lt refl holds;
     }) holds
 
 -- ---- a datagram arrives at a client
 
-pub Holds-taken : (profile : Profile) (whole : Whole) (c : ℕ) (client : ClientState) (g : Gathering) (accepted : Option Snapshot) (delta : Bool) (heard : Option Snapshot) → c < places
-    → client_at whole.ends c ≡ Some client → g.side ≡ client.gathering.side
+-- the client behind it
+abbrev pub client_took : ClientState → Gathering → AppliedState → Bool → ClientState
+client_took client g state delta = record client { gathering = g; state = state; delta = delta }
+
+pub Holds-taken : (profile : Profile) (whole : Whole) (c : ℕ) (client : ClientState) (g : Gathering) (state : AppliedState) (delta : Bool) (heard : Option Snapshot) → c < places
+    → client_at whole.ends c ≡ Some client → g.side ≡ client.gathering.side → state.profile ≡ client.state.profile → state.held.ring ≡ client.state.held.ring
     → (TakesBuilt profile client (history_at whole.histories c).built (history_at whole.histories c).accepted
-    → TakesBuilt profile (record client { gathering = g; accepted = accepted; delta = delta }) (history_at whole.histories c).built (with_accepted (history_at whole.histories c) heard).accepted)
+    → TakesBuilt profile (client_took client g state delta) (history_at whole.histories c).built (with_accepted (history_at whole.histories c) heard).accepted)
     → Holds profile whole
-    → Holds profile (with_client_of whole c (record client { gathering = g; accepted = accepted; delta = delta }) (with_accepted (history_at whole.histories c) heard) whole.sent)
-Holds-taken profile whole c client g accepted delta None lt found side takes holds =
+    → Holds profile (with_client_of whole c (client_took client g state delta) (with_accepted (history_at whole.histories c) heard) whole.sent)
+Holds-taken profile whole c client g state delta None lt found side by ring takes holds =
     let history = history_at whole.histories c in
     let had = has_client profile whole c client lt found holds in
     let keeps = had.1.keeps in
     let joined = had.1.joined in
     let grows = HistoryGrows-accepted history None in
-    Holds-client profile whole c had.0 client (record client { gathering = g; accepted = accepted; delta = delta }) history whole.sent lt had.1
+    Holds-client profile whole c had.0 client (client_took client g state delta) history whole.sent lt had.1
     (record {
       host = refl;
       qport = refl;
       grows = grows;
-      keeps = record { of_slot = keeps.of_slot; of_client = KeepsClient-took profile client history.qport history.said history.issued g accepted delta side keeps.of_client; host = keeps.host };
-      joined = record { of_client = takes joined.of_client; of_slot = joined.of_slot };
+      keeps = record { of_slot = keeps.of_slot; of_client = KeepsClient-took profile client history.qport history.said history.issued g state delta side by ring keeps.of_client; host = keeps.host };
+      joined = record { of_client = takes joined.of_client; of_slot = joined.of_slot; asked = joined.asked };
       sent = sent_grows profile whole c history lt grows holds;
+      kept = frames_stay profile whole c history lt refl holds;
     }) holds
-Holds-taken profile whole c client g accepted delta (Some snapshot) lt found side takes holds =
+Holds-taken profile whole c client g state delta (Some snapshot) lt found side by ring takes holds =
     let history = history_at whole.histories c in
     let noted = record history { accepted = history.accepted ++ snapshot ∷ [] } in
     let had = has_client profile whole c client lt found holds in
     let keeps = had.1.keeps in
     let joined = had.1.joined in
     let grows = HistoryGrows-accepted history (Some snapshot) in
-    Holds-client profile whole c had.0 client (record client { gathering = g; accepted = accepted; delta = delta }) noted whole.sent lt had.1
+    Holds-client profile whole c had.0 client (client_took client g state delta) noted whole.sent lt had.1
     (record {
       host = refl;
       qport = refl;
       grows = grows;
-      keeps = record { of_slot = keeps.of_slot; of_client = KeepsClient-took profile client history.qport history.said history.issued g accepted delta side keeps.of_client; host = keeps.host };
-      joined = record { of_client = takes joined.of_client; of_slot = joined.of_slot };
+      keeps = record { of_slot = keeps.of_slot; of_client = KeepsClient-took profile client history.qport history.said history.issued g state delta side by ring keeps.of_client; host = keeps.host };
+      joined = record {
+        of_client = takes joined.of_client;
+        of_slot = joined.of_slot;
+        asked = AreAsked-accepted had.0 history.said history.built history.accepted snapshot joined.asked;
+      };
       sent = sent_grows profile whole c noted lt grows holds;
+      kept = frames_stay profile whole c noted lt refl holds;
     }) holds
 
 -- ---- a client's datagram arrives at its slot
 
 -- the slot behind it
-abbrev pub slot_heard : SlotState → Address → Gathering → ℕ → SlotState
-slot_heard slot from g last = record slot { address = from; gathering = g; last_run = last }
+abbrev pub slot_heard : SlotState → Address → Gathering → ℕ → ℕ → SlotState
+slot_heard slot from g delta last = record slot { address = from; gathering = g; delta = delta; last_run = last }
 
--- moves were run, the last at a time, and each of them was issued
-pub Holds-heard : (profile : Profile) (whole : Whole) (c : ℕ) (slot : SlotState) (from : Address) (g : Gathering) (last : ℕ) (ran : List Move) → c < places
+-- moves were run, the last at a time, and each of them was issued; and a snapshot may be asked for that was accepted
+pub Holds-heard : (profile : Profile) (whole : Whole) (c : ℕ) (slot : SlotState) (from : Address) (g : Gathering) (delta last : ℕ) (ran : List Move) → c < places
     → slot_at whole.ends.server c ≡ Some slot → from.host ≡ slot.address.host → g.side ≡ slot.gathering.side
     → Gathers (messages_said profile (history_at whole.histories c).said) (length (history_at whole.histories c).said) g
     → (KeepsSlot profile slot (history_at whole.histories c).qport (history_at whole.histories c).host (history_at whole.histories c).built (history_at whole.histories c).run
-    → KeepsSlot profile (record slot { last_run = last }) (history_at whole.histories c).qport (history_at whole.histories c).host (history_at whole.histories c).built ((history_at whole.histories c).run ++ ran))
-    → All (Contains (history_at whole.histories c).issued) ran → Holds profile whole
-    → Holds profile (with_server_of whole c (slot_heard slot from g last) (with_run (history_at whole.histories c) ran) whole.sent)
-Holds-heard profile whole c slot from g last ran lt found host side gathers runs_so were holds =
+    → KeepsSlot profile (record slot { delta = delta; last_run = last }) (history_at whole.histories c).qport (history_at whole.histories c).host (history_at whole.histories c).built ((history_at whole.histories c).run ++ ran))
+    → All (Contains (history_at whole.histories c).issued) ran → (delta ≡ 0) ⊎ WasAccepted (history_at whole.histories c).accepted delta → Holds profile whole
+    → Holds profile (with_server_of whole c (slot_heard slot from g delta last) whole.ends.server.frames (with_run (history_at whole.histories c) ran) whole.sent)
+Holds-heard profile whole c slot from g delta last ran lt found host side gathers runs_so were asks holds =
     let history = history_at whole.histories c in
-    let next = slot_heard slot from g last in
+    let next = slot_heard slot from g delta last in
     let noted = with_run history ran in
     let had = has_slot profile whole c slot lt found holds in
     let keeps = had.1.keeps in
     let joined = had.1.joined in
     let grows = HistoryGrows-run history ran in
     let ran_so = runs_so keeps.of_slot in
-    Holds-slot profile whole c slot next had.0 noted whole.sent lt had.1
+    Holds-slot profile whole c slot next had.0 whole.ends.server.frames noted whole.sent lt had.1
     (record {
       host = host;
       qport = refl;
       grows = grows;
       keeps = record {
-        of_slot = KeepsSlot-came profile (record slot { last_run = last }) history.qport history.host history.built (history.run ++ ran) from g (host ∙ keeps.of_slot.host) side ran_so;
+        of_slot = KeepsSlot-came profile (record slot { delta = delta; last_run = last }) history.qport history.host history.built (history.run ++ ran) from g (host ∙ keeps.of_slot.host) side ran_so;
         of_client = keeps.of_client;
         host = keeps.host;
       };
-      joined = record { of_client = joined.of_client; of_slot = record { gathers = gathers; ran = All-append (Contains history.issued) history.run ran joined.of_slot.ran were } };
+      joined = record {
+        of_client = joined.of_client;
+        of_slot = record { gathers = gathers; ran = All-append (Contains history.issued) history.run ran joined.of_slot.ran were };
+        asked = AreAsked-ran slot next history.said history.built history.accepted asks joined.asked;
+      };
       sent = sent_grows profile whole c noted lt grows holds;
+      kept = frames_stay profile whole c noted lt refl holds;
     }) holds
 
 -- ---- what a tag names
@@ -605,8 +712,12 @@ pub names_built : (profile : Profile) (whole : Whole) (tag : Tag)
 names_built profile whole tag is built =
     let number = built.number in
     let some = is.some in
-    let begun = is.begun in
-    (omega arith, omega arith, sym built.is ∙ ap (λ (n : ℕ). built_at (history_at whole.histories tag.client).built n) (sym number))
+    let begun = is.begun in (
+      omega arith,
+      omega arith,
+      ap (λ (n : ℕ). snapshot_in (built_at (history_at whole.histories tag.client).built n).message.section) number
+          ∙ ap (λ (b : Built). snapshot_in b.message.section) built.is,
+    )
 
 -- ---- the map changes
 
@@ -618,7 +729,7 @@ Holds-map profile whole map time entities holds =
     let facts = holds.facts in
     record {
       facts = record {
-        codec = facts.codec;
+        checked = facts.checked;
         by = facts.by;
         slots = facts.slots;
         clients = facts.clients;
@@ -629,6 +740,7 @@ Holds-map profile whole map time entities holds =
         each = facts.each;
         found = facts.found;
         sent = facts.sent;
+        frames = facts.frames;
       };
       joined = holds.joined;
     }

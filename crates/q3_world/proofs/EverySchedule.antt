@@ -1,25 +1,34 @@
 -- Every list of events: what holds after it, and what it answers.
-use Rattle.std.proofs.Common.{◌≡◌, ℕ, ◌-◌, ◌^◌, ◌<◌, ◌≤◌, List, [], ◌∷◌, length, get_or, true, Option, Some, None, Ok, refl, sym, ap, subst, ◌∙◌, inl, inr, arith}
-use Rattle.std.specs.Prelude.{slice_get}
-use Rattle.std.specs.List.{AllByRecursion, last_or}
+use Rattle.std.proofs.Common.{◌≡◌, ℕ, ◌-◌, ◌^◌, ◌<◌, ◌≤◌, List, [], ◌∷◌, length, get_or, false, Bool, Option, Some, None, Result, Ok, refl, sym, ap, subst, ◌∙◌, inl, inr, arith}
+use Rattle.std.specs.Prelude.{◌⊎◌, ◌&&◌, nat_le, slice_get, All, Contains, IfSome}
+use Rattle.std.specs.Int.{is_power_of_two}
+use Rattle.std.specs.List.{AllByRecursion}
 use Rattle.std.specs.Option.{option_map}
+use Rattle.std.specs.Result.{result_ok}
 use Rattle.std.proofs.lemmas.Option.{slice_get-map}
 use Rattle.std.proofs.Math.Pow.{pow_mono}
+use Rattle.std.proofs.lemmas.List.Elements.{All-nil}
+use Rattle.std.proofs.lemmas.Bool.{and_parts, leb-true}
 use Rattle.q3_profile.specs.declared.profile.Profile.{Profile}
-use Rattle.q3_profile.specs.Profile.{IsCodec}
 use Rattle.q3_script.specs.declared.event.Event.{Event}
 use Rattle.q3_script.specs.declared.event.Event.TheVariants as events
 use Rattle.q3_script.specs.Grammar.{IsReplayEvent}
-use Rattle.q3_svmsg.specs.Values.{Message, Snapshot}
+use Rattle.q3_ring.specs.Snapshot.{Snapshot}
+use Rattle.q3_rings.specs.Rings.{accept_at, held_snapshot, view_at}
+use Rattle.q3_rings.specs.declared.rings.NoBase.TheVariants.{EntitiesGone}
+use Rattle.q3_rings.specs.Accepted.{SnapshotsStandFor, held_among}
+use Rattle.q3_clstate.specs.State.{AppliedState, Application, passes, accepts, apply_message}
+use Rattle.q3_clstate.specs.declared.applied.Applied.{Applied as AppliedSo}
 use Rattle.q3_chan.specs.declared.gatherer.Gathered.{Gathered}
 use Rattle.q3_chan.specs.declared.gatherer.Gathered.TheVariants as gathered
 use Rattle.q3_chan.specs.declared.gatherer.Gathered.TheVariants.{Whole as CameWhole}
 use Rattle.q3_chan.specs.Gathering.{Took, gathered as gathered_of}
 use Rattle.q3_chan.specs.Tags.{tagged, IsQuiet}
 use Rattle.q3_chan.specs.Laws.{TaggedDoes}
-use Rattle.q3_client.specs.declared.client.SnapOutcome.{SnapOutcome}
-use Rattle.q3_client.specs.declared.client.SnapOutcome.TheVariants.{Accepted}
+use Rattle.q3_clstate.specs.declared.applied.SnapOutcome.{SnapOutcome}
+use Rattle.q3_clstate.specs.declared.applied.SnapOutcome.TheVariants.{Accepted, Skipped}
 use Rattle.q3_client.specs.declared.client.ClientTook.TheVariants.{Applied}
+use Rattle.q3_svmsg.specs.declared.error.Illegible.{Illegible}
 use Rattle.q3_client.specs.declared.client.ClientTook.{ClientTook}
 use Rattle.q3_server.specs.declared.taking.ServerTook.{ServerTook}
 use Rattle.q3_server.specs.declared.taking.ServerTook.TheVariants.{Stranger}
@@ -30,23 +39,31 @@ use Rattle.q3_world.specs.declared.answer.Answer.TheVariants.{Unknown, Deliver}
 use Rattle.q3_world.specs.declared.made.Direction.{Direction}
 use Rattle.q3_world.specs.declared.made.Direction.TheVariants.{ToClient, ToServer}
 use Rattle.q3_world.specs.Layers.{Layers}
-use Rattle.q3_server.specs.Server.{SlotState, Built, places, slot_at, built_bytes}
-use Rattle.q3_client.specs.Client.{ClientState, Taken, apply_message, take_answer, take_gathered}
-use Rattle.q3_world.specs.Ends.{Ends, Answered, unknown, delivered, ran, client_at, address_at, with_client, newest}
+use Rattle.q3_server.specs.Built.{Built, number_of, message_of, IsNear}
+use Rattle.q3_server.specs.Server.{SlotState, places, slot_at, built_bytes}
+use Rattle.q3_client.specs.Client.{ClientState, Taken, take_answer, take_gathered}
+use Rattle.q3_world.specs.Ends.{Ends, Answered, unknown, delivered, ran, client_at, address_at, with_client, newest_of, newest}
 use Rattle.q3_world.specs.Kept.{SentBytes, Kept, KeptStep, opening_kept, kept_step, kept_after, kept_answers}
-use Rattle.q3_world.specs.World.{Tag, Step, Whole, History, history_at, opening, step, after, answers, deliver, arrive, to_client, to_server, named}
-use Rattle.q3_world.specs.StandsFor.{IsSent, IsClient, WasBuilt, Rise, IsJoined, StandsFor, bytes_of}
-use Rattle.q3_world.specs.Schedules.{StepFollows, kept_then, whole_then, BytesFollowTags, AcceptedWereBuilt, ShownWasBuilt, WasApplied, AppliedWasBuilt, NewerIsAccepted}
-use Rattle.q3_world.proofs.Events.{Holds, Holds-opening, tag_was_built, names_built}
+use Rattle.q3_world.specs.World.{Tag, Step, Whole, History, history_at, built_at, opening, step, after, answers, deliver, arrive, to_client, to_server, named}
+use Rattle.q3_world.specs.StandsFor.{IsChecked, IsSent, IsClient, WasBuilt, Rise, AreJoined, IsJoined, StandsFor, bytes_of}
+use Rattle.q3_world.specs.Schedules.{StepFollows, kept_then, whole_then, BytesFollowTags, AcceptedWereBuilt, ShownWasBuilt, outcome_of, applied_of, Shows, AppliedWasBuilt, NewerIsAccepted, UsualNeverSkips, BasesWereAccepted, HeldIsAccepted}
+use Rattle.q3_world.specs.Layers.{RingLaws}
+use Rattle.q3_world.proofs.Events.{Holds, Holds-opening, Has, has_client}
 use Rattle.q3_world.proofs.Agree.{Cited, seen}
-use Rattle.q3_world.proofs.Arriving.{IsFor, is_sent, is_for, tag_is, delivers_agree}
+use Rattle.q3_world.proofs.Arriving.{IsFor, Named, names, is_sent, is_for, tag_is, delivers_agree}
 use Rattle.q3_world.proofs.Agreement.{stands_of, stands_next, kept_is}
-use Rattle.q3_world.proofs.Clients.{last_is}
+use Rattle.q3_world.proofs.Bases.{if_some_then, some_one}
+use Rattle.q3_world.proofs.Knowing.{KnownBase, both_some, All-both, view_was_built}
+use Rattle.q3_world.proofs.Applying.{applies_built}
 use Rattle.q3_world.proofs.OnePlace.{set_there}
 
 -- what is cited of the layers below, of a profile that passed its check
-pub cited_of : Layers → (profile : Profile) → IsCodec profile → Cited profile
-cited_of below profile is =
+pub cited_of : Layers → (profile : Profile) → IsChecked profile → Cited profile
+cited_of below profile checked =
+    let is = checked.codec in
+    let n = profile.parse_ring in
+    let sized = and_parts (nat_le 512 n && nat_le n 65536) (is_power_of_two n) checked.rings.parse_ring in
+    let least = and_parts (nat_le 512 n) (nat_le n 65536) sized.0 in
     let at_first = below.zero profile.player.kinds is.player.kinds in
     record {
       reads = below.reads profile is;
@@ -55,19 +72,22 @@ cited_of below profile is =
       normal = λ player state. let made = below.normal profile.player.kinds player is.player.kinds state in record { state = made.0; normal = made.1 };
       normal_entity = λ state words. below.entity profile.entity state is.entity words;
       end = let wide : 2 ^ 10 ≤ 2 ^ profile.entity.number_bits = pow_mono is.numbers in omega arith;
+      ring = leb-true 512 n least.0;
       tags = below.tags;
       qport = below.qport;
       does = below.does;
       gathers = below.gathers;
       sends = below.sends;
       bytes = below.bytes;
+      frames = below.frames;
+      rings = below.rings;
     }
 
 -- ---- bytes and tags
 
 pub step_follows : Layers → StepFollows
 step_follows below profile kept whole event is stands =
-    stands_next profile kept whole event (cited_of below profile stands.facts.codec) is stands
+    stands_next profile kept whole event (cited_of below profile stands.facts.checked) is stands
 
 -- from what stands for a whole on, events answer the same, and what is kept stands for the whole
 follow : StepFollows → (profile : Profile) (all : List Event) (kept : Kept) (whole : Whole) → AllByRecursion IsReplayEvent all
@@ -84,9 +104,9 @@ follow law profile (event ∷ events) kept whole are stands =
     )
 
 -- what is kept at first stands for the opening world
-pub stands_opening : (profile : Profile) → IsCodec profile → StandsFor profile (opening_kept profile) (opening profile)
+pub stands_opening : (profile : Profile) → IsChecked profile → StandsFor profile (opening_kept profile) (opening profile)
 unfolding opening
-stands_opening profile codec = stands_of profile (opening profile) (Holds-opening profile codec)
+stands_opening profile checked = stands_of profile (opening profile) (Holds-opening profile checked)
 
 pub bytes_follow_tags : StepFollows → BytesFollowTags
 bytes_follow_tags law profile all is are = follow law profile all (opening_kept profile) (opening profile) are (stands_opening profile is)
@@ -98,13 +118,12 @@ Then profile all = StandsFor profile (kept_then profile all) (whole_then profile
 -- ---- what was accepted
 
 abbrev WereAccepted : History → Type 0
-WereAccepted history = ((k : ℕ) (d : Snapshot) → k < length history.accepted → WasBuilt history.built (get_or history.accepted k d)) × Rise history.accepted
+WereAccepted history = All (WasBuilt history.built) history.accepted × Rise history.accepted
 
 -- what a client accepted, wherever it is
 accepted_by : (profile : Profile) (slot : Option SlotState) (client : Option ClientState) (address : Address) (history : History)
     → IsClient profile slot client address history → IsJoined profile slot client history → WereAccepted history
-accepted_by profile None None address history is joined =
-    rw is ((λ k d lt. absurd (omega (arith, lt))), (λ j k d lt within. absurd (omega (arith, within))))
+accepted_by profile None None address history is joined = rw is (All-nil _, (λ j k d lt within. absurd (omega (arith, within))))
 accepted_by profile None (Some client) address history is joined = absurd is
 accepted_by profile (Some slot) None address history is joined = absurd is
 accepted_by profile (Some slot) (Some client) address history is joined = (joined.of_client.accepted, joined.of_client.rise)
@@ -116,38 +135,56 @@ accepted_were_built law profile all c is are within =
     accepted_by profile (slot_at whole.ends.server c) (client_at whole.ends c) (address_at whole.ends c) (history_at whole.histories c)
     (stands.facts.each c within) (stands.joined c within)
 
-some_is : (x y : Snapshot) → Some x ≡ Some y → x ≡ y
-some_is x y e = cc
-
--- the newest was
-newest_was : (profile : Profile) (slot : Option SlotState) (client : Option ClientState) (address : Address) (history : History) (snapshot : Snapshot)
+-- what a client that is there shows was built
+newest_was : RingLaws → (profile : Profile) (slot : Option SlotState) (client : Option ClientState) (address : Address) (history : History) (snapshot : Snapshot)
     → newest client ≡ Some snapshot → IsClient profile slot client address history → IsJoined profile slot client history → WasBuilt history.built snapshot
-newest_was profile slot None address history snapshot shown is joined = absurd cc
-newest_was profile None (Some client) address history snapshot shown is joined = absurd is
-newest_was profile (Some slot) (Some client) address history snapshot shown is joined =
-    newest_of history snapshot history.accepted refl (sym joined.of_client.newest ∙ shown) joined.of_client.accepted
-  where
-    newest_of : (history : History) (snapshot : Snapshot) (accepted : List Snapshot) → history.accepted ≡ accepted → last_or None history.accepted ≡ Some snapshot
-        → ((k : ℕ) (d : Snapshot) → k < length history.accepted → WasBuilt history.built (get_or history.accepted k d)) → WasBuilt history.built snapshot
-    newest_of history snapshot [] none last all = absurd (let e : last_or None history.accepted ≡ None = ap (λ (a : List Snapshot). last_or None a) none in cc)
-    newest_of history snapshot (first ∷ others) some last all =
-        let count : 0 < length history.accepted = rw some (omega arith) in
-        let place = length history.accepted - 1 in
-        let there : get_or history.accepted place snapshot ≡ snapshot = some_is (get_or history.accepted place snapshot) snapshot (sym (last_is None history.accepted snapshot count) ∙ last) in
-        subst (λ (s : Snapshot). WasBuilt history.built s) there (all place snapshot (omega arith))
+newest_was laws profile slot None address history snapshot shown is joined = absurd cc
+newest_was laws profile None (Some client) address history snapshot shown is joined = absurd is
+newest_was laws profile (Some slot) (Some client) address history snapshot shown is joined =
+    let takes = joined.of_client in
+    (view_was_built laws client.state.held history.built history.accepted client.state.held.newest snapshot takes.stands takes.accepted shown).1
 
 -- what a show by bytes prints
 pub shows : (kept : Kept) (c : ℕ) → (kept_step kept (events.Show c)).answer.snapshot ≡ newest (client_at kept.ends c)
 unfolding kept_step
 shows kept c = refl
 
-pub shown_was_built : BytesFollowTags → ShownWasBuilt
-shown_was_built law profile all c snapshot is are within shown =
+pub shown_was_built : BytesFollowTags → Layers → ShownWasBuilt
+shown_was_built law below profile all c snapshot is are within shown =
     let stands : Then profile all = (law profile all is are).0 in
     let whole = whole_then profile all in
-    newest_was profile (slot_at whole.ends.server c) (client_at whole.ends c) (address_at whole.ends c) (history_at whole.histories c) snapshot
+    newest_was below.rings profile (slot_at whole.ends.server c) (client_at whole.ends c) (address_at whole.ends c) (history_at whole.histories c) snapshot
     (ap (λ (e : Ends). newest (client_at e c)) (sym stands.ends) ∙ (sym (shows (kept_then profile all) c) ∙ shown))
     (stands.facts.each c within) (stands.joined c within)
+
+-- ---- what a client holds
+
+bases_by : (profile : Profile) (slot : Option SlotState) (client : Option ClientState) (address : Address) (history : History)
+    → IsClient profile slot client address history → IsJoined profile slot client history
+    → All (λ (built : Built). IfSome built.base (λ base. WasBuilt history.built base × Contains history.accepted base)) history.built
+bases_by profile None None address history is joined = rw is (All-nil _)
+bases_by profile None (Some client) address history is joined = absurd is
+bases_by profile (Some slot) None address history is joined = absurd is
+bases_by profile (Some slot) (Some client) address history is joined =
+    All-both (λ (b : Built). IfSome b.base (WasBuilt history.built)) (λ (b : Built). IfSome b.base (Contains history.accepted))
+    (λ (b : Built). IfSome b.base (λ base. WasBuilt history.built base × Contains history.accepted base))
+    (λ b was held. both_some b.base (WasBuilt history.built) (Contains history.accepted) was held) history.built is.of_slot.bases joined.asked.bases
+
+pub bases_were_accepted : BytesFollowTags → BasesWereAccepted
+bases_were_accepted law profile all c is are within =
+    let stands : Then profile all = (law profile all is are).0 in
+    let whole = whole_then profile all in
+    bases_by profile (slot_at whole.ends.server c) (client_at whole.ends c) (address_at whole.ends c) (history_at whole.histories c)
+    (stands.facts.each c within) (stands.joined c within)
+
+pub held_is_accepted : BytesFollowTags → Layers → HeldIsAccepted
+held_is_accepted law below profile all c number client is are within found =
+    let stands : Then profile all = (law profile all is are).0 in
+    let whole = whole_then profile all in
+    let holds : Holds profile whole = record { facts = stands.facts; joined = stands.joined } in
+    let had = has_client profile whole c client within (ap (λ (e : Ends). client_at e c) (sym stands.ends) ∙ found) holds in
+    subst (λ (ring : ℕ). held_snapshot client.state.held number ≡ held_among ring (history_at whole.histories c).accepted number) had.1.keeps.of_client.ring
+    (below.rings.of_list (history_at whole.histories c).accepted client.state.held number had.1.joined.of_client.stands)
 
 -- ---- newer messages
 
@@ -174,9 +211,59 @@ pub answers_tag : (profile : Profile) (whole : Whole) (number : ℕ) (tag : Tag)
     → tag.direction ≡ ToClient → client_at whole.ends tag.client ≡ Some client
     → (step profile whole (events.Deliver number)).answer
     ≡ delivered number tag.client (take_gathered client (tagged client.gathering tag.number (built_bytes profile (named whole.histories tag)) tag.index)
-    (λ n. Ok (named whole.histories tag))).answer
+    (λ n. Ok (apply_message client.state n (named whole.histories tag).message))).answer
 unfolding step
 answers_tag profile whole number tag client at way found = rw (at, way, found) refl
+
+-- what a message that was built does at its client, and what is answered of it
+pub record Outcome (profile : Profile) (whole : Whole) (c n : ℕ) (client : ClientState) (built : Built) : Type 0 where
+  pub answer : (apply_message client.state n built.message).answer ≡ applied_of profile.parse_ring (history_at whole.histories c).accepted n built
+  pub shows : (base : ℕ) → (apply_message client.state n built.message).answer.snap ≡ Accepted base
+      → (snapshot : Snapshot) × (view_at (apply_message client.state n built.message).state.held (apply_message client.state n built.message).state.held.newest ≡ Some snapshot)
+      × (snapshot.head.number ≡ n) × WasBuilt (history_at whole.histories c).built snapshot
+
+pub outcome : (profile : Profile) (whole : Whole) (c n : ℕ) (slot : SlotState) (client : ClientState) (built : Built) → Cited profile → Has profile whole c slot client
+    → client.gathering.taken < n → Named profile whole c n built → Outcome profile whole c n client built
+outcome profile whole c n slot client built cited had newer named_is =
+    let history = history_at whole.histories c in
+    let state = client.state in
+    let is = named_is.is in
+    let snapshot = is.snapshot in
+    let takes = had.joined.of_client in
+    let below = takes.below in
+    let above : state.held.newest < n = omega (arith, newer, below) in
+    let ring = had.keeps.of_client.ring in
+    let message_is : built.message ≡ message_of built.base snapshot = ap (λ (b : Built). b.message) is.is in
+    let known = if_some_then built.base (KnownBase n history.built history.accepted) (λ base. IsNear n base × Contains history.accepted base) (λ base known. (known.0, known.2)) named_is.base in
+    let number_is = is.number in
+    let of_ring : (snap : SnapOutcome) → outcome_of state.held.ring history.accepted built.base ≡ snap → outcome_of profile.parse_ring history.accepted built.base ≡ snap =
+    λ snap so. ap (λ (r : ℕ). outcome_of r history.accepted built.base) (sym ring) ∙ so in
+    elim (applies_built cited.rings state history.accepted n built.base snapshot takes.stands above known) [
+      | inl yes ↦
+          let applied : apply_message state n built.message ≡ accepts state n (number_of built.base) snapshot = ap (λ m. apply_message state n m) message_is ∙ yes.1 in
+          record {
+            answer = ap (λ (a : Application). a.answer) applied ∙ ap (λ (snap : SnapOutcome). answer_with n snap) (sym (of_ring (Accepted (number_of built.base)) yes.0));
+            shows = λ base so. (
+              snapshot,
+              ap (λ (a : Application). view_at a.state.held a.state.held.newest) applied
+                  ∙ ap (λ r. result_ok r) (cited.rings.there state.held snapshot takes.stands.held (omega (arith, above, number_is)) is.are.few),
+              number_is,
+              named_is.was,
+            );
+          }
+      | inr no ↦
+          let applied : apply_message state n built.message ≡ passes state n (Skipped (number_of built.base) (EntitiesGone no.0)) = ap (λ m. apply_message state n m) message_is ∙ no.2 in
+          record {
+            answer = ap (λ (a : Application). a.answer) applied ∙ ap (λ (snap : SnapOutcome). answer_with n snap) (sym (of_ring (Skipped (number_of built.base) (EntitiesGone no.0)) no.1));
+            shows = λ base so. absurd (skipped_not_accepted (number_of built.base) no.0 base (sym (ap (λ (a : Application). a.answer.snap) applied) ∙ so));
+          }
+    ]
+  where
+    answer_with : ℕ → SnapOutcome → AppliedSo
+    answer_with n snap = record { number = n; game = false; snap = snap }
+
+    skipped_not_accepted : (base age other : ℕ) → Skipped base (EntitiesGone age) ≡ Accepted other → ⊥
+    skipped_not_accepted base age other e = absurd cc
 
 pub newer_is_accepted : BytesFollowTags → Layers → NewerIsAccepted
 newer_is_accepted law below profile all number n count sent client is are at way found came =
@@ -191,18 +278,23 @@ newer_is_accepted law below profile all number n count sent client is are at way
     let sent_is = is_for profile whole tag.0 goes (is_sent profile whole (number - 1) tag.0 tag.1 holds) in
     let client_is : client_at whole.ends tag.0.client ≡ Some client =
     ap (λ (e : Ends). client_at e tag.0.client) (sym stands.ends) ∙ (ap (λ (s : SentBytes). client_at kept.ends s.client) tag.2 ∙ found) in
-    let built = tag_was_built profile whole tag.0 client sent_is.0 sent_is.1 client_is holds in
-    let took = tagged client.gathering tag.0.number (built_bytes profile (named whole.histories tag.0)) tag.0.index in
+    let had = has_client profile whole tag.0.client client sent_is.0 client_is holds in
+    let built = named whole.histories tag.0 in
+    let took = tagged client.gathering tag.0.number (built_bytes profile built) tag.0.index in
     let answer : took.answer ≡ CameWhole n count =
     ap (λ (t : Took). t.answer) (sym (tag_is profile whole tag.0 client cited sent_is client_is holds))
     ∙ (ap (λ (s : SentBytes). (gathered_of client.gathering s.bytes).answer) tag.2 ∙ came) in
+    let whole_is = came_whole below.does profile whole tag.0 client n count answer in
+    let out = outcome profile whole tag.0.client tag.0.number had.0 client built cited had.1 whole_is.1 (names profile whole tag.0 client sent_is client_is holds) in
     let by_bytes = ap (λ (k : Kept). (kept_step k (events.Deliver number)).answer) (kept_is profile kept whole stands)
     ∙ ap (λ (s : KeptStep). s.answer) (delivers_agree profile whole number cited holds).same in
     by_bytes
     ∙ (answers_tag profile whole number tag.0 client tag.1 goes client_is
-    ∙ (ap (λ (a : Gathered). delivered number tag.0.client (take_answer (record client { gathering = took.gathering }) a (λ k. Ok (named whole.histories tag.0))).answer) answer
-    ∙ (ap (λ (m : Message). delivered number tag.0.client (apply_message (record client { gathering = took.gathering }) n m).answer) built.is
-    ∙ ap (λ (s : SentBytes). delivered number s.client (Applied n (Accepted 0))) tag.2)))
+    ∙ (ap (λ (a : Gathered). delivered number tag.0.client (take_answer (record client { gathering = took.gathering }) a (λ k. Ok (apply_message client.state k built.message))).answer) answer
+    ∙ (ap (λ (k : ℕ). delivered number tag.0.client (Applied (apply_message client.state k built.message).answer)) whole_is.0
+    ∙ (ap (λ (a : AppliedSo). delivered number tag.0.client (Applied a)) out.answer
+    ∙ (ap (λ (k : ℕ). delivered number tag.0.client (Applied (applied_of profile.parse_ring (history_at whole.histories tag.0.client).accepted k (built_at (history_at whole.histories tag.0.client).built k)))) (sym whole_is.0)
+    ∙ ap (λ (s : SentBytes). delivered number s.client (Applied (applied_of profile.parse_ring (history_at whole.histories s.client).accepted n (built_at (history_at whole.histories s.client).built n)))) tag.2)))))
 
 -- ---- what is applied
 
@@ -222,108 +314,117 @@ not_delivered number c took e =
     let same : Unknown number ≡ Deliver number c took = ap (λ (a : Answered). a.answer) e in
     absurd cc
 
--- what a delivery answers as applied was accepted without a base, and its number is above what its client had taken
-abbrev Applies : Ends → Ends → ℕ → ℕ → SnapOutcome → List Built → Type 0
-Applies before now c n snap built = (snap ≡ Accepted 0) × WasApplied before now c n built
+-- what a delivery answers as applied
+abbrev Applies : Profile → Ends → Ends → ℕ → AppliedSo → History → Type 0
+Applies profile before now c applied history =
+    ((client : ClientState) × (client_at before c ≡ Some client) × (client.gathering.taken < applied.number))
+    × (applied ≡ applied_of profile.parse_ring history.accepted applied.number (built_at history.built applied.number))
+    × ((base : ℕ) → applied.snap ≡ Accepted base → Shows now c applied.number history.built)
 
 -- where nothing came whole, nothing is answered as applied
-quiet_applies : (client : ClientState) (answer : Gathered) (built : Built) (n : ℕ) (snap : SnapOutcome) → IsQuiet answer
-    → (take_answer client answer (λ k. Ok built)).answer ≡ Applied n snap → ⊥
-quiet_applies client (CameWhole number count) built n snap is e = is
-quiet_applies client gathered.Partial built n snap is e = absurd cc
-quiet_applies client gathered.Old built n snap is e = absurd cc
-quiet_applies client gathered.OutOfOrder built n snap is e = absurd cc
-quiet_applies client gathered.BadFragment built n snap is e = is
-quiet_applies client gathered.Runt built n snap is e = is
-quiet_applies client gathered.Connectionless built n snap is e = is
+quiet_applies : (client : ClientState) (answer : Gathered) (apply : ℕ → Result Application Illegible) (applied : AppliedSo) → IsQuiet answer
+    → (take_answer client answer apply).answer ≡ Applied applied → ⊥
+quiet_applies client (CameWhole number count) apply applied is e = is
+quiet_applies client gathered.Partial apply applied is e = absurd cc
+quiet_applies client gathered.Old apply applied is e = absurd cc
+quiet_applies client gathered.OutOfOrder apply applied is e = absurd cc
+quiet_applies client gathered.BadFragment apply applied is e = is
+quiet_applies client gathered.Runt apply applied is e = is
+quiet_applies client gathered.Connectionless apply applied is e = is
 
 -- of a message that came whole
-applied_whole : (whole : Whole) (number c n under : ℕ) (snap : SnapOutcome) (tag : Tag) (client next : ClientState) (snapshot : Snapshot) → length whole.ends.clients ≡ places → tag.client < places
-    → client_at whole.ends tag.client ≡ Some client → next.accepted ≡ Some snapshot → snapshot.head.number ≡ under → client.gathering.taken < under
-    → WasBuilt (history_at whole.histories tag.client).built snapshot
-    → delivered number tag.client (Applied under (Accepted 0)) ≡ delivered number c (Applied n snap)
-    → Applies whole.ends (with_client whole.ends tag.client next) c n snap (history_at whole.histories c).built
-applied_whole whole number c n under snap tag client next snapshot count lt found accepted_is is newer was e =
-    let alike = same_delivered number tag.client c (Applied under (Accepted 0)) (Applied n snap) e in
-    let same = alike.0 in
+applied_whole : (profile : Profile) (whole : Whole) (number c : ℕ) (applied : AppliedSo) (tag : Tag) (client next : ClientState) → length whole.ends.clients ≡ places → tag.client < places
+    → client_at whole.ends tag.client ≡ Some client → client.gathering.taken < tag.number
+    → next.state ≡ (apply_message client.state tag.number (named whole.histories tag).message).state
+    → Outcome profile whole tag.client tag.number client (named whole.histories tag)
+    → delivered number tag.client (Applied (apply_message client.state tag.number (named whole.histories tag).message).answer) ≡ delivered number c (Applied applied)
+    → Applies profile whole.ends (with_client whole.ends tag.client next) c applied (history_at whole.histories c)
+applied_whole profile whole number c applied tag client next count lt found newer state_is out e =
+    let history = history_at whole.histories tag.client in
+    let answer = (apply_message client.state tag.number (named whole.histories tag).message).answer in
+    let alike = same_delivered number tag.client c (Applied answer) (Applied applied) e in
     let took = alike.1 in
-    let numbered : under ≡ n = cc in
-    let accepted : snap ≡ Accepted 0 = cc in
-    let there = set_there whole.ends.clients tag.client None (Some next) count lt in (
-      accepted,
-      (
-        client,
-        snapshot,
-        subst (λ (k : ℕ). client_at whole.ends k ≡ Some client) same found,
-        omega (arith, numbered, newer),
-        subst (λ (k : ℕ). newest (client_at (with_client whole.ends tag.client next) k) ≡ Some snapshot) same (ap newest there ∙ accepted_is),
-        is ∙ numbered,
-        subst (λ (k : ℕ). WasBuilt (history_at whole.histories k).built snapshot) same was,
+    let same : answer ≡ applied = one_applied answer applied took in
+    let is : applied_of profile.parse_ring history.accepted tag.number (named whole.histories tag) ≡ applied = sym out.answer ∙ same in
+    let numbered : tag.number ≡ applied.number = ap (λ (a : AppliedSo). a.number) is in
+    let there = set_there whole.ends.clients tag.client None (Some next) count lt in
+    subst (λ (k : ℕ). Applies profile whole.ends (with_client whole.ends tag.client next) k applied (history_at whole.histories k)) alike.0
+    (
+      (client, found, omega (arith, numbered, newer)),
+      sym is ∙ ap (λ (k : ℕ). applied_of profile.parse_ring history.accepted k (built_at history.built k)) numbered,
+      λ base so.
+      let shown = out.shows base (ap (λ (a : AppliedSo). a.snap) same ∙ so) in (
+        shown.0,
+        ap newest there ∙ (ap (λ (s : AppliedState). view_at s.held s.held.newest) state_is ∙ shown.1),
+        shown.2 ∙ numbered,
+        shown.3,
       ),
     )
+  where
+    one_applied : (x y : AppliedSo) → Applied x ≡ Applied y → x ≡ y
+    one_applied x y same = cc
 
-abbrev AppliedSo : Whole → ℕ → ℕ → ℕ → SnapOutcome → Step → Type 0
-AppliedSo whole number c n snap next =
-    next.answer ≡ delivered number c (Applied n snap) → Applies whole.ends next.whole.ends c n snap (history_at whole.histories c).built
+abbrev AppliesSo : Profile → Whole → ℕ → ℕ → AppliedSo → Step → Type 0
+AppliesSo profile whole number c applied next =
+    next.answer ≡ delivered number c (Applied applied) → Applies profile whole.ends next.whole.ends c applied (history_at whole.histories c)
 
-applied_arrive : TaggedDoes → (profile : Profile) (whole : Whole) (number c n : ℕ) (snap : SnapOutcome) (tag : Tag) (found : Option ClientState) → client_at whole.ends tag.client ≡ found
-    → IsFor profile whole tag → Holds profile whole → AppliedSo whole number c n snap (to_client profile whole number tag found)
-applied_arrive does_so profile whole number c n snap tag None at is holds = λ e. absurd (not_delivered number c (Applied n snap) e)
-applied_arrive does_so profile whole number c n snap tag (Some client) at is holds =
-    let named_is = named whole.histories tag in
-    let took = tagged client.gathering tag.number (built_bytes profile named_is) tag.index in
-    let does = does_so client.gathering tag.number (built_bytes profile named_is) tag.index in
-    let built = tag_was_built profile whole tag client is.0 is.1 at holds in
+applied_arrive : (profile : Profile) (whole : Whole) (number c : ℕ) (applied : AppliedSo) (tag : Tag) (found : Option ClientState) → Cited profile → client_at whole.ends tag.client ≡ found
+    → IsFor profile whole tag → Holds profile whole → AppliesSo profile whole number c applied (to_client profile whole number tag found)
+applied_arrive profile whole number c applied tag None cited at is holds = λ e. absurd (not_delivered number c (Applied applied) e)
+applied_arrive profile whole number c applied tag (Some client) cited at is holds =
+    let built = named whole.histories tag in
+    let took = tagged client.gathering tag.number (built_bytes profile built) tag.index in
+    let does = cited.does client.gathering tag.number (built_bytes profile built) tag.index in
     let now = record client { gathering = took.gathering } in
+    let apply : ℕ → Result Application Illegible = λ k. Ok (apply_message client.state k built.message) in
+    let had = has_client profile whole tag.client client is.0 at holds in
     elim does.either [
-      | inl waits ↦ λ e. absurd (quiet_applies now took.answer named_is n snap waits.quiet
-          (same_delivered number tag.client c (take_answer now took.answer (λ k. Ok named_is)).answer (Applied n snap) e).1)
+      | inl waits ↦ λ e. absurd (quiet_applies now took.answer apply applied waits.quiet
+          (same_delivered number tag.client c (take_answer now took.answer apply).answer (Applied applied) e).1)
       | inr came ↦
-          let next = record now { accepted = Some built.snapshot; delta = true } in
-          let does_so : take_answer now took.answer (λ k. Ok named_is) ≡ record { client = next; answer = Applied tag.number (Accepted 0); heard = Some built.snapshot } =
-          ap (λ (a : Gathered). take_answer now a (λ k. Ok named_is)) came.answer
-          ∙ ap (λ (m : Message). apply_message now tag.number m) built.is in
-          λ e. subst (λ (t : Taken). Applies whole.ends (with_client whole.ends tag.client t.client) c n snap (history_at whole.histories c).built) (sym does_so)
-          (applied_whole whole number c n tag.number snap tag client next built.snapshot holds.facts.clients is.0 at refl built.number came.newer (names_built profile whole tag is.1 built)
+          let out = outcome profile whole tag.client tag.number had.0 client built cited had.1 came.newer (names profile whole tag client is at holds) in
+          let taken = take_answer now (CameWhole tag.number (length (built_bytes profile built))) apply in
+          let does_so : take_answer now took.answer apply ≡ taken = ap (λ (a : Gathered). take_answer now a apply) came.answer in
+          λ e. subst (λ (t : Taken). Applies profile whole.ends (with_client whole.ends tag.client t.client) c applied (history_at whole.histories c)) (sym does_so)
+          (applied_whole profile whole number c applied tag client taken.client holds.facts.clients is.0 at came.newer refl out
           (ap (λ (t : Taken). delivered number tag.client t.answer) (sym does_so) ∙ e))
     ]
 
 -- where the server takes a datagram, nothing is answered as applied
-not_applied : (profile : Profile) (whole : Whole) (number c n : ℕ) (snap : SnapOutcome) (tag : Tag) (from : Address) (found : Option SlotState)
-    → AppliedSo whole number c n snap (to_server profile whole number tag from found)
-not_applied profile whole number c n snap tag from None e = absurd (not_to_server number Stranger [] number c (Applied n snap) e)
-not_applied profile whole number c n snap tag from (Some slot) e = absurd (not_to_server number _ _ number c (Applied n snap) e)
+not_applied : (profile : Profile) (whole : Whole) (number c : ℕ) (applied : AppliedSo) (tag : Tag) (from : Address) (found : Option SlotState)
+    → AppliesSo profile whole number c applied (to_server profile whole number tag from found)
+not_applied profile whole number c applied tag from None e = absurd (not_to_server number Stranger [] number c (Applied applied) e)
+not_applied profile whole number c applied tag from (Some slot) e = absurd (not_to_server number _ _ number c (Applied applied) e)
 
-applied_go : TaggedDoes → (profile : Profile) (whole : Whole) (number c n : ℕ) (snap : SnapOutcome) (tag : Tag) (direction : Direction) → tag.direction ≡ direction
-    → IsSent profile whole.histories tag → Holds profile whole → AppliedSo whole number c n snap (arrive profile whole number tag direction)
-applied_go does_so profile whole number c n snap tag ToClient way is holds =
-    applied_arrive does_so profile whole number c n snap tag (client_at whole.ends tag.client) refl (is_for profile whole tag way is) holds
-applied_go does_so profile whole number c n snap tag (ToServer from) way is holds = not_applied profile whole number c n snap tag from (slot_at whole.ends.server tag.client)
+applied_go : (profile : Profile) (whole : Whole) (number c : ℕ) (applied : AppliedSo) (tag : Tag) (direction : Direction) → Cited profile → tag.direction ≡ direction
+    → IsSent profile whole.histories tag → Holds profile whole → AppliesSo profile whole number c applied (arrive profile whole number tag direction)
+applied_go profile whole number c applied tag ToClient cited way is holds =
+    applied_arrive profile whole number c applied tag (client_at whole.ends tag.client) cited refl (is_for profile whole tag way is) holds
+applied_go profile whole number c applied tag (ToServer from) cited way is holds = not_applied profile whole number c applied tag from (slot_at whole.ends.server tag.client)
 
-applied_deliver : TaggedDoes → (profile : Profile) (whole : Whole) (number c n : ℕ) (snap : SnapOutcome) (found : Option Tag) → slice_get whole.sent (number - 1) ≡ found → Holds profile whole
-    → AppliedSo whole number c n snap (deliver profile whole number found)
-applied_deliver does_so profile whole number c n snap None at holds = λ e. absurd (not_delivered number c (Applied n snap) e)
-applied_deliver does_so profile whole number c n snap (Some tag) at holds =
-    applied_go does_so profile whole number c n snap tag tag.direction refl (is_sent profile whole (number - 1) tag at holds) holds
+applied_deliver : (profile : Profile) (whole : Whole) (number c : ℕ) (applied : AppliedSo) (found : Option Tag) → Cited profile → slice_get whole.sent (number - 1) ≡ found → Holds profile whole
+    → AppliesSo profile whole number c applied (deliver profile whole number found)
+applied_deliver profile whole number c applied None cited at holds = λ e. absurd (not_delivered number c (Applied applied) e)
+applied_deliver profile whole number c applied (Some tag) cited at holds =
+    applied_go profile whole number c applied tag tag.direction cited refl (is_sent profile whole (number - 1) tag at holds) holds
 
 -- by tags
-applied_step : TaggedDoes → (profile : Profile) (whole : Whole) (number c n : ℕ) (snap : SnapOutcome) → Holds profile whole
-    → AppliedSo whole number c n snap (step profile whole (events.Deliver number))
+applied_step : (profile : Profile) (whole : Whole) (number c : ℕ) (applied : AppliedSo) → Cited profile → Holds profile whole
+    → AppliesSo profile whole number c applied (step profile whole (events.Deliver number))
 unfolding step
-applied_step does_so profile whole number c n snap holds =
-    applied_deliver does_so profile whole number c n snap (slice_get whole.sent (number - 1)) refl holds
+applied_step profile whole number c applied cited holds = applied_deliver profile whole number c applied (slice_get whole.sent (number - 1)) cited refl holds
 
 -- and by bytes
 pub applied_was_built : BytesFollowTags → Layers → AppliedWasBuilt
-applied_was_built law below profile all number c n snap is are e =
+applied_was_built law below profile all number c applied is are e =
     let stands : Then profile all = (law profile all is are).0 in
     let kept = kept_then profile all in
     let whole = whole_then profile all in
-    let built = (history_at whole.histories c).built in
+    let history = history_at whole.histories c in
+    let cited = cited_of below profile is in
     let holds : Holds profile whole = record { facts = stands.facts; joined = stands.joined } in
     let same : kept_step kept (events.Deliver number) ≡ seen profile (step profile whole (events.Deliver number)) =
-    ap (λ (k : Kept). kept_step k (events.Deliver number)) (kept_is profile kept whole stands)
-    ∙ (delivers_agree profile whole number (cited_of below profile is) holds).same in
-    subst (λ (before : Ends). Applies before (kept_step kept (events.Deliver number)).kept.ends c n snap built) (sym stands.ends)
-    (subst (λ (s : KeptStep). Applies whole.ends s.kept.ends c n snap built) (sym same)
-    (applied_step below.does profile whole number c n snap holds (sym (ap (λ (s : KeptStep). s.answer) same) ∙ e)))
+    ap (λ (k : Kept). kept_step k (events.Deliver number)) (kept_is profile kept whole stands) ∙ (delivers_agree profile whole number cited holds).same in
+    subst (λ (before : Ends). Applies profile before (kept_step kept (events.Deliver number)).kept.ends c applied history) (sym stands.ends)
+    (subst (λ (s : KeptStep). Applies profile whole.ends s.kept.ends c applied history) (sym same)
+    (applied_step profile whole number c applied cited holds (sym (ap (λ (s : KeptStep). s.answer) same) ∙ e)))

@@ -8,13 +8,14 @@ use Rattle.q3_chan.specs.declared.side.Side.TheVariants.{Server, Client}
 use Rattle.q3_chan.specs.Datagrams.{piece_count, datagram}
 use Rattle.q3_clmsg.specs.declared.moves.Move.{Move}
 use Rattle.q3_clmsg.specs.Values.{empty_message}
-use Rattle.q3_svmsg.specs.Values.{Snapshot}
-use Rattle.q3_server.specs.Server.{Built, places, built_bytes}
+use Rattle.q3_ring.specs.Snapshot.{Snapshot}
+use Rattle.q3_server.specs.Built.{Built}
+use Rattle.q3_server.specs.Server.{places, built_bytes}
 use Rattle.q3_client.specs.Sending.{said_bytes, Said}
 use Rattle.q3_world.specs.declared.made.Direction.{Direction}
 use Rattle.q3_world.specs.declared.made.Direction.TheVariants.{ToClient, ToServer}
 use Rattle.q3_world.specs.World.{Tag, History, no_history, no_message, history_at, with_history, built_at, with_built, with_accepted, with_said, with_run}
-use Rattle.q3_world.specs.StandsFor.{IsPiece, IsWay, IsSent, WasBuilt, messages_of, messages_said}
+use Rattle.q3_world.specs.StandsFor.{IsPiece, IsWay, IsSent, snapshot_in, WasBuilt, messages_of, messages_said}
 use Rattle.q3_world.proofs.OnePlace.{set_there, OnlyAt-set}
 
 -- the message under a number stays where more are built
@@ -24,7 +25,11 @@ built_stays built more number some few = get_or_append_left built more no_messag
 -- a snapshot that was built was built
 pub was_built_more : (built more : List Built) (snapshot : Snapshot) → WasBuilt built snapshot → WasBuilt (built ++ more) snapshot
 was_built_more built more snapshot was =
-    (was.0, omega (arith, length-append built more, was.1), was.2 ∙ sym (built_stays built more snapshot.head.number was.0 was.1))
+    (
+      was.0,
+      omega (arith, length-append built more, was.1),
+      ap (λ (b : Built). snapshot_in b.message.section) (built_stays built more snapshot.head.number was.0 was.1) ∙ was.2,
+    )
 
 -- the bytes of a message stay where more are begun, by the server
 pub messages_stay : (profile : Profile) (built more : List Built) (number : ℕ) → number ≤ length built

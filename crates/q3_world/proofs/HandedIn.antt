@@ -37,7 +37,7 @@ holds_join profile whole c challenge qport dup address cited lt fits holds =
     let within : nat_le (length slots) c ≡ false = lt-leb (length slots) c (omega (arith, lt, holds.facts.slots)) in
     rw within (elim (found_or (slot_at whole.ends.server c)) [
       | inl none ↦ rw none (elim (found_or (position (is_of address.host qport) slots)) [
-        | inl alone ↦ rw alone (Holds-new profile whole c challenge qport dup address cited.sends cited.gathers cited.zero lt fits none alone holds)
+        | inl alone ↦ rw alone (Holds-new cited.rings profile whole c challenge qport dup address cited.ring cited.sends cited.gathers cited.zero lt fits none alone holds)
         | inr twin ↦ rw twin.1 (unnoted profile whole c holds)
       ])
       | inr found ↦ rw found.1 (unnoted profile whole c holds)

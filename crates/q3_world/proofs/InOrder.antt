@@ -1,58 +1,54 @@
 -- The pieces of a message that to_client in order.
-use Rattle.std.proofs.Common.{◌≡◌, ℕ, suc, ◌+◌, ◌-◌, ◌<◌, ◌≤◌, List, [], ◌∷◌, ◌++◌, length, Option, Some, None, Ok, refl, sym, ap, subst, ◌∙◌, arith}
-use Rattle.std.specs.Prelude.{slice_get}
+use Rattle.std.proofs.Common.{◌≡◌, ℕ, suc, ◌+◌, ◌-◌, ◌<◌, ◌≤◌, List, [], ◌∷◌, ◌++◌, length, Option, Some, None, Result, Ok, refl, sym, ap, subst, ◌∙◌, inl, inr, arith}
+use Rattle.std.specs.Prelude.{◌⊎◌, slice_get}
 use Rattle.std.specs.List.{AllByRecursion}
 use Rattle.std.proofs.Math.ListN.{length-set}
 use Rattle.q3_profile.specs.declared.profile.Profile.{Profile}
 use Rattle.q3_script.specs.declared.event.Event.{Event}
 use Rattle.q3_script.specs.declared.event.Event.TheVariants as events
 use Rattle.q3_script.specs.Grammar.{IsReplayEvent}
-use Rattle.q3_svmsg.specs.Values as told
-use Rattle.q3_svmsg.specs.Values.{Told, Message, Snapshot}
+use Rattle.q3_ring.specs.Snapshot.{Snapshot}
+use Rattle.q3_clstate.specs.State.{Application, apply_message}
+use Rattle.q3_clstate.specs.declared.applied.Applied.{Applied as AppliedSo}
 use Rattle.q3_chan.specs.declared.gatherer.Gathered.{Gathered}
 use Rattle.q3_chan.specs.declared.gatherer.Gathered.TheVariants as gathered
 use Rattle.q3_chan.specs.declared.gatherer.Gathered.TheVariants.{Whole as CameWhole}
 use Rattle.q3_chan.specs.Datagrams.{last_index}
 use Rattle.q3_chan.specs.Gathering.{Gathering, Took}
 use Rattle.q3_chan.specs.Tags.{tagged, tagged_all}
-use Rattle.q3_chan.specs.Laws.{PiecesAreTagged}
-use Rattle.q3_client.specs.declared.client.SnapOutcome.TheVariants.{Accepted}
+use Rattle.q3_chan.specs.Tags.{IsQuiet}
+use Rattle.q3_chan.specs.Laws.{PiecesAreTagged, TaggedDoes}
+use Rattle.q3_svmsg.specs.declared.error.Illegible.{Illegible}
 use Rattle.q3_client.specs.declared.client.ClientTook.TheVariants.{Applied}
 use Rattle.q3_client.specs.declared.client.ClientTook.{ClientTook}
-use Rattle.q3_server.specs.Built.{message_of}
-use Rattle.q3_server.specs.Server.{Built, places, built_bytes}
-use Rattle.q3_client.specs.Client.{ClientState, Taken, apply_section, apply_message, take_answer, take_gathered}
+use Rattle.q3_server.specs.Built.{Built}
+use Rattle.q3_server.specs.Server.{places, built_bytes}
+use Rattle.q3_client.specs.Client.{ClientState, Taken, applies_read, take_answer, take_gathered}
 use Rattle.q3_world.specs.declared.made.Direction.TheVariants.{ToClient}
 use Rattle.q3_world.specs.Ends.{client_at, with_client, delivered}
 use Rattle.q3_world.specs.Kept.{Kept, KeptStep, kept_step}
 use Rattle.q3_world.specs.World.{Tag, Whole, History, no_history, history_at, with_history, with_accepted, built_at, named, client_took, step, after, opening}
 use Rattle.q3_world.specs.StandsFor.{StandsFor, messages_of}
 use Rattle.q3_world.specs.Layers.{Layers}
-use Rattle.q3_world.specs.Schedules.{kept_then, whole_then, BytesFollowTags, ArePieces, deliveries, InOrderIsAccepted}
+use Rattle.q3_world.specs.Schedules.{kept_then, whole_then, BytesFollowTags, applied_of, ArePieces, deliveries, InOrderIsAccepted}
 use Rattle.q3_world.proofs.Clients.{at_number}
-use Rattle.q3_world.proofs.Events.{Holds, has_client, tag_was_built}
-use Rattle.q3_world.proofs.Arriving.{is_sent, is_for, delivers_agree}
+use Rattle.q3_world.proofs.Events.{Holds, has_client}
+use Rattle.q3_world.proofs.Arriving.{Named, names, is_sent, is_for, delivers_agree}
 use Rattle.q3_world.proofs.Agreement.{kept_is}
-use Rattle.q3_world.proofs.EverySchedule.{cited_of, answers_tag}
+use Rattle.q3_world.proofs.EverySchedule.{cited_of, outcome, answers_tag}
 use Rattle.q3_world.proofs.OnePlace.{set_there}
 
 -- ---- one piece
 
 -- what a message does leaves what is gathered
-section_gathers : (client : ClientState) (number : ℕ) (section : Told) → (apply_section client number section).client.gathering ≡ client.gathering
-section_gathers client number told.Nothing = refl
-section_gathers client number (told.Game game) = refl
-section_gathers client number (told.Snap base head entities) = refl
-section_gathers client number (told.Skipped base) = refl
-
-answer_gathers : (client : ClientState) (answer : Gathered) (built : Built) → (take_answer client answer (λ n. Ok built)).client.gathering ≡ client.gathering
-answer_gathers client (CameWhole number count) built = section_gathers client number built.section
-answer_gathers client gathered.Partial built = refl
-answer_gathers client gathered.Old built = refl
-answer_gathers client gathered.OutOfOrder built = refl
-answer_gathers client gathered.BadFragment built = refl
-answer_gathers client gathered.Runt built = refl
-answer_gathers client gathered.Connectionless built = refl
+answer_gathers : (client : ClientState) (answer : Gathered) (apply : ℕ → Application) → (take_answer client answer (λ n. Ok (apply n))).client.gathering ≡ client.gathering
+answer_gathers client (CameWhole number count) apply = refl
+answer_gathers client gathered.Partial apply = refl
+answer_gathers client gathered.Old apply = refl
+answer_gathers client gathered.OutOfOrder apply = refl
+answer_gathers client gathered.BadFragment apply = refl
+answer_gathers client gathered.Runt apply = refl
+answer_gathers client gathered.Connectionless apply = refl
 
 -- and what was built
 heard_built : (history : History) (heard : Option Snapshot) → (with_accepted history heard).built ≡ history.built
@@ -68,6 +64,7 @@ pub record Reached (profile : Profile) (start now : Whole) (c n count : ℕ) (g 
   pub client : ClientState
   pub found : client_at now.ends c ≡ Some client
   pub gathers : client.gathering ≡ tagged_all g n (built_bytes profile (built_at (history_at start.histories c).built n)) count
+  pub accepted : (n ≤ client.gathering.taken) ⊎ ((history_at now.histories c).accepted ≡ (history_at start.histories c).accepted)
 
 -- in the beginning none did
 pub reached_none : (profile : Profile) (start : Whole) (c n : ℕ) (client : ClientState) → Holds profile start → client_at start.ends c ≡ Some client
@@ -81,20 +78,32 @@ reached_none profile start c n client holds found = record {
   client = client;
   found = found;
   gathers = refl;
+  accepted = inr refl;
 }
 
 -- the piece of a tag arrives
 abbrev arrived : Profile → Whole → ℕ → Tag → ClientState → Taken
 arrived profile whole number tag client =
-    take_gathered client (tagged client.gathering tag.number (built_bytes profile (named whole.histories tag)) tag.index) (λ n. Ok (named whole.histories tag))
+    take_gathered client (tagged client.gathering tag.number (built_bytes profile (named whole.histories tag)) tag.index)
+    (λ n. Ok (apply_message client.state n (named whole.histories tag).message))
 
 abbrev arrives_at : Profile → Whole → ℕ → Tag → ClientState → Whole
 arrives_at profile whole number tag client = (client_took whole number tag.client (arrived profile whole number tag client)).whole
 
-reached_more : (profile : Profile) (start now : Whole) (c n count number : ℕ) (g : Gathering) (tag : Tag) → c < places → tag.client ≡ c → tag.number ≡ n → tag.index ≡ count
+-- what is accepted of a piece: nothing, or its message came whole
+quiet_heard : (client : ClientState) (answer : Gathered) (apply : ℕ → Result Application Illegible) → IsQuiet answer → (take_answer client answer apply).heard ≡ None
+quiet_heard client (CameWhole number count) apply is = absurd is
+quiet_heard client gathered.Partial apply is = refl
+quiet_heard client gathered.Old apply is = refl
+quiet_heard client gathered.OutOfOrder apply is = refl
+quiet_heard client gathered.BadFragment apply is = absurd is
+quiet_heard client gathered.Runt apply is = absurd is
+quiet_heard client gathered.Connectionless apply is = absurd is
+
+reached_more : TaggedDoes → (profile : Profile) (start now : Whole) (c n count number : ℕ) (g : Gathering) (tag : Tag) → c < places → tag.client ≡ c → tag.number ≡ n → tag.index ≡ count
     → (reached : Reached profile start now c n count g) → Reached profile start (arrives_at profile now number tag reached.client) c n (count + 1) g
 unfolding tagged_all
-reached_more profile start now c n count number g tag lt is_c is_n is_index reached =
+reached_more does_so profile start now c n count number g tag lt is_c is_n is_index reached =
     let client = reached.client in
     let message = built_bytes profile (built_at (history_at start.histories c).built n) in
     let built = named now.histories tag in
@@ -111,6 +120,11 @@ reached_more profile start now c n count number g tag lt is_c is_n is_index reac
     let one : suc count ≡ count + 1 = omega arith in
     let noted = with_accepted (history_at now.histories tag.client) taken.heard in
     let there = set_there now.histories tag.client no_history noted reached.histories (subst (λ (k : ℕ). k < places) (sym is_c) lt) in
+    let does = does_so client.gathering tag.number (built_bytes profile built) tag.index in
+    let apply : ℕ → Application = λ k. apply_message client.state k built.message in
+    let here = record client { gathering = took.gathering } in
+    let gathers = answer_gathers here took.answer apply in
+    let taken_is : taken.client.gathering.taken ≡ took.gathering.taken = ap (λ (x : Gathering). x.taken) gathers in
     record {
       sent = reached.sent;
       clients = length-set now.ends.clients tag.client (Some taken.client) ∙ reached.clients;
@@ -121,8 +135,19 @@ reached_more profile start now c n count number g tag lt is_c is_n is_index reac
       client = taken.client;
       found = ap (λ (k : ℕ). client_at (with_client now.ends tag.client taken.client) k) (sym is_c)
           ∙ set_there now.ends.clients tag.client None (Some taken.client) reached.clients (subst (λ (k : ℕ). k < places) (sym is_c) lt);
-      gathers = answer_gathers (record client { gathering = took.gathering }) took.answer built
-          ∙ (ap (λ (t : Took). t.gathering) next_is ∙ ap (λ (k : ℕ). tagged_all g n message k) one);
+      gathers = gathers ∙ (ap (λ (t : Took). t.gathering) next_is ∙ ap (λ (k : ℕ). tagged_all g n message k) one);
+      accepted = elim does.either [
+        | inl waits ↦
+            let none : taken.heard ≡ None = quiet_heard here took.answer (λ k. Ok (apply k)) waits.quiet in
+            elim reached.accepted [
+              | inl past ↦ inl (omega (arith, past, taken_is, waits.taken))
+              | inr same ↦ inr (
+                  ap (λ (k : ℕ). (history_at (with_history now.histories tag.client noted) k).accepted) (sym is_c)
+                  ∙ (ap (λ (h : History). h.accepted) there ∙ (ap (λ (heard : Option Snapshot). (with_accepted (history_at now.histories tag.client) heard).accepted) none
+                  ∙ (ap (λ (k : ℕ). (history_at now.histories k).accepted) is_c ∙ same))))
+            ]
+        | inr came ↦ inl (omega (arith, taken_is, came.taken, is_n))
+      ];
     }
 
 -- a delivery of a piece, by its tag
@@ -133,24 +158,24 @@ delivers_piece profile whole number tag client at way found = rw (at, way, found
 
 -- ---- pieces, one after the other
 
-pub reached_all : (profile : Profile) (start now : Whole) (c n count : ℕ) (g : Gathering) (numbers : List ℕ) (last : ℕ) → c < places
+pub reached_all : TaggedDoes → (profile : Profile) (start now : Whole) (c n count : ℕ) (g : Gathering) (numbers : List ℕ) (last : ℕ) → c < places
     → ArePieces start.sent c n count (numbers ++ last ∷ []) → Reached profile start now c n count g
     → Reached profile start (after profile now (deliveries numbers)) c n (count + length numbers) g
     × ArePieces start.sent c n (count + length numbers) (last ∷ [])
 unfolding after
-reached_all profile start now c n count g [] last lt are reached =
+reached_all does_so profile start now c n count g [] last lt are reached =
     let none : count ≡ count + 0 = omega arith in (
       subst (λ (k : ℕ). Reached profile start now c n k g) none reached,
       subst (λ (k : ℕ). ArePieces start.sent c n k (last ∷ [])) none are,
     )
-reached_all profile start now c n count g (number ∷ numbers) last lt are reached =
+reached_all does_so profile start now c n count g (number ∷ numbers) last lt are reached =
     let tag = are.0 in
     let at : slice_get now.sent (number - 1) ≡ Some tag = ap (λ (sent : List Tag). slice_get sent (number - 1)) reached.sent ∙ are.1 in
     let found : client_at now.ends tag.client ≡ Some reached.client = ap (λ (k : ℕ). client_at now.ends k) are.3 ∙ reached.found in
     let next = delivers_piece profile now number tag reached.client at are.2 found in
     let more = subst (λ (w : Whole). Reached profile start w c n (count + 1) g) (sym next)
-    (reached_more profile start now c n count number g tag lt are.3 are.4 are.5 reached) in
-    let others = reached_all profile start (step profile now (events.Deliver number)).whole c n (count + 1) g numbers last lt are.6 more in
+    (reached_more does_so profile start now c n count number g tag lt are.3 are.4 are.5 reached) in
+    let others = reached_all does_so profile start (step profile now (events.Deliver number)).whole c n (count + 1) g numbers last lt are.6 more in
     let same : count + 1 + length numbers ≡ count + length (number ∷ numbers) = omega arith in (
       subst (λ (k : ℕ). Reached profile start (after profile (step profile now (events.Deliver number)).whole (deliveries numbers)) c n k g) same others.0,
       subst (λ (k : ℕ). ArePieces start.sent c n k (last ∷ [])) same others.1,
@@ -166,28 +191,17 @@ both_are [] others first second = second
 both_are (event ∷ some) others first second = (first.0, both_are some others first.1 second)
 
 -- what the last piece answers, by its tag
-last_answer : (profile : Profile) (whole : Whole) (c n last : ℕ) (tag : Tag) (client : ClientState) (message : Message) → slice_get whole.sent (last - 1) ≡ Some tag → tag.direction ≡ ToClient → tag.client ≡ c
+last_answer : (profile : Profile) (whole : Whole) (c n last : ℕ) (tag : Tag) (client : ClientState) (applied : AppliedSo) → slice_get whole.sent (last - 1) ≡ Some tag → tag.direction ≡ ToClient → tag.client ≡ c
     → client_at whole.ends tag.client ≡ Some client
     → (tagged client.gathering tag.number (built_bytes profile (named whole.histories tag)) tag.index).answer ≡ CameWhole n (length (built_bytes profile (named whole.histories tag)))
-    → named whole.histories tag ≡ message → (apply_message client n message).answer ≡ Applied n (Accepted 0)
-    → (step profile whole (events.Deliver last)).answer ≡ delivered last c (Applied n (Accepted 0))
-last_answer profile whole c n last tag client message at way is_c found came is accepted =
+    → (apply_message client.state n (named whole.histories tag).message).answer ≡ applied
+    → (step profile whole (events.Deliver last)).answer ≡ delivered last c (Applied applied)
+last_answer profile whole c n last tag client applied at way is_c found came is =
     let built = named whole.histories tag in
     let took = tagged client.gathering tag.number (built_bytes profile built) tag.index in
     answers_tag profile whole last tag client at way found
-    ∙ (ap (λ (a : Gathered). delivered last tag.client (take_answer (record client { gathering = took.gathering }) a (λ k. Ok built)).answer) came
-    ∙ (ap (λ (m : Message). delivered last tag.client (apply_message (record client { gathering = took.gathering }) n m).answer) is
-    ∙ (ap (λ (t : ClientTook). delivered last tag.client t) (same_answer client took.gathering n message ∙ accepted)
-    ∙ ap (λ (k : ℕ). delivered last k (Applied n (Accepted 0))) is_c)))
-  where
-    same_section : (client : ClientState) (g : Gathering) (n : ℕ) (section : Told) → (apply_section (record client { gathering = g }) n section).answer ≡ (apply_section client n section).answer
-    same_section client g n told.Nothing = refl
-    same_section client g n (told.Game game) = refl
-    same_section client g n (told.Snap base head entities) = refl
-    same_section client g n (told.Skipped base) = refl
-
-    same_answer : (client : ClientState) (g : Gathering) (n : ℕ) (message : Message) → (apply_message (record client { gathering = g }) n message).answer ≡ (apply_message client n message).answer
-    same_answer client g n message = same_section client g n message.section
+    ∙ (ap (λ (a : Gathered). delivered last tag.client (take_answer (record client { gathering = took.gathering }) a (λ k. Ok (apply_message client.state k built.message))).answer) came
+    ∙ (ap (λ (a : AppliedSo). delivered last tag.client (Applied a)) is ∙ ap (λ (k : ℕ). delivered last k (Applied applied)) is_c))
 
 pub in_order_is_accepted : BytesFollowTags → Layers → PiecesAreTagged → InOrderIsAccepted
 unfolding tagged_all
@@ -208,7 +222,7 @@ in_order_is_accepted law below pieces profile all c n last numbers client is are
     let holds : Holds profile now = record { facts = stands.facts; joined = stands.joined } in
     let g = client.gathering in
     let at_start = reached_none profile start c n client starts found in
-    let reached_both = reached_all profile start start c n 0 g numbers last lt are_pieces at_start in
+    let reached_both = reached_all below.does profile start start c n 0 g numbers last lt are_pieces at_start in
     let now_is : now ≡ after profile start (deliveries numbers) = after_both profile (opening profile) all (deliveries numbers) in
     let index : 0 + length numbers ≡ last_index message = omega (arith, count) in
     let reached : Reached profile start now c n (last_index message) g =
@@ -223,6 +237,7 @@ in_order_is_accepted law below pieces profile all c n last numbers client is are
     ∙ (ap (λ (b : List Built). built_at b tag.number) reached.built ∙ ap (λ (k : ℕ). built_at built k) tail.4) in
     let came = pieces (messages_of profile built) g n had.1.joined.of_client.gathers.front newer in
     let message_is = at_number profile built n some in
+    let came_newer : (tagged_all g n message (last_index message)).taken < n = subst (λ (m : List ℕ). (tagged_all g n m (last_index m)).taken < n) message_is came.newer in
     let came_so : (tagged (tagged_all g n message (last_index message)) n message (last_index message)).answer ≡ CameWhole n (length message) =
     subst (λ (m : List ℕ). (tagged (tagged_all g n m (last_index m)) n m (last_index m)).answer ≡ CameWhole n (length m)) message_is came.answer in
     let took_is : tagged reached.client.gathering tag.number (built_bytes profile (named now.histories tag)) tag.index ≡ tagged (tagged_all g n message (last_index message)) n message (last_index message) =
@@ -231,13 +246,27 @@ in_order_is_accepted law below pieces profile all c n last numbers client is are
     ∙ (ap (λ (b : Built). tagged (tagged_all g n message (last_index message)) n (built_bytes profile b) tag.index) named_is
     ∙ ap (λ (k : ℕ). tagged (tagged_all g n message (last_index message)) n message k) tail.5)) in
     let tag_sent = is_for profile now tag tail.2 (is_sent profile now (last - 1) tag at holds) in
-    let was_built = tag_was_built profile now tag reached.client tag_sent.0 tag_sent.1 tag_found holds in
+    let cited = cited_of below profile is in
     let length_is : length message ≡ length (built_bytes profile (named now.histories tag)) = ap (λ (b : Built). length (built_bytes profile b)) (sym named_is) in
     let answer = ap (λ (t : Took). t.answer) took_is ∙ (came_so ∙ ap (λ (k : ℕ). CameWhole n k) length_is) in
+    let had_now = has_client profile now tag.client reached.client tag_sent.0 tag_found holds in
+    let still : reached.client.gathering.taken < n = ap_lt (sym (ap (λ (x : Gathering). x.taken) reached.gathers)) came_newer in
+    let out = outcome profile now tag.client n had_now.0 reached.client (named now.histories tag) cited had_now.1 still
+    (subst (λ (k : ℕ). Named profile now tag.client k (named now.histories tag)) tail.4 (names profile now tag reached.client tag_sent tag_found holds)) in
+    let accepted_is : (history_at now.histories c).accepted ≡ (history_at start.histories c).accepted =
+    elim reached.accepted [ inl past ↦ absurd (omega (arith, past, still)) | inr same ↦ same ] in
+    let applied_is : applied_of profile.parse_ring (history_at now.histories tag.client).accepted n (named now.histories tag)
+        ≡ applied_of profile.parse_ring (history_at start.histories c).accepted n (built_at built n) =
+    ap (λ (k : ℕ). applied_of profile.parse_ring (history_at now.histories k).accepted n (named now.histories tag)) tail.3
+    ∙ (ap (λ (a : List Snapshot). applied_of profile.parse_ring a n (named now.histories tag)) accepted_is
+    ∙ ap (λ (b : Built). applied_of profile.parse_ring (history_at start.histories c).accepted n b) named_is) in
     ap (λ (k : Kept). (kept_step k (events.Deliver last)).answer) (kept_is profile (kept_then profile all') now stands)
-    ∙ (ap (λ (s : KeptStep). s.answer) (delivers_agree profile now last (cited_of below profile is) holds).same
-    ∙ last_answer profile now c n last tag reached.client (message_of was_built.snapshot) at tail.2 tail.3 tag_found answer was_built.is refl)
+    ∙ (ap (λ (s : KeptStep). s.answer) (delivers_agree profile now last cited holds).same
+    ∙ last_answer profile now c n last tag reached.client (applied_of profile.parse_ring (history_at start.histories c).accepted n (built_at built n)) at tail.2 tail.3 tag_found answer (out.answer ∙ applied_is))
   where
+    ap_lt : {x y z : ℕ} → x ≡ y → x < z → y < z
+    ap_lt {x = x} {y = y} {z = z} same lt = omega (arith, same, lt)
+
     first : (numbers : List ℕ) (last : ℕ) (sent : List Tag) (c n : ℕ) → ArePieces sent c n 0 (numbers ++ last ∷ [])
         → (number : ℕ) × (tag : Tag) × (slice_get sent (number - 1) ≡ Some tag) × (tag.direction ≡ ToClient) × (tag.client ≡ c) × (tag.number ≡ n)
     first [] last sent c n are = (last, are.0, are.1, are.2, are.3, are.4)

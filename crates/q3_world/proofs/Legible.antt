@@ -11,8 +11,8 @@ use Rattle.q3_script.specs.declared.event.Event.TheVariants as events
 use Rattle.q3_script.specs.Grammar.{IsReplayEvent}
 use Rattle.q3_clmsg.specs.declared.moves.Move.{Move}
 use Rattle.q3_svmsg.specs.declared.error.Illegible.{Illegible}
-use Rattle.q3_svmsg.specs.Values as told
-use Rattle.q3_svmsg.specs.Values.{Told}
+use Rattle.q3_clstate.specs.State.{apply_message}
+use Rattle.q3_clstate.specs.declared.applied.Applied.{Applied}
 use Rattle.q3_chan.specs.declared.gatherer.Gathered.{Gathered}
 use Rattle.q3_chan.specs.declared.gatherer.Gathered.TheVariants as gathered
 use Rattle.q3_chan.specs.declared.gatherer.Gathered.TheVariants.{Whole as CameWhole}
@@ -21,10 +21,14 @@ use Rattle.q3_chan.specs.Sending.{UnderWay}
 use Rattle.q3_chan.specs.Tags.{tagged, IsQuiet}
 use Rattle.q3_chan.specs.Laws.{TaggedDoes}
 use Rattle.q3_server.specs.declared.server.SlotError.{SlotError}
-use Rattle.q3_server.specs.Server.{SlotState, Built, slot_at, add_client_at, built_bytes}
+use Rattle.q3_server.specs.Built.{Built}
+use Rattle.q3_ring.specs.Snapshot.{Snapshot}
+use Rattle.q3_rings.specs.Rings.{is_young}
+use Rattle.q3_rings.specs.Accepted.{age_of}
+use Rattle.q3_server.specs.Server.{SlotState, slot_at, add_client_at, built_bytes}
 use Rattle.q3_server.specs.Taking as hears
 use Rattle.q3_client.specs.declared.client.MoveError.{MoveError}
-use Rattle.q3_client.specs.Client.{ClientState, new_client, apply_section, take_answer}
+use Rattle.q3_client.specs.Client.{ClientState, new_client, take_answer}
 use Rattle.q3_client.specs.Moves.{add_move_at}
 use Rattle.q3_client.specs.Sending as speaks
 use Rattle.q3_client.specs.Sending.{Said, said_bits, said_bytes, next_message as next_said}
@@ -32,12 +36,14 @@ use Rattle.q3_world.specs.declared.made.Direction.{Direction}
 use Rattle.q3_world.specs.declared.made.Direction.TheVariants.{ToClient, ToServer}
 use Rattle.q3_world.specs.Ends.{Ends, Answered, delivered, ran, sent, joined, moved, add_move_to, client_at}
 use Rattle.q3_world.specs.Kept.{Kept, opening_kept, kept_step, kept_answers}
-use Rattle.q3_world.specs.World.{Tag, Whole, opening, step, send, named, to_client, said_under, to_server, arrive, deliver}
+use Rattle.q3_world.specs.World.{Tag, Whole, history_at, opening, step, send, named, to_client, said_under, to_server, arrive, deliver}
 use Rattle.q3_world.specs.StandsFor.{IsSent, StandsFor}
-use Rattle.q3_world.specs.Schedules.{StepFollows, IsLegible, AlwaysLegible}
+use Rattle.q3_world.specs.Layers.{Layers}
+use Rattle.q3_world.specs.Schedules.{StepFollows, MayBecome, outcome_of, IsLegible, AlwaysLegible}
 use Rattle.q3_world.proofs.Events.{Holds, has_client}
-use Rattle.q3_world.proofs.Arriving.{IsOf, is_sent, is_of_client, slot_of_tag}
-use Rattle.q3_world.proofs.EverySchedule.{stands_opening}
+use Rattle.q3_world.proofs.Agree.{Cited}
+use Rattle.q3_world.proofs.Arriving.{IsFor, IsOf, names, is_sent, is_for, is_of_client, slot_of_tag}
+use Rattle.q3_world.proofs.EverySchedule.{cited_of, outcome, stands_opening}
 
 -- ---- what the game hands in
 
@@ -59,7 +65,7 @@ legible_left : (c n : ℕ) (client : ClientState) (left : Option UnderWay) → I
 legible_left c n client (Some left) = tt
 legible_left c n client None =
     let next = next_said client in
-    let bits = said_bits client.profile next in
+    let bits = said_bits client.state.profile next in
     elim (cases_Bool (nat_le sequence_end (client.sending.number + 1))) [
       | inl ended ↦ rw ended tt
       | inr goes ↦ rw goes (elim (cases_Bool (nat_lt longest_message (message_length (length bits)))) [
@@ -78,19 +84,22 @@ legible_send profile whole c (Some client) legible =
 
 -- ---- what a client takes
 
--- what a message does to a client
-legible_section : (datagram c number : ℕ) (client : ClientState) (section : Told) → IsLegible (delivered datagram c (apply_section client number section).answer).answer
-legible_section datagram c number client told.Nothing = tt
-legible_section datagram c number client (told.Game game) = tt
-legible_section datagram c number client (told.Snap base head entities) = tt
-legible_section datagram c number client (told.Skipped base) = tt
+-- a snapshot that was built is accepted, or skipped for the entities of its base
+may_become : (ring : ℕ) (accepted : List Snapshot) (base : Option Snapshot) → MayBecome (outcome_of ring accepted base)
+may_become ring accepted None = tt
+may_become ring accepted (Some base) =
+    elim (cases_Bool (is_young ring (age_of accepted base.head.number))) [
+      | inl young ↦ rw young tt
+      | inr old ↦ rw old tt
+    ]
 
--- what a client makes of a piece: nothing came whole, or its message did, and was read
-legible_took : (datagram c n : ℕ) (client : ClientState) (answer : Gathered) (built : Built) → IsQuiet answer ⊎ ((count : ℕ) × (answer ≡ CameWhole n count))
-    → IsLegible (delivered datagram c (take_answer client answer (λ k. Ok built)).answer).answer
-legible_took datagram c n client answer built (inl quiet) = waits answer quiet
+-- what a client makes of a piece: nothing came whole, or its message did, and was applied
+legible_took : (datagram c n : ℕ) (client now : ClientState) (answer : Gathered) (built : Built)
+    → IsQuiet answer ⊎ ((count : ℕ) × (answer ≡ CameWhole n count) × MayBecome (apply_message client.state n built.message).answer.snap)
+    → IsLegible (delivered datagram c (take_answer now answer (λ k. Ok (apply_message client.state k built.message))).answer).answer
+legible_took datagram c n client now answer built (inl quiet) = waits answer quiet
   where
-    waits : (answer : Gathered) → IsQuiet answer → IsLegible (delivered datagram c (take_answer client answer (λ k. Ok built)).answer).answer
+    waits : (answer : Gathered) → IsQuiet answer → IsLegible (delivered datagram c (take_answer now answer (λ k. Ok (apply_message client.state k built.message))).answer).answer
     waits (CameWhole number count) is = absurd is
     waits gathered.Partial is = tt
     waits gathered.Old is = tt
@@ -98,16 +107,24 @@ legible_took datagram c n client answer built (inl quiet) = waits answer quiet
     waits gathered.BadFragment is = absurd is
     waits gathered.Runt is = absurd is
     waits gathered.Connectionless is = absurd is
-legible_took datagram c n client answer built (inr came) = rw came.1 (legible_section datagram c n client built.section)
+legible_took datagram c n client now answer built (inr came) = rw came.1 came.2
 
-legible_to_client : TaggedDoes → (profile : Profile) (whole : Whole) (number : ℕ) (tag : Tag) (found : Option ClientState) → IsLegible (to_client profile whole number tag found).answer.answer
-legible_to_client does_so profile whole number tag None = tt
-legible_to_client does_so profile whole number tag (Some client) =
+legible_to_client : (profile : Profile) (whole : Whole) (number : ℕ) (tag : Tag) (found : Option ClientState) → Cited profile → IsFor profile whole tag
+    → client_at whole.ends tag.client ≡ found → Holds profile whole → IsLegible (to_client profile whole number tag found).answer.answer
+legible_to_client profile whole number tag None cited is at holds = tt
+legible_to_client profile whole number tag (Some client) cited is at holds =
     let built = named whole.histories tag in
     let took = tagged client.gathering tag.number (built_bytes profile built) tag.index in
-    let does = does_so client.gathering tag.number (built_bytes profile built) tag.index in
-    legible_took number tag.client tag.number (record client { gathering = took.gathering }) took.answer built
-    (elim does.either [ inl waits ↦ inl waits.quiet | inr came ↦ inr (length (built_bytes profile built), came.answer) ])
+    let does = cited.does client.gathering tag.number (built_bytes profile built) tag.index in
+    let had = has_client profile whole tag.client client is.0 at holds in
+    legible_took number tag.client tag.number client (record client { gathering = took.gathering }) took.answer built
+    (elim does.either [
+      | inl waits ↦ inl waits.quiet
+      | inr came ↦
+          let out = outcome profile whole tag.client tag.number had.0 client built cited had.1 came.newer (names profile whole tag client is at holds) in
+          inr (length (built_bytes profile built), came.answer,
+            subst (λ (a : Applied). MayBecome a.snap) (sym out.answer) (may_become profile.parse_ring (history_at whole.histories tag.client).accepted built.base))
+    ])
 
 -- ---- what the server takes
 
@@ -141,50 +158,51 @@ legible_to_server does_so profile whole number tag from is holds =
 
 -- ---- every event
 
-legible_arrive : TaggedDoes → (profile : Profile) (whole : Whole) (number : ℕ) (tag : Tag) (direction : Direction) → tag.direction ≡ direction → IsSent profile whole.histories tag
+legible_arrive : (profile : Profile) (whole : Whole) (number : ℕ) (tag : Tag) (direction : Direction) → Cited profile → tag.direction ≡ direction → IsSent profile whole.histories tag
     → Holds profile whole → IsLegible (arrive profile whole number tag direction).answer.answer
-legible_arrive does_so profile whole number tag ToClient way is holds = legible_to_client does_so profile whole number tag (client_at whole.ends tag.client)
-legible_arrive does_so profile whole number tag (ToServer from) way is holds =
-    legible_to_server does_so profile whole number tag from (is_of_client profile whole tag from way is) holds
+legible_arrive profile whole number tag ToClient cited way is holds =
+    legible_to_client profile whole number tag (client_at whole.ends tag.client) cited (is_for profile whole tag way is) refl holds
+legible_arrive profile whole number tag (ToServer from) cited way is holds =
+    legible_to_server cited.does profile whole number tag from (is_of_client profile whole tag from way is) holds
 
-legible_deliver : TaggedDoes → (profile : Profile) (whole : Whole) (number : ℕ) (found : Option Tag) → slice_get whole.sent (number - 1) ≡ found → Holds profile whole
+legible_deliver : (profile : Profile) (whole : Whole) (number : ℕ) (found : Option Tag) → Cited profile → slice_get whole.sent (number - 1) ≡ found → Holds profile whole
     → IsLegible (deliver profile whole number found).answer.answer
-legible_deliver does_so profile whole number None at holds = tt
-legible_deliver does_so profile whole number (Some tag) at holds =
-    legible_arrive does_so profile whole number tag tag.direction refl (is_sent profile whole (number - 1) tag at holds) holds
+legible_deliver profile whole number None cited at holds = tt
+legible_deliver profile whole number (Some tag) cited at holds =
+    legible_arrive profile whole number tag tag.direction cited refl (is_sent profile whole (number - 1) tag at holds) holds
 
 -- each step by tags answers legibly
-legible_step : TaggedDoes → (profile : Profile) (whole : Whole) (event : Event) → IsReplayEvent event → Holds profile whole → IsLegible (step profile whole event).answer.answer
+legible_step : (profile : Profile) (whole : Whole) (event : Event) → Cited profile → IsReplayEvent event → Holds profile whole → IsLegible (step profile whole event).answer.answer
 unfolding step
-legible_step does_so profile whole (events.Client c challenge qport dup address) is holds =
+legible_step profile whole (events.Client c challenge qport dup address) cited is holds =
     let added = add_client_at whole.ends.server c challenge qport address in
     legible_joined (record whole.ends { server = added.server }) c (new_client profile challenge qport dup) address added.answer
-legible_step does_so profile whole (events.Entity state) is holds = tt
-legible_step does_so profile whole (events.Remove number) is holds = tt
-legible_step does_so profile whole (events.Player c player) is holds = tt
-legible_step does_so profile whole (events.Area c area) is holds = tt
-legible_step does_so profile whole (events.Time time) is holds = tt
-legible_step does_so profile whole (events.Move c one) is holds = legible_move whole.ends c one (client_at whole.ends c)
-legible_step does_so profile whole (events.Serve c) is holds = tt
-legible_step does_so profile whole (events.Send c) is holds =
+legible_step profile whole (events.Entity state) cited is holds = tt
+legible_step profile whole (events.Remove number) cited is holds = tt
+legible_step profile whole (events.Player c player) cited is holds = tt
+legible_step profile whole (events.Area c area) cited is holds = tt
+legible_step profile whole (events.Time time) cited is holds = tt
+legible_step profile whole (events.Move c one) cited is holds = legible_move whole.ends c one (client_at whole.ends c)
+legible_step profile whole (events.Serve c) cited is holds = tt
+legible_step profile whole (events.Send c) cited is holds =
     legible_send profile whole c (client_at whole.ends c) (λ client found. (has_client profile whole c client (omega (arith, is)) found holds).1.joined.of_client.legible)
-legible_step does_so profile whole (events.Deliver number) is holds = legible_deliver does_so profile whole number (slice_get whole.sent (number - 1)) refl holds
-legible_step does_so profile whole (events.Show c) is holds = tt
+legible_step profile whole (events.Deliver number) cited is holds = legible_deliver profile whole number (slice_get whole.sent (number - 1)) cited refl holds
+legible_step profile whole (events.Show c) cited is holds = tt
 
 abbrev AreLegible : List Answered → Type 0
 AreLegible all = AllByRecursion (λ (given : Answered). IsLegible given.answer) all
 
 -- and so does what is kept, on every list of events
-legible_answers : StepFollows → TaggedDoes → (profile : Profile) (all : List Event) (kept : Kept) (whole : Whole) → AllByRecursion IsReplayEvent all → StandsFor profile kept whole
+legible_answers : StepFollows → (profile : Profile) (all : List Event) (kept : Kept) (whole : Whole) → Cited profile → AllByRecursion IsReplayEvent all → StandsFor profile kept whole
     → AreLegible (kept_answers kept all)
 unfolding kept_answers
-legible_answers law does_so profile [] kept whole are stands = tt
-legible_answers law does_so profile (event ∷ events) kept whole are stands =
+legible_answers law profile [] kept whole cited are stands = tt
+legible_answers law profile (event ∷ events) kept whole cited are stands =
     let next = law profile kept whole event are.0 stands in
-    let here = legible_step does_so profile whole event are.0 (record { facts = stands.facts; joined = stands.joined }) in (
+    let here = legible_step profile whole event cited are.0 (record { facts = stands.facts; joined = stands.joined }) in (
       subst (λ (a : Answered). IsLegible a.answer) (sym next.1) here,
-      legible_answers law does_so profile events (kept_step kept event).kept (step profile whole event).whole are.1 next.0,
+      legible_answers law profile events (kept_step kept event).kept (step profile whole event).whole cited are.1 next.0,
     )
 
-pub always_legible : StepFollows → TaggedDoes → AlwaysLegible
-always_legible law does_so profile all is are = legible_answers law does_so profile all (opening_kept profile) (opening profile) are (stands_opening profile is)
+pub always_legible : StepFollows → Layers → AlwaysLegible
+always_legible law below profile all is are = legible_answers law profile all (opening_kept profile) (opening profile) (cited_of below profile is) are (stands_opening profile is)

@@ -17,13 +17,15 @@ use Rattle.q3_client.specs.declared.client.Sent.TheVariants as answered_sent
 use Rattle.q3_client.specs.Client.{ClientState}
 use Rattle.q3_client.specs.Sending as speaks
 use Rattle.q3_client.specs.Sending.{said_bits, next_message as next_said}
-use Rattle.q3_server.specs.Server.{SlotState, ServerState, Built, Emission, places, slot_at, with_slot, next_message, built_bits, hand_out, emit_bits, emit_new, emit_slot, emission_at, emit_from}
+use Rattle.q3_frames.specs.Frames.{FramesState}
+use Rattle.q3_server.specs.Built.{Built, number_of}
+use Rattle.q3_server.specs.Server.{SlotState, ServerState, Emission, places, slot_at, with_slot, next_frames, built_bits, nothing, hand_out, emit_bits, emit_built, most_placed, emit_new, emit_slot, emission_at, emit_from}
 use Rattle.q3_world.specs.Ends.{client_at, address_at}
 use Rattle.q3_world.specs.Kept.{kept_serve, kept_said, kept_send}
 use Rattle.q3_world.specs.World.{Whole, history_at, with_built, serve, say, send}
 use Rattle.q3_world.specs.StandsFor.{bytes_of}
-use Rattle.q3_world.proofs.Clients.{slot_begun, client_begun, KeepsSlot-begun}
-use Rattle.q3_world.proofs.Events.{Holds, Begins, Holds-handed, handed_tag, Holds-goes, Holds-said, said_tag, has_client, same_server}
+use Rattle.q3_world.proofs.Clients.{begun_next, slot_begun, client_begun}
+use Rattle.q3_world.proofs.Events.{Holds, Holds-handed, Holds-begun, Holds-too_long, handed_tag, Holds-goes, Holds-said, said_tag, has_client, same_server}
 use Rattle.q3_world.proofs.Agree.{Cited, kept_of, Agree, found_or, unnoted, left_alone}
 
 -- ---- serving
@@ -40,16 +42,6 @@ quiet profile whole c server answer same_as holds =
     subst (λ (s : ServerState). Served profile whole c (record { server = s; answer = answer; began = None; piece = None })) (sym same_as)
     (record { same = rw count refl; holds = unnoted profile whole c holds })
 
--- a piece is handed out, of a message that was begun now or before
-pub handed_out : (profile : Profile) (whole : Whole) (c : ℕ) (old slot : SlotState) (left : UnderWay) (answer : Emitted) (began : Option Built) → Cited profile → c < places
-    → slot_at whole.ends.server c ≡ Some old → slot.sending.under_way ≡ Some left
-    → Begins profile old slot (history_at whole.histories c).qport (history_at whole.histories c).host (history_at whole.histories c).built (with_built (history_at whole.histories c) began).built (history_at whole.histories c).run
-    → Holds profile whole → Served profile whole c (emission_at whole.ends.server c (hand_out slot left.next answer began))
-handed_out profile whole c old slot left answer began cited lt found way begins holds =
-    let count = length-map whole.sent bytes_of in
-    let pushed = map_push bytes_of whole.sent (handed_tag c slot left) in
-    record { same = rw (count, pushed) refl; holds = Holds-handed profile whole c old slot left began cited.sends cited.gathers lt found way begins holds }
-
 -- a message of a length that fits is one that may be sent
 pub sendable : (bits : List Bool) → MessageIsBytes → nat_lt longest_message (message_length (length bits)) ≡ false → IsSendable (message_bytes bits)
 sendable bits law fits =
@@ -58,46 +50,48 @@ sendable bits law fits =
     record { some = rw bytes.0 (omega arith); most = rw bytes.0 short; bytes = bytes.1 }
 
 -- a message is begun, unless it is too long
-pub served_bits : (profile : Profile) (whole : Whole) (c : ℕ) (slot : SlotState) → Cited profile → c < places → slot_at whole.ends.server c ≡ Some slot
+pub served_built : (profile : Profile) (whole : Whole) (c : ℕ) (slot : SlotState) → Cited profile → c < places → slot_at whole.ends.server c ≡ Some slot
     → slot.sending.number + 1 < sequence_end → Holds profile whole
-    → Served profile whole c (emission_at whole.ends.server c
-    (emit_bits slot (next_message whole.ends.server.map slot) (built_bits profile (next_message whole.ends.server.map slot))))
-served_bits profile whole c slot cited lt is fits holds =
+    → Served profile whole c (emission_at whole.ends.server c (emit_built profile slot (next_frames whole.ends.server.map whole.ends.server.frames c slot)
+    (begun_next whole.ends.server.map whole.ends.server.frames c slot)))
+served_built profile whole c slot cited lt is fits holds =
     let server = whole.ends.server in
-    let map = server.map in
-    let history = history_at whole.histories c in
-    let next = next_message map slot in
+    let next = begun_next server.map server.frames c slot in
     let bits = built_bits profile next in
     let first : UnderWay = record { message = message_bytes bits; next = 0 } in
+    let count = length-map whole.sent bytes_of in
     elim (cases_Bool (nat_lt longest_message (message_length (length bits)))) [
-      | inl long ↦ rw long (quiet profile whole c (with_slot server c slot) emitted.Overlong (same_server server c slot is) holds)
-      | inr short ↦ rw short (handed_out profile whole c slot (slot_begun profile map slot) first
-          (emitted.Snapshot (slot.sending.number + 1) 0 (message_length (length bits))) (Some next) cited lt is refl
-          (record {
-            host = refl;
-            qport = refl;
-            gathering = refl;
-            keeps = KeepsSlot-begun profile map slot history.qport history.host history.built history.run cited.sends holds.facts.time holds.facts.entities fits (sendable bits cited.bytes short);
-          }) holds)
+      | inl long ↦ rw long (record { same = rw count refl; holds = Holds-too_long cited.frames profile whole c slot lt is holds })
+      | inr short ↦
+          let pushed = map_push bytes_of whole.sent (handed_tag c (slot_begun profile slot next) first) in
+          rw short (record {
+            same = rw (count, pushed) refl;
+            holds = Holds-begun cited.frames profile whole c slot first cited.sends cited.gathers lt is fits (sendable bits cited.bytes short) refl holds;
+          })
     ]
 
--- the next message, unless message numbers have ended
+-- the next message, unless message numbers have ended or too many entities were placed
 pub served_new : (profile : Profile) (whole : Whole) (c : ℕ) (slot : SlotState) → Cited profile → c < places → slot_at whole.ends.server c ≡ Some slot → Holds profile whole
-    → Served profile whole c (emission_at whole.ends.server c (emit_new profile whole.ends.server.map slot))
+    → Served profile whole c (emission_at whole.ends.server c (emit_new profile whole.ends.server.map whole.ends.server.frames c slot))
 served_new profile whole c slot cited lt is holds =
     let server = whole.ends.server in
     elim (cases_Bool (nat_le sequence_end (slot.sending.number + 1))) [
       | inl ended ↦ rw ended (quiet profile whole c (with_slot server c slot) emitted.SequenceEnd (same_server server c slot is) holds)
-      | inr goes ↦ rw goes (served_bits profile whole c slot cited lt is (leb-false sequence_end (slot.sending.number + 1) goes) holds)
+      | inr goes ↦ elim (cases_Bool (nat_lt most_placed server.frames.placed)) [
+        | inl full ↦ rw (goes, full) (quiet profile whole c (with_slot server c slot) emitted.SequenceEnd (same_server server c slot is) holds)
+        | inr room ↦ rw (goes, room) (served_built profile whole c slot cited lt is (leb-false sequence_end (slot.sending.number + 1) goes) holds)
+      ]
     ]
 
 -- what is left of a message goes first
 pub served_from : (profile : Profile) (whole : Whole) (c : ℕ) (slot : SlotState) (left : Option UnderWay) → Cited profile → c < places
     → slot_at whole.ends.server c ≡ Some slot → slot.sending.under_way ≡ left → Holds profile whole
-    → Served profile whole c (emission_at whole.ends.server c (emit_slot profile whole.ends.server.map slot left))
+    → Served profile whole c (emission_at whole.ends.server c (emit_slot profile whole.ends.server.map whole.ends.server.frames c slot left))
 served_from profile whole c slot None cited lt is none holds = served_new profile whole c slot cited lt is holds
 served_from profile whole c slot (Some left) cited lt is some holds =
-    handed_out profile whole c slot slot left (emitted.Fragment slot.sending.number) None cited lt is some (record { host = refl; qport = refl; gathering = refl; keeps = λ keeps. keeps }) holds
+    let count = length-map whole.sent bytes_of in
+    let pushed = map_push bytes_of whole.sent (handed_tag c slot left) in
+    record { same = rw (count, pushed) refl; holds = Holds-handed profile whole c slot left cited.sends lt is some holds }
 
 pub served : (profile : Profile) (whole : Whole) (c : ℕ) → Cited profile → c < places → Holds profile whole
     → Served profile whole c (emit_from whole.ends.server c (slot_at whole.ends.server c))
@@ -105,7 +99,7 @@ served profile whole c cited lt holds =
     elim (found_or (slot_at whole.ends.server c)) [
       | inl none ↦ rw none (quiet profile whole c whole.ends.server emitted.NoClient refl holds)
       | inr found ↦ rw found.1
-          (subst (λ (p : Profile). Served profile whole c (emission_at whole.ends.server c (emit_slot p whole.ends.server.map found.0 found.0.sending.under_way))) (sym holds.facts.by)
+          (subst (λ (p : Profile). Served profile whole c (emission_at whole.ends.server c (emit_slot p whole.ends.server.map whole.ends.server.frames c found.0 found.0.sending.under_way))) (sym holds.facts.by)
           (served_from profile whole c found.0 found.0.sending.under_way cited lt found.1 refl holds))
     ]
 

@@ -5,7 +5,7 @@ use Rattle.std.proofs.lemmas.List.{append-nil}
 use Rattle.q3_player.specs.Report.{player_text}
 use Rattle.q3_entity.specs.declared.state.EntityState.{EntityState}
 use Rattle.q3_entity.specs.Report.{fields_text}
-use Rattle.q3_svmsg.specs.Values.{Snapshot}
+use Rattle.q3_ring.specs.Snapshot.{Snapshot}
 use Rattle.q3_world.specs.Report.{area_text, start_text, head_text, entity_text, snapshot_text}
 
 grouped : (a b d e f g h i j area end : List ℕ) → concat (a ∷ b ∷ concat (d ∷ e ∷ f ∷ g ∷ h ∷ i ∷ j ∷ area ∷ end ∷ []) ∷ [])

@@ -10,25 +10,25 @@ use Rattle.std.proofs.lemmas.Bool.{lt-ltb, le-ltb, lt-leb}
 use Rattle.q3_bits.specs.Bits.{message_length}
 use Rattle.q3_bits.specs.Laws.{MessageIsBytes}
 use Rattle.q3_profile.specs.declared.profile.Profile.{Profile}
-use Rattle.q3_profile.specs.Profile.{IsCodec}
 use Rattle.q3_script.specs.declared.event.Event.{Event}
 use Rattle.q3_script.specs.declared.event.Event.TheVariants as events
 use Rattle.q3_script.specs.Grammar.{IsReplayEvent}
-use Rattle.q3_player.specs.Heads.{empty_head}
-use Rattle.q3_svmsg.specs.Values as told
-use Rattle.q3_svmsg.specs.Values.{Told, Message, Snapshot}
+use Rattle.q3_ring.specs.Snapshot.{Snapshot}
+use Rattle.q3_frames.specs.Frames.{FramesState}
+use Rattle.q3_clstate.specs.declared.applied.Applied.{Applied as AppliedSo}
 use Rattle.q3_chan.specs.Datagrams.{sequence_end, longest_message, piece_count, last_index}
+use Rattle.q3_chan.specs.Laws.{TaggedDoes}
 use Rattle.q3_chan.specs.Sending.{Sending, UnderWay, IsIdle, left_of, next_of}
-use Rattle.q3_client.specs.declared.client.SnapOutcome.TheVariants.{Accepted}
+use Rattle.q3_clstate.specs.declared.applied.SnapOutcome.TheVariants.{Accepted}
 use Rattle.q3_server.specs.declared.server.Emitted.TheVariants as emitted
-use Rattle.q3_server.specs.Built.{message_of}
-use Rattle.q3_server.specs.Server.{MapState, SlotState, SlotEmission, Built, places, slot_at, next_snapshot, next_message, built_bits, built_bytes, hand_out, emit_slot, emission_at, emit_at}
+use Rattle.q3_server.specs.Built.{Built, number_of, built_of}
+use Rattle.q3_server.specs.Server.{MapState, SlotState, ServerState, SlotEmission, places, slot_at, next_snapshot, next_frames, built_bits, built_bytes, most_placed, hand_out, emit_slot, emission_at, emit_at}
 use Rattle.q3_client.specs.Client.{ClientState}
 use Rattle.q3_world.specs.Ends.{client_at}
 use Rattle.q3_world.specs.Kept.{Kept, opening_kept, kept_step, kept_after}
 use Rattle.q3_world.specs.World.{Tag, Whole, History, no_history, no_message, history_at, with_built, built_at, serve, step, after, opening}
-use Rattle.q3_world.specs.StandsFor.{StandsFor}
-use Rattle.q3_world.specs.Schedules.{kept_then, whole_then, history_then, BytesFollowTags, ArePieces, deliveries, serve_and_deliver, datagrams_of, InOrderIsAccepted, AppliedWasBuilt, ServedIsShown}
+use Rattle.q3_world.specs.StandsFor.{IsChecked, snapshot_in, StandsFor}
+use Rattle.q3_world.specs.Schedules.{kept_then, whole_then, history_then, BytesFollowTags, ArePieces, deliveries, serve_and_deliver, built_next, datagrams_of, MayBegin, outcome_of, applied_of, InOrderIsAccepted, AppliedWasBuilt, ServedIsShown}
 use Rattle.q3_world.proofs.Growth.{noted_same}
 use Rattle.q3_world.proofs.Clients.{slot_begun}
 use Rattle.q3_world.proofs.Events.{Holds, with_server_of, slot_handed, handed_tag, has_client}
@@ -39,9 +39,9 @@ use Rattle.q3_world.proofs.OnePlace.{set_there}
 -- ---- one datagram more
 
 -- the world behind an emission of a slot that has this piece left: a message was begun, if one was, and the piece has a tag
-abbrev with_handed : Whole → ℕ → SlotState → UnderWay → Option Built → Whole
-with_handed whole c slot left began =
-    with_server_of whole c (slot_handed slot) (with_built (history_at whole.histories c) began) (whole.sent ++ handed_tag c slot left ∷ [])
+abbrev with_handed : Whole → ℕ → SlotState → UnderWay → FramesState → Option Built → Whole
+with_handed whole c slot left frames began =
+    with_server_of whole c (slot_handed slot) frames (with_built (history_at whole.histories c) began) (whole.sent ++ handed_tag c slot left ∷ [])
 
 -- what was sent stays where more is sent
 abbrev some_tag : Tag → Option Tag
@@ -72,9 +72,9 @@ handed_left : (sending : Sending) (left : UnderWay) → sending.under_way ≡ So
 unfolding next_of
 handed_left sending left way = rw way (refl, refl)
 
-handed_out : (whole : Whole) (c : ℕ) (slot : SlotState) (left : UnderWay) (began : Option Built) → c < places → length whole.ends.server.slots ≡ places
-    → slot.sending.under_way ≡ Some left → HandedOut c slot.sending.number left.message (with_handed whole c slot left began) left.next
-handed_out whole c slot left began lt slots way =
+handed_out : (whole : Whole) (c : ℕ) (slot : SlotState) (left : UnderWay) (frames : FramesState) (began : Option Built) → c < places → length whole.ends.server.slots ≡ places
+    → slot.sending.under_way ≡ Some left → HandedOut c slot.sending.number left.message (with_handed whole c slot left frames began) left.next
+handed_out whole c slot left frames began lt slots way =
     let next = handed_left slot.sending left way in
     record {
       slot = slot_handed slot;
@@ -86,7 +86,7 @@ handed_out whole c slot left began lt slots way =
 
 -- a serve where a piece is left
 serves_left : (profile : Profile) (whole : Whole) (c : ℕ) (slot : SlotState) (left : UnderWay) → slot_at whole.ends.server c ≡ Some slot
-    → slot.sending.under_way ≡ Some left → (step profile whole (events.Serve c)).whole ≡ with_handed whole c slot left None
+    → slot.sending.under_way ≡ Some left → (step profile whole (events.Serve c)).whole ≡ with_handed whole c slot left whole.ends.server.frames None
 unfolding step emit_at
 serves_left profile whole c slot left found way = rw (found, way) refl
 
@@ -110,11 +110,11 @@ make_rest profile c n index (suc count) message now lt all handed =
     let left : UnderWay = record { message = message; next = index + 1 } in
     let goes : nat_lt (index + 1) (piece_count (length message)) ≡ true = lt-ltb (index + 1) (piece_count (length message)) (omega (arith, all)) in
     let way : slot.sending.under_way ≡ Some left = handed.left ∙ (rw goes refl) in
-    let next = with_handed now c slot left None in
+    let next = with_handed now c slot left now.ends.server.frames None in
     let tag = handed_tag c slot left in
     let is : (step profile now (events.Serve c)).whole ≡ next = serves_left profile now c slot left handed.found way in
     let state : HandedOut c n message next (index + 1) =
-    subst (λ (k : ℕ). HandedOut c k message next (index + 1)) handed.number (handed_out now c slot left None lt handed.slots way) in
+    subst (λ (k : ℕ). HandedOut c k message next (index + 1)) handed.number (handed_out now c slot left now.ends.server.frames None lt handed.slots way) in
     let rest = make_rest profile c n (index + 1) count message next lt (omega (arith, all)) state in
     let then = after profile next (replicate count (events.Serve c)) in
     let longer : length next.sent ≡ length now.sent + 1 = length_push now.sent tag in
@@ -134,53 +134,57 @@ make_rest profile c n index (suc count) message now lt all handed =
 -- ---- a whole message
 
 -- the first datagram of a message
-begins : (profile : Profile) (map : MapState) (slot : SlotState) → MessageIsBytes → IsIdle slot.sending → slot.sending.number + 1 < sequence_end
-    → length (built_bytes profile (next_message map slot)) ≤ longest_message
-    → emit_slot profile map slot slot.sending.under_way
-    ≡ hand_out (slot_begun profile map slot) 0 (emitted.Snapshot (slot.sending.number + 1) 0 (message_length (length (built_bits profile (next_message map slot))))) (Some (next_message map slot))
-begins profile map slot bytes idle fits short =
-    let bits = built_bits profile (next_message map slot) in
+begins : (profile : Profile) (server : ServerState) (c : ℕ) (slot : SlotState) → MessageIsBytes → MayBegin profile server c slot
+    → emit_slot profile server.map server.frames c slot slot.sending.under_way
+    ≡ hand_out (slot_begun profile slot (built_next server c slot)) (next_frames server.map server.frames c slot) 0
+    (emitted.Snapshot (slot.sending.number + 1) (number_of (built_next server c slot).base) (message_length (length (built_bits profile (built_next server c slot)))))
+    (Some (built_next server c slot))
+begins profile server c slot bytes may =
+    let bits = built_bits profile (built_next server c slot) in
     let count = (bytes bits).0 in
-    let goes : nat_le sequence_end (slot.sending.number + 1) ≡ false = lt-leb sequence_end (slot.sending.number + 1) fits in
+    let short = may.short in
+    let goes : nat_le sequence_end (slot.sending.number + 1) ≡ false = lt-leb sequence_end (slot.sending.number + 1) may.fits in
+    let room : nat_lt most_placed server.frames.placed ≡ false = le-ltb most_placed server.frames.placed may.placed in
     let few : nat_lt longest_message (message_length (length bits)) ≡ false = le-ltb longest_message (message_length (length bits)) (omega (arith, count, short)) in
-    rw (idle, goes, few) refl
+    rw (may.idle, goes, room, few) refl
 
 serves_first : (profile : Profile) (whole : Whole) (c : ℕ) (slot : SlotState) → MessageIsBytes → whole.ends.server.profile ≡ profile → slot_at whole.ends.server c ≡ Some slot
-    → IsIdle slot.sending → slot.sending.number + 1 < sequence_end → length (built_bytes profile (next_message whole.ends.server.map slot)) ≤ longest_message
+    → MayBegin profile whole.ends.server c slot
     → (step profile whole (events.Serve c)).whole
-    ≡ with_handed whole c (slot_begun profile whole.ends.server.map slot) (record { message = built_bytes profile (next_message whole.ends.server.map slot); next = 0 })
-    (Some (next_message whole.ends.server.map slot))
+    ≡ with_handed whole c (slot_begun profile slot (built_next whole.ends.server c slot)) (record { message = built_bytes profile (built_next whole.ends.server c slot); next = 0 })
+    (next_frames whole.ends.server.map whole.ends.server.frames c slot) (Some (built_next whole.ends.server c slot))
 unfolding step emit_at
-serves_first profile whole c slot bytes by found idle fits short =
+serves_first profile whole c slot bytes by found may =
     let server = whole.ends.server in
     rw found
     (ap (λ (e : SlotEmission). (serve whole c (emission_at server c e)).whole)
-    (ap (λ (p : Profile). emit_slot p server.map slot slot.sending.under_way) by ∙ begins profile server.map slot bytes idle fits short))
+    (ap (λ (p : Profile). emit_slot p server.map server.frames c slot slot.sending.under_way) by ∙ begins profile server c slot bytes may))
 
 -- the server made all pieces of the next message of a client
 record Made (c n count first : ℕ) (next : Built) (start now : Whole) : Type 0 where
   clients : now.ends.clients ≡ start.ends.clients
   built : built_at (history_at now.histories c).built n ≡ next
+  accepted : (history_at now.histories c).accepted ≡ (history_at start.histories c).accepted
   pieces : ArePieces now.sent c n 0 (range_with_len first count)
 
 made : (profile : Profile) (start : Whole) (c count : ℕ) (slot : SlotState) → MessageIsBytes → c < places → Holds profile start
-    → slot_at start.ends.server c ≡ Some slot → length (history_at start.histories c).built ≡ slot.sending.number
-    → IsIdle slot.sending → slot.sending.number + 1 < sequence_end → length (built_bytes profile (next_message start.ends.server.map slot)) ≤ longest_message
-    → 1 + count ≡ piece_count (length (built_bytes profile (next_message start.ends.server.map slot)))
-    → Made c (slot.sending.number + 1) (suc count) (length start.sent + 1) (next_message start.ends.server.map slot) start
+    → slot_at start.ends.server c ≡ Some slot → length (history_at start.histories c).built ≡ slot.sending.number → MayBegin profile start.ends.server c slot
+    → 1 + count ≡ piece_count (length (built_bytes profile (built_next start.ends.server c slot)))
+    → Made c (slot.sending.number + 1) (suc count) (length start.sent + 1) (built_next start.ends.server c slot) start
     (after profile start (replicate (suc count) (events.Serve c)))
 unfolding after
-made profile start c count slot bytes lt holds found begun idle fits short all =
-    let map = start.ends.server.map in
-    let next = next_message map slot in
+made profile start c count slot bytes lt holds found begun may all =
+    let server = start.ends.server in
+    let frames = next_frames server.map server.frames c slot in
+    let next = built_next server c slot in
     let n = slot.sending.number + 1 in
     let message = built_bytes profile next in
     let left : UnderWay = record { message = message; next = 0 } in
-    let begins_so = slot_begun profile map slot in
-    let first = with_handed start c begins_so left (Some next) in
+    let begins_so = slot_begun profile slot next in
+    let first = with_handed start c begins_so left frames (Some next) in
     let tag = handed_tag c begins_so left in
-    let is : (step profile start (events.Serve c)).whole ≡ first = serves_first profile start c slot bytes holds.facts.by found idle fits short in
-    let state : HandedOut c n message first 0 = handed_out start c begins_so left (Some next) lt holds.facts.slots refl in
+    let is : (step profile start (events.Serve c)).whole ≡ first = serves_first profile start c slot bytes holds.facts.by found may in
+    let state : HandedOut c n message first 0 = handed_out start c begins_so left frames (Some next) lt holds.facts.slots refl in
     let rest = make_rest profile c n 0 count message first lt (omega (arith, all)) state in
     let then = after profile first (replicate count (events.Serve c)) in
     let longer : length first.sent ≡ length start.sent + 1 = length_push start.sent tag in
@@ -195,6 +199,7 @@ made profile start c count slot bytes lt holds found begun idle fits short all =
       clients = rest.clients;
       built = ap (λ (histories : List History). built_at (history_at histories c).built n) rest.histories
           ∙ (ap (λ (h : History). built_at h.built n) there ∙ get_or_push (history_at start.histories c).built next no_message (n - 1) (omega (arith, begun)));
+      accepted = ap (λ (histories : List History). (history_at histories c).accepted) rest.histories ∙ ap (λ (h : History). h.accepted) there;
       pieces = (tag, at, refl, refl, refl, refl, subst (λ (k : ℕ). ArePieces then.sent c n (0 + 1) (range_with_len (k + 1) count)) longer rest.pieces);
     })
 
@@ -219,34 +224,28 @@ kept_one : (kept : Kept) (event : Event) → kept_after kept (event ∷ []) ≡ 
 unfolding kept_after
 kept_one kept event = refl
 
-snapshot_of : Told → Snapshot
-snapshot_of told.Nothing = record { head = empty_head; entities = [] }
-snapshot_of (told.Game game) = record { head = empty_head; entities = [] }
-snapshot_of (told.Snap base head entities) = record { head = head; entities = entities }
-snapshot_of (told.Skipped base) = record { head = empty_head; entities = [] }
-
-message_one : (some other : Snapshot) → message_of some ≡ message_of other → some ≡ other
-unfolding snapshot_of
-message_one some other same = ap (λ (m : Message). snapshot_of m.section) same
-
 abbrev some_snapshot : Snapshot → Option Snapshot
 some_snapshot snapshot = Some snapshot
 
-shown : BytesFollowTags → InOrderIsAccepted → AppliedWasBuilt → MessageIsBytes
-    → (profile : Profile) (all : List Event) (c t : ℕ) (slot : SlotState) (client : ClientState) → IsCodec profile → AllByRecursion IsReplayEvent all
+one_snapshot : (x y : Snapshot) → Some x ≡ Some y → x ≡ y
+one_snapshot x y e = cc
+
+shown : BytesFollowTags → InOrderIsAccepted → AppliedWasBuilt → MessageIsBytes → TaggedDoes
+    → (profile : Profile) (all : List Event) (c t : ℕ) (slot : SlotState) (client : ClientState) → IsChecked profile → AllByRecursion IsReplayEvent all
     → AllByRecursion IsReplayEvent (serve_and_deliver c (length (whole_then profile all).sent + 1) (suc t))
     → slot_at (whole_then profile all).ends.server c ≡ Some slot → client_at (whole_then profile all).ends c ≡ Some client
-    → IsIdle slot.sending → slot.sending.number + 1 < sequence_end
-    → length (built_bytes profile (next_message (whole_then profile all).ends.server.map slot)) ≤ longest_message
-    → 1 + t ≡ piece_count (length (built_bytes profile (next_message (whole_then profile all).ends.server.map slot)))
+    → MayBegin profile (whole_then profile all).ends.server c slot
+    → outcome_of profile.parse_ring (history_then profile all c).accepted (built_next (whole_then profile all).ends.server c slot).base
+    ≡ Accepted (number_of (built_next (whole_then profile all).ends.server c slot).base)
+    → 1 + t ≡ piece_count (length (built_bytes profile (built_next (whole_then profile all).ends.server c slot)))
     → (kept_step (kept_then profile (all ++ serve_and_deliver c (length (whole_then profile all).sent + 1) (suc t))) (events.Show c)).answer.snapshot
     ≡ Some (next_snapshot (whole_then profile all).ends.server.map slot)
-shown law accepted applied bytes profile all c t slot client is are made_so found there idle fits short count =
+shown law accepted applied bytes does profile all c t slot client is are made_so found there may there_base count =
     let start = whole_then profile all in
     let before : StandsFor profile (kept_then profile all) start = (law profile all is are).0 in
     let holds : Holds profile start = record { facts = before.facts; joined = before.joined } in
     let map = start.ends.server.map in
-    let next = next_message map slot in
+    let next = built_next start.ends.server c slot in
     let n = slot.sending.number + 1 in
     let first = length start.sent + 1 in
     let serves = replicate (suc t) (events.Serve c) in
@@ -267,7 +266,7 @@ shown law accepted applied bytes profile all c t slot client is are made_so foun
     let mid = whole_then profile served in
     let mid_is : mid ≡ after profile start serves = after_both profile (opening profile) all serves in
     let makes : Made c n (suc t) first next start mid = subst (λ (w : Whole). Made c n (suc t) first next start w) (sym mid_is)
-    (made profile start c t slot bytes lt holds found begun idle fits short count) in
+    (made profile start c t slot bytes lt holds found begun may count) in
     let mid_found : client_at mid.ends c ≡ Some client = ap (λ (clients : List (Option ClientState)). slice_index_or clients c None) makes.clients ∙ there in
     let pieces : ArePieces mid.sent c n 0 (numbers ++ last ∷ []) = subst (λ (k : List ℕ). ArePieces mid.sent c n 0 k) is_range makes.pieces in
     let many = length-range_with_len first t in
@@ -276,17 +275,23 @@ shown law accepted applied bytes profile all c t slot client is are made_so foun
     let answer = accepted profile served c n last numbers client is served_are numbers_are.0 mid_found (omega (arith, taken, begun)) pieces index in
     let arrived = served ++ deliveries numbers in
     let arrived_are = both_are served (deliveries numbers) served_are numbers_are.0 in
-    let was = (applied profile arrived last c n (Accepted 0) is arrived_are answer).1 in
     let mid_stands : StandsFor profile (kept_then profile served) mid = (law profile served is served_are).0 in
     let g = client.gathering in
     let at_mid = reached_none profile mid c n client (record { facts = mid_stands.facts; joined = mid_stands.joined }) mid_found in
-    let reached = (reached_all profile mid mid c n 0 g numbers last lt pieces at_mid).0 in
+    let reached = (reached_all does profile mid mid c n 0 g numbers last lt pieces at_mid).0 in
     let then_is : whole_then profile arrived ≡ after profile mid (deliveries numbers) = after_both profile (opening profile) served (deliveries numbers) in
     let built_is : built_at (history_then profile arrived c).built n ≡ next =
     ap (λ (w : Whole). built_at (history_at w.histories c).built n) then_is ∙ (ap (λ (b : List Built). built_at b n) reached.built ∙ makes.built) in
-    let snapshot = was.1 in
+    let applied_so : AppliedSo = applied_of profile.parse_ring (history_then profile served c).accepted n (built_at (history_then profile served c).built n) in
+    let accepts : applied_so.snap ≡ Accepted (number_of next.base) =
+    ap (λ (a : List Snapshot). outcome_of profile.parse_ring a (built_at (history_then profile served c).built n).base) makes.accepted
+    ∙ (ap (λ (b : Built). outcome_of profile.parse_ring (history_at start.histories c).accepted b.base) makes.built ∙ there_base) in
+    let shows_so = (applied profile arrived last c applied_so is arrived_are answer).2 (number_of next.base) accepts in
+    let snapshot = shows_so.0 in
     let same : snapshot ≡ next_snapshot map slot =
-    message_one snapshot (next_snapshot map slot) (was.6.2 ∙ (ap (λ (k : ℕ). built_at (history_then profile arrived c).built k) was.5 ∙ built_is)) in
+    one_snapshot snapshot (next_snapshot map slot) (sym shows_so.3.2
+    ∙ (ap (λ (k : ℕ). snapshot_in (built_at (history_then profile arrived c).built k).message.section) shows_so.2
+    ∙ ap (λ (b : Built). snapshot_in b.message.section) built_is)) in
     let kept_is : kept_then profile (all ++ serve_and_deliver c first (suc t)) ≡ (kept_step (kept_then profile arrived) (events.Deliver last)).kept =
     kept_both (opening_kept profile) all (serve_and_deliver c first (suc t))
     ∙ (kept_both (kept_then profile all) serves (deliveries (range_with_len first (suc t)))
@@ -296,19 +301,19 @@ shown law accepted applied bytes profile all c t slot client is are made_so foun
     ∙ (ap (λ (k : Kept). kept_after k (events.Deliver last ∷ [])) (sym (kept_both (opening_kept profile) served (deliveries numbers)))
     ∙ kept_one (kept_then profile arrived) (events.Deliver last)))))) in
     ap (λ (k : Kept). (kept_step k (events.Show c)).answer.snapshot) kept_is
-    ∙ (shows (kept_step (kept_then profile arrived) (events.Deliver last)).kept c ∙ (was.4 ∙ ap some_snapshot same))
+    ∙ (shows (kept_step (kept_then profile arrived) (events.Deliver last)).kept c ∙ (shows_so.1 ∙ ap some_snapshot same))
   where
     some_one : {some other : SlotState} → Some some ≡ Some other → some ≡ other
     some_one same = cc
 
 pub served_is_shown : BytesFollowTags → InOrderIsAccepted → AppliedWasBuilt → MessageIsBytes → ServedIsShown
-served_is_shown law accepted applied bytes profile all c slot client is are made_so found there idle fits short =
-    let map = (whole_then profile all).ends.server.map in
+served_is_shown law accepted applied bytes does profile all c slot client is are made_so found there may there_base =
+    let server = (whole_then profile all).ends.server in
     let first = length (whole_then profile all).sent + 1 in
-    let count = datagrams_of profile map slot in
-    let t = last_index (built_bytes profile (next_message map slot)) in
+    let count = datagrams_of profile server c slot in
+    let t = last_index (built_bytes profile (built_next server c slot)) in
     let one : suc t ≡ count = omega arith in
     let more : 1 + t ≡ count = omega arith in
-    subst (λ (k : ℕ). (kept_step (kept_then profile (all ++ serve_and_deliver c first k)) (events.Show c)).answer.snapshot ≡ Some (next_snapshot map slot)) one
-    (shown law accepted applied bytes profile all c t slot client is are (subst (λ (k : ℕ). AllByRecursion IsReplayEvent (serve_and_deliver c first k)) (sym one) made_so)
-    found there idle fits short more)
+    subst (λ (k : ℕ). (kept_step (kept_then profile (all ++ serve_and_deliver c first k)) (events.Show c)).answer.snapshot ≡ Some (next_snapshot server.map slot)) one
+    (shown law accepted applied bytes does profile all c t slot client is are (subst (λ (k : ℕ). AllByRecursion IsReplayEvent (serve_and_deliver c first k)) (sym one) made_so)
+    found there may there_base more)

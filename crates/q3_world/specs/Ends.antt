@@ -6,7 +6,8 @@ use Rattle.arrayvec.specs.ArrayVec.{ArrayVec}
 use Rattle.q3_entity.specs.declared.state.EntityState.{EntityState}
 use Rattle.q3_clmsg.specs.declared.moves.Move.{Move}
 use Rattle.q3_io.specs.declared.address.Address.{Address}
-use Rattle.q3_svmsg.specs.Values.{Snapshot}
+use Rattle.q3_ring.specs.Snapshot.{Snapshot}
+use Rattle.q3_rings.specs.Rings.{view_at}
 use Rattle.q3_server.specs.declared.server.Emitted.{Emitted}
 use Rattle.q3_server.specs.declared.server.NoClient.{NoClient}
 use Rattle.q3_server.specs.declared.server.SlotError.{SlotError}
@@ -57,9 +58,12 @@ pub record Answered : Type 0 where
   pub moves : List Move
 
 -- the newest snapshot that a client accepted
+abbrev pub newest_of : ClientState → Option Snapshot
+newest_of client = view_at client.state.held client.state.held.newest
+
 abbrev pub newest : Option ClientState → Option Snapshot
 newest None = None
-newest (Some client) = client.accepted
+newest (Some client) = newest_of client
 
 -- a `show` prints the newest snapshot of its client
 abbrev pub lent : Ends → Answer → Option Snapshot
@@ -147,7 +151,7 @@ add_move ends c one = add_move_to ends c one (client_at ends c)
 -- what a client shows
 abbrev pub shown_of : Option ClientState → Shown
 shown_of None = shown.NoClient
-shown_of (Some client) = what_of client.accepted
+shown_of (Some client) = what_of (newest_of client)
   where
     what_of : Option Snapshot → Shown
     what_of None = shown.Nothing

@@ -4,10 +4,28 @@ use Rattle.q3_player.specs.Laws.{NormalIsNormal, ZeroIsNormal}
 use Rattle.q3_entity.specs.Laws.{NormalIsNormal as EntityNormalIsNormal}
 use Rattle.q3_chan.specs.Senders.{QportIsTold}
 use Rattle.q3_chan.specs.Laws.{SentIsTagged, TaggedDoes, EndsGather, EndsSend}
+use Rattle.q3_frames.specs.Laws.{HeldWasBuilt, BuildKeeps, BaseIsNear}
+use Rattle.q3_rings.specs.Laws.{AcceptedIsHeld, NothingStands, AcceptIsAdded, BaseIsOfList, HeldWasAccepted, NearIsHeldByAge, UsualRingHolds}
 use Rattle.q3_world.specs.MessageLaws.{BuiltIsRead, SaidIsRead}
 
+-- what a server's frames hold, and which of them is a base
+pub record FrameLaws : Type 0 where
+  pub held : HeldWasBuilt
+  pub keeps : BuildKeeps
+  pub near : BaseIsNear
+
+-- what a client holds, by all that it accepted
+pub record RingLaws : Type 0 where
+  pub none : NothingStands
+  pub added : AcceptIsAdded
+  pub there : AcceptedIsHeld
+  pub of_list : BaseIsOfList
+  pub accepted : HeldWasAccepted
+  pub by_age : NearIsHeldByAge
+  pub usual : UsualRingHolds
+
 -- what either end begins is read back, the normal form of a state is normal, what a datagram does and which qport it tells, how
--- both ends gather and send, and how many bytes a message has
+-- both ends gather and send, how many bytes a message has, and what a server's frames and a client hold
 pub record Layers : Type 0 where
   pub reads : BuiltIsRead
   pub hears : SaidIsRead
@@ -20,3 +38,5 @@ pub record Layers : Type 0 where
   pub gathers : EndsGather
   pub sends : EndsSend
   pub bytes : MessageIsBytes
+  pub frames : FrameLaws
+  pub rings : RingLaws

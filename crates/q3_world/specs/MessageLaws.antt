@@ -1,21 +1,34 @@
 -- Laws of the messages that the ends begin.
-use Rattle.std.specs.Prelude.{◌≡◌, ℕ, Ok}
+use Rattle.std.specs.Prelude.{◌≡◌, ℕ, Some, IfSome, Ok}
 use Rattle.q3_profile.specs.declared.profile.Profile.{Profile}
 use Rattle.q3_profile.specs.Profile.{IsCodec}
-use Rattle.q3_bits.specs.Bits.{bits_of, message_bytes}
-use Rattle.q3_svmsg.specs.Values.{Message}
+use Rattle.q3_bits.specs.Bits.{bits_of}
+use Rattle.q3_entity.specs.Baselines.{no_lines}
 use Rattle.q3_svmsg.specs.Reading.{message_at}
-use Rattle.q3_client.specs.Client.{no_bases}
-use Rattle.q3_server.specs.Built.{IsBuilt}
-use Rattle.q3_server.specs.Server.{built_bits}
+use Rattle.q3_ring.specs.Snapshot.{Snapshot}
+use Rattle.q3_rings.specs.Rings.{HeldSnapshots, view_at}
+use Rattle.q3_clstate.specs.State.{context_of, received}
+use Rattle.q3_server.specs.Built.{Built, IsSnapshot, IsBuilt}
+use Rattle.q3_server.specs.Server.{built_bytes}
 use Rattle.q3_server.specs.Taking.{said_by}
 use Rattle.q3_clmsg.specs.Laws.{IsMessage}
 use Rattle.q3_client.specs.Sending.{said_bytes, Said}
 
--- a message that was built is read back from its bytes, whole
+-- each snapshot that is held is one that a server may have built
+abbrev pub AreBuilt : Profile → HeldSnapshots → Type 0
+AreBuilt profile held = (number : ℕ) (snapshot : Snapshot) → view_at held number ≡ Some snapshot → IsSnapshot profile snapshot
+
+-- what is held under the number of a base is that base
+abbrev pub HoldsThis : HeldSnapshots → Snapshot → Type 0
+HoldsThis held base = (snapshot : Snapshot) → view_at held base.head.number ≡ Some snapshot → snapshot ≡ base
+
+-- a message that was built is read back from its bytes, against what is held, where that has no other snapshot in the place of
+-- its base: whole, or as skipped where its base isn't held
 abbrev pub BuiltIsRead : Type 0
-BuiltIsRead = (profile : Profile) → IsCodec profile → (number : ℕ) (message : Message) → IsBuilt profile number message
-    → message_at profile no_bases number (bits_of (message_bytes (built_bits profile message))) ≡ Ok message
+BuiltIsRead = (profile : Profile) → IsCodec profile → (held : HeldSnapshots) (number : ℕ) (built : Built) → IsBuilt profile number built
+    → AreBuilt profile held → IfSome built.base (λ base. IsSnapshot profile base × HoldsThis held base)
+    → message_at profile (context_of held no_lines) number (bits_of (built_bytes profile built))
+    ≡ Ok (record built.message { section = received held built.message.section })
 
 -- a message that a client began is read back by the server, by the key that its own leading longs tell
 abbrev pub SaidIsRead : Type 0

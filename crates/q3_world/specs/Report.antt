@@ -3,7 +3,7 @@ use Rattle.std.specs.Prelude.{ℕ, List, [], ◌∷◌, codes, decimal, Option, 
 use Rattle.std.specs.List.{concat, flat_map}
 use Rattle.q3_profile.specs.declared.profile.Profile.{Profile}
 use Rattle.q3_script.specs.declared.event.Event.{Event}
-use Rattle.q3_svmsg.specs.Values.{Snapshot}
+use Rattle.q3_ring.specs.Snapshot.{Snapshot}
 use Rattle.q3_clmsg.specs.declared.moves.Move.{Move}
 use Rattle.q3_server.specs.Report.{slot_error_text, no_client_text, serve_text, server_text}
 use Rattle.q3_client.specs.Report.{client_text, move_error_text, send_text}

@@ -1,14 +1,17 @@
 -- Laws over every list of events.
-use Rattle.std.specs.Prelude.{◌≡◌, ◌↔◌, ℕ, ◌+◌, ◌-◌, ◌<◌, List, [], ◌∷◌, ◌++◌, length, map, replicate, ◌≤◌, Some, None, Ok, slice_get, slice_index_or}
+use Rattle.std.specs.Prelude.{◌≡◌, ◌↔◌, ℕ, ◌+◌, ◌-◌, ◌<◌, if◌then◌else◌, false, List, [], ◌∷◌, ◌++◌, length, map, replicate, ◌≤◌, All, Contains, Option, Some, None, IfSome, Ok, slice_get, slice_index_or}
 use Rattle.std.specs.List.{AllByRecursion, range_with_len}
 use Rattle.q3_profile.specs.declared.profile.Profile.{Profile}
-use Rattle.q3_profile.specs.Profile.{IsCodec}
 use Rattle.q3_script.specs.declared.event.Event.{Event}
 use Rattle.q3_script.specs.declared.event.Event.TheVariants as events
 use Rattle.q3_script.specs.Grammar.{IsReplayEvent}
-use Rattle.q3_svmsg.specs.Values.{Snapshot}
-use Rattle.q3_client.specs.declared.client.SnapOutcome.{SnapOutcome}
-use Rattle.q3_client.specs.declared.client.SnapOutcome.TheVariants.{Accepted}
+use Rattle.q3_ring.specs.Snapshot.{Snapshot}
+use Rattle.q3_rings.specs.declared.rings.NoBase.TheVariants.{NeverHeld, Overwritten, EntitiesGone}
+use Rattle.q3_rings.specs.Rings.{is_young, held_snapshot}
+use Rattle.q3_rings.specs.Accepted.{age_of, held_among}
+use Rattle.q3_clstate.specs.declared.applied.Applied.{Applied as AppliedSo}
+use Rattle.q3_clstate.specs.declared.applied.SnapOutcome.{SnapOutcome}
+use Rattle.q3_clstate.specs.declared.applied.SnapOutcome.TheVariants.{Accepted, Skipped, Stale}
 use Rattle.q3_client.specs.declared.client.ClientTook.TheVariants.{Runt, Connectionless, BadFragment, Illegible, Dropped, Applied}
 use Rattle.q3_client.specs.declared.client.Sent.TheVariants as sent
 use Rattle.q3_server.specs.declared.taking.ServerTook.TheVariants as took
@@ -20,14 +23,15 @@ use Rattle.q3_chan.specs.Gathering.{gathered}
 use Rattle.q3_world.specs.declared.answer.Answer.{Answer}
 use Rattle.q3_world.specs.declared.answer.Answer.TheVariants.{Send, Deliver, ToServer}
 use Rattle.q3_world.specs.declared.made.Direction.TheVariants as direction
-use Rattle.q3_server.specs.Server.{MapState, SlotState, Built, places, slot_at, next_snapshot, next_message, built_bytes}
+use Rattle.q3_server.specs.Built.{Built, number_of}
+use Rattle.q3_server.specs.Server.{ServerState, SlotState, places, slot_at, next_snapshot, next_frames, next_built, built_bytes, most_placed}
 use Rattle.q3_server.specs.Taking.{runs}
 use Rattle.q3_client.specs.Client.{ClientState}
 use Rattle.q3_world.specs.Moves.{TimesRise, StandAmong}
 use Rattle.q3_world.specs.Ends.{Ends, client_at, newest, unknown, delivered, ran}
 use Rattle.q3_world.specs.Kept.{SentBytes, Kept, opening_kept, kept_step, kept_after, kept_answers}
 use Rattle.q3_world.specs.World.{Tag, Whole, History, history_at, built_at, said_at, opening, step, after, answers}
-use Rattle.q3_world.specs.StandsFor.{StandsFor, WasBuilt, Rise}
+use Rattle.q3_world.specs.StandsFor.{IsChecked, StandsFor, WasBuilt, Rise}
 
 -- a step by bytes of what stands for a whole world gives what stands for its step by tags, and answers the same
 abbrev pub StepFollows : Type 0
@@ -49,9 +53,16 @@ history_then profile all c = history_at (whole_then profile all).histories c
 -- in a replay what is kept after the events, where each datagram is taken by its bytes, stands for the whole world after
 -- them, where each is taken by its tag; and each event answers the same
 abbrev pub BytesFollowTags : Type 0
-BytesFollowTags = (profile : Profile) (all : List Event) → IsCodec profile → AllByRecursion IsReplayEvent all
+BytesFollowTags = (profile : Profile) (all : List Event) → IsChecked profile → AllByRecursion IsReplayEvent all
     → StandsFor profile (kept_then profile all) (whole_then profile all)
     × (kept_answers (opening_kept profile) all ≡ answers profile (opening profile) all)
+
+-- what may become of a snapshot: it is accepted, or the entities of its base are gone
+abbrev pub MayBecome : SnapOutcome → Type 0
+MayBecome Stale = ⊥
+MayBecome (Skipped base NeverHeld) = ⊥
+MayBecome (Skipped base (Overwritten other)) = ⊥
+MayBecome other = Unit {0}
 
 -- the answer of an end that could make something of what arrived, and of a client that wasn't dropped
 abbrev pub IsLegible : Answer → Type 0
@@ -60,6 +71,7 @@ IsLegible (Deliver datagram c Connectionless) = ⊥
 IsLegible (Deliver datagram c BadFragment) = ⊥
 IsLegible (Deliver datagram c (Illegible cause)) = ⊥
 IsLegible (Deliver datagram c (Dropped cause)) = ⊥
+IsLegible (Deliver datagram c (Applied applied)) = MayBecome applied.snap
 IsLegible (Send c (Ok (sent.Dropped cause)) datagram) = ⊥
 IsLegible (ToServer datagram took.Runt) = ⊥
 IsLegible (ToServer datagram took.Connectionless) = ⊥
@@ -68,62 +80,93 @@ IsLegible (ToServer datagram (took.BadFragment slot)) = ⊥
 IsLegible (ToServer datagram (took.Illegible slot cause)) = ⊥
 IsLegible other = Unit {0}
 
--- in a replay no end ever gets what it can't read, the server finds each datagram's client, and no client is dropped
+-- in a replay no end ever gets what it can't read, the server finds each datagram's client, no client is dropped, no snapshot is
+-- stale, and none is skipped but for the entities of its base
 abbrev pub AlwaysLegible : Type 0
-AlwaysLegible = (profile : Profile) (all : List Event) → IsCodec profile → AllByRecursion IsReplayEvent all
+AlwaysLegible = (profile : Profile) (all : List Event) → IsChecked profile → AllByRecursion IsReplayEvent all
     → AllByRecursion (λ given. IsLegible given.answer) (kept_answers (opening_kept profile) all)
 
 -- a delivery is unknown where no datagram of its number was made, and there alone
 abbrev pub UnknownWasNotMade : Type 0
-UnknownWasNotMade = (profile : Profile) (all : List Event) (number : ℕ) → IsCodec profile → AllByRecursion IsReplayEvent all
+UnknownWasNotMade = (profile : Profile) (all : List Event) (number : ℕ) → IsChecked profile → AllByRecursion IsReplayEvent all
     → ((kept_step (kept_then profile all) (events.Deliver number)).answer ≡ unknown number)
     ↔ (slice_get (kept_then profile all).datagrams (number - 1) ≡ None)
 
 -- each snapshot that a client accepted is the one that the server built for it under that number, and the numbers rise
 abbrev pub AcceptedWereBuilt : Type 0
-AcceptedWereBuilt = (profile : Profile) (all : List Event) (c : ℕ) → IsCodec profile → AllByRecursion IsReplayEvent all → c < places
-    → ((k : ℕ) (d : Snapshot) → k < length (history_then profile all c).accepted
-    → WasBuilt (history_then profile all c).built (slice_index_or (history_then profile all c).accepted k d))
-    × Rise (history_then profile all c).accepted
+AcceptedWereBuilt = (profile : Profile) (all : List Event) (c : ℕ) → IsChecked profile → AllByRecursion IsReplayEvent all → c < places
+    → All (WasBuilt (history_then profile all c).built) (history_then profile all c).accepted × Rise (history_then profile all c).accepted
 
 -- where a client that takes datagrams by their bytes shows a snapshot, it is the one that the server built for it
 -- under that number
 abbrev pub ShownWasBuilt : Type 0
-ShownWasBuilt = (profile : Profile) (all : List Event) (c : ℕ) (snapshot : Snapshot) → IsCodec profile
+ShownWasBuilt = (profile : Profile) (all : List Event) (c : ℕ) (snapshot : Snapshot) → IsChecked profile
     → AllByRecursion IsReplayEvent all → c < places
     → (kept_step (kept_then profile all) (events.Show c)).answer.snapshot ≡ Some snapshot
     → WasBuilt (history_then profile all c).built snapshot
 
--- of one delivery: before it the client's newest number was below this one, and after it the client's newest snapshot is
--- the one that was built under it
-abbrev pub WasApplied : Ends → Ends → ℕ → ℕ → List Built → Type 0
-WasApplied before now c n built =
-    (client : ClientState) × (snapshot : Snapshot)
-    × (client_at before c ≡ Some client) × (client.gathering.taken < n)
-    × (newest (client_at now c) ≡ Some snapshot) × (snapshot.head.number ≡ n) × WasBuilt built snapshot
-
--- where a client that takes datagrams by their bytes applies one, the number that it answers is above every number that
--- it took before, its newest snapshot then is the one that the server built for it under that number, and the answer says
--- that a snapshot without a base was accepted
-abbrev pub AppliedWasBuilt : Type 0
-AppliedWasBuilt = (profile : Profile) (all : List Event) (number c n : ℕ) (snap : SnapOutcome) → IsCodec profile → AllByRecursion IsReplayEvent all
-    → (kept_step (kept_then profile all) (events.Deliver number)).answer ≡ delivered number c (Applied n snap)
-    → (snap ≡ Accepted 0) × WasApplied (kept_then profile all).ends (kept_step (kept_then profile all) (events.Deliver number)).kept.ends c n
+-- each base against which a message was built was built itself and was accepted by the client
+abbrev pub BasesWereAccepted : Type 0
+BasesWereAccepted = (profile : Profile) (all : List Event) (c : ℕ) → IsChecked profile → AllByRecursion IsReplayEvent all → c < places
+    → All (λ (built : Built). IfSome built.base (λ base. WasBuilt (history_then profile all c).built base × Contains (history_then profile all c).accepted base))
     (history_then profile all c).built
 
--- where the bytes of a datagram bring a message whole to a client, it is accepted
+-- what a client holds is told by all that it accepted: a view lends exactly the snapshot accepted under its number, as long as its
+-- entities are there
+abbrev pub HeldIsAccepted : Type 0
+HeldIsAccepted = (profile : Profile) (all : List Event) (c number : ℕ) (client : ClientState) → IsChecked profile → AllByRecursion IsReplayEvent all
+    → c < places → client_at (kept_then profile all).ends c ≡ Some client
+    → held_snapshot client.state.held number ≡ held_among profile.parse_ring (history_then profile all c).accepted number
+
+-- what becomes of a message that was built, at a client that accepted these snapshots: it is accepted, unless too many entities
+-- were placed since its base was begun
+abbrev pub outcome_of : ℕ → List Snapshot → Option Snapshot → SnapOutcome
+outcome_of ring accepted None = Accepted 0
+outcome_of ring accepted (Some base) =
+    if is_young ring (age_of accepted base.head.number) then Accepted base.head.number
+    else Skipped base.head.number (EntitiesGone (age_of accepted base.head.number))
+
+-- and what is answered of it, under its number
+abbrev pub applied_of : ℕ → List Snapshot → ℕ → Built → AppliedSo
+applied_of ring accepted n built = record { number = n; game = false; snap = outcome_of ring accepted built.base }
+
+-- the client shows the snapshot that was built under a number
+abbrev pub Shows : Ends → ℕ → ℕ → List Built → Type 0
+Shows ends c n built = (snapshot : Snapshot) × (newest (client_at ends c) ≡ Some snapshot) × (snapshot.head.number ≡ n) × WasBuilt built snapshot
+
+-- where a client that takes datagrams by their bytes applies one, its number is above every number that it took before, what it
+-- answers is told by the message that was built under it and by what it accepted, and where it accepts the snapshot, its newest is
+-- the one that the server built for it under that number
+abbrev pub AppliedWasBuilt : Type 0
+AppliedWasBuilt = (profile : Profile) (all : List Event) (number c : ℕ) (applied : AppliedSo) → IsChecked profile → AllByRecursion IsReplayEvent all
+    → (kept_step (kept_then profile all) (events.Deliver number)).answer ≡ delivered number c (Applied applied)
+    → ((client : ClientState) × (client_at (kept_then profile all).ends c ≡ Some client) × (client.gathering.taken < applied.number))
+    × (applied ≡ applied_of profile.parse_ring (history_then profile all c).accepted applied.number (built_at (history_then profile all c).built applied.number))
+    × ((base : ℕ) → applied.snap ≡ Accepted base
+    → Shows (kept_step (kept_then profile all) (events.Deliver number)).kept.ends c applied.number (history_then profile all c).built)
+
+-- where the bytes of a datagram bring a message whole to a client, it is applied: its snapshot is accepted exactly where it has no
+-- base, or the entities of its base are there
 abbrev pub NewerIsAccepted : Type 0
-NewerIsAccepted = (profile : Profile) (all : List Event) (number n count : ℕ) (sent : SentBytes) (client : ClientState) → IsCodec profile
+NewerIsAccepted = (profile : Profile) (all : List Event) (number n count : ℕ) (sent : SentBytes) (client : ClientState) → IsChecked profile
     → AllByRecursion IsReplayEvent all
     → slice_get (kept_then profile all).datagrams (number - 1) ≡ Some sent → sent.direction ≡ direction.ToClient
     → client_at (kept_then profile all).ends sent.client ≡ Some client
     → (gathered client.gathering sent.bytes).answer ≡ CameWhole n count
-    → (kept_step (kept_then profile all) (events.Deliver number)).answer ≡ delivered number sent.client (Applied n (Accepted 0))
+    → (kept_step (kept_then profile all) (events.Deliver number)).answer
+    ≡ delivered number sent.client (Applied (applied_of profile.parse_ring (history_then profile all sent.client).accepted n
+    (built_at (history_then profile all sent.client).built n)))
+
+-- with a ring that has the usual room for 8,192 entities, or more, no snapshot is skipped
+abbrev pub UsualNeverSkips : Type 0
+UsualNeverSkips = (profile : Profile) (all : List Event) (number c : ℕ) (applied : AppliedSo) → IsChecked profile → AllByRecursion IsReplayEvent all
+    → 8192 ≤ profile.parse_ring → (kept_step (kept_then profile all) (events.Deliver number)).answer ≡ delivered number c (Applied applied)
+    → (base : ℕ) × (applied.snap ≡ Accepted base)
 
 -- where the bytes of a client's datagram bring a message whole to its slot, it is run: of its moves those that are later than
 -- the last one that was run
 abbrev pub NewerIsRun : Type 0
-NewerIsRun = (profile : Profile) (all : List Event) (number n count : ℕ) (sent : SentBytes) (from : Address) (slot : SlotState) → IsCodec profile
+NewerIsRun = (profile : Profile) (all : List Event) (number n count : ℕ) (sent : SentBytes) (from : Address) (slot : SlotState) → IsChecked profile
     → AllByRecursion IsReplayEvent all
     → slice_get (kept_then profile all).datagrams (number - 1) ≡ Some sent → sent.direction ≡ direction.ToServer from
     → slot_at (kept_then profile all).ends.server sent.client ≡ Some slot
@@ -134,7 +177,7 @@ NewerIsRun = (profile : Profile) (all : List Event) (number n count : ℕ) (sent
 -- the moves of a client that the server ran stand among those that the client issued, each once and in their order, and their
 -- times rise
 abbrev pub MovesWereIssued : Type 0
-MovesWereIssued = (profile : Profile) (all : List Event) (c : ℕ) → IsCodec profile → AllByRecursion IsReplayEvent all → c < places
+MovesWereIssued = (profile : Profile) (all : List Event) (c : ℕ) → IsChecked profile → AllByRecursion IsReplayEvent all → c < places
     → StandAmong (history_then profile all c).run (history_then profile all c).issued × TimesRise 0 (history_then profile all c).run
 
 -- the datagrams of these numbers have the pieces of the message under a number for a client, from an index on
@@ -149,32 +192,45 @@ abbrev pub deliveries : List ℕ → List Event
 deliveries numbers = map (λ number. events.Deliver number) numbers
 
 -- whatever came before, where all pieces of a message arrive in order, whose number is above every number that its client
--- has taken, with the last it is accepted
+-- has taken, with the last it is applied: its snapshot is accepted unless the entities of its base are gone
 abbrev pub InOrderIsAccepted : Type 0
-InOrderIsAccepted = (profile : Profile) (all : List Event) (c n last : ℕ) (numbers : List ℕ) (client : ClientState) → IsCodec profile
+InOrderIsAccepted = (profile : Profile) (all : List Event) (c n last : ℕ) (numbers : List ℕ) (client : ClientState) → IsChecked profile
     → AllByRecursion IsReplayEvent all → AllByRecursion IsReplayEvent (deliveries numbers)
     → client_at (whole_then profile all).ends c ≡ Some client → client.gathering.taken < n
     → ArePieces (whole_then profile all).sent c n 0 (numbers ++ last ∷ [])
     → length numbers ≡ last_index (built_bytes profile (built_at (history_then profile all c).built n))
-    → (kept_step (kept_then profile (all ++ deliveries numbers)) (events.Deliver last)).answer ≡ delivered last c (Applied n (Accepted 0))
+    → (kept_step (kept_then profile (all ++ deliveries numbers)) (events.Deliver last)).answer
+    ≡ delivered last c (Applied (applied_of profile.parse_ring (history_then profile all c).accepted n (built_at (history_then profile all c).built n)))
 
 -- so many datagrams of a message are made for a client, and delivered in the order in which they are made, from a number on
 abbrev pub serve_and_deliver : ℕ → ℕ → ℕ → List Event
 serve_and_deliver c first count = replicate count (events.Serve c) ++ deliveries (range_with_len first count)
 
--- how many datagrams the next message of a slot takes
-abbrev pub datagrams_of : Profile → MapState → SlotState → ℕ
-datagrams_of profile map slot = piece_count (length (built_bytes profile (next_message map slot)))
+-- the message that a server begins next for a client
+abbrev pub built_next : ServerState → ℕ → SlotState → Built
+built_next server c slot = next_built server.map (next_frames server.map server.frames c slot) c slot
 
--- whatever came before: where nothing is under way to a client, a message may be begun and isn't too long, and all of its
--- datagrams are made and arrive in order, the client then shows the snapshot that the server had for it
+-- how many datagrams it takes
+abbrev pub datagrams_of : Profile → ServerState → ℕ → SlotState → ℕ
+datagrams_of profile server c slot = piece_count (length (built_bytes profile (built_next server c slot)))
+
+-- a message may be begun for a client: nothing is under way to it, numbers haven't ended, and the message isn't too long
+pub record MayBegin (profile : Profile) (server : ServerState) (c : ℕ) (slot : SlotState) : Type 0 where
+  pub idle : IsIdle slot.sending
+  pub fits : slot.sending.number + 1 < sequence_end
+  pub placed : server.frames.placed ≤ most_placed
+  pub short : length (built_bytes profile (built_next server c slot)) ≤ longest_message
+
+-- whatever came before: where a message may be begun for a client, all of its datagrams are made and arrive in order, and the
+-- entities of its base are there, the client then shows the snapshot that the server had for it
 abbrev pub ServedIsShown : Type 0
-ServedIsShown = (profile : Profile) (all : List Event) (c : ℕ) (slot : SlotState) (client : ClientState) → IsCodec profile
+ServedIsShown = (profile : Profile) (all : List Event) (c : ℕ) (slot : SlotState) (client : ClientState) → IsChecked profile
     → AllByRecursion IsReplayEvent all
-    → AllByRecursion IsReplayEvent (serve_and_deliver c (length (whole_then profile all).sent + 1) (datagrams_of profile (whole_then profile all).ends.server.map slot))
+    → AllByRecursion IsReplayEvent (serve_and_deliver c (length (whole_then profile all).sent + 1) (datagrams_of profile (whole_then profile all).ends.server c slot))
     → slot_at (whole_then profile all).ends.server c ≡ Some slot → client_at (whole_then profile all).ends c ≡ Some client
-    → IsIdle slot.sending → slot.sending.number + 1 < sequence_end
-    → length (built_bytes profile (next_message (whole_then profile all).ends.server.map slot)) ≤ longest_message
+    → MayBegin profile (whole_then profile all).ends.server c slot
+    → outcome_of profile.parse_ring (history_then profile all c).accepted (built_next (whole_then profile all).ends.server c slot).base
+    ≡ Accepted (number_of (built_next (whole_then profile all).ends.server c slot).base)
     → (kept_step (kept_then profile (all ++ serve_and_deliver c (length (whole_then profile all).sent + 1)
-    (datagrams_of profile (whole_then profile all).ends.server.map slot))) (events.Show c)).answer.snapshot
+    (datagrams_of profile (whole_then profile all).ends.server c slot))) (events.Show c)).answer.snapshot
     ≡ Some (next_snapshot (whole_then profile all).ends.server.map slot)

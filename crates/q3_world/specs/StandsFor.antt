@@ -1,9 +1,8 @@
 -- What is kept stands for a whole world: both ends are the same, and each datagram's bytes are those of the message
 -- that its tag names.
-use Rattle.std.specs.Prelude.{◌≡◌, ℕ, zero, suc, ◌+◌, ◌^◌, ◌<◌, ◌≤◌, List, [], ◌∷◌, ◌++◌, length, map, All, Contains, Option, Some, None, slice_index_or}
-use Rattle.std.specs.List.{last_or}
+use Rattle.std.specs.Prelude.{◌≡◌, ℕ, zero, suc, ◌+◌, ◌^◌, ◌<◌, ◌≤◌, ◌⊎◌, Bool, true, List, [], ◌∷◌, ◌++◌, length, map, All, Contains, Option, Some, None, IfSome, slice_index_or}
 use Rattle.q3_profile.specs.declared.profile.Profile.{Profile}
-use Rattle.q3_profile.specs.Profile.{IsCodec}
+use Rattle.q3_profile.specs.Profile.{IsCodec, IsProfile}
 use Rattle.q3_io.specs.declared.address.Address.{Address}
 use Rattle.q3_chan.specs.declared.side.Side.{Side}
 use Rattle.q3_chan.specs.declared.side.Side.TheVariants.{Server, Client}
@@ -13,12 +12,17 @@ use Rattle.q3_chan.specs.Laws.{IsSendable, Gathers, Sends}
 use Rattle.q3_clmsg.specs.declared.moves.Move.{Move}
 use Rattle.q3_clmsg.specs.Moves.{IsMove}
 use Rattle.q3_clmsg.specs.Laws.{IsMessage}
-use Rattle.q3_svmsg.specs.Values.{Snapshot}
-use Rattle.q3_server.specs.Built.{message_of, IsHeld, IsArea, AreHeld, IsBuilt}
-use Rattle.q3_server.specs.Server.{SlotState, Built, places, slot_at, built_bytes}
+use Rattle.q3_entity.specs.Baselines.{no_lines}
+use Rattle.q3_svmsg.specs.Values as told
+use Rattle.q3_svmsg.specs.Values.{Told}
+use Rattle.q3_ring.specs.Snapshot.{Snapshot}
+use Rattle.q3_frames.specs.Frames.{FramesState, AreFrames, held_frame}
+use Rattle.q3_rings.specs.Accepted.{SnapshotsStandFor}
+use Rattle.q3_server.specs.Built.{Built, IsHeld, IsArea, AreHeld, IsBuilt}
+use Rattle.q3_server.specs.Server.{SlotState, places, slot_at, built_bytes}
 use Rattle.q3_server.specs.Taking.{last_time, sender_of}
 use Rattle.q3_client.specs.declared.moves.Issued.{Issued}
-use Rattle.q3_client.specs.Client.{ClientState, number_of_newest}
+use Rattle.q3_client.specs.Client.{ClientState}
 use Rattle.q3_client.specs.Moves.{most_moves}
 use Rattle.q3_client.specs.Sending.{said_bytes, Said}
 use Rattle.q3_world.specs.declared.made.Direction.{Direction}
@@ -27,6 +31,11 @@ use Rattle.q3_world.specs.Ends.{client_at, address_at}
 use Rattle.q3_world.specs.Kept.{SentBytes, Kept}
 use Rattle.q3_world.specs.World.{Tag, History, Whole, no_history, history_at, built_at, said_at}
 use Rattle.q3_world.specs.Moves.{TimesRise, AreConsecutive}
+
+-- a profile that passed its check
+pub record IsChecked (profile : Profile) : Type 0 where
+  pub codec : IsCodec profile
+  pub rings : IsProfile profile
 
 -- ---- what holds whatever bytes were delivered
 
@@ -49,8 +58,25 @@ pub record BeginsMessages (side : Side) (qport : ℕ) (messages : ℕ → List �
   pub sends : Sends messages sending
   pub sendable : (number : ℕ) → 1 ≤ number → number ≤ count → IsSendable (messages number)
 
--- what the server keeps of a client that joined with this qport from this host, what it built for it, and the moves of it that
--- it ran: their times rise, and it keeps the last
+-- the snapshot that a section has, if it has one
+abbrev pub snapshot_in : Told → Option Snapshot
+snapshot_in (told.Snap base head entities) = Some (record { head = head; entities = entities })
+snapshot_in other = None
+
+-- a snapshot was built under its number
+abbrev pub WasBuilt : List Built → Snapshot → Type 0
+WasBuilt built snapshot =
+    (1 ≤ snapshot.head.number) × (snapshot.head.number ≤ length built)
+    × (snapshot_in (built_at built snapshot.head.number).message.section ≡ Some snapshot)
+
+-- the frames that a slot holds under numbers of messages that were begun are what was built under them; behind the last such
+-- number one may be left of a message that proved too long
+abbrev pub AreOfBuilt : FramesState → ℕ → List Built → Type 0
+AreOfBuilt frames c began = (number : ℕ) (snapshot : Snapshot) → held_frame frames c number ≡ Some snapshot → 1 ≤ number → number ≤ length began
+    → (snapshot.head.number ≡ number) × WasBuilt began snapshot
+
+-- what the server keeps of a client that joined with this qport from this host, what it built for it, each against a base that
+-- was built before, and the moves of it that it ran: their times rise, and it keeps the last
 pub record KeepsSlot (profile : Profile) (slot : SlotState) (of_qport of_host : ℕ) (began : List Built) (ran : List Move) : Type 0 where
   pub qport : slot.qport ≡ of_qport
   pub host : slot.address.host ≡ of_host
@@ -58,6 +84,7 @@ pub record KeepsSlot (profile : Profile) (slot : SlotState) (of_qport of_host : 
   pub player : IsHeld profile slot.player
   pub area : IsArea slot.area.items
   pub built : (k : ℕ) (d : Built) → k < length began → IsBuilt profile (k + 1) (slice_index_or began k d)
+  pub bases : All (λ (built : Built). IfSome built.base (WasBuilt began)) began
   pub from : slot.gathering.side ≡ Client
   pub last : slot.last_run ≡ last_time 0 ran
   pub rise : TimesRise 0 ran
@@ -78,7 +105,8 @@ pub record KeepsMoves (moves : List Issued) (begun : ℕ) (issued : List Move) :
 -- what a client keeps that joined with this qport, what it said, and the moves that it issued: their times rise, and those of
 -- each message were issued one directly after the other
 pub record KeepsClient (profile : Profile) (client : ClientState) (of_qport : ℕ) (began : List Said) (issued : List Move) : Type 0 where
-  pub by : client.profile ≡ profile
+  pub by : client.state.profile ≡ profile
+  pub ring : client.state.held.ring ≡ profile.parse_ring
   pub from : client.gathering.side ≡ Server
   pub fits : of_qport < 2 ^ 16
   pub sending : BeginsMessages Client of_qport (messages_said profile began) (length began) client.sending
@@ -118,10 +146,16 @@ pub record IsSent (profile : Profile) (histories : List History) (tag : Tag) : T
   pub client : tag.client < places
   pub way : IsWay profile (history_at histories tag.client) tag tag.direction
 
+-- the server has frames for each client, and they are what was built for it
+pub record KeepsFrames (frames : FramesState) (histories : List History) : Type 0 where
+  pub are : AreFrames frames
+  pub count : length frames.slots ≡ places
+  pub each : (c : ℕ) → c < places → AreOfBuilt frames c (history_at histories c).built
+
 -- what holds of the whole world: its parts have a place for each client, what the game handed in is as the server holds it, each
--- client is at both ends or at none, the server finds it by its host and its qport, and each tag is so
+-- client is at both ends or at none, the server finds it by its host and its qport, and each tag and each frame is so
 pub record Facts (profile : Profile) (whole : Whole) : Type 0 where
-  pub codec : IsCodec profile
+  pub checked : IsChecked profile
   pub by : whole.ends.server.profile ≡ profile
   pub slots : length whole.ends.server.slots ≡ places
   pub clients : length whole.ends.clients ≡ places
@@ -134,26 +168,29 @@ pub record Facts (profile : Profile) (whole : Whole) : Type 0 where
   pub found : (c : ℕ) (slot : SlotState) → slot_at whole.ends.server c ≡ Some slot
       → sender_of whole.ends.server slot.address.host slot.qport ≡ Some c
   pub sent : (k : ℕ) (d : Tag) → k < length whole.sent → IsSent profile whole.histories (slice_index_or whole.sent k d)
+  pub frames : KeepsFrames whole.ends.server.frames whole.histories
 
 -- ---- what holds while only the ends' own datagrams were delivered
-
--- a snapshot was built under its number
-abbrev pub WasBuilt : List Built → Snapshot → Type 0
-WasBuilt built snapshot =
-    (1 ≤ snapshot.head.number) × (snapshot.head.number ≤ length built) × (message_of snapshot ≡ built_at built snapshot.head.number)
 
 -- numbers rise
 abbrev pub Rise : List Snapshot → Type 0
 Rise snapshots = (j k : ℕ) (d : Snapshot) → j < k → k < length snapshots
     → (slice_index_or snapshots j d).head.number < (slice_index_or snapshots k d).head.number
 
+-- a snapshot of a number was accepted
+abbrev pub WasAccepted : List Snapshot → ℕ → Type 0
+WasAccepted accepted number = (snapshot : Snapshot) × Contains accepted snapshot × (snapshot.head.number ≡ number)
+
 -- a client takes and gathers only what was built for it, so it wasn't dropped; each snapshot that it accepted was built, their
--- numbers rise, and it keeps the newest, which isn't above the newest number taken
+-- numbers rise, and what it holds is what it accepted; none is above the newest number taken, and where it asks for deltas that is
+-- the number of the newest. There are no baselines
 pub record TakesBuilt (profile : Profile) (client : ClientState) (began : List Built) (took : List Snapshot) : Type 0 where
-  pub accepted : (k : ℕ) (d : Snapshot) → k < length took → WasBuilt began (slice_index_or took k d)
+  pub accepted : All (WasBuilt began) took
   pub rise : Rise took
-  pub newest : client.accepted ≡ last_or None took
-  pub below : number_of_newest client.accepted ≤ client.gathering.taken
+  pub stands : SnapshotsStandFor took client.state.held
+  pub lines : client.state.lines ≡ no_lines
+  pub below : client.state.held.newest ≤ client.gathering.taken
+  pub asks : client.delta ≡ true → WasAccepted took client.gathering.taken
   pub gathers : Gathers (messages_of profile began) (length began) client.gathering
   pub legible : client.dropped ≡ None
 
@@ -162,10 +199,18 @@ pub record TakesSaid (profile : Profile) (slot : SlotState) (said : List Said) (
   pub gathers : Gathers (messages_said profile said) (length said) slot.gathering
   pub ran : All (Contains issued) run
 
+-- each snapshot against which a client asks to write others was accepted, the slot writes against none that it didn't ask for,
+-- and each base against which a message was built was accepted
+pub record AreAsked (slot : SlotState) (said : List Said) (began : List Built) (accepted : List Snapshot) : Type 0 where
+  pub said : All (λ (message : Said). message.delta ≡ true → WasAccepted accepted message.acknowledged) said
+  pub slot : (slot.delta ≡ 0) ⊎ WasAccepted accepted slot.delta
+  pub bases : All (λ (built : Built). IfSome built.base (Contains accepted)) began
+
 -- what joins the two ends of a client
 pub record AreJoined (profile : Profile) (slot : SlotState) (client : ClientState) (history : History) : Type 0 where
   pub of_client : TakesBuilt profile client history.built history.accepted
   pub of_slot : TakesSaid profile slot history.said history.issued history.run
+  pub asked : AreAsked slot history.said history.built history.accepted
 
 -- of a client that is at both ends
 abbrev pub IsJoined : Profile → Option SlotState → Option ClientState → History → Type 0

@@ -10,10 +10,11 @@ use Rattle.q3_chan.specs.Tags.{tagged}
 use Rattle.q3_chan.specs.Sending.{Piece}
 use Rattle.q3_clmsg.specs.declared.moves.Move.{Move}
 use Rattle.q3_clmsg.specs.Values.{empty_message}
-use Rattle.q3_svmsg.specs.Values.{Snapshot}
+use Rattle.q3_ring.specs.Snapshot.{Snapshot}
+use Rattle.q3_clstate.specs.State.{apply_message}
 use Rattle.q3_server.specs.declared.taking.ServerTook.TheVariants.{Stranger}
-use Rattle.q3_server.specs.Built.{message_of}
-use Rattle.q3_server.specs.Server.{SlotState, Built, Emission, places, slot_at, emit_at, built_bytes}
+use Rattle.q3_server.specs.Built.{Built, built_of}
+use Rattle.q3_server.specs.Server.{SlotState, Emission, places, slot_at, emit_at, built_bytes}
 use Rattle.q3_server.specs.Taking as hears
 use Rattle.q3_client.specs.Client.{ClientState, Taken, take_gathered}
 use Rattle.q3_client.specs.Sending as speaks
@@ -69,7 +70,7 @@ with_history histories c history = slice_set histories c history
 
 -- what stands where no message was built
 abbrev pub no_message : Built
-no_message = message_of (record { head = empty_head; entities = [] })
+no_message = built_of None (record { head = empty_head; entities = [] })
 
 -- the message that was built under a number, and the one that a client began under it
 abbrev pub built_at : List Built → ℕ → Built
@@ -178,13 +179,13 @@ client_took whole number c taken =
     }
 
 -- a datagram arrives at its client, by its tag: the number and the piece decide what it does, and of a message that comes
--- whole the client takes the value that was built
+-- whole the client applies the value that was built
 abbrev pub to_client : Profile → Whole → ℕ → Tag → Option ClientState → Step
 to_client profile whole number tag None = record { whole = whole; answer = unknown number }
 to_client profile whole number tag (Some client) =
     client_took whole number tag.client
     (take_gathered client (tagged client.gathering tag.number (built_bytes profile (named whole.histories tag)) tag.index)
-    (λ n. Ok (named whole.histories tag)))
+    (λ n. Ok (apply_message client.state n (named whole.histories tag).message)))
 
 -- the message that the tag of a client's datagram names
 abbrev pub said_under : List History → Tag → Said

@@ -2,21 +2,24 @@
 
 ghost use Rattle.q3_world.specs.MessageLaws.{BuiltIsRead, SaidIsRead};
 ghost use Rattle.q3_world.specs.Layers.{Layers};
-ghost use Rattle.q3_world.specs.Schedules.{StepFollows, BytesFollowTags, AlwaysLegible, UnknownWasNotMade, AcceptedWereBuilt, ShownWasBuilt, AppliedWasBuilt, NewerIsAccepted, NewerIsRun, MovesWereIssued, InOrderIsAccepted, ServedIsShown};
+ghost use Rattle.q3_world.specs.Schedules.{StepFollows, BytesFollowTags, AlwaysLegible, UnknownWasNotMade, AcceptedWereBuilt, ShownWasBuilt, BasesWereAccepted, HeldIsAccepted, AppliedWasBuilt, NewerIsAccepted, UsualNeverSkips, NewerIsRun, MovesWereIssued, InOrderIsAccepted, ServedIsShown};
 
 use q3_bits::laws as bits;
 use q3_chan::laws as chan;
 use q3_clmsg::laws as clmsg;
 use q3_entity::laws as entity;
+use q3_frames::laws as frames;
 use q3_player::laws as player;
+use q3_rings::laws as rings;
 use q3_svmsg::laws as svmsg;
 
-/// A message that was built is read back from its bytes.
+/// A message that was built is read back from its bytes, whole, or as skipped where its base isn't held.
 pub fn built_is_read()
     ensures { BuiltIsRead }
 {
     bits::message_holds_bits();
     svmsg::written_is_read();
+    svmsg::read_is_skipped();
 }
 
 /// A message that a client began is read back by the server.
@@ -43,6 +46,16 @@ fn layers()
     chan::ends_gather();
     chan::ends_send();
     bits::message_holds_bits();
+    frames::held_was_built();
+    frames::build_keeps();
+    frames::base_is_near();
+    rings::nothing_stands();
+    rings::accept_is_added();
+    rings::accepted_is_held();
+    rings::base_is_of_list();
+    rings::held_was_accepted();
+    rings::near_is_held_by_age();
+    rings::usual_ring_holds();
 }
 
 /// A step of what stands for a whole world, where each datagram is taken by its bytes, is the whole world's step, where
@@ -61,12 +74,13 @@ pub fn bytes_follow_tags()
     step_follows();
 }
 
-/// In a replay no end ever gets what it can't read, the server finds each datagram's client, and no client is dropped.
+/// In a replay no end ever gets what it can't read, the server finds each datagram's client, no client is dropped, no snapshot
+/// is stale, and none is skipped but for the entities of its base.
 pub fn always_legible()
     ensures { AlwaysLegible }
 {
     step_follows();
-    chan::tagged_does();
+    layers();
 }
 
 /// In a replay a delivery is unknown where no datagram of its number was made, and there alone.
@@ -89,10 +103,27 @@ pub fn shown_was_built()
     ensures { ShownWasBuilt }
 {
     bytes_follow_tags();
+    layers();
 }
 
-/// Whatever came before, where a client applies a datagram, its newest snapshot then is the one that the server built for
-/// it under the number that it answers.
+/// Each base against which a message was built was built itself, and was accepted by its client.
+pub fn bases_were_accepted()
+    ensures { BasesWereAccepted }
+{
+    bytes_follow_tags();
+}
+
+/// What a client holds is told by all that it accepted: a view lends exactly the snapshot accepted under its number, as long as
+/// its entities are there.
+pub fn held_is_accepted()
+    ensures { HeldIsAccepted }
+{
+    bytes_follow_tags();
+    layers();
+}
+
+/// Whatever came before, where a client applies a datagram, its answer is told by the message that was built under its number
+/// and by what it accepted, and where it accepts the snapshot, its newest is the one that the server built for it.
 pub fn applied_was_built()
     ensures { AppliedWasBuilt }
 {
@@ -100,12 +131,22 @@ pub fn applied_was_built()
     layers();
 }
 
-/// Whatever came before, where the bytes of a datagram bring a message whole, its snapshot is accepted.
+/// Whatever came before, where the bytes of a datagram bring a message whole, its snapshot is accepted, unless it has a base
+/// whose entities are gone.
 pub fn newer_is_accepted()
     ensures { NewerIsAccepted }
 {
     bytes_follow_tags();
     layers();
+}
+
+/// With a ring that has the usual room, or more, no snapshot is skipped.
+pub fn usual_never_skips()
+    ensures { UsualNeverSkips }
+{
+    bytes_follow_tags();
+    layers();
+    applied_was_built();
 }
 
 /// Whatever came before, where the bytes of a client's datagram bring a message whole to its slot, it is run.
@@ -125,7 +166,7 @@ pub fn moves_were_issued()
 }
 
 /// Whatever came before, where all pieces of a message arrive in order, with nothing between them, whose number is above
-/// every number that its client has taken, its snapshot is accepted with the last.
+/// every number that its client has taken, with the last its snapshot is accepted, unless it has a base whose entities are gone.
 pub fn in_order_is_accepted()
     ensures { InOrderIsAccepted }
 {
@@ -134,8 +175,8 @@ pub fn in_order_is_accepted()
     chan::pieces_are_tagged();
 }
 
-/// Whatever came before, where nothing is under way to a client, a message may be begun and isn't too long, and all of its
-/// datagrams are made and arrive in order, the client then shows the snapshot that the server had for it.
+/// Whatever came before, where a message may be begun for a client, all of its datagrams are made and arrive in order, and the
+/// entities of its base are there, the client then shows the snapshot that the server had for it.
 pub fn served_is_shown()
     ensures { ServedIsShown }
 {
@@ -143,4 +184,5 @@ pub fn served_is_shown()
     in_order_is_accepted();
     applied_was_built();
     bits::message_holds_bits();
+    chan::tagged_does();
 }

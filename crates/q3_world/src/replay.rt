@@ -4,8 +4,8 @@ ghost use Rattle.std.specs.Prelude.{◌≡◌, ◌+◌, ◌-◌, ◌<◌, ◌≤
 ghost use Rattle.q3_profile.specs.Profile.{IsProfile, IsCodec};
 ghost use Rattle.q3_script.specs.Grammar.{IsReplayEvent};
 ghost use Rattle.q3_server.specs.Server.{places, most_numbers, emit_at};
-ghost use Rattle.q3_client.specs.Views.{snapshot_of};
-ghost use Rattle.q3_world.specs.Ends.{answered, lent, newest, client_at, shown_of, join, set_time, set_entity, remove_entity, set_player, set_area, add_move};
+ghost use Rattle.q3_rings.specs.Loans.{snapshot_of};
+ghost use Rattle.q3_world.specs.Ends.{answered, lent, newest_of, newest, client_at, shown_of, join, set_time, set_entity, remove_entity, set_player, set_area, add_move};
 ghost use Rattle.q3_world.specs.Kept.{most_datagrams, opening_kept, kept_step, kept_ends, kept_serve, kept_send, kept_deliver};
 ghost use Rattle.q3_world.specs.Outcome.{TakesMemory};
 
@@ -15,12 +15,13 @@ use crate::places::{empty_places, no_addresses};
 use arrayvec::ArrayVec;
 use q3_bits::NoMemory;
 use q3_chan::Datagram;
-use q3_client::{Client, SnapshotView};
+use q3_client::Client;
 use q3_clmsg::Move;
 use q3_entity::EntityState;
 use q3_io::Address;
 use q3_player::PlayerState;
 use q3_profile::Profile;
+use q3_rings::SnapView;
 use q3_script::Event;
 use q3_server::{Heard, MOST_SLOTS, NoClient, Server};
 use std::alloc::Global;
@@ -39,6 +40,7 @@ pub(crate) struct Replay {
 
 impl Model for Replay {
     ghost use Rattle.std.specs.Prelude.{◌≡◌, length};
+    ghost use Rattle.q3_profile.specs.Profile.{IsProfile};
     ghost use Rattle.q3_server.specs.Server.{places};
     ghost use Rattle.q3_world.specs.Kept.{Kept};
 
@@ -50,7 +52,7 @@ impl Model for Replay {
       datagrams = r.datagrams.items;
     } };
 
-    ghost invariant = { λ r. (length r.clients.items ≡ places) × (length r.addresses.items ≡ places) };
+    ghost invariant = { λ r. IsProfile r.profile × (length r.clients.items ≡ places) × (length r.addresses.items ≡ places) };
 }
 
 impl Replay {
@@ -268,21 +270,20 @@ impl Replay {
         arrive(&mut self.server, &mut self.clients, number, sent, heard)
     }
 
-    #[tactic(auto, using(crate::proofs::Views::newest_is_viewed))]
     fn show(&self, c: u8) -> Answer
         requires { c < places }
         ensures { result ≡ Answer.Show c (shown_of (client_at self.now.ends c)) }
     {
         let shown = match &self.clients[c as usize] {
             None => Shown::NoClient,
-            Some(client) if client.view(client.newest()).is_none() => Shown::Nothing,
+            Some(client) if newest_of(client).is_none() => Shown::Nothing,
             Some(_) => Shown::Newest,
         };
         Answer::Show { c, shown }
     }
 
     /// The snapshot that is printed with an answer.
-    pub fn lent(&self, answer: Answer) -> Option<SnapshotView<'_>>
+    pub fn lent(&self, answer: Answer) -> Option<SnapView<'_>>
         ensures { option_map snapshot_of result ≡ lent self.now.ends answer }
     {
         match answer {
@@ -292,11 +293,16 @@ impl Replay {
     }
 
     /// The newest snapshot that a client accepted.
-    #[tactic(auto, using(crate::proofs::Views::newest_is_viewed))]
-    fn newest(&self, c: u8) -> Option<SnapshotView<'_>>
+    fn newest(&self, c: u8) -> Option<SnapView<'_>>
         ensures { option_map snapshot_of result ≡ newest (client_at self.now.ends c) }
     {
-        let client = self.clients.get(c as usize)?.as_ref()?;
-        client.view(client.newest())
+        newest_of(self.clients.get(c as usize)?.as_ref()?)
     }
+}
+
+/// The newest snapshot that a client accepted, where it lies.
+fn newest_of(client: &Client) -> Option<SnapView<'_>>
+    ensures { option_map snapshot_of result ≡ newest_of client.now }
+{
+    client.view(client.state().newest())
 }

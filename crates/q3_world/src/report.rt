@@ -7,21 +7,22 @@ ghost use Rattle.q3_io.specs.Written.{Adds, NothingWaits};
 ghost use Rattle.q3_server.specs.Report.{slot_error_text, no_client_text, server_text};
 ghost use Rattle.q3_client.specs.Report.{client_text, move_error_text};
 ghost use Rattle.q3_world.specs.Report.{lines_of, handed_in_text, move_refused_text, area_text, start_text, entity_text, shown_text, head_text, snapshot_text};
-ghost use Rattle.q3_client.specs.Views.{snapshot_of};
+ghost use Rattle.q3_rings.specs.Loans.{snapshot_of};
+ghost use Rattle.q3_entity.specs.Entities.{run_of};
 
 use crate::answer::{Answer, MoveRefused, Shown};
-use arrayvec::ArrayVec;
-use q3_client::{ClientTook, MoveError, SnapshotView, print_move_error, print_sent, print_took};
-use q3_entity::{EntityState, print_fields};
+use q3_client::{ClientTook, MoveError, print_move_error, print_sent, print_took};
+use q3_entity::{EntityState, Run, print_fields};
 use q3_io::{Failed, Piece, Sink, laws, print_all, print_hex};
-use q3_player::{SnapHead, print_words};
+use q3_player::print_words;
+use q3_rings::SnapView;
 use q3_server::{Heard, NoClient, ServerTook, SlotError, print_emitted, print_slot_error};
 
 /// Prints the lines of an answer, with what is lent for it: a snapshot, and the moves that were run. It hands them on, or a
 /// front of them and answers `Failed`.
 pub(crate) fn print_answer<O: Sink>(
     answer: &Answer,
-    lent: Option<SnapshotView>,
+    lent: Option<SnapView>,
     heard: &Heard,
     out: &mut O,
 ) -> Result<(), Failed>
@@ -38,7 +39,7 @@ pub(crate) fn print_answer<O: Sink>(
 #[tactic(auto, unfolding(crate::specs::Report::lines_of))]
 fn print_lines<O: Sink>(
     answer: &Answer,
-    lent: Option<SnapshotView>,
+    lent: Option<SnapView>,
     heard: &Heard,
     out: &mut O,
 ) -> Result<(), Failed>
@@ -198,7 +199,7 @@ fn print_deliver<O: Sink>(datagram: u32, out: &mut O) -> Result<(), Failed>
 fn print_shown<O: Sink>(
     c: u8,
     shown: Shown,
-    lent: Option<SnapshotView>,
+    lent: Option<SnapView>,
     out: &mut O,
 ) -> Result<(), Failed>
     ensures adds { Adds (O.written out.old) (O.written out.new) (concat (codes "show " ∷ decimal c ∷ shown_text shown (option_map snapshot_of lent.entry) ∷ [])) result }
@@ -213,31 +214,31 @@ fn print_shown<O: Sink>(
 }
 
 /// Prints the lines of a `show` that shows a snapshot.
-fn print_snapshot<O: Sink>(c: u8, snapshot: SnapshotView, out: &mut O) -> Result<(), Failed>
+fn print_snapshot<O: Sink>(c: u8, snapshot: SnapView, out: &mut O) -> Result<(), Failed>
     ensures adds { Adds (O.written out.old) (O.written out.new) (concat (codes "show " ∷ decimal c ∷ snapshot_text (snapshot_of snapshot.entry) ∷ [])) result }
     ensures cause { HasCause (O.faults out.old) (O.faults out.new) result }
 {
     laws::texts_follow();
     print_head(c, snapshot, out)?;
-    print_words(&snapshot.head.player, out)?;
+    print_words(snapshot.player, out)?;
     out.write_all(b"\n")?;
-    print_entities(snapshot.entities, out)
+    print_run(snapshot.entities, out)
 }
 
 /// Prints what stands in front of the player's words.
-fn print_head<O: Sink>(c: u8, snapshot: SnapshotView, out: &mut O) -> Result<(), Failed>
+fn print_head<O: Sink>(c: u8, snapshot: SnapView, out: &mut O) -> Result<(), Failed>
     ensures adds { Adds (O.written out.old) (O.written out.new) (concat (codes "show " ∷ decimal c ∷ head_text (snapshot_of snapshot.entry) ∷ [])) result }
     ensures cause { HasCause (O.faults out.old) (O.faults out.new) result }
 {
     laws::texts_follow();
-    print_start(c, snapshot.head, out)?;
-    print_area(&snapshot.head.area, out)?;
+    print_start(c, snapshot, out)?;
+    print_area(snapshot.area, out)?;
     out.write_all(b"\n+ player")
 }
 
 /// Prints what stands in front of the area.
-fn print_start<O: Sink>(c: u8, head: &SnapHead, out: &mut O) -> Result<(), Failed>
-    ensures adds { Adds (O.written out.old) (O.written out.new) (start_text c head.now) result }
+fn print_start<O: Sink>(c: u8, snapshot: SnapView, out: &mut O) -> Result<(), Failed>
+    ensures adds { Adds (O.written out.old) (O.written out.new) (start_text c (snapshot_of snapshot.entry).head) result }
     ensures cause { HasCause (O.faults out.old) (O.faults out.new) result }
 {
     print_all(
@@ -245,11 +246,11 @@ fn print_start<O: Sink>(c: u8, head: &SnapHead, out: &mut O) -> Result<(), Faile
             Piece::Text(b"show "),
             Piece::Number(u64::from(c)),
             Piece::Text(b" snapshot "),
-            Piece::Number(u64::from(head.number)),
+            Piece::Number(u64::from(snapshot.number)),
             Piece::Text(b" time "),
-            Piece::Number(u64::from(head.time)),
+            Piece::Number(u64::from(snapshot.time)),
             Piece::Text(b" flags "),
-            Piece::Number(u64::from(head.flags)),
+            Piece::Number(u64::from(snapshot.flags)),
             Piece::Text(b" area "),
         ],
         out,
@@ -257,14 +258,24 @@ fn print_start<O: Sink>(c: u8, head: &SnapHead, out: &mut O) -> Result<(), Faile
 }
 
 /// Prints area bytes.
-fn print_area<O: Sink>(area: &ArrayVec<u8, 32>, out: &mut O) -> Result<(), Failed>
-    ensures adds { Adds (O.written out.old) (O.written out.new) (area_text area.now.items) result }
+fn print_area<O: Sink>(area: &[u8], out: &mut O) -> Result<(), Failed>
+    ensures adds { Adds (O.written out.old) (O.written out.new) (area_text area.now) result }
     ensures cause { HasCause (O.faults out.old) (O.faults out.new) result }
 {
     if area.is_empty() {
         return out.write_all(b"-");
     }
     print_hex(area, out)
+}
+
+/// Prints a line for each entity of a run.
+fn print_run<O: Sink>(run: Run, out: &mut O) -> Result<(), Failed>
+    ensures adds { Adds (O.written out.old) (O.written out.new) (flat_map entity_text (run_of run.entry)) result }
+    ensures cause { HasCause (O.faults out.old) (O.faults out.new) result }
+{
+    laws::texts_follow();
+    print_entities(run.head, out)?;
+    print_entities(run.tail, out)
 }
 
 /// Prints a line for each entity.

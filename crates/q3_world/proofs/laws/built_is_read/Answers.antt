@@ -2,4 +2,4 @@ use Rattle.q3_world.proofs.BuiltRead.{built_is_read}
 use Rattle.q3_world.proofs.laws.built_is_read.Goals as goal
 
 pub returns : goal.returns
-returns c = built_is_read c.message_holds_bits.ensures.holds c.written_is_read.ensures
+returns c = built_is_read c.message_holds_bits.ensures.holds c.written_is_read.ensures c.read_is_skipped.ensures

@@ -13,4 +13,14 @@ returns c = record {
   gathers = c.ends_gather.ensures;
   sends = c.ends_send.ensures;
   bytes = c.message_holds_bits.ensures.bytes;
+  frames = record { held = c.held_was_built.ensures; keeps = c.build_keeps.ensures; near = c.base_is_near.ensures };
+  rings = record {
+    none = c.nothing_stands.ensures;
+    added = c.accept_is_added.ensures;
+    there = c.accepted_is_held.ensures;
+    of_list = c.base_is_of_list.ensures;
+    accepted = c.held_was_accepted.ensures;
+    by_age = c.near_is_held_by_age.ensures;
+    usual = c.usual_ring_holds.ensures;
+  };
 }

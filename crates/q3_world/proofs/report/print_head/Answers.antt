@@ -1,7 +1,7 @@
 use Rattle.std.proofs.Common.{◌++◌, codes, refl}
 use Rattle.std.proofs.lemmas.Result.{err_from_is_err_and}
 use Rattle.q3_world.specs.Report.{area_text}
-use Rattle.q3_client.specs.Views.{snapshot_of}
+use Rattle.q3_rings.specs.Loans.{snapshot_of}
 use Rattle.q3_world.proofs.Printing.{head_in_parts}
 use Rattle.q3_world.proofs.report.print_head.Goals as goal
 

@@ -3,7 +3,7 @@ use Rattle.std.specs.List.{flat_map}
 use Rattle.std.proofs.lemmas.Result.{err_from_is_err_and}
 use Rattle.q3_player.specs.Report.{player_text}
 use Rattle.q3_world.specs.Report.{entity_text}
-use Rattle.q3_client.specs.Views.{snapshot_of}
+use Rattle.q3_rings.specs.Loans.{snapshot_of}
 use Rattle.q3_world.proofs.Printing.{show_in_parts}
 use Rattle.q3_world.proofs.report.print_snapshot.Goals as goal
 
@@ -34,5 +34,5 @@ pub returns-clause-adds : goal.returns-clause-adds
 returns-clause-adds g c =
     let snapshot = snapshot_of c.args.snapshot in
     let law = c.texts_follow.ensures in
-    law.more c.in_ok-print_head.ensures.adds (law.more c.in_ok-print_words.ensures.adds (law.more c.in_ok-write_all.ensures.adds c.print_entities.ensures.adds refl) refl)
+    law.more c.in_ok-print_head.ensures.adds (law.more c.in_ok-print_words.ensures.adds (law.more c.in_ok-write_all.ensures.adds c.print_run.ensures.adds refl) refl)
     (show_in_parts c.args.c snapshot)

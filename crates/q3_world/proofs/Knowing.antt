@@ -1,0 +1,89 @@
+-- What a client holds was accepted, and what it accepted was built.
+use Rattle.std.proofs.Common.{◌≡◌, ℕ, ◌+◌, ◌-◌, ◌<◌, ◌≤◌, List, [], ◌∷◌, length, get_or, Option, Some, None, Result, Ok, Err, refl, sym, ap, subst, ◌∙◌, arith}
+use Rattle.std.specs.Prelude.{All, Contains, IfSome}
+use Rattle.std.specs.Result.{result_ok}
+use Rattle.std.proofs.lemmas.List.Elements.{All-nil, All-cons, All-head, All-tail, All-get_or, All-contains}
+use Rattle.q3_profile.specs.declared.profile.Profile.{Profile}
+use Rattle.q3_ring.specs.Snapshot.{Snapshot}
+use Rattle.q3_rings.specs.declared.rings.NoBase.{NoBase}
+use Rattle.q3_rings.specs.Rings.{HeldSnapshots, held_snapshot, view_at}
+use Rattle.q3_rings.specs.Accepted.{SnapshotsStandFor}
+use Rattle.q3_server.specs.Built.{Built, IsSnapshot, IsNear, IsBuilt}
+use Rattle.q3_server.specs.Server.{SlotState}
+use Rattle.q3_client.specs.Client.{ClientState}
+use Rattle.q3_world.specs.Layers.{RingLaws}
+use Rattle.q3_world.specs.MessageLaws.{AreBuilt, HoldsThis}
+use Rattle.q3_world.specs.World.{History, no_message, built_at}
+use Rattle.q3_world.specs.StandsFor.{snapshot_in, WasBuilt, KeepsSlot, TakesBuilt, AreAsked}
+use Rattle.q3_world.proofs.Bases.{some_one, was_built_one}
+
+-- the messages that were begun are so
+abbrev pub AreMessages : Profile → List Built → Type 0
+AreMessages profile began = (k : ℕ) (d : Built) → k < length began → IsBuilt profile (k + 1) (get_or began k d)
+
+-- a snapshot that was built is one that may be
+pub was_built_is : (profile : Profile) (began : List Built) (snapshot : Snapshot) → AreMessages profile began → WasBuilt began snapshot → IsSnapshot profile snapshot
+was_built_is profile began snapshot are was =
+    let some = was.0 in
+    let few = was.1 in
+    let is = are (snapshot.head.number - 1) no_message (omega (arith, some, few)) in
+    subst (IsSnapshot profile) (some_one is.snapshot snapshot (sym (ap (λ (b : Built). snapshot_in b.message.section) is.is) ∙ was.2)) is.are
+
+ok_of : (r : Result Snapshot NoBase) (snapshot : Snapshot) → result_ok r ≡ Some snapshot → r ≡ Ok snapshot
+ok_of (Ok x) snapshot e = cc
+ok_of (Err cause) snapshot e = absurd cc
+
+-- what is held under a number was accepted under it
+pub held_was_accepted : RingLaws → (held : HeldSnapshots) (took : List Snapshot) (number : ℕ) (snapshot : Snapshot) → SnapshotsStandFor took held → view_at held number ≡ Some snapshot
+    → Contains took snapshot × (snapshot.head.number ≡ number)
+held_was_accepted laws held took number snapshot stands viewed =
+    laws.accepted held.ring took number snapshot (sym (laws.of_list took held number stands) ∙ ok_of (held_snapshot held number) snapshot viewed)
+
+-- and was built
+pub view_was_built : RingLaws → (held : HeldSnapshots) (began : List Built) (took : List Snapshot) (number : ℕ) (snapshot : Snapshot) → SnapshotsStandFor took held → All (WasBuilt began) took
+    → view_at held number ≡ Some snapshot → (snapshot.head.number ≡ number) × WasBuilt began snapshot
+view_was_built laws held began took number snapshot stands were viewed =
+    let was = held_was_accepted laws held took number snapshot stands viewed in
+    (was.1, All-contains (WasBuilt began) took snapshot were was.0)
+
+-- so each that is held may have been built
+pub held_are_built : RingLaws → (profile : Profile) (held : HeldSnapshots) (began : List Built) (took : List Snapshot) → AreMessages profile began → SnapshotsStandFor took held
+    → All (WasBuilt began) took → AreBuilt profile held
+held_are_built laws profile held began took are stands were number snapshot viewed =
+    was_built_is profile began snapshot are (view_was_built laws held began took number snapshot stands were viewed).1
+
+-- and under the number of one that was built there is no other
+pub holds_this : RingLaws → (held : HeldSnapshots) (began : List Built) (took : List Snapshot) (base : Snapshot) → SnapshotsStandFor took held → All (WasBuilt began) took → WasBuilt began base
+    → HoldsThis held base
+holds_this laws held began took base stands were was snapshot viewed =
+    let known = view_was_built laws held began took base.head.number snapshot stands were viewed in
+    was_built_one began snapshot base known.0 known.1 was
+
+-- ---- the base of a message
+
+three_some : {X : Type 0} (o : Option X) (P Q R : X → Type 0) → IfSome o P → IfSome o Q → IfSome o R → IfSome o (λ x. P x × Q x × R x)
+three_some None P Q R p q r = tt
+three_some (Some x) P Q R p q r = (p, q, r)
+
+pub both_some : {X : Type 0} (o : Option X) (P Q : X → Type 0) → IfSome o P → IfSome o Q → IfSome o (λ x. P x × Q x)
+both_some None P Q p q = tt
+both_some (Some x) P Q p q = (p, q)
+
+-- what follows for each of a list from two facts
+pub All-both : {X : Type 0} (P Q R : X → Type 0) → ((x : X) → P x → Q x → R x) → (xs : List X) → All P xs → All Q xs → All R xs
+All-both P Q R each [] ps qs = All-nil R
+All-both P Q R each (x ∷ xs) ps qs =
+    All-cons R x xs (each x (All-head P x xs ps) (All-head Q x xs qs)) (All-both P Q R each xs (All-tail P x xs ps) (All-tail Q x xs qs))
+
+-- it is near, was built, and was accepted
+abbrev pub KnownBase : ℕ → List Built → List Snapshot → Snapshot → Type 0
+KnownBase n began took base = IsNear n base × WasBuilt began base × Contains took base
+
+pub known_base : (profile : Profile) (slot : SlotState) (client : ClientState) (history : History) (n : ℕ) → 1 ≤ n → n ≤ length history.built
+    → IsBuilt profile n (built_at history.built n) → KeepsSlot profile slot history.qport history.host history.built history.run → AreAsked slot history.said history.built history.accepted
+    → IfSome (built_at history.built n).base (KnownBase n history.built history.accepted)
+known_base profile slot client history n some few is keeps asked =
+    let lt : n - 1 < length history.built = omega (arith, some, few) in
+    three_some (built_at history.built n).base (IsNear n) (WasBuilt history.built) (Contains history.accepted) is.base_is
+    (All-get_or (λ (b : Built). IfSome b.base (WasBuilt history.built)) history.built (n - 1) no_message lt keeps.bases)
+    (All-get_or (λ (b : Built). IfSome b.base (Contains history.accepted)) history.built (n - 1) no_message lt asked.bases)
