@@ -1,5 +1,6 @@
 -- How a client's state is kept, and what is done with a snapshot.
 use Rattle.std.specs.Prelude.{ℕ, if◌then◌else◌}
+use Rattle.q3_fields.specs.Kinds.{IsTable}
 use Rattle.q3_ring.specs.Snapshot.{Snapshot}
 use Rattle.q3_rings.specs.Rings.{HeldSnapshots, accept_at, held_snapshot}
 use Rattle.q3_clstate.specs.declared.applied.SnapOutcome.{SnapOutcome}
@@ -15,6 +16,10 @@ state_in s = record {
   lines = s.holding.baselines;
   held = s.holding.rings.held;
 }
+
+-- what is read of a list of entities rises, since the profile's fields are a table
+abbrev pub HasTable : Inside → Type 0
+HasTable s = IsTable s.profile.entity
 
 -- what is held behind a snapshot that was read, and what is told of it
 abbrev pub held_behind : HeldSnapshots → ℕ → Snapshot → HeldSnapshots

@@ -4,13 +4,12 @@ ghost use Rattle.std.specs.Prelude.{◌≡◌, ◌≤◌, IfOk};
 ghost use Rattle.q3_entity.specs.Baselines.{no_lines};
 ghost use Rattle.q3_entity.specs.Entities.{Rises};
 ghost use Rattle.q3_rings.specs.Rings.{no_snapshots, held_snapshot};
-ghost use Rattle.q3_clstate.specs.State.{skipped_for};
+ghost use Rattle.q3_clstate.specs.State.{is_stale, skipped_for};
 ghost use Rattle.q3_clstate.specs.Kept.{held_behind, read_outcome, skipped_outcome};
 
 use crate::applied::SnapOutcome;
 use q3_bits::NoMemory;
-use q3_entity::{Baselines, EntityState};
-use q3_player::SnapHead;
+use q3_entity::Baselines;
 use q3_rings::{NoBase, Rings};
 use q3_svmsg::{BaseView, Bases, ServerMessage};
 use std::alloc::Global;
@@ -47,23 +46,17 @@ impl Holding {
     }
 
     /// What becomes of a snapshot that was read under a number: it is accepted where it is newer than all others.
-    pub fn accept(
-        &mut self,
-        number: u32,
-        base: u32,
-        head: &SnapHead,
-        entities: &[EntityState],
-    ) -> SnapOutcome
-        requires number { head.now.number ≡ number }
-        requires rises { Rises entities.now }
-        ensures held { self.new.rings.held ≡ held_behind self.old.rings.held number (record { head = head.now; entities = entities.now }) }
+    pub fn accept(&mut self, number: u32, base: u32, message: &ServerMessage) -> SnapOutcome
+        requires number { message.now.head.number ≡ number }
+        requires rises { Rises message.now.entities.value.items }
+        ensures held { self.new.rings.held ≡ held_behind self.old.rings.held number (record { head = message.now.head; entities = message.now.entities.value.items }) }
         ensures lines { self.new.baselines ≡ self.old.baselines }
         ensures outcome { result ≡ read_outcome self.old.rings.held number base }
     {
-        if number <= self.rings.newest() {
+        if self.is_stale(number) {
             return SnapOutcome::Stale;
         }
-        self.rings.accept(head, entities);
+        self.rings.accept(&message.head, &message.entities);
         SnapOutcome::Accepted { base }
     }
 
@@ -71,11 +64,18 @@ impl Holding {
     pub fn skip(&self, number: u32, base: u32) -> SnapOutcome
         ensures { result ≡ skipped_outcome self.now.rings.held number base }
     {
-        if number <= self.rings.newest() {
+        if self.is_stale(number) {
             return SnapOutcome::Stale;
         }
         let cause = self.cause(base);
         SnapOutcome::Skipped { base, cause }
+    }
+
+    /// Whether a snapshot isn't newer than all that were accepted.
+    fn is_stale(&self, number: u32) -> bool
+        ensures { result ≡ is_stale self.now.rings.held number }
+    {
+        number <= self.rings.newest()
     }
 
     /// Why a snapshot isn't held.

@@ -6,8 +6,6 @@ pub mod applied;
 mod holding;
 pub mod print;
 pub mod state;
-#[cfg(test)]
-mod tests;
 
 pub use applied::{Applied, SnapOutcome};
 pub use print::print_applied;

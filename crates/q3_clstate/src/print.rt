@@ -92,7 +92,10 @@ fn print_cause<O: Sink>(cause: NoBase, out: &mut O) -> Result<(), Failed>
     match cause {
         NoBase::NeverHeld => print_all(&[Piece::Text(b"neverheld")], out),
         NoBase::Overwritten(other) => print_all(
-            &[Piece::Text(b"overwritten "), Piece::Number(u64::from(other))],
+            &[
+                Piece::Text(b"overwritten "),
+                Piece::Number(u64::from(other)),
+            ],
             out,
         ),
         NoBase::EntitiesGone(age) => {

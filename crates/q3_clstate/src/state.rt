@@ -12,6 +12,7 @@ ghost use Rattle.q3_clstate.specs.State.{new_state, apply_at, state_behind, answ
 use crate::applied::{Applied, SnapOutcome};
 use crate::holding::Holding;
 use q3_bits::NoMemory;
+use q3_entity::laws::list_rises;
 use q3_profile::Profile;
 use q3_rings::{Held, NoBase, SnapView};
 use q3_svmsg::{Illegible, Section, ServerMessage, read_server_message};
@@ -34,9 +35,11 @@ impl Model for ClState {
 
     ghost Value = { AppliedState };
 
-    ghost use Rattle.q3_clstate.specs.Kept.{state_in};
+    ghost use Rattle.q3_clstate.specs.Kept.{state_in, HasTable};
 
     ghost view = { state_in };
+
+    ghost invariant = { HasTable };
 }
 
 impl ClState {
@@ -63,6 +66,7 @@ impl ClState {
         ensures state { self.new ≡ state_behind self.old (apply_at self.old number message.now) }
         ensures answer { result ≡ answered (apply_at self.old number message.now) }
     {
+        list_rises();
         read_server_message(
             &self.profile,
             number,
@@ -82,11 +86,7 @@ impl ClState {
                     snap: SnapOutcome::NoSnap,
                 });
             }
-            Section::Snap { base, held: true } => {
-                let message = &self.message;
-                self.holding
-                    .accept(number, base, &message.head, &message.entities)
-            }
+            Section::Snap { base, held: true } => self.holding.accept(number, base, &self.message),
             Section::Snap { base, held: false } => self.holding.skip(number, base),
         };
         Ok(Applied {
