@@ -11,9 +11,9 @@ use Rattle.std.proofs.lemmas.List.Sums.{fails_before_first, position_or_len_is}
 use Rattle.std.proofs.lemmas.List.Sorted.{IsPartitionedBy-ltb}
 use Rattle.std.proofs.lemmas.Bool.{cases_Bool, cases_lt, ltb-true, ltb-false, le-leb, lt-leb, lt-ltb, le-ltb, leb-true, leb-false, ne_eqb, eqb-false, cond-true}
 use Rattle.q3_entity.specs.declared.state.EntityState.{EntityState}
-use Rattle.q3_fields.specs.Kinds.{Layout, end_mark}
-use Rattle.q3_entity.specs.Entities.{RiseFrom, IsList, most_entities}
+use Rattle.q3_entity.specs.Entities.{RiseFrom, most_entities}
 use Rattle.q3_server.specs.Server.{most_numbers, with_entity, without_entity}
+use Rattle.q3_server.specs.Slots.{AreListed}
 
 -- ---- rising numbers
 
@@ -35,13 +35,9 @@ rise_take limit least (suc count) (entity ∷ others) rise = (rise.0, rise.1, ri
 pub few_taken : {X : Type 0} (count : ℕ) (xs : List X) → length (take count xs) ≤ count
 few_taken count xs = omega (arith, length-take count xs)
 
--- the lowest of entities whose numbers rise are a list of every table with such numbers
-pub lowest_are : (entities : List EntityState) → RiseFrom most_numbers 0 entities → (table : Layout) → end_mark table ≡ most_numbers → IsList table (take most_entities entities)
-lowest_are entities rise table e =
-    record {
-      rise = subst (λ (limit : ℕ). RiseFrom limit 0 (take most_entities entities)) (sym e) (rise_take most_numbers 0 most_entities entities rise);
-      few = few_taken most_entities entities;
-    }
+-- the lowest of entities whose numbers rise are those of a snapshot
+pub lowest_are : (entities : List EntityState) → RiseFrom most_numbers 0 entities → AreListed (take most_entities entities)
+lowest_are entities rise = record { rise = rise_take most_numbers 0 most_entities entities rise; few = few_taken most_entities entities }
 
 -- ---- an entity is put in
 

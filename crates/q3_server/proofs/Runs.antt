@@ -7,11 +7,11 @@ use Rattle.q3_clmsg.specs.declared.error.ClientIllegible.{ClientIllegible}
 use Rattle.q3_clmsg.specs.Values.{Message}
 use Rattle.q3_server.specs.Server.{SlotState}
 use Rattle.q3_server.specs.Taking.{runs, last_time, last_run_of, run_read}
-use Rattle.q3_server.specs.Slots.{last_run_read, took_read, moves_read}
+use Rattle.q3_server.specs.Slots.{delta_read, last_run_read, took_read, moves_read}
 
 -- what was read of a message runs its moves
 pub read_is : (slot : SlotState) (c number : ℕ) (read : Result Message ClientIllegible)
-    → ((run_read slot c number read).slot ≡ record slot { last_run = last_run_read slot.last_run read })
+    → ((run_read slot c number read).slot ≡ record slot { delta = delta_read slot.delta read; last_run = last_run_read slot.last_run read })
     × ((run_read slot c number read).answer ≡ took_read c number read)
     × ((run_read slot c number read).moves ≡ moves_read slot.last_run read)
 read_is slot c number (Ok message) = (refl, refl, refl)

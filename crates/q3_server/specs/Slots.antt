@@ -1,5 +1,9 @@
 -- How the server keeps a slot, and what each call does to it, with a client or with none.
-use Rattle.std.specs.Prelude.{ℕ, List, [], Option, Some, None, option_map, Result, Ok, Err}
+use Rattle.std.specs.Prelude.{◌≡◌, ◌↔◌, ℕ, ◌<◌, ◌≤◌, List, [], length, take, Option, Some, None, option_map, Result, Ok, Err, IfOk, IsErr}
+use Rattle.q3_bits.specs.declared.writer.Overflow.{Overflow}
+use Rattle.q3_bits.specs.Bits.{message_bytes, message_length}
+use Rattle.q3_chan.specs.Datagrams.{longest_message}
+use Rattle.q3_server.specs.Built.{number_of, built_of}
 use Rattle.q3_profile.specs.declared.profile.Profile.{Profile}
 use Rattle.q3_io.specs.declared.address.Address.{Address}
 use Rattle.q3_chan.specs.Sending.{Sending, Piece}
@@ -11,12 +15,14 @@ use Rattle.q3_server.specs.declared.slot.Joined.{Joined}
 use Rattle.q3_server.specs.declared.server.Emitted.{Emitted}
 use Rattle.q3_server.specs.declared.server.Emitted.TheVariants as emitted
 use Rattle.q3_server.specs.declared.server.NoClient.{NoClient}
-use Rattle.q3_server.specs.Server.{MapState, SlotState, SlotEmission, emit_slot}
+use Rattle.q3_server.specs.Server.{most_numbers, MapState, SlotState, SlotEmission, built_bits, emit_slot}
 use Rattle.q3_server.specs.declared.taking.ServerTook.{ServerTook}
 use Rattle.q3_server.specs.declared.taking.ServerTook.TheVariants as took
 use Rattle.q3_ring.specs.Snapshot.{Snapshot}
 use Rattle.q3_svmsg.specs.declared.message.ServerMessage.{ServerMessage}
-use Rattle.q3_frames.specs.Frames.{FramesState}
+use Rattle.q3_frames.specs.Frames.{FramesState, held_frame}
+use Rattle.q3_entity.specs.declared.state.EntityState.{EntityState}
+use Rattle.q3_entity.specs.Entities.{RiseFrom, most_entities}
 use Rattle.q3_server.specs.Taking.{delta_behind, last_run_of, runs, take_slot}
 
 -- what is being sent to a client, what was gathered of what it sends, and what is kept of it beside that
@@ -36,6 +42,24 @@ slot_of sending gathering client = record {
 -- the snapshot that a message has room for
 abbrev pub snapshot_in : ServerMessage → Snapshot
 snapshot_in message = record { head = message.head; entities = message.entities.value.items }
+
+-- a snapshot's entities: their numbers rise and are those that entities may have, and there are at most 256
+pub record AreListed (entities : List EntityState) : Type 0 where
+  pub rise : RiseFrom most_numbers 0 entities
+  pub few : length entities ≤ most_entities
+
+-- every frame that a slot holds has such entities
+pub record HoldLists (frames : FramesState) : Type 0 where
+  pub listed : (slot number : ℕ) (held : Snapshot) → held_frame frames slot number ≡ Some held → AreListed held.entities
+
+-- what a buffer has behind a snapshot that is written against a base, and the base's number and the count of bytes that are
+-- answered
+pub record WritesAgainst (profile : Profile) (base : Option Snapshot) (snapshot : Snapshot) (new : List ℕ) (answer : Result (ℕ × ℕ) Overflow) : Type 0 where
+  pub named : IfOk answer (λ told. told.0 ≡ number_of base)
+  pub refused : IsErr answer ↔ (longest_message < message_length (length (built_bits profile (built_of base snapshot))))
+  pub count : IfOk answer (λ told. told.1 ≡ message_length (length (built_bits profile (built_of base snapshot))))
+  pub bytes : IfOk answer (λ told. take told.1 new ≡ message_bytes (built_bits profile (built_of base snapshot)))
+  pub long : length new ≡ longest_message
 
 -- what is answered where something is handed in for the client of a slot
 abbrev pub given : Option SlotState → Result (Unit {0}) NoClient

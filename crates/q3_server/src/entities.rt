@@ -3,9 +3,9 @@
 ghost use Rattle.std.specs.Prelude.{◌≡◌, ◌<◌, ◌≤◌, [], IfOk, length, position, nat_le, nat_lt, take};
 ghost use Rattle.std.specs.List.{position_or_len};
 ghost use Rattle.std.specs.Vec.{vec_capacity};
-ghost use Rattle.q3_fields.specs.Kinds.{Layout, end_mark};
-ghost use Rattle.q3_entity.specs.Entities.{RiseFrom, normal_entity, most_entities, IsList};
+ghost use Rattle.q3_entity.specs.Entities.{RiseFrom, normal_entity, most_entities};
 ghost use Rattle.q3_server.specs.Server.{most_numbers, with_entity, without_entity};
+ghost use Rattle.q3_server.specs.Slots.{AreListed};
 
 use q3_bits::NoMemory;
 use q3_entity::{EntityState, List};
@@ -82,7 +82,7 @@ impl Map {
     /// Copies the entities of the lowest numbers, at most 256.
     pub fn copy_lowest(&self, into: &mut List)
         ensures front { into.new.items ≡ take most_entities self.now.entities }
-        ensures list { (table : Layout) → end_mark table ≡ most_numbers → IsList table (take most_entities self.now.entities) }
+        ensures listed { AreListed into.new.items }
     {
         into.clear();
         into.try_extend_from_slice(lowest(&self.entities)).unwrap();

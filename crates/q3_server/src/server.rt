@@ -1,11 +1,13 @@
 //! The server's end: pure state, one call an event.
-//! Keeps the rules "what the server sends", "choice of the delta base", by q3_frames, "how a datagram finds its slot", "fragmentation" and "what a receiver answers",
-//! by q3_chan, and "end of message numbers", which is this project's own.
+//! Keeps the rules "what the server sends", "choice of the delta base", by q3_frames, "how a datagram finds its slot",
+//! "fragmentation" and "what a receiver answers", by q3_chan, and "end of message numbers", which is this project's own.
 
 ghost use Rattle.std.specs.Prelude.{◌≡◌, ◌<◌, ◌≤◌, None, IfOk, IfSome, option_map, length, nat_lt, position, replicate};
 ghost use Rattle.q3_server.specs.Server.{places, most_numbers, new_server, is_of, add_client_at, set_time_at, set_entity_at, remove_entity_at, set_player_at, set_area_at, emit_at, slot_at};
 ghost use Rattle.q3_chan.specs.Sending.{HandsOut};
 ghost use Rattle.q3_server.specs.Taking.{take_at};
+ghost use Rattle.q3_server.specs.Slots.{HoldLists};
+ghost use Rattle.q3_frames.specs.Frames.{no_frames};
 
 use crate::entities::Map;
 use crate::slot::Slot;
@@ -15,6 +17,7 @@ use q3_chan::{Datagram, LONGEST_MESSAGE, NoQport, qport_of};
 use q3_clmsg::ClientMessage;
 use q3_entity::{Baselines, EntityState};
 use q3_frames::Frames;
+use q3_frames::laws::nothing_is_held;
 use q3_io::Address;
 use q3_player::PlayerState;
 use q3_profile::Profile;
@@ -63,8 +66,8 @@ pub enum Emitted {
 }
 
 /// The server: a copy of the profile, what the game handed in, a slot for each client, and the frames that were built for
-/// them; and places where a message is
-/// put together and written, and where one that came whole stands and is read into. After `new` no call takes memory.
+/// them; and places where a message is put together and written, and where one that came whole stands and is read into.
+/// After `new` no call takes memory.
 #[derive(Drop)]
 pub struct Server {
     profile: Profile,
@@ -83,12 +86,13 @@ impl Model for Server {
     ghost use Rattle.q3_entity.specs.Baselines.{no_lines};
     ghost use Rattle.q3_chan.specs.Datagrams.{longest_message};
     ghost use Rattle.q3_server.specs.Server.{ServerState, places};
+    ghost use Rattle.q3_server.specs.Slots.{HoldLists};
 
     ghost Value = { ServerState };
 
     ghost view = { λ s. record { profile = s.profile; map = s.map; slots = s.slots.items; frames = s.frames } };
 
-    ghost invariant = { λ s. (length s.slots.items ≤ places) × (length s.frames.slots ≡ length s.slots.items) × (s.baselines ≡ no_lines)
+    ghost invariant = { λ s. (length s.slots.items ≤ places) × (length s.frames.slots ≡ length s.slots.items) × HoldLists s.frames × (s.baselines ≡ no_lines)
         × (length s.buffer.items ≡ longest_message) × (length s.whole.items ≡ longest_message) };
 }
 
@@ -106,7 +110,7 @@ impl Server {
             profile: profile.copy()?,
             map: Map::new(alloc)?,
             slots: empty_slots(alloc, slots)?,
-            frames: Frames::new(alloc, slots, profile.server_ring)?,
+            frames: empty_frames(alloc, slots, profile.server_ring)?,
             baselines: Baselines::new(alloc)?,
             message: ServerMessage::new(alloc)?,
             buffer: vec![in alloc; 0; LONGEST_MESSAGE]?,
@@ -270,6 +274,19 @@ fn empty_slots(alloc: Global, count: u8) -> Result<Vec<Slot>, NoMemory>
         made.push(Slot::new(alloc)?)?;
     }
     Ok(made)
+}
+
+/// Frames of which none was built. `Err` is want of memory.
+fn empty_frames(alloc: Global, slots: u8, ring: u32) -> Result<Frames, NoMemory>
+    requires some { 1 ≤ slots }
+    requires most { slots ≤ places }
+    requires ring_least { 256 ≤ ring }
+    requires ring_most { ring ≤ 262144 }
+    ensures frames { IfOk result (λ frames. frames ≡ no_frames slots ring) }
+    ensures lists { IfOk result (λ frames. HoldLists frames) }
+{
+    nothing_is_held();
+    Frames::new(alloc, slots, ring)
 }
 
 /// The least slot whose client has this host and qport.

@@ -2,33 +2,31 @@
 
 ghost use Rattle.std.specs.Prelude.{◌≡◌, ◌+◌, ◌^◌, ◌<◌, ◌≤◌, [], None, Some, IfOk, length, option_map, nat_le, nat_lt, ◌||◌, is_some};
 ghost use Rattle.q3_entity.specs.Baselines.{no_lines};
-ghost use Rattle.q3_fields.specs.Kinds.{Layout, end_mark};
-ghost use Rattle.q3_entity.specs.Entities.{most_entities, IsList};
 ghost use Rattle.q3_player.specs.State.{normal_player};
-ghost use Rattle.q3_svmsg.specs.Values.{told_of};
+ghost use Rattle.q3_svmsg.specs.Values.{base_viewed, base_from, base_entities, IsNamed};
+ghost use Rattle.q3_frames.specs.Frames.{base_of, build_at};
 ghost use Rattle.q3_chan.specs.Datagrams.{longest_message, sequence_end};
-ghost use Rattle.q3_server.specs.Built.{message_of};
-ghost use Rattle.q3_server.specs.Server.{most_numbers, most_placed, is_of, new_slot, with_player, with_area, next_snapshot};
+ghost use Rattle.q3_server.specs.Built.{number_of};
+ghost use Rattle.q3_server.specs.Server.{most_placed, is_of, new_slot, with_player, with_area, next_snapshot};
 ghost use Rattle.q3_bits.specs.Streams.{holding};
 ghost use Rattle.q3_chan.specs.declared.side.Side.TheVariants.{Client};
 ghost use Rattle.q3_chan.specs.Gathering.{new_gathering};
 ghost use Rattle.q3_chan.specs.Sending.{HandsOut};
 ghost use Rattle.q3_clmsg.specs.Values.{said_of};
-ghost use Rattle.q3_server.specs.Slots.{slot_of, snapshot_in, given, slot_after, frames_after, answer_of, piece_of, slot_behind, took_of, moves_of, delta_read, last_run_read, took_read, moves_read};
+ghost use Rattle.q3_server.specs.Slots.{slot_of, snapshot_in, AreListed, HoldLists, WritesAgainst, given, slot_after, frames_after, answer_of, piece_of, slot_behind, took_of, moves_of, delta_read, last_run_read, took_read, moves_read};
 
 use crate::entities::Map;
 use crate::server::{Emitted, NoClient};
 use crate::taking::{Heard, ServerTook, delta_behind, read_message, run_moves};
 use arrayvec::ArrayVec;
-use q3_bits::NoMemory;
+use q3_bits::{NoMemory, Overflow};
 use q3_chan::{Datagram, Gathered, Gatherer, SEQUENCE_END, Sender, Side};
 use q3_clmsg::{ClientIllegible, ClientMessage};
 use q3_entity::Baselines;
+use q3_frames::{Frames, laws};
 use q3_io::Address;
 use q3_player::PlayerState;
 use q3_profile::Profile;
-use q3_frames::laws::build_keeps;
-use q3_frames::{Base, Frames};
 use q3_svmsg::{BaseView, Section, ServerMessage, write_snap};
 use std::alloc::Global;
 use std::marker::Model;
@@ -122,19 +120,16 @@ impl Joined {
         ServerTook::Ran { slot, number }
     }
 
-    /// Makes the whole snapshot that this sender sends to the client next. What was gathered doesn't count.
+    /// Makes the snapshot that this sender sends to the client next. What was gathered doesn't count.
     fn fill(&self, sender: &Sender, map: &Map, message: &mut ServerMessage)
         requires { sender.now.number + 1 < 2 ^ 32 }
-        ensures told { told_of message.new ≡ message_of None (next_snapshot map.now (slot_of sender.now (new_gathering Client) self.now)) }
+        ensures ack { message.new.ack ≡ 0 }
+        ensures commands { message.new.commands.value.items ≡ [] }
         ensures snapshot { snapshot_in message.new ≡ next_snapshot map.now (slot_of sender.now (new_gathering Client) self.now) }
-        ensures list { (table : Layout) → end_mark table ≡ most_numbers → IsList table message.new.entities.value.items }
+        ensures listed { AreListed message.new.entities.value.items }
     {
         message.ack = 0;
         message.commands.clear();
-        message.section = Section::Snap {
-            base: 0,
-            held: true,
-        };
         message.head.number = sender.number() + 1;
         message.head.time = map.time();
         message.head.flags = 0;
@@ -273,17 +268,17 @@ impl Slot {
     ) -> Emitted
         requires out { out.old.items ≡ [] }
         requires slot { slot < length frames.old.slots }
+        requires lists { HoldLists frames.old }
         requires lines { baselines.now ≡ no_lines }
         requires buffer { length buffer.old ≡ longest_message }
         ensures slot { self.new ≡ slot_after profile.now map.now frames.old slot self.old }
         ensures frames { frames.new ≡ frames_after profile.now map.now frames.old slot self.old }
         ensures slots { length frames.new.slots ≡ length frames.old.slots }
+        ensures lists { HoldLists frames.new }
         ensures answer { result ≡ answer_of profile.now map.now frames.old slot self.old }
         ensures piece { HandsOut (piece_of profile.now map.now frames.old slot self.old) out.new.items }
         ensures buffer { length buffer.new ≡ longest_message }
     {
-        // what the clause on the frames' slots cites
-        build_keeps();
         let Some(client) = &self.client else {
             return Emitted::NoClient;
         };
@@ -298,43 +293,86 @@ impl Slot {
             return Emitted::SequenceEnd;
         }
         client.fill(&self.sender, map, message);
-        frames.build(slot, &message.head, &message.entities);
-        // the entities' numbers are below the end mark
-        prove!(profile.entity.end() == 1023);
-        let base = frames.base_for(slot, number, client.delta);
-        let named = number_of(base);
-        message.section = Section::Snap {
-            base: named,
-            held: true,
-        };
-        let Ok(bytes) = write_snap(profile, message, baselines, view_of(base), buffer) else {
+        build(frames, slot, message);
+        let delta = client.delta;
+        let Ok((base, bytes)) = write_against(
+            frames, slot, delta, profile, message, baselines, buffer,
+        ) else {
             return Emitted::Overlong;
         };
         self.sender.start(&buffer[..bytes]);
         self.sender.next(out);
         Emitted::Snapshot {
             number,
-            base: named,
+            base,
             bytes,
         }
     }
 }
 
-/// The number of a base, 0 for none.
-fn number_of(base: Option<Base>) -> u32 {
-    match base {
-        Some(base) => base.number,
-        None => 0,
-    }
+/// Builds a frame of the snapshot in a message.
+fn build(frames: &mut Frames, slot: u8, message: &ServerMessage)
+    requires slot { slot < length frames.old.slots }
+    requires placed { frames.old.placed ≤ most_placed }
+    requires listed { AreListed message.now.entities.value.items }
+    ensures built { frames.new ≡ build_at frames.old slot (snapshot_in message.now) }
+    ensures slots { length frames.new.slots ≡ length frames.old.slots }
+    ensures lists { HoldLists frames.old → HoldLists frames.new }
+{
+    laws::build_keeps();
+    laws::held_was_built();
+    frames.build(slot, &message.head, &message.entities);
 }
 
-/// A base, as a message is written against it.
-fn view_of<'a>(base: Option<Base<'a>>) -> Option<BaseView<'a>> {
-    let base = base?;
-    Some(BaseView {
-        player: base.player,
-        entities: base.entities,
-    })
+/// Writes the snapshot in a message against the base of a slot's client, if its delta number names one. Answers the base's
+/// number, 0 for none, and the message's length. `Overflow` comes exactly where that is more than 16,384.
+fn write_against(
+    frames: &Frames,
+    slot: u8,
+    delta: u32,
+    profile: &Profile,
+    message: &mut ServerMessage,
+    baselines: &Baselines,
+    buffer: &mut [u8],
+) -> Result<(u32, usize), Overflow>
+    requires lists { HoldLists frames.now }
+    requires ack { message.old.ack ≡ 0 }
+    requires commands { message.old.commands.value.items ≡ [] }
+    requires listed { AreListed message.old.entities.value.items }
+    requires lines { baselines.now ≡ no_lines }
+    requires buffer { length buffer.old ≡ longest_message }
+    ensures { WritesAgainst profile.now (base_of frames.now slot message.old.head.number delta) (snapshot_in message.old) buffer.new result }
+{
+    let (named, base) = base_in(frames, slot, message.head.number, delta);
+    message.section = Section::Snap {
+        base: named,
+        held: true,
+    };
+    // the entities' numbers are below the end mark
+    prove!(profile.entity.end() == 1023);
+    let bytes = write_snap(profile, message, baselines, base, buffer)?;
+    Ok((named, bytes))
+}
+
+/// The base of a message, if the client's delta number names one: its number, 0 for none, and what it is.
+fn base_in<'a>(frames: &'a Frames, slot: u8, number: u32, delta: u32) -> (u32, Option<BaseView<'a>>)
+    requires { HoldLists frames.now }
+    ensures number { result.0 ≡ number_of (base_of frames.now slot number delta) }
+    ensures base { option_map base_viewed result.1 ≡ option_map base_from (base_of frames.now slot number delta) }
+    ensures named { IsNamed (option_map base_viewed result.1) number result.0 }
+    ensures listed { AreListed (base_entities (option_map base_viewed result.1)) }
+{
+    laws::base_is_near();
+    match frames.base_for(slot, number, delta) {
+        Some(base) => {
+            let view = BaseView {
+                player: base.player,
+                entities: base.entities,
+            };
+            (base.number, Some(view))
+        }
+        None => (0, None),
+    }
 }
 
 /// Whether no message of a number may be begun any more, where so many entities were placed.

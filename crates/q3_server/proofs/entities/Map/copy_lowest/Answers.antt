@@ -1,11 +1,12 @@
-use Rattle.std.proofs.Common.{◌≡◌, take, subst}
-use Rattle.q3_fields.specs.Kinds.{Layout, end_mark}
-use Rattle.q3_entity.specs.Entities.{IsList, most_entities}
-use Rattle.q3_server.specs.Server.{MapState, most_numbers}
+use Rattle.std.proofs.Common.{◌≡◌, List, take, subst, sym, rules}
+use Rattle.q3_entity.specs.declared.state.EntityState.{EntityState}
+use Rattle.q3_entity.specs.Entities.{most_entities}
+use Rattle.q3_server.specs.Slots.{AreListed}
 use Rattle.q3_server.proofs.Rising.{lowest_are}
 use Rattle.q3_server.proofs.entities.Map.copy_lowest.Goals as goal
 
-pub returns-clause-list : goal.returns-clause-list
-returns-clause-list c =
-    subst (λ (map : MapState). (table : Layout) → end_mark table ≡ most_numbers → IsList table (take most_entities map.entities)) c.self.view_is
-    (lowest_are c.self.inside.entities.items c.self.invariant.0)
+pub returns-clause-listed : goal.returns-clause-listed
+returns-clause-listed c =
+    let entities = c.self.inside.entities.items in
+    let front : c.try_extend_from_slice.new.self.items ≡ take most_entities entities = search rules in
+    subst (λ (es : List EntityState). AreListed es) (sym front) (lowest_are entities c.self.invariant.0)
