@@ -5,7 +5,6 @@ ghost use Rattle.std.specs.List.{concat};
 ghost use Rattle.q3_io.specs.Faults.{HasCause};
 ghost use Rattle.q3_io.specs.Written.{Adds};
 ghost use Rattle.q3_svmsg.specs.Report.{cause_word, cause_number};
-ghost use Rattle.q3_client.specs.declared.client.ClientTook.TheVariants.{Applied};
 ghost use Rattle.q3_client.specs.Report.{illegible_text, client_text, move_error_text, send_text};
 
 use crate::client::{ClientTook, MoveError, Sent};
@@ -75,7 +74,7 @@ fn print_illegible<O: Sink>(c: u8, cause: Illegible, out: &mut O) -> Result<(), 
 
 /// Prints the lines of a delivery of what was applied.
 fn print_delivered<O: Sink>(c: u8, applied: &Applied, out: &mut O) -> Result<(), Failed>
-    ensures adds { Adds (O.written out.old) (O.written out.new) (client_text c (Applied applied.now)) result }
+    ensures adds { Adds (O.written out.old) (O.written out.new) (client_text c (ClientTook.Applied applied.now)) result }
     ensures cause { HasCause (O.faults out.old) (O.faults out.new) result }
 {
     laws::texts_follow();
