@@ -243,8 +243,12 @@ impl Client {
             self.dup,
         );
         let key = message_key(0, acknowledged, &Text::new());
-        let Ok(bytes) = write_client_message(&self.state.profile().code, message, key, &mut self.buffer)
-        else {
+        let Ok(bytes) = write_client_message(
+            &self.state.profile().code,
+            message,
+            key,
+            &mut self.buffer,
+        ) else {
             return Sent::Overlong;
         };
         self.sender.start(&self.buffer[..bytes]);

@@ -5,9 +5,11 @@ use super::*;
 use q3_bits::{Code, NoMemory, ReadError};
 use q3_chan::Datagram;
 use q3_clmsg::Move;
+use q3_clstate::{Applied, SnapOutcome};
 use q3_fields::Table;
 use q3_memory::MemSink;
 use q3_profile::Profile;
+use q3_rings::NoBase;
 use q3_svmsg::Illegible;
 use std::alloc::Global;
 use std::process::Abort;
@@ -23,8 +25,19 @@ const DELTA_SNAPSHOT: [u8; 20] = [
     2, 0, 0, 0, 0, 0, 0, 0, 7, 0xe8, 3, 0, 0, 1, 2, 0, 0, 0xfe, 0x47, 0,
 ];
 
+/// The datagram of server message 4, with a snapshot against that of message 3.
+const SKIPPED_SNAPSHOT: [u8; 20] = [
+    4, 0, 0, 0, 0, 0, 0, 0, 7, 0xe8, 3, 0, 0, 1, 2, 0, 0, 0xfe, 0x47, 0,
+];
+
 /// The datagram of server message 2, which has nothing in it.
 const NOTHING: [u8; 10] = [2, 0, 0, 0, 0, 0, 0, 0, 8, 0];
+
+/// The datagram of server message 5, with a gamestate in which nothing but the server's id is set.
+const GAME: [u8; 42] = [
+    5, 0, 0, 0, 0, 0, 0, 0, 2, 0, 0, 0, 0, 3, 1, 0, 0x5c, 0x73, 0x76, 0x5f, 0x73, 0x65, 0x72, 0x76,
+    0x65, 0x72, 0x69, 0x64, 0x5c, 0x31, 0, 8, 0, 0, 0, 0, 0, 0, 0, 0, 8, 0,
+];
 
 /// A client with the qport 5000.
 fn client(rt: &impl Abort, alloc: Global, dup: u8) -> Result<Client, NoMemory> {
@@ -38,6 +51,15 @@ fn client(rt: &impl Abort, alloc: Global, dup: u8) -> Result<Client, NoMemory> {
         mark: 0,
     };
     Client::new(alloc, &profile, 17, 5000, dup)
+}
+
+/// What is answered where a message without a gamestate was applied.
+fn applied(number: u32, snap: SnapOutcome) -> ClientTook {
+    ClientTook::Applied(Applied {
+        number,
+        game: false,
+        snap,
+    })
 }
 
 /// Issues a move of a time, with so much forward.
@@ -63,10 +85,7 @@ fn sends(rt: &impl Abort, client: &mut Client, number: u32, bytes: usize, datagr
 #[test]
 fn messages_have_their_moves(rt: HostRuntime) -> Result<(), Fail> {
     let mut client = client(&rt, rt.alloc(), 0)?;
-    let accepted = ClientTook::Applied {
-        number: 1,
-        snap: SnapOutcome::Accepted { base: 0 },
-    };
+    let accepted = applied(1, SnapOutcome::Accepted { base: 0 });
     assert_eq!(rt; take(&mut client, &SNAPSHOT), accepted);
     let empty = [
         1, 0, 0, 0, 0x88, 0x13, 0, 0, 0, 0, 1, 0, 0, 0, 0, 0, 0, 0, 5, 0,
@@ -79,10 +98,7 @@ fn messages_have_their_moves(rt: HostRuntime) -> Result<(), Fail> {
         0x3f, 0x14, 0,
     ];
     sends(&rt, &mut client, 2, 22, &with_delta);
-    let nothing = ClientTook::Applied {
-        number: 2,
-        snap: SnapOutcome::NoSnap,
-    };
+    let nothing = applied(2, SnapOutcome::NoSnap);
     assert_eq!(rt; take(&mut client, &NOTHING), nothing);
     // the key is 2 xor 520, and 10 xor 10 is 0
     assert_eq!(rt; issue(&mut client, 520, 10), Ok(()));
@@ -171,11 +187,12 @@ fn dropped_client_keeps_the_first_cause(rt: HostRuntime) -> Result<(), Fail> {
 
 /// The time of the snapshot that a client has under a number.
 fn time_of(client: &Client, number: u32) -> Option<u32> {
-    Some(client.view(number)?.head.time)
+    Some(client.view(number)?.time)
 }
 
-/// The operation of the move section of the message that a client sends next.
-fn operation_sent(client: &mut Client) -> Option<u8> {
+/// Sends a message behind a further move, and answers the operation of its move section.
+fn operation_sent(client: &mut Client, time: u32) -> Option<u8> {
+    let _ = issue(client, time, 10);
     let mut out = Datagram::new();
     client.emit(&mut out);
     out.get(18).copied()
@@ -183,30 +200,44 @@ fn operation_sent(client: &mut Client) -> Option<u8> {
 
 /// The number of the newest snapshot.
 fn newest_of(client: &Client) -> u32 {
-    client.newest()
+    client.state().newest()
 }
 
 #[test]
 fn skipped_snapshot_ends_deltas(rt: HostRuntime) -> Result<(), Fail> {
     let mut client = client(&rt, rt.alloc(), 0)?;
-    assert_eq!(rt; newest_of(&client), 0);
-    assert_eq!(rt; time_of(&client, 0), None);
+    assert_eq!(rt; (newest_of(&client), time_of(&client, 0)), (0, None));
+    take(&mut client, &SNAPSHOT);
+    assert_eq!(rt; operation_sent(&mut client, 500), Some(2));
+    let accepted = applied(2, SnapOutcome::Accepted { base: 1 });
+    assert_eq!(rt; take(&mut client, &DELTA_SNAPSHOT), accepted);
+    assert_eq!(rt; operation_sent(&mut client, 520), Some(2));
+    let cause = NoBase::NeverHeld;
+    let skipped = applied(4, SnapOutcome::Skipped { base: 3, cause });
+    assert_eq!(rt; take(&mut client, &SKIPPED_SNAPSHOT), skipped);
+    assert_eq!(rt; operation_sent(&mut client, 540), Some(3));
+    assert_eq!(rt; newest_of(&client), 2);
+    assert_eq!(rt; time_of(&client, 1), Some(1000));
+    assert_eq!(rt; time_of(&client, 2), Some(1000));
+    assert_eq!(rt; time_of(&client, 4), None);
+    Ok(())
+}
+
+#[test]
+fn gamestate_wipes_moves(rt: HostRuntime) -> Result<(), Fail> {
+    let mut client = client(&rt, rt.alloc(), 1)?;
     take(&mut client, &SNAPSHOT);
     assert_eq!(rt; issue(&mut client, 500, 10), Ok(()));
-    assert_eq!(rt; operation_sent(&mut client), Some(2));
-    let skipped = ClientTook::Applied {
-        number: 2,
-        snap: SnapOutcome::Skipped {
-            base: 1,
-            cause: NoBase::NeverHeld,
-        },
+    let game = Applied {
+        number: 5,
+        game: true,
+        snap: SnapOutcome::NoSnap,
     };
-    assert_eq!(rt; take(&mut client, &DELTA_SNAPSHOT), skipped);
-    assert_eq!(rt; issue(&mut client, 520, 10), Ok(()));
-    assert_eq!(rt; operation_sent(&mut client), Some(3));
-    assert_eq!(rt; newest_of(&client), 1);
-    assert_eq!(rt; time_of(&client, 1), Some(1000));
-    assert_eq!(rt; time_of(&client, 2), None);
+    assert_eq!(rt; take(&mut client, &GAME), ClientTook::Applied(game));
+    assert_eq!(rt; (newest_of(&client), time_of(&client, 1)), (0, None));
+    // the end stands where moves would
+    assert_eq!(rt; operation_sent(&mut client, 500), Some(5));
+    assert_eq!(rt; operation_sent(&mut client, 501), Some(3));
     Ok(())
 }
 
@@ -215,10 +246,7 @@ type Row = (&'static [u8], usize, ClientTook);
 
 /// Datagrams that a client takes one after the other. The pieces are of message 5, but for one of message 0.
 fn hostile() -> [Row; 13] {
-    let nothing = ClientTook::Applied {
-        number: 2,
-        snap: SnapOutcome::NoSnap,
-    };
+    let nothing = applied(2, SnapOutcome::NoSnap);
     let bad = Illegible::BadOp(0);
     [
         (&[1, 2, 3], 3, ClientTook::Runt),
@@ -284,25 +312,14 @@ fn takes_are_printed(rt: HostRuntime) {
     took_prints(&rt, alloc, 15, op, b" client 15 illegible op 255\n");
     let end = ClientTook::Illegible(Illegible::Bits(ReadError::End));
     took_prints(&rt, alloc, 1, end, b" client 1 illegible end\n");
-    let nothing = ClientTook::Applied {
-        number: 2,
-        snap: SnapOutcome::NoSnap,
-    };
+    let nothing = applied(2, SnapOutcome::NoSnap);
     took_prints(&rt, alloc, 0, nothing, b" client 0 applied 2\n");
-    let accepted = ClientTook::Applied {
-        number: 40,
-        snap: SnapOutcome::Accepted { base: 39 },
-    };
+    let accepted = applied(40, SnapOutcome::Accepted { base: 39 });
     let lines = b" client 7 applied 40\n+ accepted 40 base 39\n";
     took_prints(&rt, alloc, 7, accepted, lines);
-    let skipped = ClientTook::Applied {
-        number: 40,
-        snap: SnapOutcome::Skipped {
-            base: 8,
-            cause: NoBase::NeverHeld,
-        },
-    };
-    let lines = b" client 0 applied 40\n+ skipped 40 base 8 neverheld\n";
+    let cause = NoBase::EntitiesGone(300);
+    let skipped = applied(40, SnapOutcome::Skipped { base: 8, cause });
+    let lines = b" client 0 applied 40\n+ skipped 40 base 8 entitiesgone 300\n";
     took_prints(&rt, alloc, 0, skipped, lines);
 }
 

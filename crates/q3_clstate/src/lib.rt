@@ -6,6 +6,8 @@ pub mod applied;
 mod holding;
 pub mod print;
 pub mod state;
+#[cfg(test)]
+mod tests;
 
 pub use applied::{Applied, SnapOutcome};
 pub use print::print_applied;

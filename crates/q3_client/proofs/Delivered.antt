@@ -1,0 +1,18 @@
+-- The lines of a delivery of what was applied.
+use Rattle.std.proofs.Common.{◌≡◌, ℕ, List, [], ◌∷◌, ◌++◌, codes, decimal, ap, ◌∙◌}
+use Rattle.std.specs.List.{concat}
+use Rattle.std.proofs.lemmas.List.{append-nil}
+use Rattle.std.proofs.lemmas.List.Folds.{concat-append}
+use Rattle.q3_clstate.specs.declared.applied.Applied.{Applied}
+use Rattle.q3_clstate.specs.Report.{applied_text}
+use Rattle.q3_client.specs.declared.client.ClientTook.TheVariants as took
+use Rattle.q3_client.specs.Report.{took_text, client_text}
+
+-- the rest of the delivery's line, and behind it that of the snapshot
+pub delivered_lines : (c : ℕ) (applied : Applied)
+    → client_text c (took.Applied applied)
+    ≡ concat (codes " client " ∷ decimal c ∷ codes " applied " ∷ decimal applied.number ∷ codes "\n" ∷ []) ++ applied_text applied
+delivered_lines c applied =
+    let line = codes " client " ∷ decimal c ∷ codes " applied " ∷ decimal applied.number ∷ codes "\n" ∷ [] in
+    ap (λ (text : List ℕ). codes " client " ++ (decimal c ++ text)) (append-nil (took_text (took.Applied applied)))
+    ∙ (concat-append line (applied_text applied ∷ []) ∙ ap (λ (text : List ℕ). concat line ++ text) (append-nil (applied_text applied)))

@@ -1,0 +1,230 @@
+//! Messages with bytes worked by hand, by the plain code, entity widths 0, 8, -16 and player widths 0, 16, in a ring of 512.
+
+use super::*;
+use q3_bits::{Code, Overflow, ReadError, Writer};
+use q3_fields::Table;
+use q3_memory::MemSink;
+use q3_profile::Profile;
+use q3_rings::NoBase;
+use q3_svmsg::Illegible;
+use std::alloc::Global;
+use std::process::Abort;
+use std::test::*;
+
+/// A gamestate: the server's id, and a baseline of entity 6, whose field 1 is 9.
+const GAME: &[u8] =
+    b"\0\0\0\0\x02\0\0\0\0\x03\x01\0\\sv_serverid\\1\0\x04\x06\x28\xe0\x04\x04\0\0\0\0\0\0\0\0\x04";
+
+/// A snapshot with no base whose one entity is as the baseline of entity 6.
+const AS_BASELINE: &[u8] = b"\0\0\0\0\x07\xe8\x03\0\0\0\0\0\0\x0c\xe0\x7f\x04";
+
+/// A state to which no message was applied.
+fn new_state(rt: &impl Abort, alloc: Global) -> ClState {
+    let profile = Profile {
+        code: Code::plain(alloc).expect(rt, "memory"),
+        entity: Table::of(&[0, 8, -16]).expect(rt, "a table"),
+        player: Table::of(&[0, 16]).expect(rt, "a table"),
+        server_ring: 4096,
+        parse_ring: 512,
+        protocol: 68,
+        mark: 0,
+    };
+    ClState::new(alloc, &profile).expect(rt, "memory")
+}
+
+/// A snapshot of the time 1000 at a distance from its base, whose entities it has.
+fn unchanged(distance: u8) -> [u8; 16] {
+    [
+        0, 0, 0, 0, 7, 0xe8, 3, 0, 0, distance, 0, 0, 0, 0xfe, 0x47, 0,
+    ]
+}
+
+/// A snapshot of the time 1000 at a distance from its base, with an entity, below 128, whose field 1 has this word.
+fn changed(distance: u8, number: u8, word: u8) -> [u8; 20] {
+    [
+        0,
+        0,
+        0,
+        0,
+        7,
+        0xe8,
+        3,
+        0,
+        0,
+        distance,
+        0,
+        0,
+        0,
+        number.wrapping_mul(2),
+        0x50,
+        0xc0,
+        word,
+        0xff,
+        0x23,
+        0,
+    ]
+}
+
+/// Writes a snapshot with no base, and 200 entities.
+fn write_crowd(w: &mut Writer) -> Result<(), Overflow> {
+    w.put_all(&[(0, 32), (7, 8), (1000, 32), (0, 32), (0, 1)])?;
+    for number in 0..200 {
+        w.put_all(&[(number, 10), (0, 1), (0, 1)])?;
+    }
+    w.put_all(&[(1023, 10), (8, 8)])
+}
+
+/// Applies a message without a gamestate, and checks what became of its snapshot.
+fn check(rt: &impl Abort, state: &mut ClState, number: u32, message: &[u8], snap: SnapOutcome) {
+    let applied = Applied {
+        number,
+        game: false,
+        snap,
+    };
+    assert_eq!(rt; state.apply(number, message), Ok(applied));
+    assert_eq!(rt; state.number(), number);
+}
+
+/// Checks that a snapshot is held, by its number, how many entities it has, and field 1 of the last of them.
+fn check_view(rt: &impl Abort, state: &ClState, number: u32, count: usize, word: u32) {
+    let Some(view) = state.view(number) else {
+        assert!(rt; false, "no snapshot {number}");
+        return;
+    };
+    assert_eq!(rt; (view.number, view.time), (number, 1_000));
+    assert_eq!(rt; view.entities.head.len(), count);
+    if let Some(last) = view.entities.head.last() {
+        assert_eq!(rt; last.words[1], word);
+    }
+}
+
+/// Checks the age of the snapshot in the place of its number.
+fn check_age(rt: &impl Abort, state: &ClState, number: u8, age: u64) {
+    let Some(held) = state.held(number % 32) else {
+        assert!(rt; false, "nothing under {number}");
+        return;
+    };
+    assert_eq!(rt; (held.head.number, held.age), (u32::from(number), age));
+}
+
+/// What a state has: its number, whether it has a gamestate, and the newest number accepted.
+fn numbers(state: &ClState) -> (u32, bool, u32) {
+    (state.number(), state.has_game(), state.newest())
+}
+
+#[test]
+fn snapshots_are_read_against_what_is_held(rt: HostRuntime) -> Result<(), Fail> {
+    let mut state = new_state(&rt, rt.alloc());
+    assert_eq!(rt; numbers(&state), (0, false, 0));
+    assert_eq!(rt; state.profile().parse_ring, 512);
+    assert!(rt; state.view(0).is_none() && state.held(0).is_none());
+    let accepted = |base| SnapOutcome::Accepted { base };
+    let skipped = |base, cause| SnapOutcome::Skipped { base, cause };
+    check(&rt, &mut state, 1, &changed(0, 5, 7), accepted(0));
+    check(&rt, &mut state, 2, &changed(1, 6, 3), accepted(1));
+    check_view(&rt, &state, 1, 1, 7);
+    check_view(&rt, &state, 2, 2, 3);
+    check_age(&rt, &state, 1, 3);
+    // what is skipped, stale or not legible leaves what is held
+    let never = NoBase::NeverHeld;
+    check(&rt, &mut state, 3, &changed(3, 6, 4), skipped(0, never));
+    check(&rt, &mut state, 4, &changed(1, 6, 4), skipped(3, never));
+    check(&rt, &mut state, 5, b"\0\0\0\0\x08\0", SnapOutcome::NoSnap);
+    check(&rt, &mut state, 2, &changed(0, 6, 4), SnapOutcome::Stale);
+    check(&rt, &mut state, 1, &changed(1, 6, 4), SnapOutcome::Stale);
+    let bad = Illegible::BadOp(9);
+    assert_eq!(rt; state.apply(6, b"\0\0\0\0\x09\x08"), Err(bad));
+    assert_eq!(rt; numbers(&state), (1, false, 2));
+    check_view(&rt, &state, 2, 2, 3);
+    check_age(&rt, &state, 1, 3);
+    // 33 stands where 1 was
+    check(&rt, &mut state, 33, &unchanged(31), accepted(2));
+    check_view(&rt, &state, 33, 2, 3);
+    let overwritten = NoBase::Overwritten(33);
+    check(&rt, &mut state, 34, &unchanged(33), skipped(1, overwritten));
+    assert_eq!(rt; numbers(&state), (34, false, 33));
+    Ok(())
+}
+
+#[test]
+fn base_whose_entities_are_gone_is_not_held(rt: HostRuntime) -> Result<(), Fail> {
+    let mut state = new_state(&rt, rt.alloc());
+    let code = Code::plain(rt.alloc()).expect(&rt, "memory");
+    let mut w = Writer::new(&code, 16_384);
+    assert_eq!(rt; write_crowd(&mut w), Ok(()));
+    let accepted = |base| SnapOutcome::Accepted { base };
+    check(&rt, &mut state, 1, w.bytes(), accepted(0));
+    check(&rt, &mut state, 2, w.bytes(), accepted(0));
+    check_age(&rt, &state, 1, 400);
+    check_age(&rt, &state, 2, 200);
+    let gone = SnapOutcome::Skipped {
+        base: 1,
+        cause: NoBase::EntitiesGone(400),
+    };
+    check(&rt, &mut state, 3, &unchanged(2), gone);
+    check(&rt, &mut state, 4, &unchanged(2), accepted(2));
+    check_age(&rt, &state, 4, 200);
+    assert!(rt; state.view(2).is_none() && state.view(4).is_some());
+    Ok(())
+}
+
+#[test]
+fn gamestate_ends_what_was_held(rt: HostRuntime) -> Result<(), Fail> {
+    let mut state = new_state(&rt, rt.alloc());
+    let accepted = SnapOutcome::Accepted { base: 0 };
+    check(&rt, &mut state, 8, AS_BASELINE, accepted);
+    check_view(&rt, &state, 8, 1, 0);
+    let applied = Applied {
+        number: 9,
+        game: true,
+        snap: SnapOutcome::NoSnap,
+    };
+    assert_eq!(rt; state.apply(9, GAME), Ok(applied));
+    assert_eq!(rt; numbers(&state), (9, true, 0));
+    assert!(rt; state.view(8).is_none() && state.held(8).is_none());
+    let skipped = SnapOutcome::Skipped {
+        base: 8,
+        cause: NoBase::NeverHeld,
+    };
+    check(&rt, &mut state, 10, &unchanged(2), skipped);
+    check(&rt, &mut state, 11, AS_BASELINE, accepted);
+    check_view(&rt, &state, 11, 1, 9);
+    let end = Illegible::Bits(ReadError::End);
+    assert_eq!(rt; state.apply(12, &GAME[..40]), Err(end));
+    check_view(&rt, &state, 11, 1, 9);
+    assert_eq!(rt; numbers(&state), (11, true, 11));
+    Ok(())
+}
+
+/// Prints what became of message 40 without a gamestate, which gives this text.
+fn prints(rt: &impl Abort, alloc: Global, snap: SnapOutcome, text: &[u8]) {
+    let applied = Applied {
+        number: 40,
+        game: false,
+        snap,
+    };
+    let mut out = MemSink::new(alloc, 128, &[]).expect(rt, "memory");
+    assert_eq!(rt; print_applied(&applied, &mut out), Ok(()));
+    assert_eq!(rt; out.bytes(), text);
+}
+
+/// Prints what became of a snapshot whose base, 8, isn't held, which gives this text.
+fn skipped_prints(rt: &impl Abort, alloc: Global, cause: NoBase, text: &[u8]) {
+    let skipped = SnapOutcome::Skipped { base: 8, cause };
+    prints(rt, alloc, skipped, text);
+}
+
+#[test]
+fn outcomes_are_printed(rt: HostRuntime) {
+    let alloc = rt.alloc();
+    prints(&rt, alloc, SnapOutcome::NoSnap, b"");
+    let accepted = SnapOutcome::Accepted { base: 39 };
+    prints(&rt, alloc, accepted, b"+ accepted 40 base 39\n");
+    prints(&rt, alloc, SnapOutcome::Stale, b"+ stale 40\n");
+    let line = b"+ skipped 40 base 8 neverheld\n";
+    skipped_prints(&rt, alloc, NoBase::NeverHeld, line);
+    let line = b"+ skipped 40 base 8 overwritten 72\n";
+    skipped_prints(&rt, alloc, NoBase::Overwritten(72), line);
+    let line = b"+ skipped 40 base 8 entitiesgone 257\n";
+    skipped_prints(&rt, alloc, NoBase::EntitiesGone(257), line);
+}
