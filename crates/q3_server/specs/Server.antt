@@ -184,6 +184,10 @@ next_frames map frames c slot = build_at frames c (next_snapshot map slot)
 abbrev pub next_built : MapState → FramesState → ℕ → SlotState → Built
 next_built map frames c slot = built_of (base_of frames c (slot.sending.number + 1) slot.delta) (next_snapshot map slot)
 
+-- and once its frame was built
+abbrev pub begun_next : MapState → FramesState → ℕ → SlotState → Built
+begun_next map frames c slot = next_built map (next_frames map frames c slot) c slot
+
 -- the bits of a message; there are no baselines
 abbrev pub built_bits : Profile → Built → List Bool
 built_bits profile built = message_text profile no_lines (option_map base_from built.base) built.message
@@ -234,7 +238,7 @@ most_placed = 2 ^ 62
 abbrev pub emit_new : Profile → MapState → FramesState → ℕ → SlotState → SlotEmission
 emit_new profile map frames c slot =
     if nat_le sequence_end (slot.sending.number + 1) || nat_lt most_placed frames.placed then nothing slot frames emitted.SequenceEnd
-    else emit_built profile slot (next_frames map frames c slot) (next_built map (next_frames map frames c slot) c slot)
+    else emit_built profile slot (next_frames map frames c slot) (begun_next map frames c slot)
 
 -- what is left of a message goes before another is begun
 abbrev pub emit_slot : Profile → MapState → FramesState → ℕ → SlotState → Option UnderWay → SlotEmission

@@ -27,7 +27,7 @@ use Rattle.q3_rings.specs.Rings.{accept_at}
 use Rattle.q3_rings.specs.Accepted.{AcceptedFrom}
 use Rattle.q3_clstate.specs.State.{AppliedState}
 use Rattle.q3_server.specs.Built.{Built, IsHeld, IsArea, AreHeld, IsSnapshot, IsNear, IsBuilt, built_of}
-use Rattle.q3_server.specs.Server.{MapState, SlotState, new_slot, next_snapshot, next_frames, next_built, built_bytes}
+use Rattle.q3_server.specs.Server.{MapState, SlotState, new_slot, next_snapshot, begun_next, built_bytes}
 use Rattle.q3_server.specs.Taking.{last_run_of, last_time, runs}
 use Rattle.q3_client.specs.Client.{ClientState, new_client}
 use Rattle.circular_buffer.specs.Buffer.{keep_last}
@@ -175,10 +175,6 @@ next_is_snapshot profile map slot time entities fits player area =
       entities = AreHeld-take profile most_entities map.entities entities;
       few = few_taken most_entities map.entities;
     }
-
--- the message that a client's slot begins next, once its frame was built
-abbrev pub begun_next : MapState → FramesState → ℕ → SlotState → Built
-begun_next map frames c slot = next_built map (next_frames map frames c slot) c slot
 
 -- what is known of its base: it is near, it was built, and its number is the one that was asked for
 abbrev pub BaseIs : ℕ → ℕ → List Built → Snapshot → Type 0

@@ -20,7 +20,7 @@ use Rattle.q3_ring.specs.Places.{most_places, no_places}
 use Rattle.q3_frames.specs.Frames.{Frame, FramesState, build_at}
 use Rattle.q3_clstate.specs.State.{AppliedState}
 use Rattle.q3_server.specs.Built.{Built, IsHeld, IsArea, AreHeld, IsSnapshot, IsBuilt}
-use Rattle.q3_server.specs.Server.{MapState, SlotState, ServerState, places, slot_at, with_slot, is_of, new_slot, with_player, with_area, next_snapshot, next_frames, built_bytes}
+use Rattle.q3_server.specs.Server.{MapState, SlotState, ServerState, places, slot_at, with_slot, is_of, new_slot, with_player, with_area, next_snapshot, next_frames, begun_next, built_bytes}
 use Rattle.q3_client.specs.Client.{ClientState, new_client}
 use Rattle.q3_client.specs.Moves.{issue, asks_delta}
 use Rattle.q3_client.specs.Sending.{said_bytes, next_message as next_said}
@@ -33,7 +33,7 @@ use Rattle.q3_world.proofs.OnePlace.{set_there, OnlyAt-set, OnlyAt-same, DifferA
 use Rattle.q3_world.proofs.Growth.{HistoryGrows, HistoryGrows-same, HistoryGrows-built, HistoryGrows-accepted, HistoryGrows-said, HistoryGrows-issued, HistoryGrows-run, HistoryGrows-joined, Grow-at, noted_same, AllSent, all_sent_grow, each_more}
 use Rattle.q3_world.proofs.Bases.{KeepsFrames-built, KeepsFrames-same, frames_begun, frames_too_long}
 use Rattle.q3_world.proofs.Found.{AllFound, found_changed, found_joined}
-use Rattle.q3_world.proofs.Clients.{no_client, a_client, a_slot, KeepsSlot-new, KeepsSlot-given, KeepsSlot-came, KeepsSlot-handed, KeepsClient-new, KeepsClient-took, KeepsClient-handed, KeepsClient-issued, KeepsClient-begun, client_begun, begun_next, next_base, slot_begun, KeepsSlot-begun, TakesBuilt-new, TakesSaid-new, AreAsked-new, TakesBuilt-same, TakesSaid-same, TakesBuilt-more, TakesSaid-more, TakesSaid-issued, BaseIs, AreAsked-same, AreAsked-accepted, AreAsked-said, AreAsked-ran, AreAsked-built}
+use Rattle.q3_world.proofs.Clients.{no_client, a_client, a_slot, KeepsSlot-new, KeepsSlot-given, KeepsSlot-came, KeepsSlot-handed, KeepsClient-new, KeepsClient-took, KeepsClient-handed, KeepsClient-issued, KeepsClient-begun, client_begun, next_base, slot_begun, KeepsSlot-begun, TakesBuilt-new, TakesSaid-new, AreAsked-new, TakesBuilt-same, TakesSaid-same, TakesBuilt-more, TakesSaid-more, TakesSaid-issued, BaseIs, AreAsked-same, AreAsked-accepted, AreAsked-said, AreAsked-ran, AreAsked-built}
 use Rattle.q3_world.proofs.Beginning.{handed_piece}
 use Rattle.q3_world.proofs.Held.{AreHeld-none}
 

@@ -24,7 +24,7 @@ use Rattle.q3_world.specs.declared.answer.Answer.{Answer}
 use Rattle.q3_world.specs.declared.answer.Answer.TheVariants.{Send, Deliver, ToServer}
 use Rattle.q3_world.specs.declared.made.Direction.TheVariants as direction
 use Rattle.q3_server.specs.Built.{Built, number_of}
-use Rattle.q3_server.specs.Server.{ServerState, SlotState, places, slot_at, next_snapshot, next_frames, next_built, built_bytes, most_placed}
+use Rattle.q3_server.specs.Server.{ServerState, SlotState, places, slot_at, next_snapshot, begun_next, built_bytes, most_placed}
 use Rattle.q3_server.specs.Taking.{runs}
 use Rattle.q3_client.specs.Client.{ClientState}
 use Rattle.q3_world.specs.Moves.{TimesRise, StandAmong}
@@ -57,7 +57,7 @@ BytesFollowTags = (profile : Profile) (all : List Event) → IsChecked profile �
     → StandsFor profile (kept_then profile all) (whole_then profile all)
     × (kept_answers (opening_kept profile) all ≡ answers profile (opening profile) all)
 
--- what may become of a snapshot: it is accepted, or the entities of its base are gone
+-- what may become of a snapshot, where a message has one: it is accepted, or the entities of its base are gone
 abbrev pub MayBecome : SnapOutcome → Type 0
 MayBecome Stale = ⊥
 MayBecome (Skipped base NeverHeld) = ⊥
@@ -111,8 +111,8 @@ BasesWereAccepted = (profile : Profile) (all : List Event) (c : ℕ) → IsCheck
     → All (λ (built : Built). IfSome built.base (λ base. WasBuilt (history_then profile all c).built base × Contains (history_then profile all c).accepted base))
     (history_then profile all c).built
 
--- what a client holds is told by all that it accepted: a view lends exactly the snapshot accepted under its number, as long as its
--- entities are there
+-- what a client holds is told by all that it accepted: under a number exactly the snapshot accepted under it, as long as no later one
+-- stands in its place and its entities are there
 abbrev pub HeldIsAccepted : Type 0
 HeldIsAccepted = (profile : Profile) (all : List Event) (c number : ℕ) (client : ClientState) → IsChecked profile → AllByRecursion IsReplayEvent all
     → c < places → client_at (kept_then profile all).ends c ≡ Some client
@@ -208,7 +208,7 @@ serve_and_deliver c first count = replicate count (events.Serve c) ++ deliveries
 
 -- the message that a server begins next for a client
 abbrev pub built_next : ServerState → ℕ → SlotState → Built
-built_next server c slot = next_built server.map (next_frames server.map server.frames c slot) c slot
+built_next server c slot = begun_next server.map server.frames c slot
 
 -- how many datagrams it takes
 abbrev pub datagrams_of : Profile → ServerState → ℕ → SlotState → ℕ

@@ -113,8 +113,8 @@ pub fn bases_were_accepted()
     bytes_follow_tags();
 }
 
-/// What a client holds is told by all that it accepted: a view lends exactly the snapshot accepted under its number, as long as
-/// its entities are there.
+/// What a client holds is told by all that it accepted: under a number exactly the snapshot accepted under it, as long as no later
+/// one stands in its place and its entities are there.
 pub fn held_is_accepted()
     ensures { HeldIsAccepted }
 {
