@@ -1,6 +1,6 @@
 -- A datagram arrives by its bytes as by its tag.
 use Rattle.std.proofs.Common.{◌≡◌, ℕ, ◌-◌, ◌^◌, ◌<◌, Bool, true, false, List, [], ◌∷◌, length, Option, Some, None, Result, Ok, refl, sym, ap, subst, ◌∙◌, inl, inr, arith, lit<}
-use Rattle.std.specs.Prelude.{slice_get, All, Contains, ◌⊎◌, IfSome}
+use Rattle.std.specs.Prelude.{slice_get, All, Contains, ◌⊎◌, IfSome, if◌then◌else◌}
 use Rattle.std.specs.Option.{option_map}
 use Rattle.std.proofs.lemmas.List.{append-nil}
 use Rattle.std.proofs.lemmas.List.Elements.{All-nil, All-get_or}
@@ -206,10 +206,10 @@ holds_piece profile whole c number n slot client took built cited lt had does ga
           let taken = came.taken in
           rw (came.answer, message_is)
           (elim (applies_built cited.rings state history.accepted n built.base snapshot joined.stands (omega (arith, newer, below)) known) [
-            | inl yes ↦ rw yes.1 (Holds-taken profile whole c client g (record state { number = n; held = accept_at state.held snapshot }) true (Some snapshot) lt had.client_is does.side refl refl
+            | inl accepted ↦ rw accepted.1 (Holds-taken profile whole c client g (record state { number = n; held = accept_at state.held snapshot }) true (Some snapshot) lt had.client_is does.side refl refl
                 (λ takes. TakesBuilt-accepted cited.rings profile client history.built history.accepted g n snapshot (taken ∙ sym number_is) gathers is.are.few named_is.was
                 (omega (arith, newer, number_is)) takes) holds)
-            | inr no ↦ rw no.2 (Holds-taken profile whole c client g (record state { number = n }) false None lt had.client_is does.side refl refl
+            | inr skipped ↦ rw skipped.2 (Holds-taken profile whole c client g (record state { number = n }) false None lt had.client_is does.side refl refl
                 (λ takes. TakesBuilt-passed profile client history.built history.accepted g n (omega (arith, taken, newer)) gathers takes) holds)
           ])
     ]
@@ -404,8 +404,8 @@ heard_at profile whole number tag from cited is holds =
           ∙ ap (λ (t : hears.SlotTaken). hears.taken_at whole.ends.server c t)
           (heard_alike profile slot c took tag.number said cited.hears (keeps.of_client.said (tag.number - 1) empty_message within) does from)));
       holds = holds_heard profile whole c number tag.number from slot took said is.0 at (is.1 ∙ sym keeps.of_slot.host) does gathers
-          (consecutive_issued said.moves history.issued (keeps.of_client.carried (tag.number - 1) empty_message within)) had.1.joined.asked.slot
-          (All-get_or (λ (s : Said). s.delta ≡ true → WasAccepted history.accepted s.acknowledged) history.said (tag.number - 1) empty_message within had.1.joined.asked.said) holds;
+          (consecutive_issued said.moves history.issued (keeps.of_client.carried (tag.number - 1) empty_message within)) had.1.joined.asked.delta
+          (All-get_or (λ (s : Said). s.delta ≡ true → WasAccepted history.accepted s.acknowledged) history.said (tag.number - 1) empty_message within had.1.joined.asked.asks) holds;
     })
 
 -- ---- every delivery

@@ -15,7 +15,7 @@ use Rattle.q3_world.specs.StandsFor.{snapshot_in, WasBuilt, AreOfBuilt, KeepsFra
 use Rattle.q3_world.proofs.OnePlace.{set_there, OnlyAt-set}
 use Rattle.q3_world.proofs.Growth.{was_built_more}
 
-some_one : (x y : Snapshot) → Some x ≡ Some y → x ≡ y
+pub some_one : (x y : Snapshot) → Some x ≡ Some y → x ≡ y
 some_one x y e = cc
 
 -- of what was built under one number there is one

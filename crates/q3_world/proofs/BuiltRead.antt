@@ -1,6 +1,6 @@
 -- A message that was built is read back from its bytes.
 use Rattle.std.proofs.Common.{◌≡◌, ℕ, zero, suc, ◌+◌, ◌-◌, ◌*◌, ◌<◌, Bool, true, false, List, [], ◌∷◌, ◌++◌, length, map, get_or, replicate, Option, Some, None, Result, Ok, Err, refl, sym, ap, subst, ◌∙◌, inl, inr, arith, lit<}
-use Rattle.std.specs.Prelude.{◌==◌, ◌⊎◌, IfSome, is_ok, option_map}
+use Rattle.std.specs.Prelude.{◌==◌, ◌⊎◌, IfSome, is_ok, option_map, if◌then◌else◌}
 use Rattle.std.specs.Result.{result_ok}
 use Rattle.std.proofs.lemmas.List.{length-replicate}
 use Rattle.std.proofs.lemmas.List.Elements.{All-nil, All-head, All-tail}
@@ -29,7 +29,8 @@ use Rattle.q3_server.specs.Built.{Built, number_of, message_of, IsSnapshot, IsNe
 use Rattle.q3_server.specs.Server.{built_bits}
 use Rattle.q3_world.specs.MessageLaws.{AreBuilt, HoldsThis, BuiltIsRead}
 use Rattle.q3_world.proofs.Applying.{has_base_is}
-use Rattle.q3_world.proofs.Knowing.{both_some}
+use Rattle.q3_world.proofs.Bases.{if_some_then}
+use Rattle.q3_world.proofs.Knowing.{three_some}
 
 -- no baseline is set
 none_at : {X : Type 0} (count number : ℕ) (no_line : Option X) → no_line ≡ None → get_or (replicate count no_line) number None ≡ None
@@ -233,7 +234,9 @@ built_is_read holds law skips profile codec held n built is are known =
     let rest = replicate (8 * message_length (length bits) - length bits) false in
     let message_is : built.message ≡ message_of base snapshot = ap (λ (b : Built). b.message) is.is in
     let received_so = text_is_received profile law skips codec held n base snapshot rest is.are is.number are
-    (both_some base (IsNear n) (λ b. IsSnapshot profile b × HoldsThis held b) is.base_is known) in
+    (three_some base (IsNear n) (IsSnapshot profile) (HoldsThis held) is.base_is
+    (if_some_then base (λ b. IsSnapshot profile b × HoldsThis held b) (IsSnapshot profile) (λ b one. one.0) known)
+    (if_some_then base (λ b. IsSnapshot profile b × HoldsThis held b) (HoldsThis held) (λ b one. one.1) known)) in
     ap (message_at profile (context_of held no_lines) n) (holds bits)
     ∙ subst (λ (m : Message). value_of (message_after profile (context_of held no_lines) n (message_text profile no_lines (option_map base_from base) m ++ rest))
     ≡ value_of (read_so held m rest)) (sym message_is) (ap value_of received_so)

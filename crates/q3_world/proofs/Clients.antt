@@ -381,7 +381,7 @@ TakesBuilt-new laws profile challenge qport dup chan ring =
     }
 
 pub AreAsked-new : (challenge qport : ℕ) (address : Address) → AreAsked (new_slot challenge qport address) [] [] []
-AreAsked-new challenge qport address = record { said = All-nil _; slot = inl refl; bases = All-nil _ }
+AreAsked-new challenge qport address = record { asks = All-nil _; delta = inl refl; bases = All-nil _ }
 
 pub TakesSaid-new : (profile : Profile) (challenge qport : ℕ) (address : Address) → EndsGather → TakesSaid profile (new_slot challenge qport address) [] [] []
 TakesSaid-new profile challenge qport address chan =
@@ -531,7 +531,7 @@ TakesBuilt-accepted laws profile client built accepted g n snapshot taken gather
 -- another state of the slot that writes against the same
 pub AreAsked-same : (slot next : SlotState) (said : List Said) (built : List Built) (accepted : List Snapshot) → next.delta ≡ slot.delta
     → AreAsked slot said built accepted → AreAsked next said built accepted
-AreAsked-same slot next said built accepted delta asked = record { said = asked.said; slot = rw delta asked.slot; bases = asked.bases }
+AreAsked-same slot next said built accepted delta asked = record { asks = asked.asks; delta = rw delta asked.delta; bases = asked.bases }
 
 -- a snapshot more was accepted
 pub AreAsked-accepted : (slot : SlotState) (said : List Said) (built : List Built) (accepted : List Snapshot) (snapshot : Snapshot)
@@ -539,9 +539,9 @@ pub AreAsked-accepted : (slot : SlotState) (said : List Said) (built : List Buil
 AreAsked-accepted slot said built accepted snapshot asked =
     let more = accepted ++ snapshot ∷ [] in
     record {
-      said = All-weaker (λ (s : Said). s.delta ≡ true → WasAccepted accepted s.acknowledged) (λ (s : Said). s.delta ≡ true → WasAccepted more s.acknowledged)
-          (λ s so asks. was_accepted_more accepted (snapshot ∷ []) s.acknowledged (so asks)) said asked.said;
-      slot = elim asked.slot [ inl none ↦ inl none | inr was ↦ inr (was_accepted_more accepted (snapshot ∷ []) slot.delta was) ];
+      asks = All-weaker (λ (s : Said). s.delta ≡ true → WasAccepted accepted s.acknowledged) (λ (s : Said). s.delta ≡ true → WasAccepted more s.acknowledged)
+          (λ s so asks. was_accepted_more accepted (snapshot ∷ []) s.acknowledged (so asks)) said asked.asks;
+      delta = elim asked.delta [ inl none ↦ inl none | inr was ↦ inr (was_accepted_more accepted (snapshot ∷ []) slot.delta was) ];
       bases = All-weaker (λ (b : Built). IfSome b.base (Contains accepted)) (λ (b : Built). IfSome b.base (Contains more))
           (λ b. if_some_then b.base (Contains accepted) (Contains more) (λ base. Contains-append_left accepted (snapshot ∷ []) base)) built asked.bases;
     }
@@ -551,15 +551,15 @@ pub AreAsked-said : (slot : SlotState) (said : List Said) (built : List Built) (
     → (next.delta ≡ true → WasAccepted accepted next.acknowledged) → AreAsked slot said built accepted → AreAsked slot (said ++ next ∷ []) built accepted
 AreAsked-said slot said built accepted next asks asked =
     record {
-      said = All-push (λ (s : Said). s.delta ≡ true → WasAccepted accepted s.acknowledged) said next asked.said asks;
-      slot = asked.slot;
+      asks = All-push (λ (s : Said). s.delta ≡ true → WasAccepted accepted s.acknowledged) said next asked.asks asks;
+      delta = asked.delta;
       bases = asked.bases;
     }
 
 -- a message was run, behind which a slot writes against another
 pub AreAsked-ran : (slot next : SlotState) (said : List Said) (built : List Built) (accepted : List Snapshot)
     → (next.delta ≡ 0) ⊎ WasAccepted accepted next.delta → AreAsked slot said built accepted → AreAsked next said built accepted
-AreAsked-ran slot next said built accepted is asked = record { said = asked.said; slot = is; bases = asked.bases }
+AreAsked-ran slot next said built accepted is asked = record { asks = asked.asks; delta = is; bases = asked.bases }
 
 -- the snapshot that was accepted under the number of one that was built is that one
 pub accepted_is_built : (built : List Built) (accepted : List Snapshot) (base : Snapshot) → All (WasBuilt built) accepted → WasBuilt built base
@@ -573,8 +573,8 @@ pub AreAsked-built : (slot next : SlotState) (said : List Said) (built : List Bu
     → AreAsked slot said built accepted → AreAsked next said (built ++ message ∷ []) accepted
 AreAsked-built slot next said built accepted n message delta were base asked =
     record {
-      said = asked.said;
-      slot = rw delta asked.slot;
+      asks = asked.asks;
+      delta = rw delta asked.delta;
       bases = All-push (λ (b : Built). IfSome b.base (Contains accepted)) built message asked.bases
           (if_some_then message.base (BaseIs n slot.delta built) (Contains accepted) (λ b known. accepted_is_built built accepted b were known.1 (asked_for b known)) base);
     }
@@ -583,7 +583,7 @@ AreAsked-built slot next said built accepted n message delta were base asked =
     asked_for b known =
         let near = known.0.some in
         let number = known.2 in
-        elim asked.slot [
+        elim asked.delta [
           | inl none ↦ absurd (omega (arith, none, near, number))
           | inr was ↦ subst (WasAccepted accepted) (sym number) was
         ]

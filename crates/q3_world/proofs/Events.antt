@@ -1,5 +1,5 @@
 -- What holds between any two events holds after each event.
-use Rattle.std.proofs.Common.{◌≡◌, ℕ, zero, suc, ◌+◌, ◌-◌, ◌^◌, ◌<◌, List, [], ◌∷◌, ◌++◌, length, get_or, replicate, Bool, true, Option, Some, None, refl, sym, ap, subst, ◌∙◌, arith, lit<}
+use Rattle.std.proofs.Common.{◌≡◌, ℕ, zero, suc, ◌+◌, ◌-◌, ◌^◌, ◌<◌, ◌≤◌, List, [], ◌∷◌, ◌++◌, length, get_or, replicate, Bool, true, Option, Some, None, refl, sym, ap, subst, ◌∙◌, arith, lit<}
 use Rattle.std.specs.Prelude.{slice_set, position, All, Contains, ◌⊎◌}
 use Rattle.std.proofs.lemmas.List.{get_or-replicate, set-get_or}
 use Rattle.std.proofs.lemmas.List.Elements.{All-append}

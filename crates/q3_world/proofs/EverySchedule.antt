@@ -239,10 +239,10 @@ outcome profile whole c n slot client built cited had newer named_is =
     let of_ring : (snap : SnapOutcome) → outcome_of state.held.ring history.accepted built.base ≡ snap → outcome_of profile.parse_ring history.accepted built.base ≡ snap =
     λ snap so. ap (λ (r : ℕ). outcome_of r history.accepted built.base) (sym ring) ∙ so in
     elim (applies_built cited.rings state history.accepted n built.base snapshot takes.stands above known) [
-      | inl yes ↦
-          let applied : apply_message state n built.message ≡ accepts state n (number_of built.base) snapshot = ap (λ m. apply_message state n m) message_is ∙ yes.1 in
+      | inl accepted ↦
+          let applied : apply_message state n built.message ≡ accepts state n (number_of built.base) snapshot = ap (λ m. apply_message state n m) message_is ∙ accepted.1 in
           record {
-            answer = ap (λ (a : Application). a.answer) applied ∙ ap (λ (snap : SnapOutcome). answer_with n snap) (sym (of_ring (Accepted (number_of built.base)) yes.0));
+            answer = ap (λ (a : Application). a.answer) applied ∙ ap (λ (snap : SnapOutcome). answer_with n snap) (sym (of_ring (Accepted (number_of built.base)) accepted.0));
             shows = λ base so. (
               snapshot,
               ap (λ (a : Application). view_at a.state.held a.state.held.newest) applied
@@ -251,11 +251,11 @@ outcome profile whole c n slot client built cited had newer named_is =
               named_is.was,
             );
           }
-      | inr no ↦
-          let applied : apply_message state n built.message ≡ passes state n (Skipped (number_of built.base) (EntitiesGone no.0)) = ap (λ m. apply_message state n m) message_is ∙ no.2 in
+      | inr skipped ↦
+          let applied : apply_message state n built.message ≡ passes state n (Skipped (number_of built.base) (EntitiesGone skipped.0)) = ap (λ m. apply_message state n m) message_is ∙ skipped.2 in
           record {
-            answer = ap (λ (a : Application). a.answer) applied ∙ ap (λ (snap : SnapOutcome). answer_with n snap) (sym (of_ring (Skipped (number_of built.base) (EntitiesGone no.0)) no.1));
-            shows = λ base so. absurd (skipped_not_accepted (number_of built.base) no.0 base (sym (ap (λ (a : Application). a.answer.snap) applied) ∙ so));
+            answer = ap (λ (a : Application). a.answer) applied ∙ ap (λ (snap : SnapOutcome). answer_with n snap) (sym (of_ring (Skipped (number_of built.base) (EntitiesGone skipped.0)) skipped.1));
+            shows = λ base so. absurd (skipped_not_accepted (number_of built.base) skipped.0 base (sym (ap (λ (a : Application). a.answer.snap) applied) ∙ so));
           }
     ]
   where

@@ -61,7 +61,7 @@ holds_this laws held began took base stands were was snapshot viewed =
 
 -- ---- the base of a message
 
-three_some : {X : Type 0} (o : Option X) (P Q R : X → Type 0) → IfSome o P → IfSome o Q → IfSome o R → IfSome o (λ x. P x × Q x × R x)
+pub three_some : {X : Type 0} (o : Option X) (P Q R : X → Type 0) → IfSome o P → IfSome o Q → IfSome o R → IfSome o (λ x. P x × Q x × R x)
 three_some None P Q R p q r = tt
 three_some (Some x) P Q R p q r = (p, q, r)
 

@@ -306,7 +306,7 @@ shown law accepted applied bytes does profile all c t slot client is are made_so
     some_one : {some other : SlotState} → Some some ≡ Some other → some ≡ other
     some_one same = cc
 
-pub served_is_shown : BytesFollowTags → InOrderIsAccepted → AppliedWasBuilt → MessageIsBytes → ServedIsShown
+pub served_is_shown : BytesFollowTags → InOrderIsAccepted → AppliedWasBuilt → MessageIsBytes → TaggedDoes → ServedIsShown
 served_is_shown law accepted applied bytes does profile all c slot client is are made_so found there may there_base =
     let server = (whole_then profile all).ends.server in
     let first = length (whole_then profile all).sent + 1 in

@@ -202,8 +202,8 @@ pub record TakesSaid (profile : Profile) (slot : SlotState) (said : List Said) (
 -- each snapshot against which a client asks to write others was accepted, the slot writes against none that it didn't ask for,
 -- and each base against which a message was built was accepted
 pub record AreAsked (slot : SlotState) (said : List Said) (began : List Built) (accepted : List Snapshot) : Type 0 where
-  pub said : All (λ (message : Said). message.delta ≡ true → WasAccepted accepted message.acknowledged) said
-  pub slot : (slot.delta ≡ 0) ⊎ WasAccepted accepted slot.delta
+  pub asks : All (λ (message : Said). message.delta ≡ true → WasAccepted accepted message.acknowledged) said
+  pub delta : (slot.delta ≡ 0) ⊎ WasAccepted accepted slot.delta
   pub bases : All (λ (built : Built). IfSome built.base (Contains accepted)) began
 
 -- what joins the two ends of a client
