@@ -73,9 +73,9 @@ pub enum Sent {
     Message { number: u32, bytes: usize },
 }
 
-/// A client: what the messages that were applied left, with a copy of the profile, what it gathers, a place for the bytes of a
-/// message that came whole, whether the newest message's snapshot was accepted, what it sends, the moves that it issued, and places where a message is put together and written. After `new`
-/// no call takes memory.
+/// A client: what the messages that were applied left, with a copy of the profile; what it gathers, a place for the bytes of a
+/// message that came whole, whether the newest message's snapshot was accepted, what it sends, the moves that it issued, and
+/// places where a message is put together and written. After `new` no call takes memory.
 #[derive(Drop)]
 pub struct Client {
     state: ClState,
@@ -180,7 +180,7 @@ impl Client {
         }
     }
 
-    /// Whether the newest message's snapshot was accepted; and a gamestate wipes the moves.
+    /// Notes of a message that was applied whether its snapshot was accepted. A gamestate wipes the moves.
     fn note(&mut self, applied: &Applied)
         ensures { self.new ≡ record self.old { delta = is_accepted applied.now.snap; moves = moves_behind applied.now.game self.old.moves } }
     {
@@ -272,6 +272,7 @@ impl Client {
     }
 }
 
+/// Whether a snapshot was accepted.
 fn is_accepted(outcome: SnapOutcome) -> bool
     ensures { result ≡ is_accepted outcome }
 {

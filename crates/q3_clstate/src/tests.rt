@@ -15,6 +15,12 @@ use std::test::*;
 const GAME: &[u8] =
     b"\0\0\0\0\x02\0\0\0\0\x03\x01\0\\sv_serverid\\1\0\x04\x06\x28\xe0\x04\x04\0\0\0\0\0\0\0\0\x04";
 
+/// A gamestate that ends behind the baseline.
+const CUT_GAME: &[u8] = b"\0\0\0\0\x02\0\0\0\0\x03\x01\0\\sv_serverid\\1\0\x04\x06\x28\xe0\x04";
+
+/// A message with nothing in it.
+const NOTHING: &[u8] = b"\0\0\0\0\x08\0";
+
 /// A snapshot with no base whose one entity is as the baseline of entity 6.
 const AS_BASELINE: &[u8] = b"\0\0\0\0\x07\xe8\x03\0\0\0\0\0\0\x0c\xe0\x7f\x04";
 
@@ -112,37 +118,41 @@ fn numbers(state: &ClState) -> (u32, bool, u32) {
     (state.number(), state.has_game(), state.newest())
 }
 
+/// Snapshots that are applied one after the other: the message's number, the distance to the base, an entity and its word,
+/// and what becomes of it.
+fn snapshots() -> [(u32, u8, u8, u8, SnapOutcome); 8] {
+    let accepted = |base| SnapOutcome::Accepted { base };
+    let skipped = |base, cause| SnapOutcome::Skipped { base, cause };
+    [
+        (1, 0, 5, 7, accepted(0)),
+        (2, 1, 6, 3, accepted(1)),
+        (3, 3, 6, 4, skipped(0, NoBase::NeverHeld)),
+        (4, 1, 6, 4, skipped(3, NoBase::NeverHeld)),
+        (2, 0, 6, 4, SnapOutcome::Stale),
+        (1, 1, 6, 4, SnapOutcome::Stale),
+        // 33 stands where 1 was
+        (33, 31, 7, 5, accepted(2)),
+        (34, 33, 6, 4, skipped(1, NoBase::Overwritten(33))),
+    ]
+}
+
 #[test]
 fn snapshots_are_read_against_what_is_held(rt: HostRuntime) -> Result<(), Fail> {
     let mut state = new_state(&rt, rt.alloc());
     assert_eq!(rt; numbers(&state), (0, false, 0));
     assert_eq!(rt; state.profile().parse_ring, 512);
     assert!(rt; state.view(0).is_none() && state.held(0).is_none());
-    let accepted = |base| SnapOutcome::Accepted { base };
-    let skipped = |base, cause| SnapOutcome::Skipped { base, cause };
-    check(&rt, &mut state, 1, &changed(0, 5, 7), accepted(0));
-    check(&rt, &mut state, 2, &changed(1, 6, 3), accepted(1));
-    check_view(&rt, &state, 1, 1, 7);
-    check_view(&rt, &state, 2, 2, 3);
-    check_age(&rt, &state, 1, 3);
+    for (number, distance, entity, word, snap) in snapshots() {
+        let message = changed(distance, entity, word);
+        check(&rt, &mut state, number, &message, snap);
+    }
     // what is skipped, stale or not legible leaves what is held
-    let never = NoBase::NeverHeld;
-    check(&rt, &mut state, 3, &changed(3, 6, 4), skipped(0, never));
-    check(&rt, &mut state, 4, &changed(1, 6, 4), skipped(3, never));
-    check(&rt, &mut state, 5, b"\0\0\0\0\x08\0", SnapOutcome::NoSnap);
-    check(&rt, &mut state, 2, &changed(0, 6, 4), SnapOutcome::Stale);
-    check(&rt, &mut state, 1, &changed(1, 6, 4), SnapOutcome::Stale);
     let bad = Illegible::BadOp(9);
-    assert_eq!(rt; state.apply(6, b"\0\0\0\0\x09\x08"), Err(bad));
-    assert_eq!(rt; numbers(&state), (1, false, 2));
-    check_view(&rt, &state, 2, 2, 3);
-    check_age(&rt, &state, 1, 3);
-    // 33 stands where 1 was
-    check(&rt, &mut state, 33, &unchanged(31), accepted(2));
-    check_view(&rt, &state, 33, 2, 3);
-    let overwritten = NoBase::Overwritten(33);
-    check(&rt, &mut state, 34, &unchanged(33), skipped(1, overwritten));
+    assert_eq!(rt; state.apply(36, b"\0\0\0\0\x09\x08"), Err(bad));
     assert_eq!(rt; numbers(&state), (34, false, 33));
+    check_view(&rt, &state, 2, 2, 3);
+    check_view(&rt, &state, 33, 3, 5);
+    check_age(&rt, &state, 2, 5);
     Ok(())
 }
 
@@ -152,9 +162,9 @@ fn base_whose_entities_are_gone_is_not_held(rt: HostRuntime) -> Result<(), Fail>
     let code = Code::plain(rt.alloc()).expect(&rt, "memory");
     let mut w = Writer::new(&code, 16_384);
     assert_eq!(rt; write_crowd(&mut w), Ok(()));
-    let accepted = |base| SnapOutcome::Accepted { base };
-    check(&rt, &mut state, 1, w.bytes(), accepted(0));
-    check(&rt, &mut state, 2, w.bytes(), accepted(0));
+    let accepted = SnapOutcome::Accepted { base: 0 };
+    check(&rt, &mut state, 1, w.bytes(), accepted);
+    check(&rt, &mut state, 2, w.bytes(), accepted);
     check_age(&rt, &state, 1, 400);
     check_age(&rt, &state, 2, 200);
     let gone = SnapOutcome::Skipped {
@@ -162,7 +172,8 @@ fn base_whose_entities_are_gone_is_not_held(rt: HostRuntime) -> Result<(), Fail>
         cause: NoBase::EntitiesGone(400),
     };
     check(&rt, &mut state, 3, &unchanged(2), gone);
-    check(&rt, &mut state, 4, &unchanged(2), accepted(2));
+    let accepted = SnapOutcome::Accepted { base: 2 };
+    check(&rt, &mut state, 4, &unchanged(2), accepted);
     check_age(&rt, &state, 4, 200);
     assert!(rt; state.view(2).is_none() && state.view(4).is_some());
     Ok(())
@@ -182,17 +193,24 @@ fn gamestate_ends_what_was_held(rt: HostRuntime) -> Result<(), Fail> {
     assert_eq!(rt; state.apply(9, GAME), Ok(applied));
     assert_eq!(rt; numbers(&state), (9, true, 0));
     assert!(rt; state.view(8).is_none() && state.held(8).is_none());
-    let skipped = SnapOutcome::Skipped {
-        base: 8,
-        cause: NoBase::NeverHeld,
-    };
+    let cause = NoBase::NeverHeld;
+    let skipped = SnapOutcome::Skipped { base: 8, cause };
     check(&rt, &mut state, 10, &unchanged(2), skipped);
     check(&rt, &mut state, 11, AS_BASELINE, accepted);
     check_view(&rt, &state, 11, 1, 9);
+    Ok(())
+}
+
+#[test]
+fn gamestate_that_is_cut_short_changes_nothing(rt: HostRuntime) -> Result<(), Fail> {
+    let mut state = new_state(&rt, rt.alloc());
     let end = Illegible::Bits(ReadError::End);
-    assert_eq!(rt; state.apply(12, &GAME[..40]), Err(end));
-    check_view(&rt, &state, 11, 1, 9);
-    assert_eq!(rt; numbers(&state), (11, true, 11));
+    check(&rt, &mut state, 1, NOTHING, SnapOutcome::NoSnap);
+    assert_eq!(rt; state.apply(2, CUT_GAME), Err(end));
+    assert_eq!(rt; numbers(&state), (1, false, 0));
+    let accepted = SnapOutcome::Accepted { base: 0 };
+    check(&rt, &mut state, 3, AS_BASELINE, accepted);
+    check_view(&rt, &state, 3, 1, 0);
     Ok(())
 }
 
