@@ -247,8 +247,8 @@ found_at number i d entities is =
       λ k e lt. leb-false number (get_or entities k e).number ((position-Some (from_number number) entities i e is).2 k lt),
     )
 
-some_is_none : (place : ℕ) (none : Option ℕ) → none ≡ None → Some place ≡ none → ⊥
-some_is_none place none e same = absurd cc
+some_is_none : (place : ℕ) (given : Option ℕ) → given ≡ None → Some place ≡ given → ⊥
+some_is_none place given e same = absurd cc
 
 -- where none was found, all numbers are lower
 pub none_from : (number : ℕ) (entities : List EntityState) → position (from_number number) entities ≡ None → Below number (length entities) entities

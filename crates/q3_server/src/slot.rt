@@ -293,11 +293,10 @@ impl Slot {
             return Emitted::SequenceEnd;
         }
         client.fill(&self.sender, map, message);
-        build(frames, slot, message);
         let delta = client.delta;
-        let Ok((base, bytes)) = write_against(
-            frames, slot, delta, profile, message, baselines, buffer,
-        ) else {
+        build(frames, slot, message);
+        let written = write_against(frames, slot, delta, profile, message, baselines, buffer);
+        let Ok((base, bytes)) = written else {
             return Emitted::Overlong;
         };
         self.sender.start(&buffer[..bytes]);

@@ -95,9 +95,8 @@ pub(crate) fn delta_behind(before: u32, message: &ClientMessage) -> u32
     if message.moves.is_empty() {
         return before;
     }
-    if message.delta {
-        message.acknowledged
-    } else {
-        0
+    if !message.delta {
+        return 0;
     }
+    message.acknowledged
 }

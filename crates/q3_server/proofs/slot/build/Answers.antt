@@ -1,5 +1,4 @@
 use Rattle.std.proofs.Common.{◌≡◌, subst, sym, rules}
-use Rattle.q3_entity.specs.declared.state.EntityState.{EntityState}
 use Rattle.q3_entity.specs.Entities.{Rises}
 use Rattle.q3_frames.specs.Frames.{FramesState, build_at}
 use Rattle.q3_server.specs.Slots.{HoldLists, snapshot_in}
