@@ -119,12 +119,18 @@ impl Replay {
         ensures err { OnErr result (self.new ≡ self.old) }
     {
         let client = Client::new(self.alloc, &self.profile, challenge, qport, dup)?;
-        let outcome = self.server.add_client(c, challenge, qport, address);
-        if outcome.is_ok() {
-            self.clients[c as usize] = Some(client);
-            self.addresses[c as usize] = address;
+        if let Err(error) = self.server.add_client(c, challenge, qport, address) {
+            return Ok(Answer::Client {
+                c,
+                outcome: Err(error),
+            });
         }
-        Ok(Answer::Client { c, outcome })
+        self.clients[c as usize] = Some(client);
+        self.addresses[c as usize] = address;
+        Ok(Answer::Client {
+            c,
+            outcome: Ok(()),
+        })
     }
 
     fn set_entity(&mut self, state: &EntityState) -> Answer
