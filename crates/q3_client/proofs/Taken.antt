@@ -1,12 +1,12 @@
 -- What a take does with a message that came whole.
-use Rattle.std.proofs.Common.{◌≡◌, ℕ, List, Some, None, Result, Ok, Err, refl, sym, ◌∙◌}
+use Rattle.std.proofs.Common.{◌≡◌, ℕ, List, None, Result, Ok, Err, refl, sym, ◌∙◌}
 use Rattle.q3_chan.specs.Gathering.{Gathering, gathered}
 use Rattle.q3_chan.specs.declared.gatherer.Gathered.{Gathered}
 use Rattle.q3_chan.specs.declared.gatherer.Gathered.TheVariants.{Whole}
 use Rattle.q3_svmsg.specs.declared.error.Illegible.{Illegible as Cause}
 use Rattle.q3_clstate.specs.declared.applied.Applied.{Applied}
-use Rattle.q3_clstate.specs.State.{AppliedState, Application, apply_at, state_behind, answered}
-use Rattle.q3_client.specs.Client.{ClientState, Taken, take_at, applies_read, is_accepted, moves_behind}
+use Rattle.q3_clstate.specs.State.{Application, apply_at, state_behind, answered}
+use Rattle.q3_client.specs.Client.{ClientState, take_at, applies_read, is_accepted, moves_behind}
 use Rattle.q3_client.specs.declared.client.ClientTook.TheVariants as took
 
 -- the client with what was gathered
@@ -20,13 +20,6 @@ pub applied_is : (client : ClientState) (read : Result Application Cause) (appli
     × (took.Applied applied ≡ (applies_read client read).answer)
 applied_is client (Ok a) applied e = let same : applied ≡ a.answer = cc in rw same (refl, refl)
 applied_is client (Err cause) applied e = absurd cc
-
--- and behind one that isn't legible
-pub illegible_is : (client : ClientState) (read : Result Application Cause) (cause : Cause) → answered read ≡ Err cause
-    → (record client { state = state_behind client.state read; dropped = Some cause } ≡ (applies_read client read).client)
-    × (took.Illegible cause ≡ (applies_read client read).answer)
-illegible_is client (Ok a) cause e = absurd cc
-illegible_is client (Err found) cause e = let same : cause ≡ found = cc in rw same (refl, refl)
 
 -- the message is applied to the client with what was gathered
 pub whole_is : (client before : ClientState) (gathering : Gathering) (datagram message : List ℕ) (number count : ℕ) (answer : Gathered)
