@@ -72,7 +72,7 @@ applies_game state number game = record {
 abbrev pub is_stale : HeldSnapshots → ℕ → Bool
 is_stale held number = nat_le number held.newest
 
--- why a snapshot was skipped: its base isn't held; one that is held is no cause
+-- why a snapshot was skipped: its base isn't held; none is skipped whose base is held, so that is never told
 abbrev pub skipped_for : Result Snapshot NoBase → NoBase
 skipped_for (Err cause) = cause
 skipped_for (Ok snapshot) = NeverHeld

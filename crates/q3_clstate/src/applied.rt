@@ -12,7 +12,7 @@ pub enum SnapOutcome {
     /// It was read to its end, and nothing of it is kept: the number of its base, 0 where the distance names none, and why
     /// that isn't held.
     Skipped { base: u32, cause: NoBase },
-    /// The message's number isn't above the newest accepted.
+    /// The message's number isn't above the newest accepted since the last gamestate.
     Stale,
 }
 

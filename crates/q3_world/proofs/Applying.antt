@@ -1,5 +1,5 @@
 -- What a message that was built does at a client, by all that the client accepted.
-use Rattle.std.proofs.Common.{◌≡◌, ℕ, zero, suc, ◌+◌, ◌<◌, Bool, true, false, List, Option, Some, None, Result, Ok, Err, refl, sym, ap, ◌∙◌, inl, inr, arith}
+use Rattle.std.proofs.Common.{◌≡◌, ℕ, zero, suc, ◌+◌, ◌<◌, true, false, List, Option, Some, None, Result, Ok, Err, refl, ap, ◌∙◌, inl, inr, arith}
 use Rattle.std.specs.Prelude.{◌⊎◌, Contains, IfSome, is_ok, if◌then◌else◌}
 use Rattle.std.proofs.lemmas.Bool.{cases_Bool, lt-leb}
 use Rattle.q3_ring.specs.Snapshot.{Snapshot}
@@ -11,7 +11,7 @@ use Rattle.q3_clstate.specs.declared.applied.SnapOutcome.TheVariants.{Accepted, 
 use Rattle.q3_clstate.specs.State.{AppliedState, passes, accepts, skipped_for, has_base, apply_message}
 use Rattle.q3_server.specs.Built.{number_of, message_of, IsNear}
 use Rattle.q3_world.specs.Layers.{RingLaws}
-use Rattle.q3_world.specs.Schedules.{MayBecome, outcome_of}
+use Rattle.q3_world.specs.Schedules.{outcome_of}
 
 -- a base that a message names is there where it is held
 pub has_base_is : (held : HeldSnapshots) (number : ℕ) → 0 < number → has_base held number ≡ is_ok (held_snapshot held number)

@@ -16,7 +16,7 @@ use Rattle.q3_clmsg.specs.Values.{empty_message}
 use Rattle.q3_svmsg.specs.declared.error.Illegible.{Illegible}
 use Rattle.q3_ring.specs.Snapshot.{Snapshot}
 use Rattle.q3_rings.specs.Rings.{accept_at}
-use Rattle.q3_clstate.specs.State.{AppliedState, Application, passes, accepts, apply_at, apply_message}
+use Rattle.q3_clstate.specs.State.{Application, apply_at, apply_message}
 use Rattle.q3_chan.specs.declared.side.Side.{Side}
 use Rattle.q3_chan.specs.declared.side.Side.TheVariants.{Server, Client}
 use Rattle.q3_chan.specs.declared.gatherer.Gathered.{Gathered}
@@ -28,9 +28,9 @@ use Rattle.q3_chan.specs.Gathering.{Gathering, Took, gathered as gathered_of}
 use Rattle.q3_chan.specs.Tags.{tagged, IsQuiet, PieceDoes}
 use Rattle.q3_chan.specs.Senders.{qport_of}
 use Rattle.q3_chan.specs.Laws.{HoldsFront, SentIsTagged, Gathers}
-use Rattle.q3_client.specs.Client.{ClientState, Taken, applies, take_answer, take_gathered, take_unless, take_at}
+use Rattle.q3_client.specs.Client.{ClientState, Taken, take_answer, take_gathered, take_unless, take_at}
 use Rattle.q3_client.specs.Sending.{said_bytes, Said}
-use Rattle.q3_server.specs.Built.{Built, number_of, message_of, IsNear, IsSnapshot, IsBuilt}
+use Rattle.q3_server.specs.Built.{Built, message_of, IsNear, IsSnapshot, IsBuilt}
 use Rattle.q3_server.specs.Server.{SlotState, places, slot_at, built_bytes}
 use Rattle.q3_server.specs.Taking as hears
 use Rattle.q3_server.specs.Taking.{sender_of, asked_with, delta_behind, runs, last_run_of, said_by}
@@ -40,14 +40,14 @@ use Rattle.q3_world.specs.MessageLaws.{HoldsThis}
 use Rattle.q3_world.specs.Ends.{client_at, address_at}
 use Rattle.q3_world.specs.Kept.{kept_client_took, kept_to_client, kept_server_took, kept_arrive, kept_deliver, kept_step}
 use Rattle.q3_world.specs.World.{Tag, Whole, History, history_at, named, client_took, to_client, said_under, server_took, to_server, arrive, deliver, step}
-use Rattle.q3_world.specs.StandsFor.{BeginsMessages, KeepsSlot, IsPiece, IsSent, IsClient, IsWay, WasBuilt, WasAccepted, TakesBuilt, messages_of, messages_said, bytes_of}
+use Rattle.q3_world.specs.StandsFor.{BeginsMessages, KeepsSlot, IsPiece, IsSent, IsClient, IsWay, WasBuilt, WasAccepted, messages_of, messages_said, bytes_of}
 use Rattle.q3_world.proofs.MoveLists.{consecutive_issued, runs_are}
 use Rattle.q3_world.proofs.Clients.{no_client, no_end, at_number, said_number, KeepsSlot-ran, TakesBuilt-gathered, TakesBuilt-passed, TakesBuilt-accepted}
 use Rattle.q3_world.proofs.Bases.{if_some_then}
 use Rattle.q3_world.proofs.Knowing.{KnownBase, known_base, was_built_is, held_are_built, holds_this}
 use Rattle.q3_world.proofs.Applying.{applies_built}
-use Rattle.q3_world.proofs.Events.{Holds, client_took as client_then, Has, Holds-taken, Holds-heard, has_slot, has_client, tag_was_built, names_built}
-use Rattle.q3_world.proofs.Agree.{ReadsBack, HearsBack, Cited, kept_of, Agree, found_or}
+use Rattle.q3_world.proofs.Events.{Holds, Has, Holds-taken, Holds-heard, has_slot, has_client, tag_was_built, names_built}
+use Rattle.q3_world.proofs.Agree.{HearsBack, Cited, kept_of, Agree, found_or}
 
 -- ---- what a datagram does
 

@@ -1,12 +1,12 @@
 -- Bases: what the frames of a server hold, what a client accepted, and that both are what was built.
 use Rattle.std.proofs.Common.{◌≡◌, ℕ, ◌+◌, ◌-◌, ◌<◌, ◌≤◌, List, [], ◌∷◌, ◌++◌, length, Option, Some, None, refl, sym, ap, subst, ◌∙◌, inl, inr, arith}
-use Rattle.std.specs.Prelude.{All, Contains, IfSome}
+use Rattle.std.specs.Prelude.{IfSome}
 use Rattle.std.proofs.lemmas.List.{length_push, get_or_push}
 use Rattle.std.proofs.lemmas.List.Elements.{Contains-append_left}
 use Rattle.std.proofs.lemmas.Bool.{cases_eq}
 use Rattle.q3_ring.specs.Snapshot.{Snapshot}
 use Rattle.q3_ring.specs.Places.{place_of}
-use Rattle.q3_frames.specs.Frames.{FramesState, AreFrames, base_of, build_at}
+use Rattle.q3_frames.specs.Frames.{FramesState, base_of, build_at}
 use Rattle.q3_server.specs.Built.{Built, IsNear, built_of}
 use Rattle.q3_server.specs.Server.{places}
 use Rattle.q3_world.specs.Layers.{FrameLaws}
@@ -28,8 +28,7 @@ pub was_built_last : (built : List Built) (base : Option Snapshot) (snapshot : S
     → WasBuilt (built ++ built_of base snapshot ∷ []) snapshot
 was_built_last built base snapshot number =
     let next = built_of base snapshot in
-    let place : length built ≡ snapshot.head.number - 1 = omega (arith, number) in
-    (
+    let place : length built ≡ snapshot.head.number - 1 = omega (arith, number) in (
       omega (arith, number),
       omega (arith, number, length_push built next),
       ap (λ (b : Built). snapshot_in b.message.section) (get_or_push built next no_message (snapshot.head.number - 1) place),
@@ -57,9 +56,9 @@ frames_begun laws frames c began base snapshot number_is are number held is some
     let next = built_of base snapshot in
     elim (laws.held frames c c number snapshot held is) [
       | inl this ↦ (
-          ap (λ (s : Snapshot). s.head.number) this.2 ∙ sym this.1,
-          subst (WasBuilt (began ++ next ∷ [])) (sym this.2) (was_built_last began base snapshot number_is),
-        )
+        ap (λ (s : Snapshot). s.head.number) this.2 ∙ sym this.1,
+        subst (WasBuilt (began ++ next ∷ [])) (sym this.2) (was_built_last began base snapshot number_is),
+      )
       | inr before ↦
           elim (cases_eq number snapshot.head.number) [
             | inl same ↦ absurd (before.0 refl (ap place_of same))

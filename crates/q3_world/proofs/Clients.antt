@@ -22,11 +22,11 @@ use Rattle.q3_clmsg.specs.Laws.{IsMessage}
 use Rattle.q3_clmsg.specs.Values.{empty_message}
 use Rattle.q3_strings.specs.Laws.{IsCommand}
 use Rattle.q3_ring.specs.Snapshot.{Snapshot}
-use Rattle.q3_frames.specs.Frames.{FramesState, base_of, build_at}
+use Rattle.q3_frames.specs.Frames.{FramesState}
 use Rattle.q3_rings.specs.Rings.{accept_at}
 use Rattle.q3_rings.specs.Accepted.{AcceptedFrom}
 use Rattle.q3_clstate.specs.State.{AppliedState}
-use Rattle.q3_server.specs.Built.{Built, IsHeld, IsArea, AreHeld, IsSnapshot, IsNear, IsBuilt, built_of}
+use Rattle.q3_server.specs.Built.{Built, IsHeld, IsArea, AreHeld, IsSnapshot, IsNear, IsBuilt}
 use Rattle.q3_server.specs.Server.{MapState, SlotState, new_slot, next_snapshot, begun_next, built_bytes}
 use Rattle.q3_server.specs.Taking.{last_run_of, last_time, runs}
 use Rattle.q3_client.specs.Client.{ClientState, new_client}

@@ -16,10 +16,10 @@ use Rattle.q3_chan.specs.Laws.{IsSendable, Gathers, EndsGather, EndsSend}
 use Rattle.q3_clmsg.specs.declared.moves.Move.{Move}
 use Rattle.q3_clmsg.specs.Moves.{IsMove}
 use Rattle.q3_ring.specs.Snapshot.{Snapshot}
-use Rattle.q3_ring.specs.Places.{most_places, no_places}
-use Rattle.q3_frames.specs.Frames.{Frame, FramesState, build_at}
+use Rattle.q3_ring.specs.Places.{no_places}
+use Rattle.q3_frames.specs.Frames.{Frame, FramesState}
 use Rattle.q3_clstate.specs.State.{AppliedState}
-use Rattle.q3_server.specs.Built.{Built, IsHeld, IsArea, AreHeld, IsSnapshot, IsBuilt}
+use Rattle.q3_server.specs.Built.{Built, IsHeld, IsArea, AreHeld, IsBuilt}
 use Rattle.q3_server.specs.Server.{MapState, SlotState, ServerState, places, slot_at, with_slot, is_of, new_slot, with_player, with_area, next_snapshot, next_frames, begun_next, built_bytes}
 use Rattle.q3_client.specs.Client.{ClientState, new_client}
 use Rattle.q3_client.specs.Moves.{issue, asks_delta}
@@ -28,12 +28,12 @@ use Rattle.q3_world.specs.declared.made.Direction.TheVariants.{ToClient, ToServe
 use Rattle.q3_world.specs.Layers.{FrameLaws, RingLaws}
 use Rattle.q3_world.specs.Ends.{Ends, client_at, with_client, no_address, address_at}
 use Rattle.q3_world.specs.World.{Tag, History, Whole, no_history, no_message, history_at, with_history, built_at, with_built, with_accepted, with_said, with_run, named, opening}
-use Rattle.q3_world.specs.StandsFor.{IsChecked, messages_of, messages_said, KeepsSlot, AreEnds, IsClient, IsPiece, IsWay, IsSent, KeepsFrames, Facts, snapshot_in, WasBuilt, AreOfBuilt, WasAccepted, TakesBuilt, AreAsked, AreJoined, IsJoined, AllJoined}
+use Rattle.q3_world.specs.StandsFor.{IsChecked, messages_of, messages_said, KeepsSlot, AreEnds, IsClient, IsPiece, IsWay, IsSent, KeepsFrames, Facts, snapshot_in, WasBuilt, WasAccepted, TakesBuilt, AreJoined, IsJoined, AllJoined}
 use Rattle.q3_world.proofs.OnePlace.{set_there, OnlyAt-set, OnlyAt-same, DifferAt, each_at}
 use Rattle.q3_world.proofs.Growth.{HistoryGrows, HistoryGrows-same, HistoryGrows-built, HistoryGrows-accepted, HistoryGrows-said, HistoryGrows-issued, HistoryGrows-run, HistoryGrows-joined, Grow-at, noted_same, AllSent, all_sent_grow, each_more}
 use Rattle.q3_world.proofs.Bases.{KeepsFrames-built, KeepsFrames-same, frames_begun, frames_too_long}
 use Rattle.q3_world.proofs.Found.{AllFound, found_changed, found_joined}
-use Rattle.q3_world.proofs.Clients.{no_client, a_client, a_slot, KeepsSlot-new, KeepsSlot-given, KeepsSlot-came, KeepsSlot-handed, KeepsClient-new, KeepsClient-took, KeepsClient-handed, KeepsClient-issued, KeepsClient-begun, client_begun, next_base, slot_begun, KeepsSlot-begun, TakesBuilt-new, TakesSaid-new, AreAsked-new, TakesBuilt-same, TakesSaid-same, TakesBuilt-more, TakesSaid-more, TakesSaid-issued, BaseIs, AreAsked-same, AreAsked-accepted, AreAsked-said, AreAsked-ran, AreAsked-built}
+use Rattle.q3_world.proofs.Clients.{no_client, a_client, a_slot, KeepsSlot-new, KeepsSlot-given, KeepsSlot-came, KeepsSlot-handed, KeepsClient-new, KeepsClient-took, KeepsClient-handed, KeepsClient-issued, KeepsClient-begun, client_begun, next_base, slot_begun, KeepsSlot-begun, TakesBuilt-new, TakesSaid-new, AreAsked-new, TakesBuilt-same, TakesSaid-same, TakesBuilt-more, TakesSaid-more, TakesSaid-issued, AreAsked-same, AreAsked-accepted, AreAsked-said, AreAsked-ran, AreAsked-built}
 use Rattle.q3_world.proofs.Beginning.{handed_piece}
 use Rattle.q3_world.proofs.Held.{AreHeld-none}
 

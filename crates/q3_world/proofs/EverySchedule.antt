@@ -1,22 +1,22 @@
 -- Every list of events: what holds after it, and what it answers.
-use Rattle.std.proofs.Common.{◌≡◌, ℕ, ◌-◌, ◌^◌, ◌<◌, ◌≤◌, List, [], ◌∷◌, length, get_or, false, Bool, Option, Some, None, Result, Ok, refl, sym, ap, subst, ◌∙◌, inl, inr, arith}
-use Rattle.std.specs.Prelude.{◌⊎◌, ◌&&◌, nat_le, slice_get, All, Contains, IfSome}
+use Rattle.std.proofs.Common.{◌≡◌, ℕ, ◌+◌, ◌-◌, ◌^◌, ◌<◌, ◌≤◌, List, [], ◌∷◌, length, get_or, false, Option, Some, None, Result, Ok, refl, sym, ap, subst, ◌∙◌, inl, inr, arith}
+use Rattle.std.specs.Prelude.{◌&&◌, nat_le, slice_get, All, Contains, IfSome}
 use Rattle.std.specs.Int.{is_power_of_two}
 use Rattle.std.specs.List.{AllByRecursion}
 use Rattle.std.specs.Option.{option_map}
 use Rattle.std.specs.Result.{result_ok}
 use Rattle.std.proofs.lemmas.Option.{slice_get-map}
 use Rattle.std.proofs.Math.Pow.{pow_mono}
-use Rattle.std.proofs.lemmas.List.Elements.{All-nil}
+use Rattle.std.proofs.lemmas.List.Elements.{All-nil, All-get_or}
 use Rattle.std.proofs.lemmas.Bool.{and_parts, leb-true}
 use Rattle.q3_profile.specs.declared.profile.Profile.{Profile}
 use Rattle.q3_script.specs.declared.event.Event.{Event}
 use Rattle.q3_script.specs.declared.event.Event.TheVariants as events
 use Rattle.q3_script.specs.Grammar.{IsReplayEvent}
 use Rattle.q3_ring.specs.Snapshot.{Snapshot}
-use Rattle.q3_rings.specs.Rings.{accept_at, held_snapshot, view_at}
+use Rattle.q3_rings.specs.Rings.{held_snapshot, view_at}
 use Rattle.q3_rings.specs.declared.rings.NoBase.TheVariants.{EntitiesGone}
-use Rattle.q3_rings.specs.Accepted.{SnapshotsStandFor, held_among}
+use Rattle.q3_rings.specs.Accepted.{held_among}
 use Rattle.q3_clstate.specs.State.{AppliedState, Application, passes, accepts, apply_message}
 use Rattle.q3_clstate.specs.declared.applied.Applied.{Applied as AppliedSo}
 use Rattle.q3_chan.specs.declared.gatherer.Gathered.{Gathered}
@@ -42,18 +42,18 @@ use Rattle.q3_world.specs.Layers.{Layers}
 use Rattle.q3_server.specs.Built.{Built, number_of, message_of, IsNear}
 use Rattle.q3_server.specs.Server.{SlotState, places, slot_at, built_bytes}
 use Rattle.q3_client.specs.Client.{ClientState, Taken, take_answer, take_gathered}
-use Rattle.q3_world.specs.Ends.{Ends, Answered, unknown, delivered, ran, client_at, address_at, with_client, newest_of, newest}
+use Rattle.q3_world.specs.Ends.{Ends, Answered, unknown, delivered, ran, client_at, address_at, with_client, newest}
 use Rattle.q3_world.specs.Kept.{SentBytes, Kept, KeptStep, opening_kept, kept_step, kept_after, kept_answers}
 use Rattle.q3_world.specs.World.{Tag, Step, Whole, History, history_at, built_at, opening, step, after, answers, deliver, arrive, to_client, to_server, named}
-use Rattle.q3_world.specs.StandsFor.{IsChecked, IsSent, IsClient, WasBuilt, Rise, AreJoined, IsJoined, StandsFor, bytes_of}
-use Rattle.q3_world.specs.Schedules.{StepFollows, kept_then, whole_then, BytesFollowTags, AcceptedWereBuilt, ShownWasBuilt, outcome_of, applied_of, Shows, AppliedWasBuilt, NewerIsAccepted, UsualNeverSkips, BasesWereAccepted, HeldIsAccepted}
+use Rattle.q3_world.specs.StandsFor.{IsChecked, IsSent, IsClient, WasBuilt, Rise, IsJoined, StandsFor, bytes_of}
+use Rattle.q3_world.specs.Schedules.{StepFollows, kept_then, whole_then, BytesFollowTags, AcceptedWereBuilt, ShownWasBuilt, outcome_of, applied_of, Shows, AppliedWasBuilt, NewerIsAccepted, BasesWereAccepted, HeldIsAccepted, ViewsWereBuilt}
 use Rattle.q3_world.specs.Layers.{RingLaws}
 use Rattle.q3_world.proofs.Events.{Holds, Holds-opening, Has, has_client}
 use Rattle.q3_world.proofs.Agree.{Cited, seen}
 use Rattle.q3_world.proofs.Arriving.{IsFor, Named, names, is_sent, is_for, tag_is, delivers_agree}
 use Rattle.q3_world.proofs.Agreement.{stands_of, stands_next, kept_is}
-use Rattle.q3_world.proofs.Bases.{if_some_then, some_one}
-use Rattle.q3_world.proofs.Knowing.{KnownBase, both_some, All-both, view_was_built}
+use Rattle.q3_world.proofs.Bases.{if_some_then}
+use Rattle.q3_world.proofs.Knowing.{KnownBase, three_some, view_was_built}
 use Rattle.q3_world.proofs.Applying.{applies_built}
 use Rattle.q3_world.proofs.OnePlace.{set_there}
 
@@ -159,23 +159,33 @@ shown_was_built law below profile all c snapshot is are within shown =
 
 -- ---- what a client holds
 
-bases_by : (profile : Profile) (slot : Option SlotState) (client : Option ClientState) (address : Address) (history : History)
-    → IsClient profile slot client address history → IsJoined profile slot client history
-    → All (λ (built : Built). IfSome built.base (λ base. WasBuilt history.built base × Contains history.accepted base)) history.built
-bases_by profile None None address history is joined = rw is (All-nil _)
-bases_by profile None (Some client) address history is joined = absurd is
-bases_by profile (Some slot) None address history is joined = absurd is
-bases_by profile (Some slot) (Some client) address history is joined =
-    All-both (λ (b : Built). IfSome b.base (WasBuilt history.built)) (λ (b : Built). IfSome b.base (Contains history.accepted))
-    (λ (b : Built). IfSome b.base (λ base. WasBuilt history.built base × Contains history.accepted base))
-    (λ b was held. both_some b.base (WasBuilt history.built) (Contains history.accepted) was held) history.built is.of_slot.bases joined.asked.bases
+bases_by : (profile : Profile) (slot : Option SlotState) (client : Option ClientState) (address : Address) (history : History) (k : ℕ) (d : Built)
+    → IsClient profile slot client address history → IsJoined profile slot client history → k < length history.built
+    → IfSome (get_or history.built k d).base (KnownBase (k + 1) history.built history.accepted)
+bases_by profile None None address history k d is joined lt =
+    let none : length history.built ≡ 0 = ap (λ (h : History). length h.built) is in absurd (omega (arith, lt, none))
+bases_by profile None (Some client) address history k d is joined lt = absurd is
+bases_by profile (Some slot) None address history k d is joined lt = absurd is
+bases_by profile (Some slot) (Some client) address history k d is joined lt =
+    three_some (get_or history.built k d).base (IsNear (k + 1)) (WasBuilt history.built) (Contains history.accepted) (is.of_slot.built k d lt).base_is
+    (All-get_or (λ (b : Built). IfSome b.base (WasBuilt history.built)) history.built k d lt is.of_slot.bases)
+    (All-get_or (λ (b : Built). IfSome b.base (Contains history.accepted)) history.built k d lt joined.asked.bases)
 
 pub bases_were_accepted : BytesFollowTags → BasesWereAccepted
-bases_were_accepted law profile all c is are within =
+bases_were_accepted law profile all c k d is are within lt =
     let stands : Then profile all = (law profile all is are).0 in
     let whole = whole_then profile all in
-    bases_by profile (slot_at whole.ends.server c) (client_at whole.ends c) (address_at whole.ends c) (history_at whole.histories c)
-    (stands.facts.each c within) (stands.joined c within)
+    bases_by profile (slot_at whole.ends.server c) (client_at whole.ends c) (address_at whole.ends c) (history_at whole.histories c) k d
+    (stands.facts.each c within) (stands.joined c within) lt
+
+pub views_were_built : BytesFollowTags → Layers → ViewsWereBuilt
+views_were_built law below profile all c number client snapshot is are within found viewed =
+    let stands : Then profile all = (law profile all is are).0 in
+    let whole = whole_then profile all in
+    let holds : Holds profile whole = record { facts = stands.facts; joined = stands.joined } in
+    let had = has_client profile whole c client within (ap (λ (e : Ends). client_at e c) (sym stands.ends) ∙ found) holds in
+    let takes = had.1.joined.of_client in
+    view_was_built below.rings client.state.held (history_at whole.histories c).built (history_at whole.histories c).accepted number snapshot takes.stands takes.accepted viewed
 
 pub held_is_accepted : BytesFollowTags → Layers → HeldIsAccepted
 held_is_accepted law below profile all c number client is are within found =
@@ -348,17 +358,16 @@ applied_whole profile whole number c applied tag client next count lt found newe
     let is : applied_of profile.parse_ring history.accepted tag.number (named whole.histories tag) ≡ applied = sym out.answer ∙ same in
     let numbered : tag.number ≡ applied.number = ap (λ (a : AppliedSo). a.number) is in
     let there = set_there whole.ends.clients tag.client None (Some next) count lt in
-    subst (λ (k : ℕ). Applies profile whole.ends (with_client whole.ends tag.client next) k applied (history_at whole.histories k)) alike.0
-    (
+    subst (λ (k : ℕ). Applies profile whole.ends (with_client whole.ends tag.client next) k applied (history_at whole.histories k)) alike.0 (
       (client, found, omega (arith, numbered, newer)),
       sym is ∙ ap (λ (k : ℕ). applied_of profile.parse_ring history.accepted k (built_at history.built k)) numbered,
       λ base so.
-      let shown = out.shows base (ap (λ (a : AppliedSo). a.snap) same ∙ so) in (
-        shown.0,
-        ap newest there ∙ (ap (λ (s : AppliedState). view_at s.held s.held.newest) state_is ∙ shown.1),
-        shown.2 ∙ numbered,
-        shown.3,
-      ),
+          let shown = out.shows base (ap (λ (a : AppliedSo). a.snap) same ∙ so) in (
+            shown.0,
+            ap newest there ∙ (ap (λ (s : AppliedState). view_at s.held s.held.newest) state_is ∙ shown.1),
+            shown.2 ∙ numbered,
+            shown.3,
+          ),
     )
   where
     one_applied : (x y : AppliedSo) → Applied x ≡ Applied y → x ≡ y

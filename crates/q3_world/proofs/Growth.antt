@@ -24,12 +24,11 @@ built_stays built more number some few = get_or_append_left built more no_messag
 
 -- a snapshot that was built was built
 pub was_built_more : (built more : List Built) (snapshot : Snapshot) → WasBuilt built snapshot → WasBuilt (built ++ more) snapshot
-was_built_more built more snapshot was =
-    (
-      was.0,
-      omega (arith, length-append built more, was.1),
-      ap (λ (b : Built). snapshot_in b.message.section) (built_stays built more snapshot.head.number was.0 was.1) ∙ was.2,
-    )
+was_built_more built more snapshot was = (
+  was.0,
+  omega (arith, length-append built more, was.1),
+  ap (λ (b : Built). snapshot_in b.message.section) (built_stays built more snapshot.head.number was.0 was.1) ∙ was.2,
+)
 
 -- the bytes of a message stay where more are begun, by the server
 pub messages_stay : (profile : Profile) (built more : List Built) (number : ℕ) → number ≤ length built

@@ -20,10 +20,9 @@ use Rattle.q3_chan.specs.Tags.{IsQuiet}
 use Rattle.q3_chan.specs.Laws.{PiecesAreTagged, TaggedDoes}
 use Rattle.q3_svmsg.specs.declared.error.Illegible.{Illegible}
 use Rattle.q3_client.specs.declared.client.ClientTook.TheVariants.{Applied}
-use Rattle.q3_client.specs.declared.client.ClientTook.{ClientTook}
 use Rattle.q3_server.specs.Built.{Built}
 use Rattle.q3_server.specs.Server.{places, built_bytes}
-use Rattle.q3_client.specs.Client.{ClientState, Taken, applies_read, take_answer, take_gathered}
+use Rattle.q3_client.specs.Client.{ClientState, Taken, take_answer, take_gathered}
 use Rattle.q3_world.specs.declared.made.Direction.TheVariants.{ToClient}
 use Rattle.q3_world.specs.Ends.{client_at, with_client, delivered}
 use Rattle.q3_world.specs.Kept.{Kept, KeptStep, kept_step}
@@ -256,7 +255,7 @@ in_order_is_accepted law below pieces profile all c n last numbers client is are
     let accepted_is : (history_at now.histories c).accepted ≡ (history_at start.histories c).accepted =
     elim reached.accepted [ inl past ↦ absurd (omega (arith, past, still)) | inr same ↦ same ] in
     let applied_is : applied_of profile.parse_ring (history_at now.histories tag.client).accepted n (named now.histories tag)
-        ≡ applied_of profile.parse_ring (history_at start.histories c).accepted n (built_at built n) =
+    ≡ applied_of profile.parse_ring (history_at start.histories c).accepted n (built_at built n) =
     ap (λ (k : ℕ). applied_of profile.parse_ring (history_at now.histories k).accepted n (named now.histories tag)) tail.3
     ∙ (ap (λ (a : List Snapshot). applied_of profile.parse_ring a n (named now.histories tag)) accepted_is
     ∙ ap (λ (b : Built). applied_of profile.parse_ring (history_at start.histories c).accepted n b) named_is) in

@@ -1,8 +1,8 @@
 -- What a client holds was accepted, and what it accepted was built.
-use Rattle.std.proofs.Common.{◌≡◌, ℕ, ◌+◌, ◌-◌, ◌<◌, ◌≤◌, List, [], ◌∷◌, length, get_or, Option, Some, None, Result, Ok, Err, refl, sym, ap, subst, ◌∙◌, arith}
+use Rattle.std.proofs.Common.{◌≡◌, ℕ, ◌+◌, ◌-◌, ◌<◌, ◌≤◌, List, length, get_or, Option, Some, None, Result, Ok, Err, sym, ap, subst, ◌∙◌, arith}
 use Rattle.std.specs.Prelude.{All, Contains, IfSome}
 use Rattle.std.specs.Result.{result_ok}
-use Rattle.std.proofs.lemmas.List.Elements.{All-nil, All-cons, All-head, All-tail, All-get_or, All-contains}
+use Rattle.std.proofs.lemmas.List.Elements.{All-get_or, All-contains}
 use Rattle.q3_profile.specs.declared.profile.Profile.{Profile}
 use Rattle.q3_ring.specs.Snapshot.{Snapshot}
 use Rattle.q3_rings.specs.declared.rings.NoBase.{NoBase}
@@ -14,7 +14,7 @@ use Rattle.q3_client.specs.Client.{ClientState}
 use Rattle.q3_world.specs.Layers.{RingLaws}
 use Rattle.q3_world.specs.MessageLaws.{AreBuilt, HoldsThis}
 use Rattle.q3_world.specs.World.{History, no_message, built_at}
-use Rattle.q3_world.specs.StandsFor.{snapshot_in, WasBuilt, KeepsSlot, TakesBuilt, AreAsked}
+use Rattle.q3_world.specs.StandsFor.{snapshot_in, WasBuilt, KeepsSlot, AreAsked}
 use Rattle.q3_world.proofs.Bases.{some_one, was_built_one}
 
 -- the messages that were begun are so
@@ -64,16 +64,6 @@ holds_this laws held began took base stands were was snapshot viewed =
 pub three_some : {X : Type 0} (o : Option X) (P Q R : X → Type 0) → IfSome o P → IfSome o Q → IfSome o R → IfSome o (λ x. P x × Q x × R x)
 three_some None P Q R p q r = tt
 three_some (Some x) P Q R p q r = (p, q, r)
-
-pub both_some : {X : Type 0} (o : Option X) (P Q : X → Type 0) → IfSome o P → IfSome o Q → IfSome o (λ x. P x × Q x)
-both_some None P Q p q = tt
-both_some (Some x) P Q p q = (p, q)
-
--- what follows for each of a list from two facts
-pub All-both : {X : Type 0} (P Q R : X → Type 0) → ((x : X) → P x → Q x → R x) → (xs : List X) → All P xs → All Q xs → All R xs
-All-both P Q R each [] ps qs = All-nil R
-All-both P Q R each (x ∷ xs) ps qs =
-    All-cons R x xs (each x (All-head P x xs ps) (All-head Q x xs qs)) (All-both P Q R each xs (All-tail P x xs ps) (All-tail Q x xs qs))
 
 -- it is near, was built, and was accepted
 abbrev pub KnownBase : ℕ → List Built → List Snapshot → Snapshot → Type 0

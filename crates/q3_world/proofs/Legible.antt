@@ -122,8 +122,11 @@ legible_to_client profile whole number tag (Some client) cited is at holds =
       | inl waits ↦ inl waits.quiet
       | inr came ↦
           let out = outcome profile whole tag.client tag.number had.0 client built cited had.1 came.newer (names profile whole tag client is at holds) in
-          inr (length (built_bytes profile built), came.answer,
-            subst (λ (a : Applied). MayBecome a.snap) (sym out.answer) (may_become profile.parse_ring (history_at whole.histories tag.client).accepted built.base))
+          inr (
+            length (built_bytes profile built),
+            came.answer,
+            subst (λ (a : Applied). MayBecome a.snap) (sym out.answer) (may_become profile.parse_ring (history_at whole.histories tag.client).accepted built.base),
+          )
     ])
 
 -- ---- what the server takes

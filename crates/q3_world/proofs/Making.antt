@@ -17,12 +17,10 @@ use Rattle.q3_client.specs.declared.client.Sent.TheVariants as answered_sent
 use Rattle.q3_client.specs.Client.{ClientState}
 use Rattle.q3_client.specs.Sending as speaks
 use Rattle.q3_client.specs.Sending.{said_bits, next_message as next_said}
-use Rattle.q3_frames.specs.Frames.{FramesState}
-use Rattle.q3_server.specs.Built.{Built, number_of}
-use Rattle.q3_server.specs.Server.{SlotState, ServerState, Emission, places, slot_at, with_slot, next_frames, begun_next, built_bits, nothing, hand_out, emit_bits, emit_built, most_placed, emit_new, emit_slot, emission_at, emit_from}
+use Rattle.q3_server.specs.Server.{SlotState, ServerState, Emission, places, slot_at, with_slot, next_frames, begun_next, built_bits, emit_built, most_placed, emit_new, emit_slot, emission_at, emit_from}
 use Rattle.q3_world.specs.Ends.{client_at, address_at}
 use Rattle.q3_world.specs.Kept.{kept_serve, kept_said, kept_send}
-use Rattle.q3_world.specs.World.{Whole, history_at, with_built, serve, say, send}
+use Rattle.q3_world.specs.World.{Whole, serve, say, send}
 use Rattle.q3_world.specs.StandsFor.{bytes_of}
 use Rattle.q3_world.proofs.Clients.{slot_begun, client_begun}
 use Rattle.q3_world.proofs.Events.{Holds, Holds-handed, Holds-begun, Holds-too_long, handed_tag, Holds-goes, Holds-said, said_tag, has_client, same_server}

@@ -1,6 +1,6 @@
 -- A message that is made and arrives whole.
-use Rattle.std.proofs.Common.{◌≡◌, ℕ, zero, suc, ◌+◌, ◌-◌, ◌<◌, ◌≤◌, true, false, List, [], ◌∷◌, ◌++◌, length, Option, Some, None, refl, sym, ap, subst, ◌∙◌, arith}
-use Rattle.std.specs.Prelude.{map, replicate, slice_get, slice_index_or, nat_lt, nat_le}
+use Rattle.std.proofs.Common.{◌≡◌, ℕ, zero, suc, ◌+◌, ◌-◌, ◌<◌, true, false, List, [], ◌∷◌, ◌++◌, length, Option, Some, None, refl, sym, ap, subst, ◌∙◌, arith}
+use Rattle.std.specs.Prelude.{replicate, slice_get, slice_index_or, nat_lt, nat_le}
 use Rattle.std.specs.List.{AllByRecursion, range_with_len}
 use Rattle.std.proofs.Math.ListN.{length-set}
 use Rattle.std.proofs.lemmas.List.{append-nil, length-append, length_push, map-append, append_assoc, get_or_append_left, get_or_push}
@@ -18,11 +18,11 @@ use Rattle.q3_frames.specs.Frames.{FramesState}
 use Rattle.q3_clstate.specs.declared.applied.Applied.{Applied as AppliedSo}
 use Rattle.q3_chan.specs.Datagrams.{sequence_end, longest_message, piece_count, last_index}
 use Rattle.q3_chan.specs.Laws.{TaggedDoes}
-use Rattle.q3_chan.specs.Sending.{Sending, UnderWay, IsIdle, left_of, next_of}
+use Rattle.q3_chan.specs.Sending.{Sending, UnderWay, left_of, next_of}
 use Rattle.q3_clstate.specs.declared.applied.SnapOutcome.TheVariants.{Accepted}
 use Rattle.q3_server.specs.declared.server.Emitted.TheVariants as emitted
-use Rattle.q3_server.specs.Built.{Built, number_of, built_of}
-use Rattle.q3_server.specs.Server.{MapState, SlotState, ServerState, SlotEmission, places, slot_at, next_snapshot, next_frames, built_bits, built_bytes, most_placed, hand_out, emit_slot, emission_at, emit_at}
+use Rattle.q3_server.specs.Built.{Built, number_of}
+use Rattle.q3_server.specs.Server.{SlotState, ServerState, SlotEmission, places, slot_at, next_snapshot, next_frames, built_bits, built_bytes, most_placed, hand_out, emit_slot, emission_at, emit_at}
 use Rattle.q3_client.specs.Client.{ClientState}
 use Rattle.q3_world.specs.Ends.{client_at}
 use Rattle.q3_world.specs.Kept.{Kept, opening_kept, kept_step, kept_after}

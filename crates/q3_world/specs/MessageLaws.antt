@@ -22,8 +22,8 @@ AreBuilt profile held = (number : ℕ) (snapshot : Snapshot) → view_at held nu
 abbrev pub HoldsThis : HeldSnapshots → Snapshot → Type 0
 HoldsThis held base = (snapshot : Snapshot) → view_at held base.head.number ≡ Some snapshot → snapshot ≡ base
 
--- a message that was built is read back from its bytes, against what is held, where that has no other snapshot in the place of
--- its base: whole, or as skipped where its base isn't held
+-- a message that was built is read back from its bytes, against what is held, where that lends no other snapshot under the number
+-- of its base: whole, or as skipped where its base isn't held
 abbrev pub BuiltIsRead : Type 0
 BuiltIsRead = (profile : Profile) → IsCodec profile → (held : HeldSnapshots) (number : ℕ) (built : Built) → IsBuilt profile number built
     → AreBuilt profile held → IfSome built.base (λ base. IsSnapshot profile base × HoldsThis held base)

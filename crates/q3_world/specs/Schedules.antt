@@ -7,7 +7,7 @@ use Rattle.q3_script.specs.declared.event.Event.TheVariants as events
 use Rattle.q3_script.specs.Grammar.{IsReplayEvent}
 use Rattle.q3_ring.specs.Snapshot.{Snapshot}
 use Rattle.q3_rings.specs.declared.rings.NoBase.TheVariants.{NeverHeld, Overwritten, EntitiesGone}
-use Rattle.q3_rings.specs.Rings.{is_young, held_snapshot}
+use Rattle.q3_rings.specs.Rings.{is_young, held_snapshot, view_at}
 use Rattle.q3_rings.specs.Accepted.{age_of, held_among}
 use Rattle.q3_clstate.specs.declared.applied.Applied.{Applied as AppliedSo}
 use Rattle.q3_clstate.specs.declared.applied.SnapOutcome.{SnapOutcome}
@@ -23,7 +23,7 @@ use Rattle.q3_chan.specs.Gathering.{gathered}
 use Rattle.q3_world.specs.declared.answer.Answer.{Answer}
 use Rattle.q3_world.specs.declared.answer.Answer.TheVariants.{Send, Deliver, ToServer}
 use Rattle.q3_world.specs.declared.made.Direction.TheVariants as direction
-use Rattle.q3_server.specs.Built.{Built, number_of}
+use Rattle.q3_server.specs.Built.{Built, number_of, IsNear}
 use Rattle.q3_server.specs.Server.{ServerState, SlotState, places, slot_at, next_snapshot, begun_next, built_bytes, most_placed}
 use Rattle.q3_server.specs.Taking.{runs}
 use Rattle.q3_client.specs.Client.{ClientState}
@@ -105,11 +105,12 @@ ShownWasBuilt = (profile : Profile) (all : List Event) (c : ℕ) (snapshot : Sna
     → (kept_step (kept_then profile all) (events.Show c)).answer.snapshot ≡ Some snapshot
     → WasBuilt (history_then profile all c).built snapshot
 
--- each base against which a message was built was built itself and was accepted by the client
+-- each base against which a message was built is below it, at most by 28, was built itself and was accepted by the client
 abbrev pub BasesWereAccepted : Type 0
-BasesWereAccepted = (profile : Profile) (all : List Event) (c : ℕ) → IsChecked profile → AllByRecursion IsReplayEvent all → c < places
-    → All (λ (built : Built). IfSome built.base (λ base. WasBuilt (history_then profile all c).built base × Contains (history_then profile all c).accepted base))
-    (history_then profile all c).built
+BasesWereAccepted = (profile : Profile) (all : List Event) (c k : ℕ) (d : Built) → IsChecked profile → AllByRecursion IsReplayEvent all → c < places
+    → k < length (history_then profile all c).built
+    → IfSome (slice_index_or (history_then profile all c).built k d).base
+    (λ base. IsNear (k + 1) base × WasBuilt (history_then profile all c).built base × Contains (history_then profile all c).accepted base)
 
 -- what a client holds is told by all that it accepted: under a number exactly the snapshot accepted under it, as long as no later one
 -- stands in its place and its entities are there
@@ -117,6 +118,12 @@ abbrev pub HeldIsAccepted : Type 0
 HeldIsAccepted = (profile : Profile) (all : List Event) (c number : ℕ) (client : ClientState) → IsChecked profile → AllByRecursion IsReplayEvent all
     → c < places → client_at (kept_then profile all).ends c ≡ Some client
     → held_snapshot client.state.held number ≡ held_among profile.parse_ring (history_then profile all c).accepted number
+
+-- so a client lends under a number the snapshot that the server built for it under that number, or none
+abbrev pub ViewsWereBuilt : Type 0
+ViewsWereBuilt = (profile : Profile) (all : List Event) (c number : ℕ) (client : ClientState) (snapshot : Snapshot) → IsChecked profile
+    → AllByRecursion IsReplayEvent all → c < places → client_at (kept_then profile all).ends c ≡ Some client → view_at client.state.held number ≡ Some snapshot
+    → (snapshot.head.number ≡ number) × WasBuilt (history_then profile all c).built snapshot
 
 -- what becomes of a message that was built, at a client that accepted these snapshots: it is accepted, unless too many entities
 -- were placed since its base was begun

@@ -1,6 +1,6 @@
 -- What is kept stands for a whole world: both ends are the same, and each datagram's bytes are those of the message
 -- that its tag names.
-use Rattle.std.specs.Prelude.{◌≡◌, ℕ, zero, suc, ◌+◌, ◌^◌, ◌<◌, ◌≤◌, ◌⊎◌, Bool, true, List, [], ◌∷◌, ◌++◌, length, map, All, Contains, Option, Some, None, IfSome, slice_index_or}
+use Rattle.std.specs.Prelude.{◌≡◌, ℕ, zero, suc, ◌+◌, ◌^◌, ◌<◌, ◌≤◌, ◌⊎◌, true, List, [], ◌∷◌, ◌++◌, length, map, All, Contains, Option, Some, None, IfSome, slice_index_or}
 use Rattle.q3_profile.specs.declared.profile.Profile.{Profile}
 use Rattle.q3_profile.specs.Profile.{IsCodec, IsProfile}
 use Rattle.q3_io.specs.declared.address.Address.{Address}
@@ -37,7 +37,7 @@ pub record IsChecked (profile : Profile) : Type 0 where
   pub codec : IsCodec profile
   pub rings : IsProfile profile
 
--- ---- what holds whatever bytes were delivered
+-- ---- what each end keeps by itself
 
 -- the bytes of the message under a number, which the server built for a client, and which the client began; the number 0 has
 -- none
@@ -170,7 +170,7 @@ pub record Facts (profile : Profile) (whole : Whole) : Type 0 where
   pub sent : (k : ℕ) (d : Tag) → k < length whole.sent → IsSent profile whole.histories (slice_index_or whole.sent k d)
   pub frames : KeepsFrames whole.ends.server.frames whole.histories
 
--- ---- what holds while only the ends' own datagrams were delivered
+-- ---- what joins the two ends of a client
 
 -- numbers rise
 abbrev pub Rise : List Snapshot → Type 0
@@ -182,8 +182,8 @@ abbrev pub WasAccepted : List Snapshot → ℕ → Type 0
 WasAccepted accepted number = (snapshot : Snapshot) × Contains accepted snapshot × (snapshot.head.number ≡ number)
 
 -- a client takes and gathers only what was built for it, so it wasn't dropped; each snapshot that it accepted was built, their
--- numbers rise, and what it holds is what it accepted; none is above the newest number taken, and where it asks for deltas that is
--- the number of the newest. There are no baselines
+-- numbers rise, and what it holds is what it accepted; none is above the newest number taken, and where it asks for deltas the
+-- snapshot of that number was accepted. There are no baselines
 pub record TakesBuilt (profile : Profile) (client : ClientState) (began : List Built) (took : List Snapshot) : Type 0 where
   pub accepted : All (WasBuilt began) took
   pub rise : Rise took
@@ -199,8 +199,8 @@ pub record TakesSaid (profile : Profile) (slot : SlotState) (said : List Said) (
   pub gathers : Gathers (messages_said profile said) (length said) slot.gathering
   pub ran : All (Contains issued) run
 
--- each snapshot against which a client asks to write others was accepted, the slot writes against none that it didn't ask for,
--- and each base against which a message was built was accepted
+-- each snapshot against which a client asks to write others was accepted; the one against which its slot writes is none or was
+-- accepted; and so was each base against which a message was built
 pub record AreAsked (slot : SlotState) (said : List Said) (began : List Built) (accepted : List Snapshot) : Type 0 where
   pub asks : All (λ (message : Said). message.delta ≡ true → WasAccepted accepted message.acknowledged) said
   pub delta : (slot.delta ≡ 0) ⊎ WasAccepted accepted slot.delta

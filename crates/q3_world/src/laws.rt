@@ -2,7 +2,7 @@
 
 ghost use Rattle.q3_world.specs.MessageLaws.{BuiltIsRead, SaidIsRead};
 ghost use Rattle.q3_world.specs.Layers.{Layers};
-ghost use Rattle.q3_world.specs.Schedules.{StepFollows, BytesFollowTags, AlwaysLegible, UnknownWasNotMade, AcceptedWereBuilt, ShownWasBuilt, BasesWereAccepted, HeldIsAccepted, AppliedWasBuilt, NewerIsAccepted, UsualNeverSkips, NewerIsRun, MovesWereIssued, InOrderIsAccepted, ServedIsShown};
+ghost use Rattle.q3_world.specs.Schedules.{StepFollows, BytesFollowTags, AlwaysLegible, UnknownWasNotMade, AcceptedWereBuilt, ShownWasBuilt, BasesWereAccepted, HeldIsAccepted, ViewsWereBuilt, AppliedWasBuilt, NewerIsAccepted, UsualNeverSkips, NewerIsRun, MovesWereIssued, InOrderIsAccepted, ServedIsShown};
 
 use q3_bits::laws as bits;
 use q3_chan::laws as chan;
@@ -106,7 +106,7 @@ pub fn shown_was_built()
     layers();
 }
 
-/// Each base against which a message was built was built itself, and was accepted by its client.
+/// Each base against which a message was built is below it, at most by 28, was built itself, and was accepted by its client.
 pub fn bases_were_accepted()
     ensures { BasesWereAccepted }
 {
@@ -117,6 +117,14 @@ pub fn bases_were_accepted()
 /// one stands in its place and its entities are there.
 pub fn held_is_accepted()
     ensures { HeldIsAccepted }
+{
+    bytes_follow_tags();
+    layers();
+}
+
+/// A client lends under a number the snapshot that the server built for it under that number, or none.
+pub fn views_were_built()
+    ensures { ViewsWereBuilt }
 {
     bytes_follow_tags();
     layers();

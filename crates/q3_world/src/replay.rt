@@ -127,10 +127,7 @@ impl Replay {
         }
         self.clients[c as usize] = Some(client);
         self.addresses[c as usize] = address;
-        Ok(Answer::Client {
-            c,
-            outcome: Ok(()),
-        })
+        Ok(Answer::Client { c, outcome: Ok(()) })
     }
 
     fn set_entity(&mut self, state: &EntityState) -> Answer
