@@ -1,9 +1,10 @@
 -- What holds of one client, and stays so.
-use Rattle.std.proofs.Common.{◌≡◌, ℕ, zero, suc, ◌+◌, ◌-◌, ◌^◌, ◌<◌, ◌≤◌, Bool, true, false, List, [], ◌∷◌, ◌++◌, length, get_or, Option, Some, None, refl, sym, ap, subst, ◌∙◌, inl, inr, arith}
+use Rattle.std.proofs.Common.{◌≡◌, ℕ, zero, suc, ◌+◌, ◌-◌, ◌^◌, ◌<◌, ◌≤◌, Bool, true, false, List, [], ◌∷◌, ◌++◌, length, get_or, Option, Some, None, Result, refl, sym, ap, subst, ◌∙◌, inl, inr, arith}
 use Rattle.std.specs.Prelude.{All, Contains, IfSome, ◌⊎◌, option_map, unwrap_or}
 use Rattle.std.specs.List.{last_or}
+use Rattle.std.specs.Result.{result_ok}
 use Rattle.std.proofs.lemmas.List.{length_push, get_or_append_left, get_or_push}
-use Rattle.std.proofs.lemmas.List.Elements.{All-nil, All-append, All-push, All-weaker, All-contains, Contains-push, Contains-append_left}
+use Rattle.std.proofs.lemmas.List.Elements.{All-nil, All-append, All-push, All-weaker, All-contains, All-from_get_or, Contains-push, Contains-append_left}
 use Rattle.std.proofs.lemmas.Bool.{cases_lt}
 use Rattle.arrayvec.specs.ArrayVec.{ArrayVec}
 use Rattle.q3_profile.specs.declared.profile.Profile.{Profile}
@@ -23,8 +24,9 @@ use Rattle.q3_clmsg.specs.Values.{empty_message}
 use Rattle.q3_strings.specs.Laws.{IsCommand}
 use Rattle.q3_ring.specs.Snapshot.{Snapshot}
 use Rattle.q3_frames.specs.Frames.{FramesState}
-use Rattle.q3_rings.specs.Rings.{accept_at}
-use Rattle.q3_rings.specs.Accepted.{AcceptedFrom}
+use Rattle.q3_rings.specs.Rings.{HeldSnapshots, accept_at}
+use Rattle.q3_rings.specs.declared.rings.NoBase.{NoBase}
+use Rattle.q3_rings.specs.Accepted.{AcceptedFrom, newest_of, SnapshotsStandFor}
 use Rattle.q3_clstate.specs.State.{AppliedState}
 use Rattle.q3_server.specs.Built.{Built, IsHeld, IsArea, AreHeld, IsSnapshot, IsNear, IsBuilt}
 use Rattle.q3_server.specs.Server.{MapState, SlotState, new_slot, next_snapshot, begun_next, built_bytes}
@@ -373,9 +375,10 @@ TakesBuilt-new laws profile challenge qport dup chan ring =
       accepted = All-nil (WasBuilt []);
       rise = λ j k d lt within. absurd (omega (arith, within));
       stands = laws.none profile.parse_ring ring;
+      shows = refl;
       lines = refl;
       below = omega arith;
-      asks = λ asks. absurd cc;
+      asks = (λ asks. absurd cc, λ was. absurd (All-contains (λ (s : Snapshot). ⊥) [] was.0 (All-nil (λ (s : Snapshot). ⊥)) was.1));
       gathers = chan.begin (messages_of profile []) 0 Server;
       legible = refl;
     }
@@ -395,9 +398,10 @@ TakesBuilt-same profile client next built accepted gathering state delta dropped
       accepted = takes.accepted;
       rise = takes.rise;
       stands = rw state takes.stands;
+      shows = rw state takes.shows;
       lines = rw state takes.lines;
       below = rw (gathering, state) takes.below;
-      asks = λ asks. rw gathering (takes.asks (sym delta ∙ asks));
+      asks = (λ asks. rw gathering (takes.asks.0 (sym delta ∙ asks)), λ was. delta ∙ takes.asks.1 (subst (λ (g : Gathering). WasAccepted accepted g.taken) gathering was));
       gathers = rw gathering takes.gathers;
       legible = dropped ∙ takes.legible;
     }
@@ -415,6 +419,7 @@ TakesBuilt-more profile client built accepted next chan takes =
       accepted = All-weaker (WasBuilt built) (WasBuilt (built ++ next ∷ [])) (was_built_more built (next ∷ [])) accepted takes.accepted;
       rise = takes.rise;
       stands = takes.stands;
+      shows = takes.shows;
       lines = takes.lines;
       below = takes.below;
       asks = takes.asks;
@@ -471,6 +476,20 @@ at_most_from least o (first ∷ next ∷ others) zero d are lt =
     omega (arith, behind, more)
 at_most_from least o (first ∷ next ∷ others) (suc k) d are lt = at_most_from (first.head.number + 1) (Some first) (next ∷ others) k d are.2 (omega (arith, lt))
 
+-- none that was accepted has a number above the newest
+above_all : (accepted : List Snapshot) (held : HeldSnapshots) (number : ℕ) → SnapshotsStandFor accepted held → held.newest < number → WasAccepted accepted number → ⊥
+above_all accepted held number stands above was =
+    let most = All-from_get_or (λ (s : Snapshot). s.head.number ≤ newest_of accepted) accepted was.0 (λ k lt. at_most_from 1 None accepted k was.0 stands.accepted lt) in
+    let least = All-contains (λ (s : Snapshot). s.head.number ≤ newest_of accepted) accepted was.0 most was.1 in
+    let number_is = was.2 in
+    let newest_is = stands.newest in
+    omega (arith, least, number_is, newest_is, above)
+
+-- the last of a list, and of one more
+last_push : {X : Type 0} (o : Option X) (xs : List X) (x : X) → last_or o (xs ++ x ∷ []) ≡ Some x
+last_push o [] x = refl
+last_push o (y ∷ xs) x = last_push (Some y) xs x
+
 -- more was gathered, or gathered anew, and no message came whole
 pub TakesBuilt-gathered : (profile : Profile) (client : ClientState) (built : List Built) (accepted : List Snapshot) (g : Gathering)
     → g.taken ≡ client.gathering.taken → Gathers (messages_of profile built) (length built) g
@@ -481,9 +500,10 @@ TakesBuilt-gathered profile client built accepted g taken gathers takes =
       accepted = takes.accepted;
       rise = takes.rise;
       stands = takes.stands;
+      shows = takes.shows;
       lines = takes.lines;
       below = omega (arith, taken, below);
-      asks = λ asks. rw taken (takes.asks asks);
+      asks = (λ asks. rw taken (takes.asks.0 asks), λ was. takes.asks.1 (subst (WasAccepted accepted) taken was));
       gathers = gathers;
       legible = takes.legible;
     }
@@ -499,9 +519,10 @@ TakesBuilt-passed profile client built accepted g n newer gathers takes =
       accepted = takes.accepted;
       rise = takes.rise;
       stands = takes.stands;
+      shows = takes.shows;
       lines = takes.lines;
       below = omega (arith, newer, below);
-      asks = λ asks. absurd cc;
+      asks = (λ asks. absurd cc, λ was. absurd (above_all accepted client.state.held g.taken takes.stands (omega (arith, newer, below)) was));
       gathers = gathers;
       legible = takes.legible;
     }
@@ -519,9 +540,10 @@ TakesBuilt-accepted laws profile client built accepted g n snapshot taken gather
       accepted = All-push (WasBuilt built) accepted snapshot takes.accepted was;
       rise = rise_more accepted snapshot takes.rise (λ k d lt. let most = at_most_from 1 None accepted k d stands.accepted lt in omega (arith, most, newest, below, newer));
       stands = laws.added accepted client.state.held snapshot stands (omega (arith, below, newer)) few;
+      shows = ap (λ (r : Result Snapshot NoBase). result_ok r) (laws.there client.state.held snapshot stands.held (omega (arith, below, newer)) few) ∙ sym (last_push None accepted snapshot);
       lines = takes.lines;
       below = omega (arith, taken);
-      asks = λ asks. (snapshot, Contains-push accepted snapshot, sym taken);
+      asks = (λ asks. (snapshot, Contains-push accepted snapshot, sym taken), λ was. refl);
       gathers = gathers;
       legible = takes.legible;
     }

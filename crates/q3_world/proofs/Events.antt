@@ -555,7 +555,7 @@ Holds-said profile whole c client left sends gathers lt found way fits taken sen
       joined = record {
         of_client = TakesBuilt-same profile client (client_handed begun) history.built history.accepted refl refl refl refl joined.of_client;
         of_slot = TakesSaid-more profile had.0 history.said history.issued history.run next gathers joined.of_slot;
-        asked = AreAsked-said had.0 history.said history.built history.accepted next (λ so. joined.of_client.asks (asks_only client so)) joined.asked;
+        asked = AreAsked-said had.0 history.said history.built history.accepted next (λ so. joined.of_client.asks.0 (asks_only client so)) joined.asked;
       };
       sent = sent_more profile whole c (record history { said = more }) tag lt grows refl (
         keeps.host,

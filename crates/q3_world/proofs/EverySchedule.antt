@@ -2,7 +2,7 @@
 use Rattle.std.proofs.Common.{◌≡◌, ℕ, ◌+◌, ◌-◌, ◌^◌, ◌<◌, ◌≤◌, List, [], ◌∷◌, length, get_or, false, Option, Some, None, Result, Ok, refl, sym, ap, subst, ◌∙◌, inl, inr, arith}
 use Rattle.std.specs.Prelude.{◌&&◌, nat_le, slice_get, All, Contains, IfSome}
 use Rattle.std.specs.Int.{is_power_of_two}
-use Rattle.std.specs.List.{AllByRecursion}
+use Rattle.std.specs.List.{AllByRecursion, last_or}
 use Rattle.std.specs.Option.{option_map}
 use Rattle.std.specs.Result.{result_ok}
 use Rattle.std.proofs.lemmas.Option.{slice_get-map}
@@ -46,7 +46,7 @@ use Rattle.q3_world.specs.Ends.{Ends, Answered, unknown, delivered, ran, client_
 use Rattle.q3_world.specs.Kept.{SentBytes, Kept, KeptStep, opening_kept, kept_step, kept_after, kept_answers}
 use Rattle.q3_world.specs.World.{Tag, Step, Whole, History, history_at, built_at, opening, step, after, answers, deliver, arrive, to_client, to_server, named}
 use Rattle.q3_world.specs.StandsFor.{IsChecked, IsSent, IsClient, WasBuilt, Rise, IsJoined, StandsFor, bytes_of}
-use Rattle.q3_world.specs.Schedules.{StepFollows, kept_then, whole_then, BytesFollowTags, AcceptedWereBuilt, ShownWasBuilt, outcome_of, applied_of, Shows, AppliedWasBuilt, NewerIsAccepted, BasesWereAccepted, HeldIsAccepted, ViewsWereBuilt}
+use Rattle.q3_world.specs.Schedules.{StepFollows, kept_then, whole_then, BytesFollowTags, AcceptedWereBuilt, ShownWasBuilt, ShownIsNewest, AsksForAccepted, outcome_of, applied_of, Shows, AppliedWasBuilt, NewerIsAccepted, BasesWereAccepted, HeldIsAccepted, ViewsWereBuilt}
 use Rattle.q3_world.specs.Layers.{RingLaws}
 use Rattle.q3_world.proofs.Events.{Holds, Holds-opening, Has, has_client}
 use Rattle.q3_world.proofs.Agree.{Cited, seen}
@@ -156,6 +156,31 @@ shown_was_built law below profile all c snapshot is are within shown =
     newest_was below.rings profile (slot_at whole.ends.server c) (client_at whole.ends c) (address_at whole.ends c) (history_at whole.histories c) snapshot
     (ap (λ (e : Ends). newest (client_at e c)) (sym stands.ends) ∙ (sym (shows (kept_then profile all) c) ∙ shown))
     (stands.facts.each c within) (stands.joined c within)
+
+-- and it is the newest that the client accepted
+newest_by : (profile : Profile) (slot : Option SlotState) (client : Option ClientState) (address : Address) (history : History)
+    → IsClient profile slot client address history → IsJoined profile slot client history → newest client ≡ last_or None history.accepted
+newest_by profile None None address history is joined = rw is refl
+newest_by profile None (Some client) address history is joined = absurd is
+newest_by profile (Some slot) None address history is joined = absurd is
+newest_by profile (Some slot) (Some client) address history is joined = joined.of_client.shows
+
+pub shown_is_newest : BytesFollowTags → ShownIsNewest
+shown_is_newest law profile all c is are within =
+    let stands : Then profile all = (law profile all is are).0 in
+    let whole = whole_then profile all in
+    shows (kept_then profile all) c
+    ∙ (ap (λ (e : Ends). newest (client_at e c)) stands.ends
+    ∙ newest_by profile (slot_at whole.ends.server c) (client_at whole.ends c) (address_at whole.ends c) (history_at whole.histories c)
+    (stands.facts.each c within) (stands.joined c within))
+
+pub asks_for_accepted : BytesFollowTags → AsksForAccepted
+asks_for_accepted law profile all c client is are within found =
+    let stands : Then profile all = (law profile all is are).0 in
+    let whole = whole_then profile all in
+    let holds : Holds profile whole = record { facts = stands.facts; joined = stands.joined } in
+    let had = has_client profile whole c client within (ap (λ (e : Ends). client_at e c) (sym stands.ends) ∙ found) holds in
+    had.1.joined.of_client.asks
 
 -- ---- what a client holds
 
@@ -325,10 +350,11 @@ not_delivered number c took e =
     absurd cc
 
 -- what a delivery answers as applied
-abbrev Applies : Profile → Ends → Ends → ℕ → AppliedSo → History → Type 0
-Applies profile before now c applied history =
+abbrev Applies : Profile → List Tag → ℕ → Ends → Ends → ℕ → AppliedSo → History → Type 0
+Applies profile sent number before now c applied history =
     ((client : ClientState) × (client_at before c ≡ Some client) × (client.gathering.taken < applied.number))
     × (applied ≡ applied_of profile.parse_ring history.accepted applied.number (built_at history.built applied.number))
+    × ((tag : Tag) × (slice_get sent (number - 1) ≡ Some tag) × (tag.direction ≡ ToClient) × (tag.client ≡ c) × (tag.number ≡ applied.number))
     × ((base : ℕ) → applied.snap ≡ Accepted base → Shows now c applied.number history.built)
 
 -- where nothing came whole, nothing is answered as applied
@@ -344,12 +370,13 @@ quiet_applies client gathered.Connectionless apply applied is e = is
 
 -- of a message that came whole
 applied_whole : (profile : Profile) (whole : Whole) (number c : ℕ) (applied : AppliedSo) (tag : Tag) (client next : ClientState) → length whole.ends.clients ≡ places → tag.client < places
+    → slice_get whole.sent (number - 1) ≡ Some tag → tag.direction ≡ ToClient
     → client_at whole.ends tag.client ≡ Some client → client.gathering.taken < tag.number
     → next.state ≡ (apply_message client.state tag.number (named whole.histories tag).message).state
     → Outcome profile whole tag.client tag.number client (named whole.histories tag)
     → delivered number tag.client (Applied (apply_message client.state tag.number (named whole.histories tag).message).answer) ≡ delivered number c (Applied applied)
-    → Applies profile whole.ends (with_client whole.ends tag.client next) c applied (history_at whole.histories c)
-applied_whole profile whole number c applied tag client next count lt found newer state_is out e =
+    → Applies profile whole.sent number whole.ends (with_client whole.ends tag.client next) c applied (history_at whole.histories c)
+applied_whole profile whole number c applied tag client next count lt at way found newer state_is out e =
     let history = history_at whole.histories tag.client in
     let answer = (apply_message client.state tag.number (named whole.histories tag).message).answer in
     let alike = same_delivered number tag.client c (Applied answer) (Applied applied) e in
@@ -358,9 +385,10 @@ applied_whole profile whole number c applied tag client next count lt found newe
     let is : applied_of profile.parse_ring history.accepted tag.number (named whole.histories tag) ≡ applied = sym out.answer ∙ same in
     let numbered : tag.number ≡ applied.number = ap (λ (a : AppliedSo). a.number) is in
     let there = set_there whole.ends.clients tag.client None (Some next) count lt in
-    subst (λ (k : ℕ). Applies profile whole.ends (with_client whole.ends tag.client next) k applied (history_at whole.histories k)) alike.0 (
+    subst (λ (k : ℕ). Applies profile whole.sent number whole.ends (with_client whole.ends tag.client next) k applied (history_at whole.histories k)) alike.0 (
       (client, found, omega (arith, numbered, newer)),
       sym is ∙ ap (λ (k : ℕ). applied_of profile.parse_ring history.accepted k (built_at history.built k)) numbered,
+      (tag, at, way, refl, numbered),
       λ base so.
           let shown = out.shows base (ap (λ (a : AppliedSo). a.snap) same ∙ so) in (
             shown.0,
@@ -375,12 +403,12 @@ applied_whole profile whole number c applied tag client next count lt found newe
 
 abbrev AppliesSo : Profile → Whole → ℕ → ℕ → AppliedSo → Step → Type 0
 AppliesSo profile whole number c applied next =
-    next.answer ≡ delivered number c (Applied applied) → Applies profile whole.ends next.whole.ends c applied (history_at whole.histories c)
+    next.answer ≡ delivered number c (Applied applied) → Applies profile whole.sent number whole.ends next.whole.ends c applied (history_at whole.histories c)
 
-applied_arrive : (profile : Profile) (whole : Whole) (number c : ℕ) (applied : AppliedSo) (tag : Tag) (found : Option ClientState) → Cited profile → client_at whole.ends tag.client ≡ found
-    → IsFor profile whole tag → Holds profile whole → AppliesSo profile whole number c applied (to_client profile whole number tag found)
-applied_arrive profile whole number c applied tag None cited at is holds = λ e. absurd (not_delivered number c (Applied applied) e)
-applied_arrive profile whole number c applied tag (Some client) cited at is holds =
+applied_arrive : (profile : Profile) (whole : Whole) (number c : ℕ) (applied : AppliedSo) (tag : Tag) (found : Option ClientState) → Cited profile → slice_get whole.sent (number - 1) ≡ Some tag → tag.direction ≡ ToClient
+    → client_at whole.ends tag.client ≡ found → IsFor profile whole tag → Holds profile whole → AppliesSo profile whole number c applied (to_client profile whole number tag found)
+applied_arrive profile whole number c applied tag None cited sent_at way at is holds = λ e. absurd (not_delivered number c (Applied applied) e)
+applied_arrive profile whole number c applied tag (Some client) cited sent_at way at is holds =
     let built = named whole.histories tag in
     let took = tagged client.gathering tag.number (built_bytes profile built) tag.index in
     let does = cited.does client.gathering tag.number (built_bytes profile built) tag.index in
@@ -394,8 +422,8 @@ applied_arrive profile whole number c applied tag (Some client) cited at is hold
           let out = outcome profile whole tag.client tag.number had.0 client built cited had.1 came.newer (names profile whole tag client is at holds) in
           let taken = take_answer now (CameWhole tag.number (length (built_bytes profile built))) apply in
           let does_so : take_answer now took.answer apply ≡ taken = ap (λ (a : Gathered). take_answer now a apply) came.answer in
-          λ e. subst (λ (t : Taken). Applies profile whole.ends (with_client whole.ends tag.client t.client) c applied (history_at whole.histories c)) (sym does_so)
-          (applied_whole profile whole number c applied tag client taken.client holds.facts.clients is.0 at came.newer refl out
+          λ e. subst (λ (t : Taken). Applies profile whole.sent number whole.ends (with_client whole.ends tag.client t.client) c applied (history_at whole.histories c)) (sym does_so)
+          (applied_whole profile whole number c applied tag client taken.client holds.facts.clients is.0 sent_at way at came.newer refl out
           (ap (λ (t : Taken). delivered number tag.client t.answer) (sym does_so) ∙ e))
     ]
 
@@ -405,17 +433,17 @@ not_applied : (profile : Profile) (whole : Whole) (number c : ℕ) (applied : Ap
 not_applied profile whole number c applied tag from None e = absurd (not_to_server number Stranger [] number c (Applied applied) e)
 not_applied profile whole number c applied tag from (Some slot) e = absurd (not_to_server number _ _ number c (Applied applied) e)
 
-applied_go : (profile : Profile) (whole : Whole) (number c : ℕ) (applied : AppliedSo) (tag : Tag) (direction : Direction) → Cited profile → tag.direction ≡ direction
+applied_go : (profile : Profile) (whole : Whole) (number c : ℕ) (applied : AppliedSo) (tag : Tag) (direction : Direction) → Cited profile → slice_get whole.sent (number - 1) ≡ Some tag → tag.direction ≡ direction
     → IsSent profile whole.histories tag → Holds profile whole → AppliesSo profile whole number c applied (arrive profile whole number tag direction)
-applied_go profile whole number c applied tag ToClient cited way is holds =
-    applied_arrive profile whole number c applied tag (client_at whole.ends tag.client) cited refl (is_for profile whole tag way is) holds
-applied_go profile whole number c applied tag (ToServer from) cited way is holds = not_applied profile whole number c applied tag from (slot_at whole.ends.server tag.client)
+applied_go profile whole number c applied tag ToClient cited at way is holds =
+    applied_arrive profile whole number c applied tag (client_at whole.ends tag.client) cited at way refl (is_for profile whole tag way is) holds
+applied_go profile whole number c applied tag (ToServer from) cited at way is holds = not_applied profile whole number c applied tag from (slot_at whole.ends.server tag.client)
 
 applied_deliver : (profile : Profile) (whole : Whole) (number c : ℕ) (applied : AppliedSo) (found : Option Tag) → Cited profile → slice_get whole.sent (number - 1) ≡ found → Holds profile whole
     → AppliesSo profile whole number c applied (deliver profile whole number found)
 applied_deliver profile whole number c applied None cited at holds = λ e. absurd (not_delivered number c (Applied applied) e)
 applied_deliver profile whole number c applied (Some tag) cited at holds =
-    applied_go profile whole number c applied tag tag.direction cited refl (is_sent profile whole (number - 1) tag at holds) holds
+    applied_go profile whole number c applied tag tag.direction cited at refl (is_sent profile whole (number - 1) tag at holds) holds
 
 -- by tags
 applied_step : (profile : Profile) (whole : Whole) (number c : ℕ) (applied : AppliedSo) → Cited profile → Holds profile whole
@@ -434,6 +462,6 @@ applied_was_built law below profile all number c applied is are e =
     let holds : Holds profile whole = record { facts = stands.facts; joined = stands.joined } in
     let same : kept_step kept (events.Deliver number) ≡ seen profile (step profile whole (events.Deliver number)) =
     ap (λ (k : Kept). kept_step k (events.Deliver number)) (kept_is profile kept whole stands) ∙ (delivers_agree profile whole number cited holds).same in
-    subst (λ (before : Ends). Applies profile before (kept_step kept (events.Deliver number)).kept.ends c applied history) (sym stands.ends)
-    (subst (λ (s : KeptStep). Applies profile whole.ends s.kept.ends c applied history) (sym same)
+    subst (λ (before : Ends). Applies profile whole.sent number before (kept_step kept (events.Deliver number)).kept.ends c applied history) (sym stands.ends)
+    (subst (λ (s : KeptStep). Applies profile whole.sent number whole.ends s.kept.ends c applied history) (sym same)
     (applied_step profile whole number c applied cited holds (sym (ap (λ (s : KeptStep). s.answer) same) ∙ e)))

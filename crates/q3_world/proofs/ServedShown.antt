@@ -286,7 +286,7 @@ shown law accepted applied bytes does profile all c t slot client is are made_so
     let accepts : applied_so.snap ≡ Accepted (number_of next.base) =
     ap (λ (a : List Snapshot). outcome_of profile.parse_ring a (built_at (history_then profile served c).built n).base) makes.accepted
     ∙ (ap (λ (b : Built). outcome_of profile.parse_ring (history_at start.histories c).accepted b.base) makes.built ∙ there_base) in
-    let shows_so = (applied profile arrived last c applied_so is arrived_are answer).2 (number_of next.base) accepts in
+    let shows_so = (applied profile arrived last c applied_so is arrived_are answer).3 (number_of next.base) accepts in
     let snapshot = shows_so.0 in
     let same : snapshot ≡ next_snapshot map slot =
     one_snapshot snapshot (next_snapshot map slot) (sym shows_so.3.2

@@ -1,6 +1,6 @@
 -- Laws over every list of events.
-use Rattle.std.specs.Prelude.{◌≡◌, ◌↔◌, ℕ, ◌+◌, ◌-◌, ◌<◌, if◌then◌else◌, false, List, [], ◌∷◌, ◌++◌, length, map, replicate, ◌≤◌, All, Contains, Option, Some, None, IfSome, Ok, slice_get, slice_index_or}
-use Rattle.std.specs.List.{AllByRecursion, range_with_len}
+use Rattle.std.specs.Prelude.{◌≡◌, ◌↔◌, ℕ, ◌+◌, ◌-◌, ◌<◌, if◌then◌else◌, true, false, List, [], ◌∷◌, ◌++◌, length, map, replicate, ◌≤◌, All, Contains, Option, Some, None, IfSome, Ok, slice_get, slice_index_or}
+use Rattle.std.specs.List.{AllByRecursion, last_or, range_with_len}
 use Rattle.q3_profile.specs.declared.profile.Profile.{Profile}
 use Rattle.q3_script.specs.declared.event.Event.{Event}
 use Rattle.q3_script.specs.declared.event.Event.TheVariants as events
@@ -25,13 +25,13 @@ use Rattle.q3_world.specs.declared.answer.Answer.TheVariants.{Send, Deliver, ToS
 use Rattle.q3_world.specs.declared.made.Direction.TheVariants as direction
 use Rattle.q3_server.specs.Built.{Built, number_of, IsNear}
 use Rattle.q3_server.specs.Server.{ServerState, SlotState, places, slot_at, next_snapshot, begun_next, built_bytes, most_placed}
-use Rattle.q3_server.specs.Taking.{runs}
+use Rattle.q3_server.specs.Taking.{delta_behind, runs}
 use Rattle.q3_client.specs.Client.{ClientState}
 use Rattle.q3_world.specs.Moves.{TimesRise, StandAmong}
 use Rattle.q3_world.specs.Ends.{Ends, client_at, newest, unknown, delivered, ran}
 use Rattle.q3_world.specs.Kept.{SentBytes, Kept, opening_kept, kept_step, kept_after, kept_answers}
 use Rattle.q3_world.specs.World.{Tag, Whole, History, history_at, built_at, said_at, opening, step, after, answers}
-use Rattle.q3_world.specs.StandsFor.{IsChecked, StandsFor, WasBuilt, Rise}
+use Rattle.q3_world.specs.StandsFor.{IsChecked, StandsFor, WasBuilt, Rise, WasAccepted}
 
 -- a step by bytes of what stands for a whole world gives what stands for its step by tags, and answers the same
 abbrev pub StepFollows : Type 0
@@ -105,6 +105,17 @@ ShownWasBuilt = (profile : Profile) (all : List Event) (c : ℕ) (snapshot : Sna
     → (kept_step (kept_then profile all) (events.Show c)).answer.snapshot ≡ Some snapshot
     → WasBuilt (history_then profile all c).built snapshot
 
+-- what a show prints is the newest snapshot that the client accepted, if it accepted one
+abbrev pub ShownIsNewest : Type 0
+ShownIsNewest = (profile : Profile) (all : List Event) (c : ℕ) → IsChecked profile → AllByRecursion IsReplayEvent all → c < places
+    → (kept_step (kept_then profile all) (events.Show c)).answer.snapshot ≡ last_or None (history_then profile all c).accepted
+
+-- a client asks for deltas exactly where the snapshot of the newest message that it took was accepted
+abbrev pub AsksForAccepted : Type 0
+AsksForAccepted = (profile : Profile) (all : List Event) (c : ℕ) (client : ClientState) → IsChecked profile → AllByRecursion IsReplayEvent all
+    → c < places → client_at (kept_then profile all).ends c ≡ Some client
+    → (client.delta ≡ true) ↔ WasAccepted (history_then profile all c).accepted client.gathering.taken
+
 -- each base against which a message was built is below it, at most by 28, was built itself and was accepted by the client
 abbrev pub BasesWereAccepted : Type 0
 BasesWereAccepted = (profile : Profile) (all : List Event) (c k : ℕ) (d : Built) → IsChecked profile → AllByRecursion IsReplayEvent all → c < places
@@ -141,14 +152,15 @@ applied_of ring accepted n built = record { number = n; game = false; snap = out
 abbrev pub Shows : Ends → ℕ → ℕ → List Built → Type 0
 Shows ends c n built = (snapshot : Snapshot) × (newest (client_at ends c) ≡ Some snapshot) × (snapshot.head.number ≡ n) × WasBuilt built snapshot
 
--- where a client that takes datagrams by their bytes applies one, its number is above every number that it took before, what it
--- answers is told by the message that was built under it and by what it accepted, and where it accepts the snapshot, its newest is
--- the one that the server built for it under that number
+-- where a client that takes datagrams by their bytes applies one, the datagram was made for it, of a message whose number is above
+-- every number that it took before; what it answers is told by the message that was built under that number and by what it accepted;
+-- and where it accepts the snapshot, its newest is the one that the server built for it under that number
 abbrev pub AppliedWasBuilt : Type 0
 AppliedWasBuilt = (profile : Profile) (all : List Event) (number c : ℕ) (applied : AppliedSo) → IsChecked profile → AllByRecursion IsReplayEvent all
     → (kept_step (kept_then profile all) (events.Deliver number)).answer ≡ delivered number c (Applied applied)
     → ((client : ClientState) × (client_at (kept_then profile all).ends c ≡ Some client) × (client.gathering.taken < applied.number))
     × (applied ≡ applied_of profile.parse_ring (history_then profile all c).accepted applied.number (built_at (history_then profile all c).built applied.number))
+    × ((tag : Tag) × (slice_get (whole_then profile all).sent (number - 1) ≡ Some tag) × (tag.direction ≡ direction.ToClient) × (tag.client ≡ c) × (tag.number ≡ applied.number))
     × ((base : ℕ) → applied.snap ≡ Accepted base
     → Shows (kept_step (kept_then profile all) (events.Deliver number)).kept.ends c applied.number (history_then profile all c).built)
 
@@ -171,7 +183,7 @@ UsualNeverSkips = (profile : Profile) (all : List Event) (number c : ℕ) (appli
     → (base : ℕ) × (applied.snap ≡ Accepted base)
 
 -- where the bytes of a client's datagram bring a message whole to its slot, it is run: of its moves those that are later than
--- the last one that was run
+-- the last one that was run; and from then on the slot writes against the snapshot that the message asks for
 abbrev pub NewerIsRun : Type 0
 NewerIsRun = (profile : Profile) (all : List Event) (number n count : ℕ) (sent : SentBytes) (from : Address) (slot : SlotState) → IsChecked profile
     → AllByRecursion IsReplayEvent all
@@ -180,6 +192,8 @@ NewerIsRun = (profile : Profile) (all : List Event) (number n count : ℕ) (sent
     → (gathered slot.gathering sent.bytes).answer ≡ CameWhole n count
     → (kept_step (kept_then profile all) (events.Deliver number)).answer
     ≡ ran number (took.Ran sent.client n) (runs slot.last_run (said_at (history_then profile all sent.client).said n).moves)
+    × ((after : SlotState) × (slot_at (kept_step (kept_then profile all) (events.Deliver number)).kept.ends.server sent.client ≡ Some after)
+    × (after.delta ≡ delta_behind slot.delta (said_at (history_then profile all sent.client).said n)))
 
 -- the moves of a client that the server ran stand among those that the client issued, each once and in their order, and their
 -- times rise

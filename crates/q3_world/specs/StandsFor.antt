@@ -1,6 +1,7 @@
 -- What is kept stands for a whole world: both ends are the same, and each datagram's bytes are those of the message
 -- that its tag names.
-use Rattle.std.specs.Prelude.{◌≡◌, ℕ, zero, suc, ◌+◌, ◌^◌, ◌<◌, ◌≤◌, ◌⊎◌, true, List, [], ◌∷◌, ◌++◌, length, map, All, Contains, Option, Some, None, IfSome, slice_index_or}
+use Rattle.std.specs.Prelude.{◌≡◌, ℕ, zero, suc, ◌+◌, ◌^◌, ◌<◌, ◌≤◌, ◌⊎◌, ◌↔◌, true, List, [], ◌∷◌, ◌++◌, length, map, All, Contains, Option, Some, None, IfSome, slice_index_or}
+use Rattle.std.specs.List.{last_or}
 use Rattle.q3_profile.specs.declared.profile.Profile.{Profile}
 use Rattle.q3_profile.specs.Profile.{IsCodec, IsProfile}
 use Rattle.q3_io.specs.declared.address.Address.{Address}
@@ -17,6 +18,7 @@ use Rattle.q3_svmsg.specs.Values as told
 use Rattle.q3_svmsg.specs.Values.{Told}
 use Rattle.q3_ring.specs.Snapshot.{Snapshot}
 use Rattle.q3_frames.specs.Frames.{FramesState, AreFrames, held_frame}
+use Rattle.q3_rings.specs.Rings.{view_at}
 use Rattle.q3_rings.specs.Accepted.{SnapshotsStandFor}
 use Rattle.q3_server.specs.Built.{Built, IsHeld, IsArea, AreHeld, IsBuilt}
 use Rattle.q3_server.specs.Server.{SlotState, places, slot_at, built_bytes}
@@ -182,15 +184,16 @@ abbrev pub WasAccepted : List Snapshot → ℕ → Type 0
 WasAccepted accepted number = (snapshot : Snapshot) × Contains accepted snapshot × (snapshot.head.number ≡ number)
 
 -- a client takes and gathers only what was built for it, so it wasn't dropped; each snapshot that it accepted was built, their
--- numbers rise, and what it holds is what it accepted; none is above the newest number taken, and where it asks for deltas the
--- snapshot of that number was accepted. There are no baselines
+-- numbers rise, what it holds is what it accepted, and the newest that it lends is the last; none is above the newest number
+-- taken, and it asks for deltas exactly where the snapshot of that number was accepted. There are no baselines
 pub record TakesBuilt (profile : Profile) (client : ClientState) (began : List Built) (took : List Snapshot) : Type 0 where
   pub accepted : All (WasBuilt began) took
   pub rise : Rise took
   pub stands : SnapshotsStandFor took client.state.held
+  pub shows : view_at client.state.held client.state.held.newest ≡ last_or None took
   pub lines : client.state.lines ≡ no_lines
   pub below : client.state.held.newest ≤ client.gathering.taken
-  pub asks : client.delta ≡ true → WasAccepted took client.gathering.taken
+  pub asks : (client.delta ≡ true) ↔ WasAccepted took client.gathering.taken
   pub gathers : Gathers (messages_of profile began) (length began) client.gathering
   pub legible : client.dropped ≡ None
 

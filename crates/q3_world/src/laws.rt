@@ -2,7 +2,7 @@
 
 ghost use Rattle.q3_world.specs.MessageLaws.{BuiltIsRead, SaidIsRead};
 ghost use Rattle.q3_world.specs.Layers.{Layers};
-ghost use Rattle.q3_world.specs.Schedules.{StepFollows, BytesFollowTags, AlwaysLegible, UnknownWasNotMade, AcceptedWereBuilt, ShownWasBuilt, BasesWereAccepted, HeldIsAccepted, ViewsWereBuilt, AppliedWasBuilt, NewerIsAccepted, UsualNeverSkips, NewerIsRun, MovesWereIssued, InOrderIsAccepted, ServedIsShown};
+ghost use Rattle.q3_world.specs.Schedules.{StepFollows, BytesFollowTags, AlwaysLegible, UnknownWasNotMade, AcceptedWereBuilt, ShownWasBuilt, ShownIsNewest, AsksForAccepted, BasesWereAccepted, HeldIsAccepted, ViewsWereBuilt, AppliedWasBuilt, NewerIsAccepted, UsualNeverSkips, NewerIsRun, MovesWereIssued, InOrderIsAccepted, ServedIsShown};
 
 use q3_bits::laws as bits;
 use q3_chan::laws as chan;
@@ -106,6 +106,20 @@ pub fn shown_was_built()
     layers();
 }
 
+/// What a show prints is the newest snapshot that the client accepted, if it accepted one.
+pub fn shown_is_newest()
+    ensures { ShownIsNewest }
+{
+    bytes_follow_tags();
+}
+
+/// A client asks for deltas exactly where the snapshot of the newest message that it took was accepted.
+pub fn asks_for_accepted()
+    ensures { AsksForAccepted }
+{
+    bytes_follow_tags();
+}
+
 /// Each base against which a message was built is below it, at most by 28, was built itself, and was accepted by its client.
 pub fn bases_were_accepted()
     ensures { BasesWereAccepted }
@@ -157,7 +171,8 @@ pub fn usual_never_skips()
     applied_was_built();
 }
 
-/// Whatever came before, where the bytes of a client's datagram bring a message whole to its slot, it is run.
+/// Whatever came before, where the bytes of a client's datagram bring a message whole to its slot, it is run, and the slot writes
+/// against the snapshot that it asks for from then on.
 pub fn newer_is_run()
     ensures { NewerIsRun }
 {
