@@ -1,4 +1,5 @@
 pub mod Texts
+pub mod Commands
 pub mod Keys
 pub mod Cuts
 pub mod Decimals

@@ -46,6 +46,13 @@ pub struct Command {
     pub text: Text,
 }
 
+/// Commands in two pieces, as a window lends them: `head`, and behind it `tail`.
+#[derive(Clone, Copy)]
+pub struct CommandRun<'a> {
+    pub head: &'a [Command],
+    pub tail: &'a [Command],
+}
+
 impl Default for Text {
     fn default() -> Text {
         Text::new()
