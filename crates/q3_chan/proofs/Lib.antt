@@ -10,3 +10,5 @@ pub mod AnyBytes
 pub mod Cutting
 pub mod Handing
 pub mod Senders
+pub mod Keys
+pub mod Scrambled

@@ -1,10 +1,10 @@
 -- A datagram that a client sent tells its qport.
-use Rattle.std.proofs.Common.{◌≡◌, ◌+◌, ◌*◌, ◌<◌, ◌≤◌, ◌∙◌, ℕ, ltb, List, ◌++◌, length, sym, ap, subst, Ok, inl, inr, arith}
+use Rattle.std.proofs.Common.{◌≡◌, ◌+◌, ◌*◌, ◌<◌, ◌∙◌, ℕ, ltb, List, ◌++◌, length, sym, ap, subst, Ok, inl, inr, arith}
 use Rattle.std.proofs.lemmas.Bool.{cases_lt, cond-true, cond-false, lt-ltb, le-ltb}
 use Rattle.byteorder.specs.Endian.{little_bytes}
 use Rattle.byteorder.specs.Numbers.{little_number-reads_back}
 use Rattle.q3_chan.specs.declared.side.Side.TheVariants.{Client}
-use Rattle.q3_chan.specs.Datagrams.{fragment_size, fragment_mark, longest_message, sequence_end, piece_count, piece, header, is_fragment, header_length, datagram, fragment}
+use Rattle.q3_chan.specs.Datagrams.{fragment_size, fragment_mark, piece, header, is_fragment, header_length, datagram, fragment}
 use Rattle.q3_chan.specs.Gathering.{is_connectionless}
 use Rattle.q3_chan.specs.Senders.{qport_in, qport_of, QportIsTold}
 use Rattle.q3_chan.proofs.Headers.{IsHeaded, whole_is, fragment_is}

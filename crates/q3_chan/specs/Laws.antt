@@ -1,12 +1,14 @@
--- Laws of messages that are cut and gathered.
+-- Laws of messages that are cut, gathered and scrambled.
 use Rattle.std.specs.Prelude.{◌≡◌, ◌⊎◌, ℕ, ◌+◌, ◌*◌, ◌^◌, ◌<◌, ◌≤◌, true, false, List, [], ◌∷◌, ◌++◌, length, map, take, Some, IfSome, All}
 use Rattle.std.specs.List.{concat, range_with_len}
+use Rattle.q3_text.specs.Texts.{IsText}
 use Rattle.q3_chan.specs.declared.side.Side.{Side}
 use Rattle.q3_chan.specs.declared.gatherer.Gathered.TheVariants.{Whole, Partial}
 use Rattle.q3_chan.specs.Datagrams.{fragment_size, longest_message, sequence_end, piece_count, last_index, pieces, datagram, datagrams, is_fragment, number_in, start_in, count_in, behind_header}
 use Rattle.q3_chan.specs.Sending.{Sending, UnderWay, IsIdle, new_sending, started, next_of, handed_out, behind}
 use Rattle.q3_chan.specs.Gathering.{Gathering, gathered, gathered_all, new_gathering}
 use Rattle.q3_chan.specs.Tags.{tagged, tagged_all, Came, PieceDoes}
+use Rattle.q3_chan.specs.Scrambling.{scrambled}
 
 -- the pieces of a message, one behind the other, are the message
 abbrev pub PiecesAreWhole : Type 0
@@ -156,3 +158,19 @@ pub record EndsSend : Type 0 where
   -- and it is one of the messages' datagrams
   pub one : (messages : ℕ → List ℕ) (s : Sending) (index : ℕ) → HandsOut messages s index → s.number < sequence_end → IsSendable (messages s.number)
       → IsOneOf s.side s.qport messages (next_of s).datagram
+
+-- ---- scrambling
+
+-- what is scrambled twice is as it was
+abbrev pub TwiceIsNone : Type 0
+TwiceIsNone = (from start : ℕ) (text bytes : List ℕ) → scrambled from start text (scrambled from start text bytes) ≡ bytes
+
+-- the length stays, and so does what stands before the place
+abbrev pub FrontStays : Type 0
+FrontStays = (from start : ℕ) (text bytes : List ℕ) → (length (scrambled from start text bytes) ≡ length bytes)
+    × ((k : ℕ) → k ≤ from → take k (scrambled from start text bytes) ≡ take k bytes)
+
+-- bytes stay bytes, where the start is one
+abbrev pub BytesStayBytes : Type 0
+BytesStayBytes = (from start : ℕ) (text bytes : List ℕ) → start < 2 ^ 8 → IsText text → All (λ byte. byte < 2 ^ 8) bytes
+    → All (λ byte. byte < 2 ^ 8) (scrambled from start text bytes)

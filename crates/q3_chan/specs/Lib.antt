@@ -5,3 +5,4 @@ pub mod Buffers
 pub mod Tags
 pub mod Laws
 pub mod Senders
+pub mod Scrambling

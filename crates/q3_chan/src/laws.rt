@@ -1,7 +1,7 @@
-//! Laws of messages that are cut and gathered, each the contract of a call that does nothing. A proof above cites a law by
+//! Laws of messages that are cut, gathered and scrambled, each the contract of a call that does nothing. A proof above cites a law by
 //! calling it.
 
-ghost use Rattle.q3_chan.specs.Laws.{PiecesAreWhole, HandsOutAll, SentIsTagged, TaggedDoes, PiecesAreTagged, FirstArePartial, PiecesComeWhole, FirstComePartial, GatheredIsOne, WholeArePieces, EndsGather, EndsSend};
+ghost use Rattle.q3_chan.specs.Laws.{PiecesAreWhole, HandsOutAll, SentIsTagged, TaggedDoes, PiecesAreTagged, FirstArePartial, PiecesComeWhole, FirstComePartial, GatheredIsOne, WholeArePieces, EndsGather, EndsSend, TwiceIsNone, FrontStays, BytesStayBytes};
 ghost use Rattle.q3_chan.specs.Senders.{QportIsTold};
 
 /// The pieces of a message, one behind the other, are the message.
@@ -63,4 +63,11 @@ pub fn ends_send()
 /// A datagram that a client sent tells its qport.
 pub fn qport_is_told()
     ensures { QportIsTold }
+{}
+
+/// What is scrambled twice is as it was; the length and what stands before the place stay, and bytes stay bytes.
+pub fn scrambled_twice()
+    ensures twice { TwiceIsNone }
+    ensures front { FrontStays }
+    ensures bytes { BytesStayBytes }
 {}

@@ -1,4 +1,5 @@
-//! The netchan: messages of any length are cut into datagrams, and datagrams in any order are gathered into messages.
+//! The netchan: messages of any length are cut into datagrams, and datagrams in any order are gathered into messages; and messages
+//! are scrambled.
 #![tactic(auto)]
 
 mod buffer;
@@ -7,6 +8,7 @@ mod header;
 pub mod laws;
 mod limits;
 pub mod qport;
+pub mod scrambling;
 pub mod sender;
 pub mod side;
 #[cfg(test)]
@@ -15,5 +17,6 @@ mod tests;
 pub use gatherer::{Gathered, Gatherer};
 pub use limits::{DATAGRAM_ROOM, FRAGMENT_SIZE, LONGEST_MESSAGE, SEQUENCE_END};
 pub use qport::{NoQport, qport_of};
+pub use scrambling::scramble;
 pub use sender::{Datagram, Sender};
 pub use side::Side;

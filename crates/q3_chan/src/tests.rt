@@ -3,7 +3,10 @@
 ghost use Rattle.std.specs.Prelude.{◌≡◌, ◌≤◌, length, IfOk};
 ghost use Rattle.std.specs.Vec.{vec_len};
 
-use crate::{Datagram, Gathered, Gatherer, NoQport, SEQUENCE_END, Sender, Side, qport_of};
+use crate::{
+    Datagram, Gathered, Gatherer, NoQport, SEQUENCE_END, Sender, Side, qport_of, scramble,
+};
+use q3_text::Text;
 use std::alloc::{AllocError, Global};
 use std::process::Abort;
 use std::test::*;
@@ -215,6 +218,64 @@ fn datagrams_tell_their_qport(rt: HostRuntime) -> Result<(), Fail> {
     ];
     for (bytes, qport) in table {
         assert!(rt; qport_of(bytes) == qport);
+    }
+    Ok(())
+}
+
+#[test]
+fn messages_are_scrambled(rt: HostRuntime) -> Result<(), Fail> {
+    let table: [(usize, u8, &str, &[u8], &[u8]); 6] = [
+        (
+            4,
+            17 ^ 1,
+            "",
+            &[0, 0, 0, 0, 7, 0xe8, 3, 0, 0, 0, 2, 0, 0, 0xfe, 0x47, 0],
+            &[
+                0, 0, 0, 0, 0x17, 0xf8, 0x13, 0x10, 0x10, 0x10, 0x12, 0x10, 0x10, 0xee, 0x57, 0x10,
+            ],
+        ),
+        (
+            12,
+            17 ^ 1 ^ 2,
+            "",
+            &[
+                1, 0, 0, 0, 2, 0, 0, 0, 0, 0, 0, 0, 3, 1, 0xe8, 3, 0, 0, 0x62, 0x2c, 0x14, 0,
+            ],
+            &[
+                1, 0, 0, 0, 2, 0, 0, 0, 0, 0, 0, 0, 0x11, 0x13, 0xfa, 0x11, 0x12, 0x12, 0x70, 0x3e,
+                6, 0x12,
+            ],
+        ),
+        (
+            4,
+            17 ^ 3,
+            "go",
+            &[
+                1, 0, 0, 0, 0x72, 0x43, 0xcf, 0x12, 0x75, 0xab, 0xcc, 0x12, 0x75, 0x55, 0x8b, 0x12,
+            ],
+            &[1, 0, 0, 0, 7, 0xe8, 3, 0, 0, 0, 0, 0, 0, 0xfe, 0x47, 0],
+        ),
+        (
+            1,
+            5,
+            "abc",
+            &[9, 1, 2, 3, 4, 5, 6, 7, 8],
+            &[9, 0xc6, 0xa7, 0x60, 6, 0xc3, 0xa3, 0x60, 0x0d],
+        ),
+        (
+            2,
+            5,
+            "abc",
+            &[9, 9, 1, 2, 3, 4, 5, 6, 7, 8],
+            &[9, 9, 0x65, 0xa2, 0xc0, 5, 0x66, 0xa3, 0xc3, 8],
+        ),
+        (5, 3, "abc", &[9, 9, 9], &[9, 9, 9]),
+    ];
+    for (from, start, text, message, wanted) in table {
+        let text = Text::of(text.as_bytes()).map_err(|_| "a text")?;
+        let mut bytes = Vec::from_slice(rt.alloc(), message)?;
+        scramble(&mut bytes, from, start, &text);
+        assert_eq!(rt; bytes.as_slice(), wanted, "from {from}");
     }
     Ok(())
 }
