@@ -2,12 +2,14 @@
 use Rattle.std.proofs.Common.{◌≡◌, ◌∙◌, ℕ, ◌+◌, ◌-◌, ◌*◌, ◌/◌, ◌%◌, ◌^◌, ◌<◌, ◌≤◌, List, [], ◌∷◌, ◌++◌, min, length, take, drop, map, get_or, set, append_assoc, add-one, refl, sym, ap, subst, length-set, length-drop, add_comm, arith}
 use Rattle.std.specs.List.{fold, range_with_len}
 use Rattle.std.specs.Int.Bits.{bit_xor, xor_zero_r}
-use Rattle.std.proofs.Math.Nat.{add-mod_right, mod-eq_of_lt}
+use Rattle.std.proofs.Math.Path.{fun_ext}
+use Rattle.std.proofs.lemmas.Nat.Gcd.{dvd_of_mod-eq-zero}
+use Rattle.std.proofs.Math.Nat.{mod-mod_of_dvd, add-mod_right, mod-eq_of_lt}
 use Rattle.std.proofs.Math.Seq.{drop-cons}
 use Rattle.std.proofs.lemmas.List.{append-nil, length-take-le, get_or-take, get_or-drop, take_all, drop_all, take_more_set, drop-set-lt}
 use Rattle.std.proofs.lemmas.List.FromFn.{map-range_with_len_more}
 use Rattle.std.proofs.lemmas.List.Sums.{fold-append}
-use Rattle.q3_chan.specs.Scrambling.{shifted_at, keyed, scrambled, GoesOn, Went}
+use Rattle.q3_chan.specs.Scrambling.{shifted_at, keyed, scrambled, GoesOn, Went, Repeats}
 
 -- ---- from place to place
 
@@ -249,3 +251,22 @@ through_more from start text old place key new count last newest i left few stay
           let whole : length text ≡ count = omega arith in
           let P : ℕ → Type 0 = λ n. Begins from text (place + n) in subst P whole (begins_next from text place begins);
     }
+
+-- ---- a text so many times
+
+repeats_shifted : (from : ℕ) (text all : List ℕ) (place : ℕ) → 0 < length text → Repeats text all → shifted_at from all place ≡ shifted_at from text place
+repeats_shifted from text all place some r =
+    let filled = r.some in
+    let turn = (place - from) % length all in
+    let within : turn < length all = omega arith in
+    let same : turn % length text ≡ (place - from) % length text = mod-mod_of_dvd (length text) (place - from) (dvd_of_mod-eq-zero (length text) r.whole) in
+    shifted_some from all place filled
+    ∙ ap (λ (n : ℕ). n * 2 ^ (place % 2)) (r.bytes turn within ∙ ap (λ (n : ℕ). get_or text n 0) same)
+    ∙ sym (shifted_some from text place some)
+
+-- what is scrambled by it is what is scrambled by the text
+pub repeats_scrambled : (from start : ℕ) (text all bytes : List ℕ) → 0 < length text → Repeats text all
+    → scrambled from start all bytes ≡ scrambled from start text bytes
+repeats_scrambled from start text all bytes some r =
+    let same : shifted_at from all ≡ shifted_at from text = fun_ext (λ place. repeats_shifted from text all place some r) in
+    ap (λ (adds : ℕ → ℕ). take from bytes ++ keyed (λ place. fold bit_xor start (map adds (range_with_len from (place + 1 - from)))) from (drop from bytes)) same

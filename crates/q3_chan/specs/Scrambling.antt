@@ -32,3 +32,9 @@ pub record GoesOn (keys : ℕ → ℕ) (place : ℕ) (key : ℕ) (text : List �
 pub record Went (keys : ℕ → ℕ) (place : ℕ) (old : List ℕ) (to : ℕ) (key : ℕ) (new : List ℕ) : Type 0 where
   pub key_is : keys to ≡ key
   pub bytes : take to new ++ keyed (λ k. keys (k + 1)) to (drop to new) ≡ take place old ++ keyed (λ k. keys (k + 1)) place (drop place old)
+
+-- a text so many times, one behind the other
+pub record Repeats (text all : List ℕ) : Type 0 where
+  pub some : 0 < length all
+  pub whole : length all % length text ≡ 0
+  pub bytes : (k : ℕ) → k < length all → slice_index all k ≡ slice_index text (k % length text)

@@ -2,9 +2,16 @@
 //! (sv_net_chan.c), `CL_Netchan_Encode` and `CL_Netchan_Decode` (cl_net_chan.c).
 
 ghost use Rattle.std.specs.Prelude.{◌≡◌, ◌+◌, ◌-◌, ◌%◌, ◌<◌, ◌≤◌, ℕ, [], length, All};
-ghost use Rattle.q3_chan.specs.Scrambling.{scrambled, GoesOn, Went};
+ghost use Rattle.q3_chan.specs.Scrambling.{scrambled, GoesOn, Went, Repeats};
 
+use arrayvec::ArrayVec;
 use q3_text::Text;
+
+/// Room for a short text several times.
+const COPIES: usize = 32;
+
+/// A text of fewer bytes is short.
+const SHORT: usize = 16;
 
 /// Scrambles a message from a place on, or clears it: twice is the identity. Both ends call it, a server from byte 4 on and
 /// a client from byte 12. The start is the low byte of what the sides agree on, and the text that of a command which both
@@ -15,6 +22,8 @@ pub fn scramble(bytes: &mut [u8], from: usize, start: u8, text: &Text)
     let text = text.bytes();
     if text.is_empty() {
         add_start(bytes, from, start);
+    } else if text.len() < SHORT {
+        add_short(bytes, from, start, text);
     } else {
         add_text(bytes, from, start, text);
     }
@@ -27,6 +36,31 @@ fn add_start(bytes: &mut [u8], from: usize, start: u8)
     for place in from..bytes.len() {
         bytes[place] ^= start;
     }
+}
+
+/// Goes through a short text several times at once.
+fn add_short(bytes: &mut [u8], from: usize, start: u8, text: &[u8])
+    requires some { 0 < length text.now }
+    requires short { length text.now < 16 }
+    requires seven_bits { All (λ byte. byte < 128) text.now }
+    ensures { bytes.new ≡ scrambled from start text.now bytes.old }
+{
+    let copies = copies(text);
+    add_text(bytes, from, start, &copies);
+}
+
+/// A short text as often as there is room for it.
+fn copies(text: &[u8]) -> ArrayVec<u8, COPIES>
+    requires some { 0 < length text.now }
+    requires short { length text.now < 16 }
+    ensures { Repeats text.now result.items }
+{
+    let count = COPIES / text.len() * text.len();
+    let mut copies = ArrayVec::new();
+    for place in 0..count {
+        copies.push(text[place % text.len()]);
+    }
+    copies
 }
 
 /// Goes through the text again and again.
