@@ -147,12 +147,12 @@ fn put_fresh(executed: u32, commands: &[Command], ran: &mut ArrayVec<Command, MO
     requires few { length commands.now ≤ 64 }
     ensures { ran.new.items ≡ fresh_of executed commands.now }
 {
-    let mut reached = executed;
+    let mut last = executed;
     for command in commands {
-        if command.number <= reached {
+        if command.number <= last {
             continue;
         }
-        reached = command.number;
+        last = command.number;
         ran.push(copy_of(command));
     }
 }

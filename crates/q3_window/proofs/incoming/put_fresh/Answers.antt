@@ -5,8 +5,8 @@ use Rattle.q3_window.specs.Incoming.{fresh_of}
 use Rattle.q3_window.proofs.Runs.{fresh_known, fresh_new, item_is}
 use Rattle.q3_window.proofs.incoming.put_fresh.Goals as goal
 
-pub loop-command-preserved-then-command-reached : goal.loop-command-preserved-then-command-reached
-loop-command-preserved-then-command-reached c =
+pub loop-command-preserved-then-command-last : goal.loop-command-preserved-then-command-last
+loop-command-preserved-then-command-last c =
     let command = c.command-item.result in
     let place = c.loop-command.command-index in
     let commands = c.args.commands.now in
@@ -14,8 +14,8 @@ loop-command-preserved-then-command-reached c =
     record {
       whole =
           ap (λ (fresh : List Command). c.loop-command.ran.items ++ fresh)
-          (sym (fresh_known c.loop-command.reached command (drop (place + 1) commands) (omega arith))
-          ∙ sym (ap (fresh_of c.loop-command.reached) (item_is commands place command (omega arith) c.command-item.is)))
+          (sym (fresh_known c.loop-command.last command (drop (place + 1) commands) (omega arith))
+          ∙ sym (ap (fresh_of c.loop-command.last) (item_is commands place command (omega arith) c.command-item.is)))
           ∙ c.loop-command.invariant.whole;
       few = omega arith;
     }
@@ -34,8 +34,8 @@ loop-command-preserved c =
           ap (λ (items : List Command). items ++ rest) c.push.ensures.items ∙ append_assoc ran (c.copy_of.result ∷ []) rest
           ∙ ap (λ (one : Command). ran ++ (one ∷ rest)) c.copy_of.ensures
           ∙ ap (λ (fresh : List Command). ran ++ fresh)
-          (sym (fresh_new c.loop-command.reached command (drop (place + 1) commands) (omega arith))
-          ∙ sym (ap (fresh_of c.loop-command.reached) (item_is commands place command (omega arith) c.command-item.is)))
+          (sym (fresh_new c.loop-command.last command (drop (place + 1) commands) (omega arith))
+          ∙ sym (ap (fresh_of c.loop-command.last) (item_is commands place command (omega arith) c.command-item.is)))
           ∙ c.loop-command.invariant.whole;
       few = omega arith;
     }
@@ -44,5 +44,5 @@ pub returns : goal.returns
 unfolding fresh_of
 returns c =
     sym (append-nil c.loop-command.ran.items)
-    ∙ sym (ap (λ (commands : List Command). c.loop-command.ran.items ++ fresh_of c.loop-command.reached commands) (drop_all c.loop-command.command-index c.args.commands.now (omega arith)))
+    ∙ sym (ap (λ (commands : List Command). c.loop-command.ran.items ++ fresh_of c.loop-command.last commands) (drop_all c.loop-command.command-index c.args.commands.now (omega arith)))
     ∙ c.loop-command.invariant.whole
