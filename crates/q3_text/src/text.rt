@@ -105,4 +105,21 @@ impl Text {
     {
         &self.bytes
     }
+
+    /// Becomes the same as another text. As many bytes are copied as the other has.
+    pub fn copy_from(&mut self, other: &Text)
+        ensures { self.new ≡ other.now }
+    {
+        self.bytes.clear();
+        let _ = self.bytes.try_extend_from_slice(&other.bytes);
+    }
+
+    /// Another text with the same bytes.
+    pub fn copy(&self) -> Text
+        ensures { result ≡ self.now }
+    {
+        let mut text = Text::new();
+        text.copy_from(self);
+        text
+    }
 }

@@ -1,0 +1,4 @@
+pub mod Round
+pub mod Held
+pub mod Stands
+pub mod Runs

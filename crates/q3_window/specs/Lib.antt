@@ -1,0 +1,6 @@
+pub mod Outgoing
+pub mod Incoming
+pub mod Cells
+pub mod Issued
+pub mod Executed
+pub mod Laws

@@ -1,0 +1,12 @@
+//! The windows of reliable commands: those that an end issued and that aren't acknowledged, and which of the other end's
+//! commands were executed.
+#![tactic(auto)]
+
+pub mod incoming;
+pub mod laws;
+pub mod outgoing;
+#[cfg(test)]
+mod tests;
+
+pub use incoming::{Incoming, Taken};
+pub use outgoing::{BadAck, Outgoing, WindowFull};
