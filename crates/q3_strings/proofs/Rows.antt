@@ -4,6 +4,8 @@ use Rattle.std.proofs.lemmas.List.{drop_more, drop_all, map-append}
 use Rattle.std.proofs.lemmas.Grind.{flat_map-append}
 use Rattle.q3_bits.specs.Words.{field_bits, row_bits}
 use Rattle.q3_text.specs.declared.text.Command.{Command}
+use Rattle.q3_text.specs.declared.text.CommandRun.{CommandRun}
+use Rattle.q3_text.specs.Commands.{commands_of}
 use Rattle.q3_strings.specs.Texts.{bytes_row, string_bits}
 use Rattle.q3_strings.specs.Commands.{issued_bits, commands_bits}
 
@@ -26,3 +28,8 @@ string-is words text = rw (map-append, flat_map-append) refl
 pub commands-next : (words same : List (List Bool)) (operation : ℕ) (commands : List Command) (k : ℕ) (command : Command) → same ≡ words → k < length commands → command ≡ get_or commands k command
     → commands_bits words operation (drop k commands) ≡ issued_bits same operation command ++ commands_bits words operation (drop (k + 1) commands)
 commands-next words same operation commands k command is more item = rw (is, drop_more commands k command more, ← item) refl
+
+-- the commands of a run are those of its first piece, and behind them those of its second
+pub commands-both : (words : List (List Bool)) (operation : ℕ) (run : CommandRun)
+    → commands_bits words operation (commands_of run) ≡ commands_bits words operation run.head.now ++ commands_bits words operation run.tail.now
+commands-both words operation run = rw flat_map-append refl

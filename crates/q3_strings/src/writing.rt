@@ -3,11 +3,12 @@
 
 ghost use Rattle.std.specs.Prelude.{◌≡◌};
 ghost use Rattle.q3_bits.specs.Streams.{Writes};
+ghost use Rattle.q3_text.specs.Commands.{commands_of};
 ghost use Rattle.q3_strings.specs.Texts.{bytes_row, string_bits, command_bits};
 ghost use Rattle.q3_strings.specs.Commands.{issued_bits, commands_bits};
 
 use q3_bits::{Overflow, Writer, laws};
-use q3_text::Command;
+use q3_text::{Command, CommandRun};
 
 /// Writes bytes.
 /// `Overflow` comes exactly where the text doesn't fit the writer's room; a front of it was then written.
@@ -41,8 +42,18 @@ pub fn write_command(w: &mut Writer, command: &Command) -> Result<(), Overflow>
     write_string(w, command.text.bytes())
 }
 
-/// Writes commands, each behind the operation of its end. `Overflow` comes as in `write_bytes`.
-pub fn write_commands(w: &mut Writer, operation: u8, commands: &[Command]) -> Result<(), Overflow>
+/// Writes commands, each behind the operation of its end: those of `head`, and behind them those of `tail`. `Overflow`
+/// comes as in `write_bytes`.
+pub fn write_commands(w: &mut Writer, operation: u8, commands: CommandRun) -> Result<(), Overflow>
+    ensures { Writes w.old w.new (commands_bits w.old.words operation (commands_of commands.entry)) result }
+{
+    laws::texts_are_written();
+    write_row(w, operation, commands.head)?;
+    write_row(w, operation, commands.tail)
+}
+
+/// Writes commands that lie in one row. `Overflow` comes as in `write_bytes`.
+fn write_row(w: &mut Writer, operation: u8, commands: &[Command]) -> Result<(), Overflow>
     ensures { Writes w.old w.new (commands_bits w.old.words operation commands.now) result }
 {
     laws::texts_are_written();

@@ -13,9 +13,9 @@ use Rattle.q3_svmsg.specs.Texts.{section_bits, message_text}
 use Rattle.q3_svmsg.specs.Reading.{game_error, game_read, game_after}
 use Rattle.q3_svmsg.proofs.SectionSpelled.{ReadSection, TakenSection}
 
--- the text of a gamestate depends on no baselines but its own
+-- the text of a message with a gamestate depends on no baselines but its own
 pub game_text : (profile : Profile) (lines other : Lines) (message : Message) (game : Gamestate) → message.section ≡ Game game
-    → message_text profile lines None message ≡ message_text profile other None message
+    → message_text profile lines None message ≡ message_text profile other None (record message { section = Game game })
 unfolding message_text section_bits
 game_text profile lines other message game is = rw is refl
 

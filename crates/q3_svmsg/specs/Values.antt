@@ -1,6 +1,7 @@
 -- What a server's message says, as plain data.
 use Rattle.std.specs.Prelude.{◌≡◌, ℕ, zero, suc, ◌<◌, ◌≤◌, ◌+◌, ◌-◌, ◌==◌, ◌&&◌, not, nat_lt, true, false, if◌then◌else◌, List, [], Option, Some, None}
 use Rattle.q3_text.specs.declared.text.Command.{Command}
+use Rattle.q3_text.specs.Commands.{commands_of}
 use Rattle.q3_player.specs.declared.state.PlayerState.{PlayerState}
 use Rattle.q3_player.specs.declared.head.SnapHead.{SnapHead}
 use Rattle.q3_player.specs.State.{zero_player}
@@ -13,6 +14,7 @@ use Rattle.q3_gamestate.specs.Values.{Gamestate, gamestate_of}
 use Rattle.q3_svmsg.specs.declared.message.Section.{Section}
 use Rattle.q3_svmsg.specs.declared.message.Section.TheVariants as sections
 use Rattle.q3_svmsg.specs.declared.message.ServerMessage.{ServerMessage}
+use Rattle.q3_svmsg.specs.declared.message.SnapParts.{SnapParts}
 use Rattle.q3_svmsg.specs.declared.bases.BaseView.{BaseView}
 
 -- what a snapshot is written against
@@ -71,6 +73,14 @@ told_of message = record {
   section = section_of message.section (game_of message) message.head message.entities.value.items;
 }
 
+-- what parts say that are lent
+abbrev pub parts_told : SnapParts → Message
+parts_told parts = record {
+  ack = parts.ack;
+  commands = commands_of parts.commands;
+  section = Snap parts.base parts.head.now parts.entities.now;
+}
+
 -- the entities of a snapshot, where there is one, are a list
 abbrev pub HasList : Layout → Told → Type 0
 HasList table (Snap base head entities) = IsList table entities
@@ -107,8 +117,3 @@ IsNamed (Some held) number base = (0 < base) × (base < number) × (number ≤ b
 abbrev pub HasSnap : Section → Option Base → ℕ → Type 0
 HasSnap (sections.Snap base true) against number = IsNamed against number base
 HasSnap section against number = ⊥
-
--- a section that has a text: a gamestate, or such a snapshot
-abbrev pub HasText : Section → Option Base → ℕ → Type 0
-HasText sections.Game against number = Unit {0}
-HasText section against number = HasSnap section against number

@@ -5,10 +5,10 @@ ghost use Rattle.std.specs.Prelude.{◌≡◌, [], IfOk};
 use arrayvec::ArrayVec;
 use q3_bits::NoMemory;
 use q3_config::Configs;
-use q3_entity::{Baselines, List};
+use q3_entity::{Baselines, EntityState, List};
 use q3_gamestate::BigString;
 use q3_player::SnapHead;
-use q3_text::Command;
+use q3_text::{Command, CommandRun};
 use std::alloc::Global;
 
 /// What a message carries behind its commands.
@@ -44,6 +44,17 @@ pub struct ServerMessage {
     /// The snapshot's entities, by rising number.
     pub entities: Box<List>,
     pub(crate) string: Box<BigString>,
+}
+
+/// A message with a snapshot, its parts lent by those who keep them: the number of the last client command executed, the
+/// commands, the number of the base, 0 for none, the head, and the entities by rising number.
+#[derive(Clone, Copy)]
+pub struct SnapParts<'a> {
+    pub ack: u32,
+    pub commands: CommandRun<'a>,
+    pub base: u32,
+    pub head: &'a SnapHead,
+    pub entities: &'a [EntityState],
 }
 
 impl ServerMessage {

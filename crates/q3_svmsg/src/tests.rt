@@ -9,7 +9,7 @@ use q3_entity::{Baselines, EntityError, EntityState, Run};
 use q3_fields::Table;
 use q3_player::{PlayerError, PlayerState};
 use q3_profile::Profile;
-use q3_text::{Command, Text};
+use q3_text::{Command, CommandRun, Text};
 use std::alloc::{AllocError, Global};
 use std::process::Abort;
 use std::slice::from_ref;
@@ -145,6 +145,67 @@ fn snapshot_of_one_entity_is_written(rt: HostRuntime) -> Result<(), Fail> {
         write_snap(&profile, &message, &baselines, None, &mut into[..19]),
         Err(Overflow)
     );
+    Ok(())
+}
+
+/// A command, with a text of one byte.
+fn command(rt: &impl Abort, number: u32, byte: u8) -> Command {
+    Command {
+        number,
+        text: Text::of(&[byte]).expect(rt, "a text"),
+    }
+}
+
+#[test]
+fn lent_parts_are_written_as_their_message(rt: HostRuntime) -> Result<(), Fail> {
+    let profile = profile_of(
+        rt.alloc(),
+        Table::of(&[0, 8, -16]).expect(&rt, "a table"),
+        Table::of(&[0, 16]).expect(&rt, "a table"),
+    )
+    .expect(&rt, "memory");
+    assert_eq!(rt; profile.entity.end(), 1023);
+    let baselines = Baselines::new(rt.alloc()).expect(&rt, "memory");
+    let mut message = empty(&rt, rt.alloc());
+    message.ack = 9;
+    message.commands.push(command(&rt, 2, b'a'));
+    message.commands.push(command(&rt, 3, b'b'));
+    message.section = Section::Snap {
+        base: 0,
+        held: true,
+    };
+    message.head.number = 1;
+    message.head.time = 1000;
+    message.entities.clear();
+    message.entities.push(entity(5, 7));
+    let (head, tail) = ([command(&rt, 2, b'a')], [command(&rt, 3, b'b')]);
+    let commands = CommandRun {
+        head: &head,
+        tail: &tail,
+    };
+    let parts = SnapParts {
+        ack: 9,
+        commands,
+        base: 0,
+        head: &message.head,
+        entities: &message.entities,
+    };
+    let bytes = [
+        0x09, 0x00, 0x00, 0x00, 0x05, 0x02, 0x00, 0x00, 0x00, 0x61, 0x00, 0x05, 0x03, 0x00, 0x00,
+        0x00, 0x62, 0x00, 0x07, 0xe8, 0x03, 0x00, 0x00, 0x00, 0x00, 0x00, 0x00, 0x0a, 0x50, 0xc0,
+        0x07, 0xff, 0x23, 0x00,
+    ];
+    let mut into = [0; 34];
+    assert_eq!(rt;
+        write_parts(&profile, parts, &baselines, None, &mut into),
+        Ok(34)
+    );
+    assert_eq!(rt; into, bytes);
+    assert_eq!(rt;
+        write_snap(&profile, &message, &baselines, None, &mut into),
+        Ok(34)
+    );
+    assert_eq!(rt; into, bytes);
     Ok(())
 }
 

@@ -1,16 +1,19 @@
 //! Writes a server's message. Keeps the rules "layout of a server message" and "snapshot section", the engine's
 //! `SV_SendClientSnapshot`, `SV_SendClientGameState` and `SV_WriteSnapshotToClient`.
 
-ghost use Rattle.std.specs.Prelude.{◌≡◌, ◌≤◌, length, None, option_map};
+ghost use Rattle.std.specs.Prelude.{◌≡◌, ◌≤◌, [], ◌∷◌, ◌++◌, length, None, option_map};
 ghost use Rattle.q3_bits.specs.Streams.{Writes, Fills};
+ghost use Rattle.q3_bits.specs.Words.{row_bits};
+ghost use Rattle.q3_text.specs.Commands.{commands_of};
+ghost use Rattle.q3_strings.specs.Commands.{commands_bits};
 ghost use Rattle.q3_entity.specs.Baselines.{Lines};
 ghost use Rattle.q3_entity.specs.Entities.{IsList};
-ghost use Rattle.q3_svmsg.specs.Values.{HasSnap, HasText, HasList, base_viewed, base_entities, distance_to, game_of, told_of};
+ghost use Rattle.q3_svmsg.specs.Values.{HasSnap, IsNamed, Message, Game, base_viewed, base_entities, distance_to, game_of, told_of, parts_told};
 ghost use Rattle.q3_gamestate.specs.Values.{gamestate_of};
-ghost use Rattle.q3_svmsg.specs.Texts.{head_bits, snapshot_bits, section_bits, message_text};
+ghost use Rattle.q3_svmsg.specs.Texts.{head_bits, snapshot_bits, message_text};
 
 use crate::bases::{BaseView, base_or};
-use crate::message::{Section, ServerMessage};
+use crate::message::{Section, ServerMessage, SnapParts};
 use crate::operations::{SERVER_COMMAND, SNAPSHOT};
 use q3_bits::{Overflow, Writer, laws};
 use q3_entity::{Baselines, EntityState, write_list};
@@ -19,6 +22,7 @@ use q3_gamestate::{Numbers, write_gamestate};
 use q3_player::{PlayerState, SnapHead, write_player};
 use q3_profile::Profile;
 use q3_strings::{write_bytes, write_commands};
+use q3_text::{Command, CommandRun};
 
 /// Writes a message with a snapshot to the front of a buffer of 1 to 16,384 bytes, and answers how many bytes it has;
 /// those behind it stay. The message's section names its base exactly where one is given, at most 255 below the head's
@@ -37,7 +41,36 @@ pub fn write_snap(
     requires most { length into.old ≤ 16384 }
     ensures { Fills into.old into.new (message_text profile.now baselines.now (option_map base_viewed base.entry) (told_of message.now)) result }
 {
-    fill(profile, message, baselines, base, into)
+    match message.section {
+        Section::Snap {
+            base: number,
+            held: true,
+        } => write_parts(profile, parts_of(message, number), baselines, base, into),
+        _ => unreachable!(),
+    }
+}
+
+/// Writes a message with a snapshot whose parts are lent, as `write_snap` writes one: to the front of a buffer of 1 to
+/// 16,384 bytes, against its base, which is given exactly where the parts name one, at most 255 below the head's number.
+/// It answers how many bytes the message has; those behind it stay. `Overflow` comes exactly where the message is longer
+/// than the buffer.
+pub fn write_parts(
+    profile: &Profile,
+    parts: SnapParts,
+    baselines: &Baselines,
+    base: Option<BaseView>,
+    into: &mut [u8],
+) -> Result<usize, Overflow>
+    requires named { IsNamed (option_map base_viewed base) parts.head.now.number parts.base }
+    requires entities { IsList profile.now.entity parts.entities.now }
+    requires base_entities { IsList profile.now.entity (base_entities (option_map base_viewed base)) }
+    requires some { 1 ≤ length into.old }
+    requires most { length into.old ≤ 16384 }
+    ensures { Fills into.old into.new (message_text profile.now baselines.now (option_map base_viewed base.entry) (parts_told parts.entry)) result }
+{
+    let mut w = Writer::new(&profile.code, into.len());
+    write_snap_bits(&mut w, profile, parts, baselines, base)?;
+    Ok(w.copy_to(into))
 }
 
 /// Writes a message with a gamestate to the front of a buffer of 1 to 16,384 bytes, and answers how many bytes it has;
@@ -52,86 +85,103 @@ pub fn write_game(
     requires most { length into.old ≤ 16384 }
     ensures { (lines : Lines) → Fills into.old into.new (message_text profile.now lines None (told_of message.now)) result }
 {
-    fill(profile, message, &message.baselines, None, into)
+    fill_game(profile, message, into)
 }
 
-/// Writes a message to the front of a buffer; against its base, if it has a snapshot.
-fn fill(
-    profile: &Profile,
-    message: &ServerMessage,
-    baselines: &Baselines,
-    base: Option<BaseView>,
-    into: &mut [u8],
-) -> Result<usize, Overflow>
-    requires section { HasText message.now.section (option_map base_viewed base) message.now.head.number }
-    requires entities { HasList profile.now.entity (told_of message.now).section }
-    requires base_entities { IsList profile.now.entity (base_entities (option_map base_viewed base)) }
+/// Writes a message with its gamestate to the front of a buffer.
+fn fill_game(profile: &Profile, message: &ServerMessage, into: &mut [u8]) -> Result<usize, Overflow>
     requires some { 1 ≤ length into.old }
     requires most { length into.old ≤ 16384 }
-    ensures { Fills into.old into.new (message_text profile.now baselines.now (option_map base_viewed base.entry) (told_of message.now)) result }
+    ensures { Fills into.old into.new (message_text profile.now message.now.baselines None (record (told_of message.now) { section = Game (game_of message.now) })) result }
 {
     let mut w = Writer::new(&profile.code, into.len());
-    write_message(&mut w, profile, message, baselines, base)?;
+    write_game_bits(&mut w, profile, message)?;
     Ok(w.copy_to(into))
 }
 
-/// Writes the last client command executed, the commands, the section, and the end.
-#[tactic(auto, unfolding(crate::specs::Texts::message_text))]
-fn write_message(
+/// The parts of a message with a snapshot that names this base; its commands are one piece.
+fn parts_of(message: &ServerMessage, base: u32) -> SnapParts<'_>
+    ensures ack { result.ack ≡ message.now.ack }
+    ensures commands { commands_of result.commands ≡ message.now.commands.value.items }
+    ensures base { result.base ≡ base }
+    ensures head { result.head.now ≡ message.now.head }
+    ensures entities { result.entities.now ≡ message.now.entities.value.items }
+{
+    SnapParts {
+        ack: message.ack,
+        commands: run_of(&message.commands),
+        base,
+        head: &message.head,
+        entities: &message.entities,
+    }
+}
+
+/// Commands in one row, as a run.
+fn run_of(commands: &[Command]) -> CommandRun<'_>
+    ensures { commands_of result ≡ commands.now }
+{
+    CommandRun {
+        head: commands,
+        tail: &[],
+    }
+}
+
+/// Writes a message with a snapshot: the front, the snapshot, and the end.
+#[tactic(auto, unfolding(crate::specs::Texts::message_text, crate::specs::Texts::section_bits))]
+fn write_snap_bits(
     w: &mut Writer,
     profile: &Profile,
-    message: &ServerMessage,
+    parts: SnapParts,
     baselines: &Baselines,
     base: Option<BaseView>,
 ) -> Result<(), Overflow>
-    requires section { HasText message.now.section (option_map base_viewed base) message.now.head.number }
-    requires entities { HasList profile.now.entity (told_of message.now).section }
+    requires named { IsNamed (option_map base_viewed base) parts.head.now.number parts.base }
+    requires entities { IsList profile.now.entity parts.entities.now }
     requires base_entities { IsList profile.now.entity (base_entities (option_map base_viewed base)) }
-    ensures { Writes w.old w.new (message_text (record profile.now { code = w.old.words }) baselines.now (option_map base_viewed base.entry) (told_of message.now)) result }
+    ensures { Writes w.old w.new (message_text (record profile.now { code = w.old.words }) baselines.now (option_map base_viewed base.entry) (parts_told parts.entry)) result }
 {
     laws::texts_are_written();
-    w.put_all(&[(message.ack, 32)])?;
-    write_commands(w, SERVER_COMMAND as u8, &message.commands)?;
-    write_section(w, profile, message, baselines, base)?;
+    write_front(w, parts.ack, parts.commands)?;
+    write_snapshot(
+        w,
+        profile,
+        baselines,
+        parts.base,
+        base,
+        parts.head,
+        parts.entities,
+    )?;
     w.put_all(&[(EOF, 8)])
 }
 
-/// Writes the section: a gamestate, or a snapshot.
-#[tactic(auto, unfolding(crate::specs::Texts::section_bits))]
-fn write_section(
+/// Writes a message with a gamestate: the front, the gamestate, and the end.
+#[tactic(auto, unfolding(crate::specs::Texts::message_text, crate::specs::Texts::section_bits))]
+fn write_game_bits(
     w: &mut Writer,
     profile: &Profile,
     message: &ServerMessage,
-    baselines: &Baselines,
-    base: Option<BaseView>,
 ) -> Result<(), Overflow>
-    requires section { HasText message.now.section (option_map base_viewed base) message.now.head.number }
-    requires entities { HasList profile.now.entity (told_of message.now).section }
-    requires base_entities { IsList profile.now.entity (base_entities (option_map base_viewed base)) }
-    ensures { Writes w.old w.new (section_bits (record profile.now { code = w.old.words }) baselines.now (option_map base_viewed base.entry) (told_of message.now).section) result }
+    ensures { Writes w.old w.new (message_text (record profile.now { code = w.old.words }) message.now.baselines None (record (told_of message.now) { section = Game (game_of message.now) })) result }
 {
-    match message.section {
-        Section::Game => write_gamestate(
-            w,
-            profile,
-            numbers_of(message),
-            &message.configs,
-            &message.baselines,
-        ),
-        Section::Snap {
-            base: number,
-            held: true,
-        } => write_snapshot(
-            w,
-            profile,
-            baselines,
-            number,
-            base,
-            &message.head,
-            &message.entities,
-        ),
-        _ => unreachable!(),
-    }
+    laws::texts_are_written();
+    write_front(w, message.ack, run_of(&message.commands))?;
+    write_gamestate(
+        w,
+        profile,
+        numbers_of(message),
+        &message.configs,
+        &message.baselines,
+    )?;
+    w.put_all(&[(EOF, 8)])
+}
+
+/// Writes what begins each message: the last client command executed, and the commands.
+fn write_front(w: &mut Writer, ack: u32, commands: CommandRun) -> Result<(), Overflow>
+    ensures { Writes w.old w.new (row_bits w.old.words ((ack, 32) ∷ []) ++ commands_bits w.old.words 5 (commands_of commands.entry)) result }
+{
+    laws::texts_are_written();
+    w.put_all(&[(ack, 32)])?;
+    write_commands(w, SERVER_COMMAND as u8, commands)
 }
 
 /// The numbers of a message's gamestate.

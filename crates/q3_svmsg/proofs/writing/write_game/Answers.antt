@@ -8,4 +8,4 @@ returns c =
     λ lines.
     let message = c.args.message.now in
     let is = ap (λ section. section_of section (game_of message) message.head message.entities.value.items) c.requires.game in
-    rw (game_text c.args.profile.now lines message.baselines (told_of message) (game_of message) is) c.fill.ensures
+    rw (game_text c.args.profile.now lines message.baselines (told_of message) (game_of message) is) c.fill_game.ensures

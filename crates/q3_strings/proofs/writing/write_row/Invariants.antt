@@ -1,7 +1,7 @@
 use Rattle.std.proofs.Common.{drop}
 use Rattle.q3_bits.specs.Streams.{HasWritten}
 use Rattle.q3_strings.specs.Commands.{commands_bits}
-use Rattle.q3_strings.proofs.writing.write_commands.Given as goal
+use Rattle.q3_strings.proofs.writing.write_row.Given as goal
 
 -- so many commands were written
 abbrev pub invariant-loop-command : goal.invariant-loop-command
