@@ -1,6 +1,7 @@
 //! Laws of the windows, each the contract of a call that does nothing.
 
-ghost use Rattle.q3_window.specs.Laws.{NoneStands, IssuedIsAdded, AcknowledgedIsIssued, LastIsCount, KeptIsIssued, CarriedIsIssued, NoneExecuted, CarriedAreExecuted, TakenAreExecuted, TakenWithoutGap, ExecutedRise};
+ghost use Rattle.q3_window.specs.Flow.{FlowLaws};
+ghost use Rattle.q3_window.specs.Laws.{NoneStands, IssuedIsAdded, AcknowledgedIsIssued, LastIsCount, KeptIsIssued, CarriedIsIssued, StaysOutgoing, NoneExecuted, CarriedAreExecuted, TakenAreExecuted, TakenWithoutGap, ExecutedRise};
 
 /// A new window stands for no texts.
 pub fn none_stands()
@@ -49,3 +50,24 @@ pub fn taken_are_executed()
 pub fn executed_rise()
     ensures { ExecutedRise }
 {}
+
+/// What every window is stays so where a command is issued, and where one is acknowledged.
+#[tactic(auto, using(crate::proofs::Staying::stays_outgoing))]
+pub fn stays_outgoing()
+    ensures { StaysOutgoing }
+{}
+
+/// Of the commands of one end on their way to the other: what holds of both windows, of what was issued and executed, and of what
+/// the messages of both ends say stays so, whatever message is begun or taken.
+#[tactic(auto, using(crate::proofs::Flowing::commands_flow))]
+pub fn commands_flow()
+    ensures { FlowLaws }
+{
+    none_stands();
+    issued_is_added();
+    acknowledged_is_issued();
+    last_is_count();
+    kept_is_issued();
+    carried_is_issued();
+    carried_are_executed();
+}

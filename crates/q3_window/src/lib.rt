@@ -5,8 +5,10 @@
 pub mod incoming;
 pub mod laws;
 pub mod outgoing;
+pub mod print;
 #[cfg(test)]
 mod tests;
 
 pub use incoming::{Incoming, Taken};
 pub use outgoing::{BadAck, Outgoing, WindowFull};
+pub use print::{print_command, print_commands};
