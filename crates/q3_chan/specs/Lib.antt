@@ -3,6 +3,7 @@ pub mod Sending
 pub mod Gathering
 pub mod Buffers
 pub mod Tags
+pub mod Scrambling
+pub mod Keys
 pub mod Laws
 pub mod Senders
-pub mod Scrambling

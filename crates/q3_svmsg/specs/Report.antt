@@ -35,6 +35,7 @@ cause_word (causes.Config e) = codes "config"
 cause_word causes.TextLong = codes "text"
 cause_word causes.NoServerId = codes "serverid"
 cause_word causes.Commands = codes "commands"
+cause_word (causes.Ack number) = codes "ack"
 
 abbrev pub player_number : DeltaError → Option ℕ
 player_number (deltas.Bits e) = None
@@ -57,3 +58,4 @@ cause_number (causes.Config e) = None
 cause_number causes.TextLong = None
 cause_number causes.NoServerId = None
 cause_number causes.Commands = None
+cause_number (causes.Ack number) = Some number

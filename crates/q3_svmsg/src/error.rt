@@ -30,6 +30,9 @@ pub enum Illegible {
     TextLong,
     /// The config strings of a gamestate give no server id.
     NoServerId,
+    /// The last client command executed isn't one that may be acknowledged: it is above the last one issued, or below one
+    /// that was acknowledged before. It comes of a client alone, and of no reader.
+    Ack(u32),
     /// There is a 65th command.
     Commands,
 }

@@ -51,6 +51,7 @@ pub fn cause_word(cause: Illegible) -> &'static [u8]
         Illegible::Config(_) => b"config",
         Illegible::TextLong => b"text",
         Illegible::NoServerId => b"serverid",
+        Illegible::Ack(_) => b"ack",
         Illegible::Commands => b"commands",
     }
 }
@@ -61,6 +62,7 @@ pub fn cause_number(cause: Illegible) -> Option<u32>
 {
     match cause {
         Illegible::BadOp(byte) => Some(u32::from(byte)),
+        Illegible::Ack(number) => Some(number),
         Illegible::Area(count) => Some(u32::from(count)),
         Illegible::Player(PlayerError::Count(count)) => Some(u32::from(count)),
         Illegible::Entity(EntityError::Count(count)) => Some(u32::from(count)),
