@@ -11,6 +11,7 @@ pub mod qport;
 pub mod scrambling;
 pub mod sender;
 pub mod side;
+pub mod starts;
 #[cfg(test)]
 mod tests;
 
@@ -20,3 +21,4 @@ pub use qport::{NoQport, qport_of};
 pub use scrambling::scramble;
 pub use sender::{Datagram, Sender};
 pub use side::Side;
+pub use starts::{client_start, server_start};

@@ -279,3 +279,12 @@ fn messages_are_scrambled(rt: HostRuntime) -> Result<(), Fail> {
     }
     Ok(())
 }
+
+#[test]
+fn starts_of_keys(rt: HostRuntime) {
+    // 17 xor 3; 17 xor 1 xor 2; of large numbers the low byte counts
+    assert_eq!(rt; server_start(17, 3), 18);
+    assert_eq!(rt; client_start(17, 1, 2), 18);
+    assert_eq!(rt; server_start(0x1234_5678, 0xff01), 0x79);
+    assert_eq!(rt; client_start(0x8000_0011, 0x7fff_ffff, 0x0102_0304), 0xea);
+}
