@@ -7,3 +7,4 @@ pub mod Causes
 pub mod WordTexts
 pub mod MessageBytes
 pub mod Written
+pub mod EightBytes

@@ -14,6 +14,17 @@ Writes-nothing w fits = record {
   front = ([], [], refl, rw append-nil refl);
 }
 
+-- a text that is refused as a whole, and one that is written so
+pub Writes-none : (w : Writing) (text : List Bool) (e : Overflow) → IsOverlong w text → Writes w w text (Err e)
+Writes-none w text e over = record { refused = (λ _. over, λ _. refl); ok = tt; front = ([], text, refl, rw append-nil refl) }
+
+pub Writes-whole : (w now : Writing) (text : List Bool) → (IsOverlong w text → ⊥) → now ≡ record w { bits = w.bits ++ text } → Writes w now text (Ok tt)
+Writes-whole w now text fits is = record {
+  refused = (λ e. absurd (false≢true e), λ over. absurd (fits over));
+  ok = is;
+  front = (text, [], append-nil text, is);
+}
+
 -- what fits of a whole, fits of its front
 fits-front : (w : Writing) (a b : List Bool) → IsOverlong w a → IsOverlong w (a ++ b)
 fits-front w a b over = omega (arith, length-append a b)

@@ -92,51 +92,14 @@ stored-fits part place bits count small fits few =
 
 -- ---- words that are gathered
 
--- what is left of the words of a number's bytes, one byte on
-pub bytes_bits-next : (words : List (List Bool)) (count k value : ℕ) → k < count
-    → bytes_bits words (count - k) value ≡ word_of words (value % 256) ++ bytes_bits words (count - (k + 1)) (value / 256)
-bytes_bits-next words count k value more =
-    let next : count - k ≡ suc (count - (k + 1)) = omega arith in rw (next, bytes_bits-suc) refl
+-- a word is that of one byte
+pub gathered-one : (words : List (List Bool)) (value : ℕ) (word : Word) → bits_of_word word ≡ word_of words (value % 256) → bits_of_word word ≡ bytes_bits words 1 value
+gathered-one words value word is = is ∙ sym (rw (bytes_bits-suc, bytes_bits-zero, append-nil) refl)
 
--- nothing is left of the words at the end
-pub bytes_bits-end : (words : List (List Bool)) (count k value : ℕ) → count ≤ k → bytes_bits words (count - k) value ≡ []
-bytes_bits-end words count k value past =
-    let none : count - k ≡ 0 = omega arith in rw (none, bytes_bits-zero) refl
-
--- the words so far as a number, and what is left of them
-pub record HasGathered (words : List (List Bool)) (count value k bits size rest : ℕ) : Type 0 where
-  pub text : low_bits size bits ++ bytes_bits words (count - k) rest ≡ bytes_bits words count value
-  pub fits : bits < 2 ^ size
-  pub few : size ≤ 24 * k
-
-pub HasGathered-none : (words : List (List Bool)) (count value : ℕ) → HasGathered words count value 0 0 0 value
-HasGathered-none words count value =
-    let all : count - 0 ≡ count = omega arith in
-    record { text = rw (all, low_bits-zero) refl; fits = omega arith; few = omega arith }
-
-pub HasGathered-more : (words : List (List Bool)) (count value k bits size rest : ℕ) (word : Word) → HasGathered words count value k bits size rest → k < count
-    → bits_of_word word ≡ word_of words (rest % 256) → IsWord word → HasGathered words count value (k + 1) (bits + word.bits * 2 ^ size) (size + word.length) (rest / 256)
-HasGathered-more words count value k bits size rest word h more is allowed =
-    let short = allowed.short in
-    let few = h.few in
-    record {
-      text =
-          rw (low_bits-join size word.length bits word.bits h.fits, is, append_assoc, ← bytes_bits-next words count k rest more) h.text;
-      fits = rw (pow-add 2 size word.length) (omega (arith, mul-add-lt word.bits (2 ^ size) bits (2 ^ word.length) allowed.fits h.fits));
-      few = omega arith;
-    }
-
-pub HasGathered-all : (words : List (List Bool)) (count value k bits size rest : ℕ) → HasGathered words count value k bits size rest → count ≤ k → low_bits size bits ≡ bytes_bits words count value
-HasGathered-all words count value k bits size rest h past = sym (append-nil (low_bits size bits)) ∙ ap (λ (x : List Bool). low_bits size bits ++ x) (sym (bytes_bits-end words count k rest past)) ∙ h.text
-
--- a word more fits 64 bits
-pub gathered-fits : (bits size k : ℕ) (word : Word) → bits < 2 ^ size → size ≤ 24 * k → k < 2 → IsWord word
-    → (word.bits * 2 ^ size % 2 ^ 64 ≡ word.bits * 2 ^ size) × (bits + word.bits * 2 ^ size < 2 ^ 64)
-gathered-fits bits size k word fits few more allowed =
-    let short = allowed.short in
-    let whole : word.bits * 2 ^ size % 2 ^ 64 ≡ word.bits * 2 ^ size = shl_whole word.bits word.length size 64 allowed.fits (omega arith) in
-    let most : 2 ^ (size + word.length) ≤ 2 ^ 64 = pow-le-pow_right {n = 2} (omega arith) {i = size + word.length} {j = 64} (omega arith) in
-    (whole, omega (arith, pow-add 2 size word.length, mul-add-lt word.bits (2 ^ size) bits (2 ^ word.length) allowed.fits fits))
+-- two words are those of two bytes
+pub gathered-two : (words : List (List Bool)) (value : ℕ) (low high : Word) → bits_of_word low ≡ word_of words (value % 256) → bits_of_word high ≡ word_of words (value / 256 % 256)
+    → bits_of_word low ++ bits_of_word high ≡ bytes_bits words 2 value
+gathered-two words value low high is is' = rw (is, is') (sym (rw (bytes_bits-suc, bytes_bits-suc, bytes_bits-zero, append-nil) refl))
 
 -- the words of the low bytes and those of the others are all
 pub bytes_bits-split : (words : List (List Bool)) (m n value : ℕ) → bytes_bits words (m + n) value ≡ bytes_bits words m value ++ bytes_bits words n (value / 256 ^ m)
@@ -169,7 +132,7 @@ message_bytes-within bytes count fits within part =
     ∙ sym (take_more bytes (count / 8) 0 within)
 
 -- the words of the lowest two bytes, and those of the others
-words-split : (words : List (List Bool)) (count value : ℕ) → bytes_bits words (min count 2) value ++ bytes_bits words (count - min count 2) (value / 65536) ≡ bytes_bits words count value
+pub words-split : (words : List (List Bool)) (count value : ℕ) → bytes_bits words (min count 2) value ++ bytes_bits words (count - min count 2) (value / 65536) ≡ bytes_bits words count value
 words-split words count value =
     elim (cases_lt count 2) [
       | inl few ↦
@@ -183,16 +146,14 @@ words-split words count value =
           rw two (sym (bytes_bits-split words 2 (count - 2) value) ∙ ap (λ (n : ℕ). bytes_bits words n value) (omega arith))
     ]
 
--- a field is its raw bits with the first words, and the others
-pub field_bits-gathered : (words : List (List Bool)) (width value low size high more : ℕ)
-    → low_bits size low ≡ bytes_bits words (min (width / 8) 2) (value / 2 ^ (width % 8))
-    → low_bits more high ≡ bytes_bits words (width / 8 - min (width / 8) 2) (value / 2 ^ (width % 8) / 65536)
-    → field_bits words width value ≡ low_bits (width % 8 + size) (value % 2 ^ (width % 8) + low * 2 ^ (width % 8)) ++ low_bits more high
-field_bits-gathered words width value low size high more is is' =
-    let raw = width % 8 in
-    let front : low_bits (raw + size) (value % 2 ^ raw + low * 2 ^ raw) ≡ low_bits raw value ++ low_bits size low = low_bits-join raw size (value % 2 ^ raw) low (mod_below value (2 ^ raw) (pow_pos raw)) ∙ ap (λ (x : List Bool). x ++ low_bits size low) (low_bits-mod raw value) in
-    field_bits-is words width value ∙ ap (λ (x : List Bool). low_bits raw value ++ x) (sym (words-split words (width / 8) (value / 2 ^ raw)))
-    ∙ rw (front, is, is') (sym (append_assoc (low_bits raw value) (bytes_bits words (min (width / 8) 2) (value / 2 ^ raw)) (bytes_bits words (width / 8 - min (width / 8) 2) (value / 2 ^ raw / 65536))))
+-- the words that were gathered are all
+pub gathered-all : (words : List (List Bool)) (bytes value first low size high more : ℕ) → first ≡ min bytes 2 → low_bits size low ≡ bytes_bits words first value
+    → low_bits more high ≡ bytes_bits words (bytes - first) (value / 65536) → bytes_bits words bytes value ≡ low_bits size low ++ low_bits more high
+gathered-all words bytes value first low size high more is is_low is_high = rw (is_low, is_high, is) (sym (words-split words bytes value))
+
+pub length-gathered : (raw count low size high more : ℕ) (text : List Bool) → text ≡ low_bits size low ++ low_bits more high → length (low_bits count raw ++ text) ≡ count + size + more
+length-gathered raw count low size high more text is =
+    omega (arith, ap length is, length-append (low_bits count raw) text, length-append (low_bits size low) (low_bits more high), length-low_bits count raw, length-low_bits size low, length-low_bits more high)
 
 -- bits, and others above them, as one number
 pub joined-fits : (count more bits others : ℕ) → count + more ≤ 64 → bits < 2 ^ count → others < 2 ^ more
@@ -203,8 +164,57 @@ joined-fits count more bits others few fits above = (
   pow-le-pow_right {n = 2} (omega arith) {i = count + more} {j = 64} few,
 )
 
--- the first of them fit
-pub gathered-front : (raw size low value : ℕ) → raw < 8 → size ≤ 48 → low < 2 ^ size
-    → (low * 2 ^ raw % 2 ^ 64 ≡ low * 2 ^ raw) × (value % 2 ^ raw + low * 2 ^ raw < 2 ^ (raw + size)) × (2 ^ (raw + size) ≤ 2 ^ 64)
-gathered-front raw size low value few most fits =
-    joined-fits raw size (value % 2 ^ raw) low (omega arith) (mod_below value (2 ^ raw) (pow_pos raw)) fits
+-- raw bits, and two parts of words above them, as one number
+pub three-fit : (count low high raw first second : ℕ) → count + low + high ≤ 56 → raw < 2 ^ count → first < 2 ^ low → second < 2 ^ high
+    → (first * 2 ^ count % 2 ^ 64 ≡ first * 2 ^ count) × (raw + first * 2 ^ count < 2 ^ 64) × (second * 2 ^ (count + low) % 2 ^ 64 ≡ second * 2 ^ (count + low))
+    × (raw + first * 2 ^ count + second * 2 ^ (count + low) < 2 ^ (count + low + high)) × (2 ^ (count + low + high) ≤ 2 ^ 64)
+    × (low_bits (count + low + high) (raw + first * 2 ^ count + second * 2 ^ (count + low)) ≡ low_bits count raw ++ (low_bits low first ++ low_bits high second))
+three-fit count low high raw first second few fits above higher =
+    let two = joined-fits count low raw first (omega arith) fits above in
+    let all = joined-fits (count + low) high (raw + first * 2 ^ count) second (omega arith) two.1 higher in
+    (two.0, omega (arith, two.1, two.2), all.0, all.1, all.2,
+    low_bits-join (count + low) high (raw + first * 2 ^ count) second two.1
+    ∙ rw (low_bits-join count low raw first fits) (append_assoc (low_bits count raw) (low_bits low first) (low_bits high second)))
+
+-- a field is its raw bits, as a number, and the words of its bytes
+pub field_bits-put : (words : List (List Bool)) (width value : ℕ) → low_bits (width % 8) (value % 2 ^ (width % 8)) ++ bytes_bits words (width / 8) (value / 2 ^ (width % 8)) ≡ field_bits words width value
+field_bits-put words width value = rw (low_bits-mod (width % 8) value) (sym (field_bits-is words width value))
+
+-- one of fewer than eight bits has no words
+pub field_bits-raw : (words : List (List Bool)) (width value : ℕ) → width < 8 → low_bits width (value % 2 ^ width) ≡ field_bits words width value
+field_bits-raw words width value few =
+    let raw : width % 8 ≡ width = omega arith in
+    let none : width / 8 ≡ 0 = omega arith in
+    low_bits-mod width value ∙ sym (field_bits-is words width value ∙ rw (raw, none, bytes_bits-zero, append-nil) refl)
+
+-- so one behind another is one
+field_bits-short : (words : List (List Bool)) (width value : ℕ) → width < 8 → field_bits words width value ≡ low_bits width value
+field_bits-short words width value few = sym (field_bits-raw words width value few) ∙ low_bits-mod width value
+
+pub marks-none : (words : List (List Bool)) (value : ℕ) → field_bits words 0 value ≡ []
+marks-none words value = field_bits-short words 0 value (omega arith) ∙ low_bits-zero value
+
+pub marks-joined : (words : List (List Bool)) (first second mark other : ℕ) → first + second < 8 → mark < 2 ^ first
+    → field_bits words (first + second) (mark + other * 2 ^ first) ≡ field_bits words first mark ++ field_bits words second other
+marks-joined words first second mark other few fits =
+    field_bits-short words (first + second) (mark + other * 2 ^ first) few ∙ low_bits-join first second mark other fits
+    ∙ sym (rw (field_bits-short words first mark (omega (arith, few)), field_bits-short words second other (omega (arith, few))) refl)
+
+-- a mark and a field
+pub marked-put : (words : List (List Bool)) (mark count width value : ℕ) → count < 8
+    → low_bits (count + width % 8) (mark % 2 ^ count + value % 2 ^ (width % 8) * 2 ^ count) ++ bytes_bits words (width / 8) (value / 2 ^ (width % 8))
+    ≡ field_bits words count mark ++ field_bits words width value
+marked-put words mark count width value few =
+    let raw = width % 8 in
+    rw (low_bits-join count raw (mark % 2 ^ count) (value % 2 ^ raw) (mod_below mark (2 ^ count) (pow_pos count)), field_bits-raw words count mark few)
+    (append_assoc (field_bits words count mark) (low_bits raw (value % 2 ^ raw)) (bytes_bits words (width / 8) (value / 2 ^ raw))
+    ∙ ap (λ (x : List Bool). field_bits words count mark ++ x) (field_bits-put words width value))
+
+-- and its raw bits fit
+pub marked-fits : (mark count raw value : ℕ) → count ≤ 7 → raw < 8
+    → (value % 2 ^ raw * 2 ^ count % 2 ^ 32 ≡ value % 2 ^ raw * 2 ^ count) × (mark % 2 ^ count + value % 2 ^ raw * 2 ^ count < 2 ^ (count + raw)) × (2 ^ (count + raw) ≤ 2 ^ 14)
+marked-fits mark count raw value few short = (
+  shl_whole (value % 2 ^ raw) raw count 32 (mod_below value (2 ^ raw) (pow_pos raw)) (omega arith),
+  rw (pow-add 2 count raw) (omega (arith, mul-add-lt (value % 2 ^ raw) (2 ^ count) (mark % 2 ^ count) (2 ^ raw) (mod_below value (2 ^ raw) (pow_pos raw)) (mod_below mark (2 ^ count) (pow_pos count)))),
+  pow-le-pow_right {n = 2} (omega arith) {i = count + raw} {j = 14} (omega arith),
+)

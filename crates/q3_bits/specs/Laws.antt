@@ -31,6 +31,13 @@ FieldsEndCutShort = (words : List (List Bool)) (width : ℕ) (bits : List Bool) 
 abbrev pub PlainBitsEnd : Type 0
 PlainBitsEnd = (width : ℕ) (bits : List Bool) (e : ReadError) → field_at plain_words width bits ≡ Err e → e ≡ End
 
+-- what holds of fields of fewer than eight bits, which have no code words
+pub record MarksAreJoined : Type 0 where
+  pub none : (words : List (List Bool)) (value : ℕ) → field_bits words 0 value ≡ []
+  -- one behind another is one field
+  pub join : (words : List (List Bool)) (first second mark other : ℕ) → first + second < 8 → mark < 2 ^ first
+      → field_bits words (first + second) (mark + other * 2 ^ first) ≡ field_bits words first mark ++ field_bits words second other
+
 -- what holds of texts that are written one after the other
 pub record TextsAreWritten : Type 0 where
   -- nothing is written where what stands there fits

@@ -2,7 +2,7 @@
 //! nothing. A proof above cites a law by calling it.
 
 ghost use Rattle.q3_bits.specs.Words.{IsCode, plain_words};
-ghost use Rattle.q3_bits.specs.Laws.{ReadWasPut, PutIsRead, FieldsEndCutShort, PlainBitsEnd, TextsAreWritten, ListsAreRead, MessageHoldsBits, MessageIsBytes};
+ghost use Rattle.q3_bits.specs.Laws.{ReadWasPut, PutIsRead, FieldsEndCutShort, PlainBitsEnd, MarksAreJoined, TextsAreWritten, ListsAreRead, MessageHoldsBits, MessageIsBytes};
 
 /// The plain code has a word for each byte, and none begins another.
 pub fn plain_is_a_code()
@@ -28,6 +28,11 @@ pub fn ends_cut_short()
 /// By the plain code nothing is read only where the bits end.
 pub fn plain_bits_end()
     ensures { PlainBitsEnd }
+{}
+
+/// Fields of fewer than eight bits that stand one behind the other are one field.
+pub fn marks_are_joined()
+    ensures { MarksAreJoined }
 {}
 
 /// Texts that are written one after the other are written as one.

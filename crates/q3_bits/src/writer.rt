@@ -5,8 +5,10 @@ ghost use Rattle.q3_bits.specs.Bits.{low_bits, message_bytes, message_length};
 ghost use Rattle.q3_bits.specs.Words.{field_bits, row_bits, bytes_bits};
 ghost use Rattle.q3_bits.specs.Streams.{Writes};
 ghost use Rattle.q3_bits.specs.Buffer.{bits_within, IsClear};
+ghost use Rattle.q3_bits.specs.Table.{bits_of_word, IsWord};
+ghost use Rattle.std.specs.Int.{w64, to_le_bytes};
 
-use crate::code::Code;
+use crate::code::{Code, Word};
 use std::marker::Model;
 
 /// The field doesn't fit the room of the message.
@@ -69,6 +71,7 @@ impl<'a> Writer<'a> {
     /// Writes the low `width` bits of a value, 1 to 32, behind what is written:
     /// the bits over whole bytes raw, least bit first, then the bytes as their words, least byte first.
     /// `Overflow` comes exactly where the message would be longer than its room; the writer then stays as it was.
+    #[inline]
     pub fn put(&mut self, value: u32, width: u32) -> Result<(), Overflow>
         requires some { 1 ≤ width }
         requires most { width ≤ 32 }
@@ -76,15 +79,69 @@ impl<'a> Writer<'a> {
         ensures err { OnErr result (self.new ≡ self.old) }
     {
         let raw = width % 8;
-        let words = value >> raw;
-        let first = (width / 8).min(2);
-        let low = gather(self.code, words, first);
-        let high = gather(self.code, words >> 16, width / 8 - first);
-        if !self.has_room(raw + low.count + high.count) {
+        if width < 8 {
+            return self.put_bits(value % (1 << raw), width);
+        }
+        self.put_words(value % (1 << raw), raw, value >> raw, width / 8)
+    }
+
+    /// Writes a mark of up to 7 bits, and a field of 1 to 32 behind it, each as `put` writes it, at once.
+    /// `Overflow` comes exactly where the message would be longer than its room; the writer then stays as it was.
+    pub fn put_marked(
+        &mut self,
+        mark: u32,
+        count: u32,
+        value: u32,
+        width: u32,
+    ) -> Result<(), Overflow>
+        requires short { count ≤ 7 }
+        requires some { 1 ≤ width }
+        requires most { width ≤ 32 }
+        ensures writes { Writes self.old self.new (field_bits self.old.words count mark ++ field_bits self.old.words width value) result }
+        ensures err { OnErr result (self.new ≡ self.old) }
+    {
+        let raw = width % 8;
+        let bits = mark % (1 << count) + ((value % (1 << raw)) << count);
+        self.put_words(bits, count + raw, value >> raw, width / 8)
+    }
+
+    /// Writes raw bits, so many, given as the number that they spell.
+    fn put_bits(&mut self, bits: u32, count: u32) -> Result<(), Overflow>
+        requires few { count ≤ 7 }
+        requires fits { bits < 2 ^ count }
+        ensures writes { Writes self.old self.new (low_bits count bits) result }
+        ensures err { OnErr result (self.new ≡ self.old) }
+    {
+        if !self.has_room(count) {
             return Err(Overflow);
         }
-        let front = u64::from(value % (1 << raw)) + (low.bits << raw);
-        self.push_both(front, raw + low.count, high);
+        self.push(u64::from(bits), count);
+        Ok(())
+    }
+
+    /// Writes raw bits, so many, given as the number that they spell, and behind them the words of a value's bytes, so
+    /// many.
+    #[inline(never)]
+    fn put_words(
+        &mut self,
+        raw: u32,
+        count: u32,
+        value: u32,
+        bytes: u32,
+    ) -> Result<(), Overflow>
+        requires few { count ≤ 14 }
+        requires fits { raw < 2 ^ count }
+        requires few_bytes { bytes ≤ 4 }
+        ensures writes { Writes self.old self.new (low_bits count raw ++ bytes_bits self.old.words bytes value) result }
+        ensures err { OnErr result (self.new ≡ self.old) }
+    {
+        let first = bytes.min(2);
+        let low = gather(self.code, value, first);
+        let high = gather(self.code, value >> 16, bytes - first);
+        if !self.has_room(count + low.count + high.count) {
+            return Err(Overflow);
+        }
+        self.push_words(raw, count, low, high);
         Ok(())
     }
 
@@ -136,35 +193,43 @@ impl<'a> Writer<'a> {
         (self.count + count as usize) / 8 < self.room
     }
 
-    /// Writes bits, so many, given as the number that they spell, and others behind them: at once where 56 are enough.
-    fn push_both(&mut self, bits: u64, count: u32, others: Gathered)
-        requires few { count ≤ 55 }
-        requires fits { bits < 2 ^ count }
-        requires few_others { others.count ≤ 48 }
-        requires others_fit { others.bits < 2 ^ others.count }
-        requires room { message_length (length self.old.bits + (count + others.count)) ≤ self.old.room }
-        ensures { self.new ≡ record self.old { bits = self.old.bits ++ low_bits count bits ++ low_bits others.count others.bits } }
+    /// Writes raw bits, so many, given as the number that they spell, and words behind them: at once where 56 bits are
+    /// enough.
+    fn push_words(&mut self, raw: u32, count: u32, low: Gathered, high: Gathered)
+        requires few { count ≤ 14 }
+        requires fits { raw < 2 ^ count }
+        requires few_low { low.count ≤ 48 }
+        requires low_fits { low.bits < 2 ^ low.count }
+        requires few_high { high.count ≤ 48 }
+        requires high_fits { high.bits < 2 ^ high.count }
+        requires room { message_length (length self.old.bits + (count + low.count + high.count)) ≤ self.old.room }
+        ensures { self.new ≡ record self.old { bits = self.old.bits ++ (low_bits count raw ++ (low_bits low.count low.bits ++ low_bits high.count high.bits)) } }
     {
-        if count + others.count <= 56 {
-            self.push(bits + (others.bits << count), count + others.count);
+        let front = count + low.count;
+        if front + high.count <= 56 {
+            let bits = u64::from(raw) + (low.bits << count);
+            self.push(bits + (high.bits << front), front + high.count);
             return;
         }
-        self.push_each(bits, count, others);
+        self.push_each(raw, count, low, high);
     }
 
     /// The same, one behind the other.
     #[cold]
     #[inline(never)]
-    fn push_each(&mut self, bits: u64, count: u32, others: Gathered)
-        requires few { count ≤ 55 }
-        requires fits { bits < 2 ^ count }
-        requires few_others { others.count ≤ 48 }
-        requires others_fit { others.bits < 2 ^ others.count }
-        requires room { message_length (length self.old.bits + (count + others.count)) ≤ self.old.room }
-        ensures { self.new ≡ record self.old { bits = self.old.bits ++ low_bits count bits ++ low_bits others.count others.bits } }
+    fn push_each(&mut self, raw: u32, count: u32, low: Gathered, high: Gathered)
+        requires few { count ≤ 14 }
+        requires fits { raw < 2 ^ count }
+        requires few_low { low.count ≤ 48 }
+        requires low_fits { low.bits < 2 ^ low.count }
+        requires few_high { high.count ≤ 48 }
+        requires high_fits { high.bits < 2 ^ high.count }
+        requires room { message_length (length self.old.bits + (count + low.count + high.count)) ≤ self.old.room }
+        ensures { self.new ≡ record self.old { bits = self.old.bits ++ (low_bits count raw ++ (low_bits low.count low.bits ++ low_bits high.count high.bits)) } }
     {
-        self.push(bits, count);
-        self.push(others.bits, others.count);
+        self.push(u64::from(raw), count);
+        self.push(low.bits, low.count);
+        self.push(high.bits, high.count);
     }
 
     /// Writes bits, so many, given as the number that they spell.
@@ -186,30 +251,73 @@ struct Gathered {
     count: u32,
 }
 
-/// The words of a value's bytes, least byte first.
+/// The words of a value's bytes, up to two, least byte first.
 fn gather(code: &Code, value: u32, count: u32) -> Gathered
     requires { count ≤ 2 }
     ensures words { low_bits result.count result.bits ≡ bytes_bits code.now count value }
     ensures fits { result.bits < 2 ^ result.count }
     ensures few { result.count ≤ 24 * count }
 {
-    let mut bits = 0;
-    let mut length = 0;
-    let mut rest = value;
-    for _ in 0..count {
-        let word = code.word((rest % 256) as u8);
-        bits += u64::from(word.bits) << length;
-        length += u32::from(word.length);
-        rest /= 256;
+    if count == 0 {
+        return Gathered { bits: 0, count: 0 };
     }
+    let low = code.word((value % 256) as u8);
+    if count == 1 {
+        return Gathered {
+            bits: u64::from(low.bits),
+            count: u32::from(low.length),
+        };
+    }
+    two_words(low, code.word((value / 256 % 256) as u8))
+}
+
+/// Two words, one behind the other.
+fn two_words(low: Word, high: Word) -> Gathered
+    requires low { IsWord low }
+    requires high { IsWord high }
+    ensures bits { low_bits result.count result.bits ≡ bits_of_word low ++ bits_of_word high }
+    ensures fits { result.bits < 2 ^ result.count }
+    ensures few { result.count ≤ 48 }
+{
+    let length = u32::from(low.length);
     Gathered {
-        bits,
-        count: length,
+        bits: u64::from(low.bits) + (u64::from(high.bits) << length),
+        count: length + u32::from(high.length),
     }
 }
 
 /// Writes bits behind those that lie in the bytes, `place` of them.
 fn store(bytes: &mut [u8; 16_384], place: usize, bits: u64, count: u32)
+    requires few { count ≤ 56 }
+    requires fits { bits < 2 ^ count }
+    requires within { (place + count) / 8 < 16384 }
+    requires clear { IsClear bytes.old place }
+    ensures bits { bits_within bytes.new (place + count) ≡ bits_within bytes.old place ++ low_bits count bits }
+    ensures clear { IsClear bytes.new (place + count) }
+{
+    let first = place / 8;
+    // all but the last bytes have seven behind them, and what is behind those that are written is 0
+    if first > 16_376 {
+        return store_each(bytes, place, bits, count);
+    }
+    let rest = u64::from(bytes[first]) + (bits << (place % 8));
+    store_eight(bytes, first, rest);
+}
+
+/// Writes the eight bytes of a number from a place on, least byte first.
+fn store_eight(bytes: &mut [u8], first: usize, number: u64)
+    requires { first + 8 ≤ length bytes.old }
+    ensures front { take (first + 8) bytes.new ≡ take first bytes.old ++ to_le_bytes w64 number }
+    ensures behind { drop (first + 8) bytes.new ≡ drop (first + 8) bytes.old }
+    ensures places { length bytes.new ≡ length bytes.old }
+{
+    bytes[first..first + 8].copy_from_slice(&number.to_le_bytes());
+}
+
+/// The same as `store`, byte by byte.
+#[cold]
+#[inline(never)]
+fn store_each(bytes: &mut [u8; 16_384], place: usize, bits: u64, count: u32)
     requires few { count ≤ 56 }
     requires fits { bits < 2 ^ count }
     requires within { (place + count) / 8 < 16384 }

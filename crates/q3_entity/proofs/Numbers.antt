@@ -95,3 +95,7 @@ pub kept_below-part : (number : ℕ) (entities part kept left : List EntityState
     → kept_below number entities part ≡ Ok (kept, left)
 kept_below-part number entities part kept left keeps =
     ap (kept_below number entities) (sym (append-nil part)) ∙ keeps.goes_on [] ∙ ap (kept_below number kept) (append-nil left) ∙ kept_below-stays number kept left keeps.from
+
+-- an answer's fault
+pub refused : {e d : EntityError} → e ≡ d → (let r : Result (List EntityState × List EntityState) EntityError = Err d in r) ≡ Err e
+refused same = rw (sym same) refl

@@ -1,25 +1,26 @@
 -- The entities after a list, turn by turn: up to the next entry the base's entities stay, and then the entry is read.
-use Rattle.std.proofs.Common.{◌≡◌, ◌≢◌, ℕ, zero, suc, ◌+◌, ◌-◌, ◌<◌, ◌≤◌, Bool, List, [], ◌∷◌, Option, Result, Ok, Err, refl, sym, ap, subst, ◌∙◌, arith, ltb, cond, inl, inr}
-use Rattle.std.proofs.lemmas.Bool.{cases_eq, eq-eqb, ne_eqb, cases_Bool, ltb-false}
+use Rattle.std.proofs.Common.{◌≡◌, ◌≢◌, ℕ, zero, suc, ◌+◌, ◌-◌, ◌<◌, ◌≤◌, Bool, true, false, List, [], ◌∷◌, ◌++◌, length, take, Option, Result, Ok, Err, refl, sym, ap, subst, ◌∙◌, arith, ltb, cond, inl, inr}
+use Rattle.std.proofs.lemmas.Bool.{cases_eq, cases_lt, eq-eqb, ne_eqb, cases_Bool, lt-ltb, le-ltb, ltb-false}
 use Rattle.std.specs.Option.{is_some}
 use Rattle.q3_bits.specs.ResultBind.{◌>>=◌, bind_ok, bind_same, bind_assoc}
 use Rattle.q3_fields.specs.Kinds.{Layout, end_mark}
 use Rattle.q3_entity.specs.declared.state.EntityState.{EntityState}
 use Rattle.q3_entity.specs.declared.error.EntityError.{EntityError}
-use Rattle.q3_entity.specs.declared.error.EntityError.TheVariants.{Order}
-use Rattle.q3_entity.specs.Entities.{RiseFrom, with_number}
+use Rattle.q3_entity.specs.declared.error.EntityError.TheVariants.{Order, Many}
+use Rattle.q3_entity.specs.Entities.{RiseFrom, with_number, most_entities}
 use Rattle.q3_entity.specs.Baselines.{Lines}
 use Rattle.q3_entity.specs.Delta.{bits_read, entity_at}
 use Rattle.q3_entity.specs.Lists.{number_at, one_more, stays, entered, words_from, numbers_after, list_after}
 use Rattle.q3_entity.specs.Runs.{taken}
-use Rattle.q3_entity.specs.Walking.{kept_below, Reached, next_at, entry_at, turn_at}
+use Rattle.q3_entity.specs.Walking.{kept_below, Reached, next_at, entry_at, turn_at, count_after, first_of}
 use Rattle.q3_entity.proofs.Results.{number_was_read}
 use Rattle.q3_entity.proofs.Risen.{with_number-behind, with_number-below, is_taken}
 use Rattle.q3_entity.proofs.Numbers.{with_number-named, kept_below-none, kept_below-more, kept_below-rises}
 use Rattle.q3_bits.specs.Words.{IsCode, field_at}
 use Rattle.q3_bits.specs.Laws.{ReadWasPut}
-use Rattle.q3_bits.specs.Streams.{holding, with_rest}
-use Rattle.q3_entity.specs.declared.reading.Entry.TheVariants.{Changed, Same}
+use Rattle.q3_bits.specs.Streams.{with_rest}
+use Rattle.q3_entity.specs.declared.reading.Entry.{Entry}
+use Rattle.q3_entity.specs.declared.reading.Entry.TheVariants.{Removed, Changed, Same}
 
 abbrev pub Answer : Type 0
 Answer = Result (List EntityState × List Bool) EntityError
@@ -274,28 +275,42 @@ list_ends words table lines at bits past =
     let none : end_mark table - at.next ≡ 0 = omega arith in
     rw none refl
 
--- an entity that was read stands behind the others
-with_added : (now : List EntityState) (left : List Bool) (result : Result (Unit {0}) EntityError) (all : Result (List EntityState) EntityError) → holding now result ≡ all
-    → with_rest left (holding now result) ≡ (all >>= λ now. Ok (now, left))
-with_added now left (Ok done) all e = rw (← e) refl
-with_added now left (Err d) all e = rw (← e) refl
-
 -- the state of a number and words
 named : (state : EntityState) (number : ℕ) → state.number ≡ number → (let made : EntityState = record { number = number; words = state.words } in made) ≡ state
 named state number same = rw (← same) refl
 
-pub entry_changed : (words : List (List Bool)) (table : Layout) (from : List ℕ) (in_base : Bool) (number : ℕ) (entities : List EntityState) (bits left : List Bool) (state : EntityState)
-    (now : List EntityState) (result : Result (Unit {0}) EntityError) → state.number ≡ number → Ok ((Changed, state.words), left) ≡ entity_at words table from bits
-    → holding now result ≡ one_more entities state → with_rest left (holding now result) ≡ entry_at words table from in_base number entities bits
-unfolding entry_at
-entry_changed words table from in_base number entities bits left state now result same e added =
-    let all = added ∙ ap (one_more entities) (sym (named state number same)) in
-    rw (← e) (with_added now left result _ all)
+-- the first of the entities that are there, as many as were counted
+front_counted : (items now : List EntityState) (count : ℕ) (left : List Bool) → take count items ≡ now
+    → with_rest left (first_of items (let r : Result ℕ EntityError = Ok count in r)) ≡ Ok (now, left)
+front_counted items now count left front = rw front refl
 
-pub entry_same : (words : List (List Bool)) (table : Layout) (from : List ℕ) (in_base : Bool) (number : ℕ) (entities : List EntityState) (bits left : List Bool) (state : EntityState)
-    (now : List EntityState) (result : Result (Unit {0}) EntityError) → state.number ≡ number → Ok ((Same, state.words), left) ≡ entity_at words table from bits
-    → holding now result ≡ one_more entities state → with_rest left (holding now result) ≡ entry_at words table from in_base number entities bits
+-- an entity that isn't removed counts as one more
+one_counted : (number count : ℕ) (entities items : List EntityState) (left : List Bool) (state : EntityState) → state.number ≡ number → length entities ≡ count
+    → (count < most_entities → take (count + 1) items ≡ entities ++ state ∷ [])
+    → with_rest left (first_of items (cond (ltb count most_entities) (Ok (count + 1)) (Err Many)))
+    ≡ (one_more entities (record { number = number; words = state.words }) >>= λ now. Ok (now, left))
+one_counted number count entities items left state same long behind =
+    rw (named state number same, long)
+    (elim (cases_lt count most_entities) [
+      | inl room ↦ rw (lt-ltb count most_entities room) (front_counted items (entities ++ state ∷ []) (count + 1) left (behind room))
+      | inr full ↦ rw (le-ltb count most_entities full) refl
+    ])
+
+-- an entry that was read over the entity behind the first ones, or beside them where there is no room
+pub entry_counted : (words : List (List Bool)) (table : Layout) (from : List ℕ) (in_base : Bool) (number count : ℕ) (entities items : List EntityState) (bits left : List Bool) (kind : Entry)
+    (state : EntityState) → state.number ≡ number → length entities ≡ count → take count items ≡ entities → (count < most_entities → take (count + 1) items ≡ entities ++ state ∷ [])
+    → Ok ((kind, state.words), left) ≡ entity_at words table from bits
+    → with_rest left (first_of items (count_after count in_base number kind)) ≡ entry_at words table from in_base number entities bits
 unfolding entry_at
-entry_same words table from in_base number entities bits left state now result same e added =
-    let all = added ∙ ap (one_more entities) (sym (named state number same)) in
-    rw (← e) (with_added now left result _ all)
+entry_counted words table from true number count entities items bits left Removed state same long front behind e = rw (← e) (front_counted items entities count left front)
+entry_counted words table from false number count entities items bits left Removed state same long front behind e = rw (← e) refl
+entry_counted words table from in_base number count entities items bits left Changed state same long front behind e =
+    rw (← e) (one_counted number count entities items left state same long behind)
+entry_counted words table from in_base number count entities items bits left Same state same long front behind e =
+    rw (← e) (one_counted number count entities items left state same long behind)
+
+-- and one that was refused
+pub entry_refused : (words : List (List Bool)) (table : Layout) (from : List ℕ) (in_base : Bool) (number : ℕ) (entities : List EntityState) (bits : List Bool) (e : EntityError)
+    → Err e ≡ entity_at words table from bits → Err e ≡ entry_at words table from in_base number entities bits
+unfolding entry_at
+entry_refused words table from in_base number entities bits e is = rw (← is) refl

@@ -1,5 +1,5 @@
 -- How a reader of a list walks along the base: entities are passed in order, each of them once.
-use Rattle.std.specs.Prelude.{◌≡◌, ℕ, ◌+◌, nat_lt, Bool, if◌then◌else◌, List, [], ◌∷◌, ◌++◌, Result, Ok, Err}
+use Rattle.std.specs.Prelude.{◌≡◌, ℕ, ◌+◌, nat_lt, Bool, if◌then◌else◌, List, [], ◌∷◌, ◌++◌, take, Result, Ok, Err}
 use Rattle.std.specs.Option.{is_some}
 use Rattle.q3_bits.specs.ResultBind.{◌>>=◌}
 use Rattle.q3_fields.specs.Kinds.{Layout}
@@ -7,7 +7,10 @@ use Rattle.q3_entity.specs.declared.state.EntityState.{EntityState}
 use Rattle.q3_entity.specs.declared.state.Run.{Run}
 use Rattle.q3_entity.specs.declared.list_reading.Cursor.{Cursor}
 use Rattle.q3_entity.specs.declared.error.EntityError.{EntityError}
-use Rattle.q3_entity.specs.Entities.{run_of}
+use Rattle.q3_entity.specs.declared.error.EntityError.TheVariants.{Many, Removes}
+use Rattle.q3_entity.specs.declared.reading.Entry.{Entry}
+use Rattle.q3_entity.specs.declared.reading.Entry.TheVariants.{Removed}
+use Rattle.q3_entity.specs.Entities.{run_of, most_entities}
 use Rattle.q3_entity.specs.Baselines.{Lines}
 use Rattle.q3_entity.specs.Delta.{entity_at}
 use Rattle.q3_entity.specs.Lists.{number_at, one_more, entered, words_from}
@@ -56,12 +59,23 @@ skipped_at words table from number bits = do
   entry ← entity_at words table from bits
   number_at words table (number + 1) entry.1
 
--- the answer of a call that keeps entities and lends what is left of the base
-abbrev pub with_kept : List EntityState → Result Run EntityError → Result (List EntityState × List EntityState) EntityError
-with_kept entities (Ok run) = Ok (entities, run_of run)
-with_kept entities (Err e) = Err e
+-- how many entities there are behind an entry that was read: only what the base has may be removed, and any other counts
+-- as one entity
+abbrev pub count_after : ℕ → Bool → ℕ → Entry → Result ℕ EntityError
+count_after count in_base number Removed = if in_base then Ok count else Err (Removes number)
+count_after count in_base number other = if nat_lt count most_entities then Ok (count + 1) else Err Many
+
+-- the answer of a call that puts entities behind the first of those that are there, and counts them
+abbrev pub first_of : List EntityState → Result ℕ EntityError → Result (List EntityState) EntityError
+first_of items (Ok count) = Ok (take count items)
+first_of items (Err e) = Err e
+
+-- the answer of a call that keeps entities, counts them, and lends what is left of the base
+abbrev pub with_kept : List EntityState → Result (Run × ℕ) EntityError → Result (List EntityState × List EntityState) EntityError
+with_kept items (Ok kept) = Ok (take kept.1 items, run_of kept.0)
+with_kept items (Err e) = Err e
 
 -- the answer of a call that reads on
 abbrev pub reached : List EntityState → Result Cursor EntityError → Result Reached EntityError
-reached entities (Ok cursor) = Ok (record { next = cursor.next; base = run_of cursor.base; entities = entities })
-reached entities (Err e) = Err e
+reached items (Ok cursor) = Ok (record { next = cursor.next; base = run_of cursor.base; entities = take cursor.count items })
+reached items (Err e) = Err e

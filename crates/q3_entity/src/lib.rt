@@ -3,6 +3,7 @@
 
 pub mod baselines;
 pub mod error;
+mod filling;
 pub mod laws;
 pub mod list_reading;
 pub mod list_writing;

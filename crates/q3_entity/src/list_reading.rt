@@ -1,29 +1,32 @@
 //! Reads a list of entities against a base, or passes over one whose base isn't there. Keeps the rules "entity list"
 //! and "spellings that a reader accepts", the engine's `CL_ParsePacketEntities`. The refusals are this project's own.
 
-ghost use Rattle.std.specs.Prelude.{◌≡◌, ◌+◌, ◌^◌, ◌<◌, ◌≤◌, ◌++◌, List, Err, IfOk, IfErr, OnOk};
+ghost use Rattle.std.specs.Prelude.{◌≡◌, ◌+◌, ◌^◌, ◌<◌, ◌≤◌, ◌++◌, List, Err, IfOk, IfErr, OnOk, length, take};
 ghost use Rattle.q3_bits.specs.Words.{IsCode};
 ghost use Rattle.q3_bits.specs.Streams.{Reads, holding};
 ghost use Rattle.q3_fields.specs.Kinds.{end_mark};
-ghost use Rattle.q3_entity.specs.Entities.{IsList, Rises, run_of};
+ghost use Rattle.q3_entity.specs.Entities.{IsList, Rises, run_of, most_entities};
 ghost use Rattle.q3_entity.specs.Baselines.{most_lines};
-ghost use Rattle.q3_entity.specs.Lists.{one_more, number_at, list_after, list_skipped};
+ghost use Rattle.q3_entity.specs.Lists.{number_at, list_after, list_skipped};
 ghost use Rattle.q3_entity.specs.declared.state.EntityState.{EntityState};
-ghost use Rattle.q3_entity.specs.Walking.{kept_below, KeepsFront, next_at, entry_at, turn_at, skipped_at, with_kept, reached};
+ghost use Rattle.q3_entity.specs.Walking.{kept_below, KeepsFront, next_at, entry_at, turn_at, skipped_at, with_kept, reached, first_of};
 
 use crate::baselines::Baselines;
 use crate::error::EntityError;
-use crate::reading::{Entry, read_entity};
+use crate::filling::{MOST, count_after, make_place, put_part};
+use crate::reading::read_entity;
 use crate::run::{count_below, take_number};
 use crate::state::{EntityState, List, Run};
 use q3_bits::{Reader, laws};
 use q3_fields::Table;
 
-/// Where a list stands: the number that comes next, and the entities of the base from it on.
+/// Where a list stands: the number that comes next, the entities of the base from it on, and how many the list has so
+/// far. What `into` holds behind these is of no account.
 #[derive(Clone, Copy)]
 struct Cursor<'a> {
     next: u16,
     base: Run<'a>,
+    count: usize,
 }
 
 /// Reads a list against a base. The base's entities that have no entry stay, each copied once, and a new one changes
@@ -44,11 +47,11 @@ pub fn read_list(
     ensures list { OnOk result (IsList table.now into.new.items) }
 {
     laws::read_was_put();
-    into.clear();
-    let mut cursor = read_next(r, table, 0, base, into)?;
+    let mut cursor = read_next(r, table, 0, base, 0, into)?;
     while cursor.next < table.end() {
         cursor = read_turn(r, table, baselines, cursor, into)?;
     }
+    into.truncate(cursor.count);
     Ok(())
 }
 
@@ -62,15 +65,17 @@ fn read_turn<'a>(
     into: &mut List,
 ) -> Result<Cursor<'a>, EntityError>
     requires line { cursor.next < most_lines }
-    ensures reads { Reads r.old r.new (turn_at r.old.words table.now baselines.now (record { next = cursor.entry.next; base = run_of cursor.entry.base; entities = into.old.items }) r.old.left) (reached into.new.items result) }
+    requires within { cursor.count ≤ length into.old.items }
+    ensures reads { Reads r.old r.new (turn_at r.old.words table.now baselines.now (record { next = cursor.entry.next; base = run_of cursor.entry.base; entities = take cursor.entry.count into.old.items }) r.old.left) (reached into.new.items result) }
+    ensures within { IfOk result (λ now. now.count ≤ length into.new.items) }
     ensures rises { IfOk result (λ now. cursor.entry.next < now.next) }
     ensures most { IfOk result (λ now. now.next ≤ end_mark table.now) }
 {
     let number = cursor.next;
     let (found, others) = take_number(cursor.base, number);
     let from = found.unwrap_or(baselines.get(number));
-    read_entry(r, table, from, found.is_some(), number, into)?;
-    read_next(r, table, number + 1, others, into)
+    let count = read_entry(r, table, from, found.is_some(), number, cursor.count, into)?;
+    read_next(r, table, number + 1, others, count, into)
 }
 
 /// Passes over a list whose base isn't there. Its bits, its counts of fields and that its numbers rise are looked at
@@ -104,26 +109,30 @@ fn skip_entry(
     read_number(r, table, number + 1)
 }
 
-/// Reads the next number, and lets the base's entities below it stay.
+/// Reads the next number, and lets the base's entities below it stay, behind the first ones of `into`, so many.
 #[tactic(auto, unfolding(crate::specs::Walking::next_at))]
 fn read_next<'a>(
     r: &mut Reader,
     table: &Table,
     least: u16,
     base: Run<'a>,
+    count: usize,
     into: &mut List,
 ) -> Result<Cursor<'a>, EntityError>
-    ensures reads { Reads r.old r.new (next_at r.old.words table.now least (run_of base.entry) into.old.items r.old.left) (reached into.new.items result) }
+    requires { count ≤ length into.old.items }
+    ensures reads { Reads r.old r.new (next_at r.old.words table.now least (run_of base.entry) (take count into.old.items) r.old.left) (reached into.new.items result) }
+    ensures within { IfOk result (λ cursor. cursor.count ≤ length into.new.items) }
     ensures code { IsCode r.old.words }
     ensures least { IfOk result (λ cursor. least ≤ cursor.next) }
     ensures most { IfOk result (λ cursor. cursor.next ≤ end_mark table.now) }
 {
     let next = read_number(r, table, least)?;
-    let base = keep_below(base, next, into)?;
-    Ok(Cursor { next, base })
+    let (base, count) = keep_below(base, next, count, into)?;
+    Ok(Cursor { next, base, count })
 }
 
-/// Reads what stands behind a number, and puts the entity behind the others unless it is gone.
+/// Reads what stands behind a number, and puts the entity behind the first ones of `into`, so many, unless it is gone.
+/// Answers how many there are then.
 #[tactic(auto, unfolding(crate::specs::Walking::entry_at))]
 fn read_entry(
     r: &mut Reader,
@@ -131,17 +140,62 @@ fn read_entry(
     from: &EntityState,
     in_base: bool,
     number: u16,
+    count: usize,
     into: &mut List,
-) -> Result<(), EntityError>
-    ensures { Reads r.old r.new (entry_at r.old.words table.now from.now.words in_base number into.old.items r.old.left) (holding into.new.items result) }
+) -> Result<usize, EntityError>
+    requires { count ≤ length into.old.items }
+    ensures reads { Reads r.old r.new (entry_at r.old.words table.now from.now.words in_base number (take count into.old.items) r.old.left) (first_of into.new.items result) }
+    ensures within { IfOk result (λ now. now ≤ length into.new.items) }
 {
-    let mut state = EntityState::zero(number);
-    match read_entity(r, table, from, &mut state)? {
-        Entry::Removed if in_base => Ok(()),
-        Entry::Removed => Err(EntityError::Removes(number)),
-        Entry::Changed => add(into, &state),
-        Entry::Same => add(into, &state),
+    // there are never more
+    prove!(into.len() <= MOST);
+    if count == MOST {
+        return read_beyond(r, table, from, in_base, number);
     }
+    make_place(into, count, from);
+    read_place(r, table, from, in_base, number, count, into.as_mut_slice())
+}
+
+/// The same over the entity that stands there.
+fn read_place(
+    r: &mut Reader,
+    table: &Table,
+    from: &EntityState,
+    in_base: bool,
+    number: u16,
+    count: usize,
+    entities: &mut [EntityState],
+) -> Result<usize, EntityError>
+    requires place { count < length entities.old }
+    requires few { length entities.old ≤ most_entities }
+    ensures reads { Reads r.old r.new (entry_at r.old.words table.now from.now.words in_base number (take count entities.old) r.old.left) (first_of entities.new result) }
+    ensures within { IfOk result (λ now. now ≤ length entities.new) }
+{
+    let place = &mut entities[count];
+    place.number = number;
+    let entry = read_entity(r, table, from, place)?;
+    count_after(entry, in_base, number, count)
+}
+
+/// The same where there is no room for an entity more.
+#[cold]
+#[inline(never)]
+fn read_beyond(
+    r: &mut Reader,
+    table: &Table,
+    from: &EntityState,
+    in_base: bool,
+    number: u16,
+) -> Result<usize, EntityError>
+    ensures reads { (entities : List EntityState) → length entities ≡ most_entities → Reads r.old r.new (entry_at r.old.words table.now from.now.words in_base number entities r.old.left) (first_of entities result) }
+    ensures same { IfOk result (λ now. now ≡ most_entities) }
+{
+    let mut beyond = EntityState {
+        number,
+        words: from.words,
+    };
+    let entry = read_entity(r, table, from, &mut beyond)?;
+    count_after(entry, in_base, number, MOST)
 }
 
 /// Reads the next number of a list, which is at least this one.
@@ -159,17 +213,25 @@ fn read_number(r: &mut Reader, table: &Table, least: u16) -> Result<u16, EntityE
     Ok(number)
 }
 
-/// Lets the base's entities below a number stay, and lends those from it on.
-fn keep_below<'a>(base: Run<'a>, number: u16, into: &mut List) -> Result<Run<'a>, EntityError>
-    ensures { with_kept into.new.items result ≡ kept_below number into.old.items (run_of base.entry) }
+/// Lets the base's entities below a number stay, behind the first ones of `into`, so many. Lends those from it on, and
+/// answers how many there are then.
+fn keep_below<'a>(
+    base: Run<'a>,
+    number: u16,
+    count: usize,
+    into: &mut List,
+) -> Result<(Run<'a>, usize), EntityError>
+    requires { count ≤ length into.old.items }
+    ensures kept { with_kept into.new.items result ≡ kept_below number (take count into.old.items) (run_of base.entry) }
+    ensures within { IfOk result (λ kept. kept.1 ≤ length into.new.items) }
 {
-    let head = keep_front(base.head, number, into)?;
+    let (head, count) = keep_front(base.head, number, count, into)?;
     let tail = base.tail;
     if !head.is_empty() {
-        return Ok(Run { head, tail });
+        return Ok((Run { head, tail }, count));
     }
-    let tail = keep_front(tail, number, into)?;
-    Ok(Run { head, tail })
+    let (tail, count) = keep_front(tail, number, count, into)?;
+    Ok((Run { head, tail }, count))
 }
 
 /// Lets the first entities stay, as far as they are below a number, and lends those behind. `Many` comes where there
@@ -177,29 +239,18 @@ fn keep_below<'a>(base: Run<'a>, number: u16, into: &mut List) -> Result<Run<'a>
 fn keep_front<'a>(
     part: &'a [EntityState],
     number: u16,
+    count: usize,
     into: &mut List,
-) -> Result<&'a [EntityState], EntityError>
-    ensures kept { IfOk result (λ left. KeepsFront number into.old.items part.now into.new.items left.now) }
-    ensures many { IfErr result (λ e. (behind : List EntityState) → kept_below number into.old.items (part.now ++ behind) ≡ Err e) }
+) -> Result<(&'a [EntityState], usize), EntityError>
+    requires { count ≤ length into.old.items }
+    ensures kept { IfOk result (λ kept. KeepsFront number (take count into.old.items) part.now (take kept.1 into.new.items) kept.0.now) }
+    ensures within { IfOk result (λ kept. kept.1 ≤ length into.new.items) }
+    ensures many { IfErr result (λ e. (behind : List EntityState) → kept_below number (take count into.old.items) (part.now ++ behind) ≡ Err e) }
 {
-    let count = count_below(part, number);
-    if count == 0 {
-        return Ok(part);
+    let below = count_below(part, number);
+    if below == 0 {
+        return Ok((part, count));
     }
-    // there are never more
-    prove!(into.len() <= 256);
-    match into.try_extend_from_slice(&part[..count]) {
-        Ok(()) => Ok(&part[count..]),
-        Err(_) => Err(EntityError::Many),
-    }
-}
-
-/// Puts an entity behind the others. `Many` comes where there are 256.
-fn add(into: &mut List, entity: &EntityState) -> Result<(), EntityError>
-    ensures { holding into.new.items result ≡ one_more into.old.items entity.now }
-{
-    if into.try_push(*entity).is_err() {
-        return Err(EntityError::Many);
-    }
-    Ok(())
+    let end = put_part(into, count, &part[..below])?;
+    Ok((&part[below..], end))
 }

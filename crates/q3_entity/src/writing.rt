@@ -7,7 +7,7 @@ ghost use Rattle.q3_entity.specs.Changed.{changed_delta};
 
 use crate::state::EntityState;
 use q3_bits::{Overflow, Writer, laws};
-use q3_fields::{StateKind, Table, changed_count, write_counted};
+use q3_fields::{StateKind, Table, changed_count, write_marked_counted};
 
 /// The marks of an entity that is there and didn't change, and of one that did: first a bit for its removal, then one for
 /// a change.
@@ -53,8 +53,18 @@ fn write_changed(
     ensures { Writes w.old w.new (changed_delta w.old.words table.now count from.now to.now) result }
 {
     laws::texts_are_written();
-    write_opening(w, table, to.number, CHANGED)?;
-    write_counted(w, StateKind::Entity, table, count, &from.words, &to.words)
+    w.put(u32::from(to.number), table.number_bits())?;
+    // the marks go with the count that stands behind them
+    write_marked_counted(
+        w,
+        CHANGED,
+        2,
+        StateKind::Entity,
+        table,
+        count,
+        &from.words,
+        &to.words,
+    )
 }
 
 /// Writes an entity's number, and two marks behind it, as the bits of a number, least first.

@@ -2,7 +2,8 @@
 //! "player delta" and "normal form" for the words, the engine's `MSG_WriteDeltaEntity` and `MSG_WriteDeltaPlayerstate`
 //! and their readers.
 
-ghost use Rattle.std.specs.Prelude.{◌≡◌, ◌≤◌, ◌<◌, ◌↔◌, [], ◌∷◌, length, take, drop, slice_get, Some, IsTrue};
+ghost use Rattle.std.specs.Prelude.{◌≡◌, ◌≤◌, ◌<◌, ◌↔◌, [], ◌∷◌, ◌++◌, length, take, drop, slice_get, Some, IsTrue};
+ghost use Rattle.q3_bits.specs.Words.{field_bits};
 ghost use Rattle.q3_bits.specs.Streams.{Reads, Writes, holding};
 ghost use Rattle.q3_fields.specs.Kinds.{IsKind};
 ghost use Rattle.q3_fields.specs.States.{normal_words};
@@ -12,7 +13,7 @@ ghost use Rattle.q3_fields.specs.Deltas.{last_changed, changed_count as changed_
 use crate::kind::{Kind, norm};
 use crate::reading::{read_entity_field, read_player_field};
 use crate::table::Table;
-use crate::writing::{write_entity_field, write_player_field};
+use crate::writing::{write_marked, write_marked_entity_field};
 use q3_bits::{Overflow, ReadError, Reader, Writer, laws};
 
 /// How many words are compared at a time.
@@ -131,8 +132,28 @@ pub fn write_counted(
     requires few { count ≤ 64 }
     ensures { Writes w.old w.new (counted_text state w.old.words table.now.kinds count from.now to.now) result }
 {
+    laws::marks_are_joined();
+    write_marked_counted(w, 0, 0, state, table, count, from, to)
+}
+
+/// Writes a mark of up to 7 bits, and behind it what `write_counted` does.
+pub fn write_marked_counted(
+    w: &mut Writer,
+    mark: u32,
+    bits: u32,
+    state: StateKind,
+    table: &Table,
+    count: usize,
+    from: &[u32; 64],
+    to: &[u32; 64],
+) -> Result<(), Overflow>
+    requires short { bits ≤ 7 }
+    requires in_table { count ≤ length table.now.kinds }
+    requires few { count ≤ 64 }
+    ensures { Writes w.old w.new (field_bits w.old.words bits mark ++ counted_text state w.old.words table.now.kinds count from.now to.now) result }
+{
     laws::texts_are_written();
-    w.put(count as u32, 8)?;
+    w.put_marked(mark, bits, count as u32, 8)?;
     write_fields(w, state, table, count, from, to)
 }
 
@@ -169,22 +190,20 @@ fn write_field(
     requires { IsKind kind }
     ensures { Writes w.old w.new (field_text state w.old.words kind from to) result }
 {
-    laws::texts_are_written();
     if from == to {
         return w.put(0, 1);
     }
-    w.put(1, 1)?;
     write_changed(w, state, kind, to)
 }
 
-/// Writes a changed field.
+/// Writes a mark of change, and the changed field.
 fn write_changed(w: &mut Writer, state: StateKind, kind: Kind, word: u32) -> Result<(), Overflow>
     requires { IsKind kind }
-    ensures { Writes w.old w.new (changed_text state w.old.words kind word) result }
+    ensures { Writes w.old w.new (field_bits w.old.words 1 1 ++ changed_text state w.old.words kind word) result }
 {
     match state {
-        StateKind::Entity => write_entity_field(w, kind, word),
-        StateKind::Player => write_player_field(w, kind, word),
+        StateKind::Entity => write_marked_entity_field(w, kind, word),
+        StateKind::Player => write_marked(w, 1, 1, kind, word),
     }
 }
 

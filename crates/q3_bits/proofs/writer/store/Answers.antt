@@ -1,5 +1,6 @@
-use Rattle.std.proofs.Common.{◌/◌, get_or, refl, arith}
-use Rattle.q3_bits.proofs.Written.{HasStored-none, HasStored-more, stored-fits}
+use Rattle.std.proofs.Common.{◌≡◌, ◌+◌, ◌*◌, ◌/◌, ◌%◌, ◌^◌, ◌≤◌, ℕ, get_or, length, refl, arith}
+use Rattle.q3_bits.proofs.Written.{stored-fits}
+use Rattle.q3_bits.proofs.EightBytes.{stored_at_once}
 use Rattle.q3_bits.proofs.writer.store.Goals as goal
 
 pub overflow_add-rest : goal.overflow_add-rest
@@ -7,18 +8,24 @@ overflow_add-rest c =
     let fits = stored-fits (get_or c.args.bytes.now (c.args.place / 8) 0) c.args.place c.args.bits c.args.count c.requires.clear.part c.requires.fits c.requires.few in
     omega (arith, fits.0, fits.1, c.from.ensures)
 
-pub loop-k-init : goal.loop-k-init
-loop-k-init c =
-    let fits = stored-fits (get_or c.args.bytes.now (c.args.place / 8) 0) c.args.place c.args.bits c.args.count c.requires.clear.part c.requires.fits c.requires.few in
-    record {
-      stored = rw (fits.0, c.from.ensures) (HasStored-none c.args.bytes.now c.args.place c.args.bits c.args.count c.requires.clear c.requires.fits);
-      end = refl;
-      within = omega arith;
-    }
+pub returns-clause-bits : goal.returns-clause-bits
+returns-clause-bits c =
+    let bytes = c.args.bytes.now in
+    let place = c.args.place in
+    let fits = stored-fits (get_or bytes (place / 8) 0) place c.args.bits c.args.count c.requires.clear.part c.requires.fits c.requires.few in
+    let rest : ℕ = c.from.result + c.args.bits * 2 ^ (place % 8) % 18446744073709551616 in
+    let is : rest ≡ get_or bytes (place / 8) 0 + c.args.bits * 2 ^ (place % 8) = omega (arith, c.from.ensures, fits.0) in
+    let room : place / 8 + 8 ≤ length bytes = omega (arith, c.if-first-gt16376.false, c.told-bytes) in
+    (stored_at_once bytes c.store_eight.new.bytes place c.args.bits c.args.count (place / 8) rest c.requires.clear c.requires.fits c.requires.few refl room is c.store_eight.ensures.front
+    c.store_eight.ensures.behind).stored
 
-pub loop-k-preserved : goal.loop-k-preserved
-loop-k-preserved c = record {
-  stored = HasStored-more _ _ _ _ _ _ _ c.loop-k.invariant.stored (omega arith) (omega (arith, c.loop-k.invariant.stored.places, c.requires.within));
-  end = refl;
-  within = omega arith;
-}
+pub returns-clause-clear : goal.returns-clause-clear
+returns-clause-clear c =
+    let bytes = c.args.bytes.now in
+    let place = c.args.place in
+    let fits = stored-fits (get_or bytes (place / 8) 0) place c.args.bits c.args.count c.requires.clear.part c.requires.fits c.requires.few in
+    let rest : ℕ = c.from.result + c.args.bits * 2 ^ (place % 8) % 18446744073709551616 in
+    let is : rest ≡ get_or bytes (place / 8) 0 + c.args.bits * 2 ^ (place % 8) = omega (arith, c.from.ensures, fits.0) in
+    let room : place / 8 + 8 ≤ length bytes = omega (arith, c.if-first-gt16376.false, c.told-bytes) in
+    (stored_at_once bytes c.store_eight.new.bytes place c.args.bits c.args.count (place / 8) rest c.requires.clear c.requires.fits c.requires.few refl room is c.store_eight.ensures.front
+    c.store_eight.ensures.behind).clear

@@ -1,37 +1,41 @@
-use Rattle.std.proofs.Common.{◌≡◌, ℕ, false, true, inl, inr, refl, ◌≤◌, ◌<◌, ◌+◌, ◌++◌, length, take, drop, sym, ap, ◌∙◌, append_assoc, arith}
-use Rattle.std.proofs.lemmas.Bool.{cases_lt, false≢true}
-use Rattle.std.proofs.lemmas.List.{take-append-drop, take_rest}
+use Rattle.std.proofs.Common.{◌≡◌, ◌≤◌, ◌<◌, ◌+◌, ◌++◌, length, take, drop, sym, ap, ◌∙◌, append_assoc, arith}
+use Rattle.std.proofs.lemmas.List.{take-append-drop, take_rest, length-take-le}
+use Rattle.std.proofs.lemmas.Result.{err_from_is_err_and}
 use Rattle.q3_entity.specs.Entities.{most_entities}
 use Rattle.q3_entity.specs.Walking.{kept_below}
-use Rattle.q3_entity.proofs.Numbers.{kept_below-fits, kept_below-many}
+use Rattle.q3_entity.specs.declared.error.EntityError.{EntityError}
+use Rattle.q3_entity.proofs.Numbers.{kept_below-fits, kept_below-many, refused}
 use Rattle.q3_entity.proofs.list_reading.keep_front.Goals as goal
 
--- what isn't at most as many is more
-above : (count : ℕ) → (count ≤ most_entities → false ≡ true) → most_entities < count
-above count few = elim (cases_lt most_entities count) [ inl more ↦ more | inr le ↦ absurd (false≢true (few le)) ]
-
-pub returns-in-Err-clause-many : goal.returns-in-Err-clause-many
-returns-in-Err-clause-many c = λ behind.
-    let part = c.args.part.now in
-    let into = c.args.into.now.items in
-    let count = c.count_below-count.result in
-    let few : length into ≤ most_entities = omega (arith, c.len.ensures.value, c.len.ensures.fits) in
-    let many : most_entities < length into + length (take count part) = above (length into + length (take count part)) c.in-Err.ensures.variant.1 in
-    let parts = ap (λ xs. xs ++ behind) (sym (take-append-drop count part)) ∙ append_assoc (take count part) (drop count part) behind in
-    ap (kept_below c.args.number into) parts ∙ kept_below-many c.args.number into (take count part) (drop count part ++ behind) c.count_below-count.ensures.below few many
-
-pub returns-in-Ok-clause-kept : goal.returns-in-Ok-clause-kept
-returns-in-Ok-clause-kept c =
+pub returns-in_err-end-clause-many : goal.returns-in_err-end-clause-many
+returns-in_err-end-clause-many c =
+    let p = err_from_is_err_and c.from_residual.result c.from_residual.ensures.1 in
     let part = c.args.part.now in
     let number = c.args.number in
-    let into = c.args.into.now.items in
-    let count = c.count_below-count.result in
-    let fit : length into + length (take count part) ≤ most_entities = c.in-Ok.ensures.variant.0 refl in
-    let items = c.in-Ok.ensures.ok in
-    rw (take_rest part count) (record {
+    let first = take c.args.count c.args.into.now.items in
+    let below = c.count_below-below.result in
+    let long : length first ≡ c.args.count = length-take-le c.args.count c.args.into.now.items c.requires in
+    let many = c.in_err-end.ensures.many in
+    let few : length first ≤ most_entities = omega (arith, long, c.requires, c.in_err-end.ensures.fits) in
+    let more : most_entities < length first + length (take below part) = omega (arith, long, many.1) in
+    rw (p.1, p.2) (λ behind.
+      let parts = ap (λ xs. xs ++ behind) (sym (take-append-drop below part)) ∙ append_assoc (take below part) (drop below part) behind in
+      ap (kept_below number first) parts ∙ kept_below-many number first (take below part) (drop below part ++ behind) c.count_below-below.ensures.below few more
+      ∙ refused many.0)
+
+pub returns-clause-kept : goal.returns-clause-kept
+returns-clause-kept c =
+    let part = c.args.part.now in
+    let number = c.args.number in
+    let first = take c.args.count c.args.into.now.items in
+    let below = c.count_below-below.result in
+    let long : length first ≡ c.args.count = length-take-le c.args.count c.args.into.now.items c.requires in
+    let fit : length first + length (take below part) ≤ most_entities = omega (arith, long, c.in_ok-end.ensures.few) in
+    let items = c.in_ok-end.ensures.put in
+    rw (take_rest part below) (record {
       goes_on = λ behind.
-          ap (kept_below number into) (ap (λ xs. xs ++ behind) (sym (take-append-drop count part)) ∙ append_assoc (take count part) (drop count part) behind)
-          ∙ kept_below-fits number into (take count part) (drop count part ++ behind) c.count_below-count.ensures.below fit
-          ∙ ap (λ xs. kept_below number xs (drop count part ++ behind)) (sym items);
-      from = c.count_below-count.ensures.behind;
+          ap (kept_below number first) (ap (λ xs. xs ++ behind) (sym (take-append-drop below part)) ∙ append_assoc (take below part) (drop below part) behind)
+          ∙ kept_below-fits number first (take below part) (drop below part ++ behind) c.count_below-below.ensures.below fit
+          ∙ ap (λ xs. kept_below number xs (drop below part ++ behind)) (sym items);
+      from = c.count_below-below.ensures.behind;
     })

@@ -1,4 +1,4 @@
-use Rattle.std.proofs.Common.{◌≡◌, ◌+◌, ◌-◌, ◌^◌, ◌≤◌, length}
+use Rattle.std.proofs.Common.{◌≡◌, ◌+◌, ◌-◌, ◌^◌, ◌≤◌, length, take}
 use Rattle.q3_bits.specs.Words.{IsCode}
 use Rattle.q3_fields.specs.Kinds.{end_mark}
 use Rattle.q3_entity.specs.Entities.{RiseFrom, run_of}
@@ -13,8 +13,9 @@ invariant-loop-cursor l = record {
   place : l.r.place + length l.r.left ≡ l.fn.r.place + length l.fn.r.left;
   code : IsCode l.fn.r.words;
   most : l.cursor.next ≤ end_mark l.table;
+  within : l.cursor.count ≤ length l.into.items;
   rise : RiseFrom (2 ^ 16) l.cursor.next (run_of l.cursor.base);
-  reads : from_reached l.fn.r.words l.table l.baselines (record { next = l.cursor.next; base = run_of l.cursor.base; entities = l.into.items }, l.r.left)
+  reads : from_reached l.fn.r.words l.table l.baselines (record { next = l.cursor.next; base = run_of l.cursor.base; entities = take l.cursor.count l.into.items }, l.r.left)
       ≡ list_after l.fn.r.words l.table l.baselines (run_of l.base) l.fn.r.left;
 }
 

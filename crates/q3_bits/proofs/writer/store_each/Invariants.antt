@@ -1,7 +1,7 @@
 use Rattle.std.proofs.Common.{◌≡◌, ◌≤◌, ◌+◌, ◌/◌}
 use Rattle.q3_bits.specs.Bits.{low_bits}
 use Rattle.q3_bits.proofs.Written.{HasStored}
-use Rattle.q3_bits.proofs.writer.store.Given as goal
+use Rattle.q3_bits.proofs.writer.store_each.Given as goal
 
 -- the bytes up to this one are stored
 abbrev pub invariant-loop-k : goal.invariant-loop-k
