@@ -5,7 +5,7 @@ ghost use Rattle.std.specs.Prelude.{◌≡◌, IfOk};
 use crate::moves::Move;
 use arrayvec::ArrayVec;
 use q3_bits::NoMemory;
-use q3_text::Command;
+use q3_text::{Command, CommandRun};
 use std::alloc::Global;
 
 /// A message of a client, with room for 64 commands and 32 moves.
@@ -22,6 +22,17 @@ pub struct ClientMessage {
     /// Whether the server may write snapshots against the one of the newest message. It is false without moves.
     pub delta: bool,
     pub moves: ArrayVec<Move, 32>,
+}
+
+/// A message whose parts are lent by those who keep them. Each part is as in `ClientMessage`.
+#[derive(Clone, Copy)]
+pub struct SaidParts<'a> {
+    pub id: u32,
+    pub acknowledged: u32,
+    pub command: u32,
+    pub commands: CommandRun<'a>,
+    pub delta: bool,
+    pub moves: &'a [Move],
 }
 
 impl ClientMessage {

@@ -4,7 +4,7 @@ ghost use Rattle.std.specs.Prelude.{◌≤◌, All};
 
 use super::*;
 use q3_bits::{Code, Overflow, ReadError, Writer};
-use q3_text::{Command, Text};
+use q3_text::{Command, CommandRun, Text};
 use std::process::Abort;
 use std::test::*;
 
@@ -50,6 +50,48 @@ fn message_without_moves_is_written_and_read(rt: HostRuntime) -> Result<(), Fail
     assert!(rt; message.commands.is_empty());
     assert_eq!(rt; message.delta, false);
     assert!(rt; message.moves.is_empty());
+    Ok(())
+}
+
+/// A command, with a text of one byte.
+fn command(rt: &impl Abort, number: u32, byte: u8) -> Command {
+    Command {
+        number,
+        text: Text::of(&[byte]).expect(rt, "a text"),
+    }
+}
+
+#[test]
+fn lent_parts_are_written_as_their_message(rt: HostRuntime) -> Result<(), Fail> {
+    let code = Code::plain(rt.alloc())?;
+    let mut message = ClientMessage::new(rt.alloc())?;
+    message.id = 7;
+    message.acknowledged = 1;
+    message.command = 3;
+    message.commands.push(command(&rt, 2, b'a'));
+    message.commands.push(command(&rt, 3, b'b'));
+    let commands = CommandRun {
+        head: &[command(&rt, 2, b'a')],
+        tail: &[command(&rt, 3, b'b')],
+    };
+    let parts = SaidParts {
+        id: 7,
+        acknowledged: 1,
+        command: 3,
+        commands,
+        delta: false,
+        moves: &[],
+    };
+    let bytes = [
+        0x07, 0x00, 0x00, 0x00, 0x01, 0x00, 0x00, 0x00, 0x03, 0x00, 0x00, 0x00, 0x04, 0x02, 0x00,
+        0x00, 0x00, 0x61, 0x00, 0x04, 0x03, 0x00, 0x00, 0x00, 0x62, 0x00, 0x05, 0x00,
+    ];
+    let mut into = [0; 28];
+    assert_eq!(rt; write_said(&code, parts, 0, &mut into), Ok(28));
+    assert_eq!(rt; into, bytes);
+    assert_eq!(rt; write_client_message(&code, &message, 0, &mut into), Ok(28));
+    assert_eq!(rt; into, bytes);
+    assert_eq!(rt; write_said(&code, parts, 0, &mut into[..27]), Err(Overflow));
     Ok(())
 }
 

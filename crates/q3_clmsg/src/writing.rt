@@ -3,14 +3,15 @@
 
 ghost use Rattle.std.specs.Prelude.{◌≡◌, ◌≤◌, length};
 ghost use Rattle.q3_bits.specs.Streams.{Writes, Fills};
-ghost use Rattle.q3_clmsg.specs.Values.{said_of};
+ghost use Rattle.q3_clmsg.specs.Values.{said_of, parts_said};
 ghost use Rattle.q3_clmsg.specs.Texts.{move_operation, section_bits, client_text};
 
-use crate::message::ClientMessage;
+use crate::message::{ClientMessage, SaidParts};
 use crate::moves::{Move, write_moves};
 use crate::operations::{CLIENT_COMMAND, EOF, MOVE, MOVE_NO_DELTA};
 use q3_bits::{Code, Overflow, Writer, laws};
 use q3_strings::write_commands;
+use q3_text::CommandRun;
 
 /// Writes a message to the front of a buffer of 1 to 16,384 bytes, and answers how many bytes it has; those behind it
 /// stay. `key` is that of its moves, as `message_key` gives it. Without moves `delta` isn't written.
@@ -25,30 +26,60 @@ pub fn write_client_message(
     requires most { length into.old ≤ 16384 }
     ensures { Fills into.old into.new (client_text code.now key (said_of message.now)) result }
 {
+    write_said(code, parts_of(message), key, into)
+}
+
+/// Writes a message whose parts are lent, as `write_client_message` writes one. A server reads at most 32 moves.
+pub fn write_said(
+    code: &Code,
+    parts: SaidParts,
+    key: u32,
+    into: &mut [u8],
+) -> Result<usize, Overflow>
+    requires some { 1 ≤ length into.old }
+    requires most { length into.old ≤ 16384 }
+    ensures { Fills into.old into.new (client_text code.now key (parts_said parts.entry)) result }
+{
     let mut w = Writer::new(code, into.len());
-    write_message(&mut w, message, key)?;
+    write_message(&mut w, parts, key)?;
     Ok(w.copy_to(into))
+}
+
+/// The parts of a message; its commands are one piece.
+fn parts_of(message: &ClientMessage) -> SaidParts<'_>
+    ensures { parts_said result ≡ said_of message.now }
+{
+    SaidParts {
+        id: message.id,
+        acknowledged: message.acknowledged,
+        command: message.command,
+        commands: CommandRun {
+            head: &message.commands,
+            tail: &[],
+        },
+        delta: message.delta,
+        moves: &message.moves,
+    }
 }
 
 /// Writes the three longs, the commands, the moves, and the end.
 #[tactic(auto, unfolding(crate::specs::Texts::client_text))]
-fn write_message(w: &mut Writer, message: &ClientMessage, key: u32) -> Result<(), Overflow>
-    ensures { Writes w.old w.new (client_text w.old.words key (said_of message.now)) result }
+fn write_message(w: &mut Writer, parts: SaidParts, key: u32) -> Result<(), Overflow>
+    ensures { Writes w.old w.new (client_text w.old.words key (parts_said parts.entry)) result }
 {
     laws::texts_are_written();
     w.put_all(&[
-        (message.id, 32),
-        (message.acknowledged, 32),
-        (message.command, 32),
+        (parts.id, 32),
+        (parts.acknowledged, 32),
+        (parts.command, 32),
     ])?;
-    write_commands(w, CLIENT_COMMAND as u8, &message.commands)?;
-    write_section(w, key, message.delta, &message.moves)?;
+    write_commands(w, CLIENT_COMMAND as u8, parts.commands)?;
+    write_section(w, key, parts.delta, parts.moves)?;
     w.put_all(&[(EOF, 8)])
 }
 
 /// Writes the moves, and before them their operation and how many they are; nothing where there are none.
 fn write_section(w: &mut Writer, key: u32, delta: bool, moves: &[Move]) -> Result<(), Overflow>
-    requires { length moves.now ≤ 32 }
     ensures { Writes w.old w.new (section_bits w.old.words key delta moves.now) result }
 {
     laws::texts_are_written();
@@ -57,7 +88,9 @@ fn write_section(w: &mut Writer, key: u32, delta: bool, moves: &[Move]) -> Resul
     if moves.is_empty() {
         return Ok(());
     }
-    w.put_all(&[(operation_of(delta), 8), (moves.len() as u32, 8)])?;
+    // how many they are is one byte
+    let count = (moves.len() % 256) as u32;
+    w.put_all(&[(operation_of(delta), 8), (count, 8)])?;
     write_moves(w, key, moves)
 }
 
