@@ -1,5 +1,5 @@
 -- What a window keeps where a command is issued or acknowledged.
-use Rattle.std.proofs.Common.{length-set, Bool, ◌||◌, ◌⊎◌, ltb, lt-ltb, le-ltb, Ok, Err, ◌≡◌, ℕ, zero, suc, ◌+◌, ◌-◌, ◌%◌, ◌<◌, ◌≤◌, ◌&&◌, true, List, [], ◌∷◌, ◌++◌, length, get_or, take, drop, set, All, refl, sym, ap, ◌∙◌, subst, inl, inr, leb-true, length-append, length-drop, arith}
+use Rattle.std.proofs.Common.{length-set, Bool, ◌||◌, ◌⊎◌, ltb, lt-ltb, le-ltb, Ok, Err, ◌≡◌, ℕ, zero, suc, ◌+◌, ◌-◌, ◌%◌, ◌<◌, ◌≤◌, true, List, [], ◌∷◌, ◌++◌, length, get_or, drop, set, refl, sym, ap, ◌∙◌, subst, inl, inr, leb-true, length-append, length-drop, arith}
 use Rattle.std.proofs.lemmas.Bool.{cases_lt, and_parts, cond-true, cond-false}
 use Rattle.std.proofs.Math.Bool.{or-true}
 use Rattle.std.proofs.lemmas.List.Elements.{All-nil, All-drop, All-push}
@@ -7,7 +7,7 @@ use Rattle.std.proofs.lemmas.List.Sums.{sum_by-append, sum_by_push, sum_by-take-
 use Rattle.q3_text.specs.declared.text.Command.{Command}
 use Rattle.q3_text.specs.Texts.{IsText, IsTextByte}
 use Rattle.q3_window.specs.Outgoing.{OutgoingState, Issuing, issue_at, Acknowledging, acknowledge_at, IsOutgoing, most_waiting, most_text, last_number, total_of, issued_of, fits, text_at, acknowledged_to}
-use Rattle.q3_window.specs.Cells.{places, blank, cell_at, kept_text, texts_from, window_of, AreKept}
+use Rattle.q3_window.specs.Cells.{places, cell_at, kept_text, texts_from, window_of, AreKept}
 use Rattle.q3_window.proofs.Round.{kept_text-cell, length-texts_from, texts_from-one, texts_from-cons, texts_from-add, texts_from-split, drop-texts_from, get-texts_from, same-texts_from, cell_at-other, cell_at-same, kept_text-other}
 
 -- what a command that fits leaves room for

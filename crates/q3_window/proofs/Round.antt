@@ -1,5 +1,5 @@
 -- Texts and commands that stand in the places of rising numbers.
-use Rattle.std.proofs.Common.{take_all, length-drop, ◌≡◌, ◌≢◌, ℕ, zero, suc, ◌+◌, ◌-◌, ◌*◌, ◌/◌, ◌%◌, ◌<◌, ◌≤◌, List, [], ◌∷◌, ◌++◌, length, get_or, take, drop, set, refl, sym, ap, ◌∙◌, add-one, drop-cons, drop_at, take_at, take-append-drop, get_or-set_same, get_or-set_other, arith}
+use Rattle.std.proofs.Common.{take_all, length-drop, ◌≡◌, ◌≢◌, ℕ, zero, suc, ◌+◌, ◌-◌, ◌*◌, ◌/◌, ◌%◌, ◌<◌, ◌≤◌, List, [], ◌∷◌, ◌++◌, length, get_or, take, drop, set, refl, sym, ap, ◌∙◌, add-one, drop-cons, drop_at, get_or-set_same, get_or-set_other, arith}
 use Rattle.std.proofs.Math.Nat.{mod-lt}
 use Rattle.q3_text.specs.declared.text.Command.{Command}
 use Rattle.q3_text.specs.Commands.{numbered}

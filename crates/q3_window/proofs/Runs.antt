@@ -1,5 +1,5 @@
 -- What is executed of commands in their order.
-use Rattle.std.proofs.Common.{◌≡◌, ℕ, zero, suc, ◌+◌, ◌-◌, ◌<◌, ◌≤◌, Bool, cond, true, false, leb, ltb, eqb, max, List, [], ◌∷◌, ◌++◌, length, get_or, slice_get, take, drop, Option, Some, None, refl, sym, ap, ◌∙◌, subst, inl, inr, le-leb, lt-ltb, le-ltb, eq-eqb, ne_eqb, add-one, append_assoc, append-nil, length-append, length-take, length-take-le, take-take, take-append-drop, drop-drop, arith}
+use Rattle.std.proofs.Common.{◌≡◌, ℕ, zero, suc, ◌+◌, ◌-◌, ◌<◌, ◌≤◌, leb, ltb, eqb, max, List, [], ◌∷◌, ◌++◌, length, get_or, slice_get, take, drop, Option, Some, None, refl, sym, ap, ◌∙◌, subst, inl, inr, le-leb, lt-ltb, le-ltb, eq-eqb, ne_eqb, add-one, append_assoc, append-nil, length-append, length-take, length-take-le, take-take, take-append-drop, drop-drop, arith}
 use Rattle.std.proofs.Math.Seq.{get_or-append_seam}
 use Rattle.std.proofs.lemmas.Bool.{cases_lt, cond-true, cond-false, lt-leb}
 use Rattle.std.proofs.lemmas.List.{drop_all, drop_more}

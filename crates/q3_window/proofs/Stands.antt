@@ -1,5 +1,5 @@
 -- What a window shows of all that was issued.
-use Rattle.std.proofs.Common.{◌≡◌, ◌⊎◌, ℕ, zero, suc, ◌+◌, ◌-◌, ◌<◌, ◌≤◌, List, [], ◌∷◌, length, get_or, drop, Result, Ok, Err, refl, sym, ap, ◌∙◌, subst, inl, inr, drop-drop, get_or-drop, length-drop, arith}
+use Rattle.std.proofs.Common.{◌≡◌, ℕ, zero, suc, ◌+◌, ◌-◌, ◌≤◌, List, [], ◌∷◌, length, get_or, drop, Result, Ok, Err, refl, sym, ap, ◌∙◌, subst, inl, inr, drop-drop, get_or-drop, length-drop, arith}
 use Rattle.std.proofs.lemmas.Bool.{cases_lt}
 use Rattle.q3_window.specs.declared.outgoing.BadAck.{BadAck}
 use Rattle.q3_window.specs.Outgoing.{OutgoingState, Acknowledging, issued_of, text_at, acknowledge_at, acknowledged_to}

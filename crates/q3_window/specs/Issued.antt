@@ -1,5 +1,5 @@
 -- All that an end ever issued, and what a window shows of it.
-use Rattle.std.specs.Prelude.{◌≡◌, ℕ, zero, suc, ◌+◌, ◌≤◌, List, [], ◌∷◌, length, take, drop, slice_index_or}
+use Rattle.std.specs.Prelude.{◌≡◌, ℕ, zero, suc, ◌+◌, ◌≤◌, List, [], length, take, drop, slice_index_or}
 use Rattle.q3_text.specs.declared.text.Command.{Command}
 use Rattle.q3_text.specs.Commands.{numbered}
 use Rattle.q3_window.specs.Outgoing.{OutgoingState}

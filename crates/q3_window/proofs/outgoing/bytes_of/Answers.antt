@@ -1,4 +1,4 @@
-use Rattle.std.proofs.Common.{◌≡◌, ◌+◌, ◌%◌, ap, ◌∙◌, length, refl, arith}
+use Rattle.std.proofs.Common.{refl, arith}
 use Rattle.q3_window.specs.Cells.{texts_from}
 use Rattle.q3_window.proofs.Round.{bytes_more}
 use Rattle.q3_window.proofs.outgoing.bytes_of.Goals as goal

@@ -1,7 +1,6 @@
-use Rattle.std.proofs.Common.{◌≡◌, ◌-◌, List, length, Some, None, Option, slice_get, sym, ap, ◌∙◌}
+use Rattle.std.proofs.Common.{◌≡◌, ◌-◌, length, Some, None, slice_get, sym, ap, ◌∙◌}
 use Rattle.std.specs.Option.{option_copied}
-use Rattle.q3_text.specs.declared.text.Command.{Command}
-use Rattle.q3_window.specs.Incoming.{IncomingState, fresh_of, executes}
+use Rattle.q3_window.specs.Incoming.{IncomingState, fresh_of}
 use Rattle.q3_window.proofs.Runs.{executes_some, executes_none}
 use Rattle.q3_window.proofs.incoming.Incoming.execute.Goals as goal
 

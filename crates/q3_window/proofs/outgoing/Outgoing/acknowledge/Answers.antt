@@ -1,5 +1,4 @@
-use Rattle.std.proofs.Common.{◌≡◌, ◌⊎◌, ℕ, ◌+◌, ◌-◌, ◌<◌, ◌≤◌, List, Err, inl, inr, sym, ap, subst, ◌∙◌, arith}
-use Rattle.q3_text.specs.declared.text.Command.{Command}
+use Rattle.std.proofs.Common.{◌≡◌, ◌⊎◌, ℕ, ◌-◌, ◌<◌, Err, inl, inr, sym, ap, subst, ◌∙◌, arith}
 use Rattle.q3_window.specs.Outgoing.{OutgoingState, issued_of, acknowledge_at}
 use Rattle.q3_window.specs.Cells.{AreKept, window_of}
 use Rattle.q3_window.proofs.Held.{issued-window, refused_is, acknowledge_is, acknowledged_are_kept, passed_within}

@@ -1,4 +1,4 @@
-use Rattle.std.proofs.Common.{◌≡◌, ℕ, ◌≤◌, inl, inr, sym, ap, ◌∙◌, arith}
+use Rattle.std.proofs.Common.{◌≡◌, ◌≤◌, inl, inr, sym, ap, ◌∙◌, arith}
 use Rattle.q3_text.specs.declared.text.Command.{Command}
 use Rattle.q3_window.specs.Outgoing.{OutgoingState, issued_of, text_at}
 use Rattle.q3_window.proofs.Round.{cell_is, kept_text-cell}

@@ -1,5 +1,5 @@
-use Rattle.std.proofs.Common.{◌≡◌, ℕ, ◌+◌, ◌-◌, ◌%◌, ◌≤◌, List, length, take, sym, ap, ◌∙◌, length-take-le, arith}
-use Rattle.q3_window.specs.Outgoing.{OutgoingState, carried}
+use Rattle.std.proofs.Common.{◌≡◌, ◌+◌, ◌-◌, ◌%◌, length, sym, ap, ◌∙◌, length-take-le, arith}
+use Rattle.q3_window.specs.Outgoing.{carried}
 use Rattle.q3_window.specs.Cells.{places}
 use Rattle.q3_window.proofs.Round.{lent_within, lent_past, length-texts_from}
 use Rattle.q3_window.proofs.outgoing.Outgoing.waiting.Goals as goal
