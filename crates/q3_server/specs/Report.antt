@@ -3,13 +3,13 @@ use Rattle.std.specs.Prelude.{ℕ, List, [], ◌∷◌, ◌++◌, codes, decimal
 use Rattle.std.specs.List.{concat, flat_map}
 use Rattle.q3_clmsg.specs.declared.moves.Move.{Move}
 use Rattle.q3_clmsg.specs.Report.{move_text, cause_word, cause_number}
-use Rattle.q3_server.specs.declared.server.Emitted.{Emitted}
-use Rattle.q3_server.specs.declared.server.Emitted.TheVariants as emitted
-use Rattle.q3_server.specs.declared.server.NoClient.{NoClient}
+use Rattle.q3_slot.specs.declared.answer.Emitted.{Emitted}
+use Rattle.q3_slot.specs.declared.answer.Emitted.TheVariants as emitted
+use Rattle.q3_slot.specs.declared.answer.NoClient.{NoClient}
 use Rattle.q3_server.specs.declared.server.SlotError.{SlotError}
 use Rattle.q3_server.specs.declared.server.SlotError.TheVariants.{Range, Taken, Twin}
-use Rattle.q3_server.specs.declared.taking.ServerTook.{ServerTook}
-use Rattle.q3_server.specs.declared.taking.ServerTook.TheVariants.{Runt, Connectionless, Stranger, Old, OutOfOrder, BadFragment, Partial, Illegible, Ran}
+use Rattle.q3_slot.specs.declared.taking.ServerTook.{ServerTook}
+use Rattle.q3_slot.specs.declared.taking.ServerTook.TheVariants.{Runt, Connectionless, Stranger, Old, OutOfOrder, BadFragment, Partial, Illegible, Ran}
 
 -- why a client can't join
 abbrev pub slot_error_text : SlotError → List ℕ

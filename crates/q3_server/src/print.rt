@@ -9,11 +9,11 @@ ghost use Rattle.q3_clmsg.specs.Report.{move_text, cause_word, cause_number};
 ghost use Rattle.q3_server.specs.Report.{serve_text, slot_error_text, slot_text, illegible_text, ran_text, server_text};
 ghost use Rattle.q3_clmsg.specs.Report.{spaced};
 
-use crate::server::{Emitted, SlotError};
-use crate::taking::{Heard, ServerTook};
+use crate::server::SlotError;
 use q3_clmsg::report::{cause_number, cause_word};
 use q3_clmsg::{ClientIllegible, Move};
 use q3_io::{Failed, Piece, Sink, laws, print_all};
+use q3_slot::{Emitted, Heard, ServerTook};
 
 /// Prints the line of a `serve`. The datagram's number is used where one was handed out. `Failed` comes where the sink
 /// failed, behind a front of the line.

@@ -1,36 +1,33 @@
 //! The server's end: pure state, one call an event.
-//! Keeps the rules "what the server sends", "choice of the delta base", by q3_frames, "how a datagram finds its slot",
-//! "fragmentation" and "what a receiver answers", by q3_chan, and "end of message numbers", which is this project's own.
+//! Keeps the rule "how a datagram finds its slot", the engine's `SV_PacketEvent` (sv_main.c). What is sent and what is done
+//! with a datagram is q3_slot's.
 
 ghost use Rattle.std.specs.Prelude.{◌≡◌, ◌<◌, ◌≤◌, None, IfOk, IfSome, option_map, length, nat_lt, position, replicate};
-ghost use Rattle.q3_server.specs.Server.{places, most_numbers, new_server, is_of, add_client_at, set_time_at, set_entity_at, remove_entity_at, set_player_at, set_area_at, emit_at, slot_at};
 ghost use Rattle.q3_chan.specs.Sending.{HandsOut};
-ghost use Rattle.q3_server.specs.Taking.{take_at};
-ghost use Rattle.q3_server.specs.Slots.{HoldLists};
 ghost use Rattle.q3_frames.specs.Frames.{no_frames};
+ghost use Rattle.q3_map.specs.Map.{most_numbers};
+ghost use Rattle.q3_slot.specs.Slot.{is_of};
+ghost use Rattle.q3_slot.specs.Slots.{HoldLists};
+ghost use Rattle.q3_server.specs.Server.{places, new_server, add_client_at, set_time_at, set_entity_at, remove_entity_at, set_player_at, set_area_at, emit_at, slot_at};
+ghost use Rattle.q3_server.specs.Taking.{take_at};
 
-use crate::entities::Map;
-use crate::slot::Slot;
-use crate::taking::{Heard, ServerTook};
 use q3_bits::NoMemory;
 use q3_chan::{Datagram, LONGEST_MESSAGE, NoQport, qport_of};
 use q3_clmsg::ClientMessage;
 use q3_entity::{Baselines, EntityState};
 use q3_frames::Frames;
-use q3_frames::laws::nothing_is_held;
 use q3_io::Address;
+use q3_map::Map;
 use q3_player::PlayerState;
 use q3_profile::Profile;
+use q3_slot::laws::nothing_is_listed;
+use q3_slot::{Emitted, Heard, NoClient, ServerTook, Slot};
 use q3_svmsg::ServerMessage;
 use std::alloc::Global;
 use std::marker::Model;
 
 /// How many slots a server may have.
 pub const MOST_SLOTS: u8 = 16;
-
-/// No such client was added.
-#[derive(Clone, Copy, Debug, PartialEq, Eq)]
-pub struct NoClient;
 
 /// Why a client can't join.
 #[derive(Clone, Copy, Debug, PartialEq, Eq)]
@@ -41,28 +38,6 @@ pub enum SlotError {
     Taken,
     /// The client in this slot, and in none below it, has the same host and qport.
     Twin(u8),
-}
-
-/// What the server's emit answers.
-#[derive(Clone, Copy, Debug, PartialEq, Eq)]
-pub enum Emitted {
-    /// No such client was added.
-    NoClient,
-    /// A datagram with a further piece of the message of this number.
-    Fragment {
-        number: u32,
-    },
-    /// Message numbers have ended, or more than 2^62 entities were placed.
-    SequenceEnd,
-    /// The message has more than 16,384 bytes; its number is used again, and its frame stays.
-    Overlong,
-    /// A datagram with a snapshot, or its first piece: its message's number, the number of the base, 0 for none, and the
-    /// message's length.
-    Snapshot {
-        number: u32,
-        base: u32,
-        bytes: usize,
-    },
 }
 
 /// The server: a copy of the profile, what the game handed in, a slot for each client, and the frames that were built for
@@ -86,7 +61,7 @@ impl Model for Server {
     ghost use Rattle.q3_entity.specs.Baselines.{no_lines};
     ghost use Rattle.q3_chan.specs.Datagrams.{longest_message};
     ghost use Rattle.q3_server.specs.Server.{ServerState, places};
-    ghost use Rattle.q3_server.specs.Slots.{HoldLists};
+    ghost use Rattle.q3_slot.specs.Slots.{HoldLists};
 
     ghost Value = { ServerState };
 
@@ -285,7 +260,7 @@ fn empty_frames(alloc: Global, slots: u8, ring: u32) -> Result<Frames, NoMemory>
     ensures frames { IfOk result (λ frames. frames ≡ no_frames slots ring) }
     ensures lists { IfOk result (λ frames. HoldLists frames) }
 {
-    nothing_is_held();
+    nothing_is_listed();
     Frames::new(alloc, slots, ring)
 }
 

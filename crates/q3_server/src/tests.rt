@@ -11,7 +11,7 @@ use q3_fields::Table;
 use q3_io::Address;
 use q3_memory::MemSink;
 use q3_profile::Profile;
-use std::alloc::{AllocError, Global};
+use std::alloc::Global;
 use std::process::Abort;
 use std::test::*;
 
@@ -84,56 +84,6 @@ fn take(
     bytes[4..6].copy_from_slice(&qport.to_le_bytes());
     bytes[18..end].copy_from_slice(operations);
     server.take(from, &bytes[..end], heard)
-}
-
-fn last_time(moves: &[Move]) -> u32 {
-    match moves.last() {
-        Some(one) => one.time,
-        None => 0,
-    }
-}
-
-#[test]
-fn moves_run_once_and_by_rising_time(rt: HostRuntime) -> Result<(), Fail> {
-    let mut server = server(
-        rt.alloc(),
-        Table::of(&[0, 8, -16]).expect(&rt, "a table"),
-        Table::of(&[0, 16]).expect(&rt, "a table"),
-    )?;
-    assert_eq!(rt; join(&mut server, 1, 5000, 1, 27960), Ok(()));
-    let mut heard = Heard::new();
-    let at_5: &[u8] = &[0x03, 0x01, 0x0b, 0x14, 0x00];
-    let at_5_5_7: &[u8] = &[0x03, 0x03, 0x0b, 0x04, 0x50, 0x40, 0x01];
-    let no_operation: &[u8] = &[0x09, 0x00];
-    let no_move: &[u8] = &[0x03, 0x00, 0x05, 0x00];
-    let nothing: &[u8] = &[0x05, 0x00];
-    let bad = ServerTook::Illegible(1, ClientIllegible::BadOp(9));
-    let none = ServerTook::Illegible(1, ClientIllegible::MoveCount(0));
-    // a message's number and operations, the answer, and of the moves run how many there are and the last one's time
-    let table = [
-        (1, nothing, ServerTook::Ran { slot: 1, number: 1 }, 0, 0),
-        (2, at_5, ServerTook::Ran { slot: 1, number: 2 }, 1, 5),
-        (2, at_5, ServerTook::Old(1), 0, 0),
-        (3, at_5, ServerTook::Ran { slot: 1, number: 3 }, 0, 0),
-        (4, no_operation, bad, 0, 0),
-        (4, at_5_5_7, ServerTook::Old(1), 0, 0),
-        (5, no_move, none, 0, 0),
-        (6, at_5_5_7, ServerTook::Ran { slot: 1, number: 6 }, 1, 7),
-        (9, at_5_5_7, ServerTook::Ran { slot: 1, number: 9 }, 0, 0),
-    ];
-    let from = Address {
-        host: 1,
-        port: 27960,
-    };
-    for (number, operations, answer, count, last) in table {
-        assert_eq!(rt;
-            take(&rt, &mut server, from, number, 5000, operations, &mut heard),
-            answer
-        );
-        assert_eq!(rt; heard.moves.len(), count);
-        assert_eq!(rt; last_time(&heard.moves), last);
-    }
-    Ok(())
 }
 
 #[test]
@@ -226,78 +176,6 @@ fn a_move_is_shown_by_its_key(rt: HostRuntime) -> Result<(), Fail> {
         server.take(from, &[255, 255, 255, 255, 0x88, 0x13], &mut heard),
         ServerTook::Connectionless
     );
-    Ok(())
-}
-
-/// A piece of message 1 from the qport 5000 that has as many bytes as it says: nops, behind three longs that are 0 where
-/// it is the first.
-fn piece(alloc: Global, start: u16, length: u16) -> Result<Vec<u8>, AllocError> {
-    let mut piece = Vec::new(alloc);
-    piece.extend_from_slice(&[0x01, 0x00, 0x00, 0x80, 0x88, 0x13])?;
-    piece.extend_from_slice(&start.to_le_bytes())?;
-    piece.extend_from_slice(&length.to_le_bytes())?;
-    for place in 0..length {
-        piece.push(if start == 0 && place < 12 { 0 } else { 1 })?;
-    }
-    Ok(piece)
-}
-
-/// The server takes a datagram from host 1, which gives this answer, and so many moves run.
-fn takes(
-    rt: &impl Abort,
-    server: &mut Server,
-    datagram: &[u8],
-    heard: &mut Heard,
-    answer: ServerTook,
-    moves: usize,
-) {
-    let from = Address {
-        host: 1,
-        port: 27960,
-    };
-    assert_eq!(rt; server.take(from, datagram, heard), answer);
-    assert_eq!(rt; heard.moves.len(), moves);
-}
-
-#[test]
-fn a_message_comes_in_two_pieces(rt: HostRuntime) -> Result<(), Fail> {
-    let alloc = rt.alloc();
-    let mut server = server(
-        alloc,
-        Table::of(&[0, 8, -16]).expect(&rt, "a table"),
-        Table::of(&[0, 16]).expect(&rt, "a table"),
-    )?;
-    assert_eq!(rt; join(&mut server, 1, 5000, 1, 27960), Ok(()));
-    let mut heard = Heard::new();
-    let first = piece(alloc, 0, 1_300)?;
-    let behind_a_gap = piece(alloc, 1_301, 5)?;
-    let long = piece(alloc, 1_300, 1_301)?;
-    // it begins at 1,300 and has five bytes: a move at the time 5
-    let last = [
-        0x01, 0x00, 0x00, 0x80, 0x88, 0x13, 0x14, 0x05, 0x05, 0x00, 0x03, 0x01, 0x0b, 0x14, 0x00,
-    ];
-    let ran = ServerTook::Ran { slot: 1, number: 1 };
-    let (server, heard) = (&mut server, &mut heard);
-    takes(&rt, server, &first, heard, ServerTook::Partial(1), 0);
-    takes(
-        &rt,
-        server,
-        &behind_a_gap,
-        heard,
-        ServerTook::OutOfOrder(1),
-        0,
-    );
-    takes(&rt, server, &long, heard, ServerTook::BadFragment(1), 0);
-    takes(
-        &rt,
-        server,
-        &last[..14],
-        heard,
-        ServerTook::BadFragment(1),
-        0,
-    );
-    takes(&rt, server, &last, heard, ran, 1);
-    takes(&rt, server, &last, heard, ServerTook::Old(1), 0);
     Ok(())
 }
 

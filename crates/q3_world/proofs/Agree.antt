@@ -19,11 +19,11 @@ use Rattle.q3_chan.specs.Senders.{QportIsTold}
 use Rattle.q3_chan.specs.Laws.{SentIsTagged, TaggedDoes, EndsGather, EndsSend}
 use Rattle.q3_client.specs.Client.{ClientState}
 use Rattle.q3_client.specs.Sending.{said_bytes, Said}
-use Rattle.q3_server.specs.Built.{Built, IsHeld, IsSnapshot, IsBuilt}
-use Rattle.q3_server.specs.Server.{built_bytes}
-use Rattle.q3_server.specs.Taking.{said_by}
+use Rattle.q3_slot.specs.Built.{Built, IsHeld, IsSnapshot, IsBuilt}
+use Rattle.q3_slot.specs.Emitting.{built_bytes}
+use Rattle.q3_slot.specs.Taking.{said_by}
 use Rattle.q3_world.specs.MessageLaws.{AreBuilt, HoldsThis}
-use Rattle.q3_world.specs.Layers.{FrameLaws, RingLaws}
+use Rattle.q3_world.specs.Layers.{ServerLaws, RingLaws}
 use Rattle.q3_world.specs.Ends.{client_at}
 use Rattle.q3_world.specs.Kept.{Kept, KeptStep}
 use Rattle.q3_world.specs.World.{Tag, Step, Whole, History, history_at, with_history}
@@ -62,7 +62,7 @@ pub record Cited (profile : Profile) : Type 0 where
   pub gathers : EndsGather
   pub sends : EndsSend
   pub bytes : MessageIsBytes
-  pub frames : FrameLaws
+  pub server : ServerLaws
   pub rings : RingLaws
 
 -- ---- what is kept of a whole world

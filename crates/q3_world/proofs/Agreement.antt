@@ -25,7 +25,7 @@ steps_agree profile whole (events.Client c challenge qport dup address) cited is
 steps_agree profile whole (events.Entity state) cited is holds =
     handed profile whole (set_entity whole.ends state) (holds_entity profile whole state cited is.0 is.1 holds)
 steps_agree profile whole (events.Remove number) cited is holds =
-    handed profile whole (remove_entity whole.ends number) (holds_removed profile whole number holds)
+    handed profile whole (remove_entity whole.ends number) (holds_removed profile whole number cited holds)
 steps_agree profile whole (events.Area c area) cited is holds =
     handed profile whole (set_area whole.ends c area) (holds_area profile whole c area (record { bytes = is.2; short = is.1 }) (omega (arith, is.0)) holds)
 steps_agree profile whole (events.Player c player) cited is holds =

@@ -9,7 +9,7 @@ use Rattle.q3_rings.specs.Rings.{HeldSnapshots, is_young, held_snapshot}
 use Rattle.q3_rings.specs.Accepted.{SnapshotsStandFor, age_of}
 use Rattle.q3_clstate.specs.declared.applied.SnapOutcome.TheVariants.{Accepted, Skipped}
 use Rattle.q3_clstate.specs.State.{AppliedState, passes, accepts, skipped_for, has_base, apply_message}
-use Rattle.q3_server.specs.Built.{number_of, message_of, IsNear}
+use Rattle.q3_slot.specs.Built.{number_of, message_of, IsNear}
 use Rattle.q3_world.specs.Layers.{RingLaws}
 use Rattle.q3_world.specs.Schedules.{outcome_of}
 

@@ -30,10 +30,14 @@ use Rattle.q3_chan.specs.Senders.{qport_of}
 use Rattle.q3_chan.specs.Laws.{HoldsFront, SentIsTagged, Gathers}
 use Rattle.q3_client.specs.Client.{ClientState, Taken, take_answer, take_gathered, take_unless, take_at}
 use Rattle.q3_client.specs.Sending.{said_bytes, Said}
-use Rattle.q3_server.specs.Built.{Built, message_of, IsNear, IsSnapshot, IsBuilt}
-use Rattle.q3_server.specs.Server.{SlotState, places, slot_at, built_bytes}
+use Rattle.q3_slot.specs.Built.{Built, message_of, IsNear, IsSnapshot, IsBuilt}
+use Rattle.q3_slot.specs.Slot.{SlotState}
+use Rattle.q3_slot.specs.Emitting.{built_bytes}
+use Rattle.q3_slot.specs.Taking.{asked_with, delta_behind, runs, last_run_of, said_by}
+use Rattle.q3_server.specs.Server.{places, slot_at}
+use Rattle.q3_server.specs.Taking.{sender_of}
+use Rattle.q3_slot.specs.Taking as by_slot
 use Rattle.q3_server.specs.Taking as hears
-use Rattle.q3_server.specs.Taking.{sender_of, asked_with, delta_behind, runs, last_run_of, said_by}
 use Rattle.q3_world.specs.declared.made.Direction.{Direction}
 use Rattle.q3_world.specs.declared.made.Direction.TheVariants.{ToClient, ToServer}
 use Rattle.q3_world.specs.MessageLaws.{HoldsThis}
@@ -243,7 +247,7 @@ abbrev pub Heard : Type 0
 Heard = Result client_told.Message ClientIllegible
 
 -- where nothing came whole, nothing is read
-pub quiet_heard : (slot : SlotState) (c : ℕ) (answer : Gathered) (read other : ℕ → Heard) → IsQuiet answer → hears.take_answer slot c answer read ≡ hears.take_answer slot c answer other
+pub quiet_heard : (slot : SlotState) (c : ℕ) (answer : Gathered) (read other : ℕ → Heard) → IsQuiet answer → by_slot.take_answer slot c answer read ≡ by_slot.take_answer slot c answer other
 quiet_heard slot c (gathered.Whole number count) read other is = absurd is
 quiet_heard slot c gathered.Partial read other is = refl
 quiet_heard slot c gathered.Old read other is = refl
@@ -254,7 +258,7 @@ quiet_heard slot c gathered.Connectionless read other is = absurd is
 
 -- the slot is as it was, and runs nothing
 pub quiet_slot : (slot : SlotState) (c : ℕ) (answer : Gathered) (read : ℕ → Heard) → IsQuiet answer
-    → ((hears.take_answer slot c answer read).slot ≡ slot) × ((hears.take_answer slot c answer read).moves ≡ [])
+    → ((by_slot.take_answer slot c answer read).slot ≡ slot) × ((by_slot.take_answer slot c answer read).moves ≡ [])
 quiet_slot slot c (gathered.Whole number count) read is = absurd is
 quiet_slot slot c gathered.Partial read is = (refl, refl)
 quiet_slot slot c gathered.Old read is = (refl, refl)
@@ -267,7 +271,7 @@ quiet_slot slot c gathered.Connectionless read is = absurd is
 pub heard_alike : (profile : Profile) (slot : SlotState) (c : ℕ) (took : Took) (number : ℕ) (said : Said) → HearsBack profile → IsMessage said
     → PieceDoes slot.gathering number (said_bytes profile said) took
     → (from : Address)
-    → hears.take_gathered (record slot { address = from }) c took (λ k. said_by profile took.message) ≡ hears.take_gathered (record slot { address = from }) c took (λ k. Ok said)
+    → by_slot.take_gathered (record slot { address = from }) c took (λ k. said_by profile took.message) ≡ by_slot.take_gathered (record slot { address = from }) c took (λ k. Ok said)
 heard_alike profile slot c took number said hears_back is does from =
     elim does.either [
       | inl waits ↦ quiet_heard (record slot { address = from; gathering = took.gathering }) c took.answer (λ k. said_by profile took.message) (λ k. Ok said) waits.quiet
@@ -283,7 +287,7 @@ IsOf profile whole tag from =
 -- the server takes it by what its bytes do to its client's slot
 pub heard_by_bytes : (profile : Profile) (whole : Whole) (tag : Tag) (from : Address) (slot : SlotState) → Cited profile → IsOf profile whole tag from
     → slot_at whole.ends.server tag.client ≡ Some slot → Holds profile whole
-    → hears.take_at whole.ends.server from tag.bytes ≡ hears.taken_at whole.ends.server tag.client (hears.take_slot profile tag.client from tag.bytes slot)
+    → hears.take_at whole.ends.server from tag.bytes ≡ hears.taken_at whole.ends.server tag.client (by_slot.take_slot profile tag.client from tag.bytes slot)
 unfolding hears.take_at
 heard_by_bytes profile whole tag from slot cited is at holds =
     let server = whole.ends.server in
@@ -305,7 +309,7 @@ heard_by_bytes profile whole tag from slot cited is at holds =
     ap (λ (r : Result ℕ NoQport). hears.take_headed server from tag.bytes r) told
     ∙ (ap (λ (o : Option ℕ). hears.take_from server from tag.bytes o) found
     ∙ (ap (λ (o : Option SlotState). hears.take_by server c from tag.bytes o) at
-    ∙ ap (λ (p : Profile). hears.taken_at server c (hears.take_slot p c from tag.bytes slot)) holds.facts.by))
+    ∙ ap (λ (p : Profile). hears.taken_at server c (by_slot.take_slot p c from tag.bytes slot)) holds.facts.by))
 
 -- what a slot writes against behind a message was accepted, or is none
 asked_behind : (accepted : List Snapshot) (before : ℕ) (said : Said) → (before ≡ 0) ⊎ WasAccepted accepted before → (said.delta ≡ true → WasAccepted accepted said.acknowledged)
@@ -327,7 +331,7 @@ pub holds_heard : (profile : Profile) (whole : Whole) (c number n : ℕ) (from :
     → All (Contains (history_at whole.histories c).issued) said.moves
     → (slot.delta ≡ 0) ⊎ WasAccepted (history_at whole.histories c).accepted slot.delta
     → (said.delta ≡ true → WasAccepted (history_at whole.histories c).accepted said.acknowledged) → Holds profile whole
-    → Holds profile (server_took whole number c (hears.taken_at whole.ends.server c (hears.take_gathered (record slot { address = from }) c took (λ k. Ok said)))).whole
+    → Holds profile (server_took whole number c (hears.taken_at whole.ends.server c (by_slot.take_gathered (record slot { address = from }) c took (λ k. Ok said)))).whole
 holds_heard profile whole c number n from slot took said lt at host does gathers were before asks holds =
     let g = took.gathering in
     let history = history_at whole.histories c in
@@ -400,8 +404,8 @@ heard_at profile whole number tag from cited is holds =
     rw at (record {
       same = ap (λ (t : hears.Taken). kept_server_took (kept_of profile whole) number t)
           (heard_by_bytes profile whole tag from slot cited is at holds
-          ∙ (ap (λ (t : Took). hears.taken_at whole.ends.server c (hears.take_gathered (record slot { address = from }) c t (λ k. said_by profile t.message))) takes
-          ∙ ap (λ (t : hears.SlotTaken). hears.taken_at whole.ends.server c t)
+          ∙ (ap (λ (t : Took). hears.taken_at whole.ends.server c (by_slot.take_gathered (record slot { address = from }) c t (λ k. said_by profile t.message))) takes
+          ∙ ap (λ (t : by_slot.SlotTaken). hears.taken_at whole.ends.server c t)
           (heard_alike profile slot c took tag.number said cited.hears (keeps.of_client.said (tag.number - 1) empty_message within) does from)));
       holds = holds_heard profile whole c number tag.number from slot took said is.0 at (is.1 ∙ sym keeps.of_slot.host) does gathers
           (consecutive_issued said.moves history.issued (keeps.of_client.carried (tag.number - 1) empty_message within)) had.1.joined.asked.delta

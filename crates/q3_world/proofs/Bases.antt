@@ -7,9 +7,9 @@ use Rattle.std.proofs.lemmas.Bool.{cases_eq}
 use Rattle.q3_ring.specs.Snapshot.{Snapshot}
 use Rattle.q3_ring.specs.Places.{place_of}
 use Rattle.q3_frames.specs.Frames.{FramesState, base_of, build_at}
-use Rattle.q3_server.specs.Built.{Built, IsNear, built_of}
+use Rattle.q3_slot.specs.Built.{Built, IsNear, built_of}
 use Rattle.q3_server.specs.Server.{places}
-use Rattle.q3_world.specs.Layers.{FrameLaws}
+use Rattle.q3_world.specs.Layers.{ServerLaws}
 use Rattle.q3_world.specs.World.{History, no_history, no_message, history_at, with_history, built_at}
 use Rattle.q3_world.specs.StandsFor.{snapshot_in, WasBuilt, AreOfBuilt, KeepsFrames, WasAccepted}
 use Rattle.q3_world.proofs.OnePlace.{set_there, OnlyAt-set}
@@ -50,7 +50,7 @@ was_accepted_more accepted more number was = (was.0, Contains-append_left accept
 -- ---- frames
 
 -- of a client for which a message more was begun
-pub frames_begun : FrameLaws → (frames : FramesState) (c : ℕ) (began : List Built) (base : Option Snapshot) (snapshot : Snapshot)
+pub frames_begun : ServerLaws → (frames : FramesState) (c : ℕ) (began : List Built) (base : Option Snapshot) (snapshot : Snapshot)
     → snapshot.head.number ≡ length began + 1 → AreOfBuilt frames c began → AreOfBuilt (build_at frames c snapshot) c (began ++ built_of base snapshot ∷ [])
 frames_begun laws frames c began base snapshot number_is are number held is some few =
     let next = built_of base snapshot in
@@ -70,7 +70,7 @@ frames_begun laws frames c began base snapshot number_is are number held is some
     ]
 
 -- of one for which none was, though its frame was built
-pub frames_too_long : FrameLaws → (frames : FramesState) (c : ℕ) (began : List Built) (snapshot : Snapshot)
+pub frames_too_long : ServerLaws → (frames : FramesState) (c : ℕ) (began : List Built) (snapshot : Snapshot)
     → snapshot.head.number ≡ length began + 1 → AreOfBuilt frames c began → AreOfBuilt (build_at frames c snapshot) c began
 frames_too_long laws frames c began snapshot number_is are number held is some few =
     elim (laws.held frames c c number snapshot held is) [
@@ -79,7 +79,7 @@ frames_too_long laws frames c began snapshot number_is are number held is some f
     ]
 
 -- and of all others
-frames_others : FrameLaws → (frames : FramesState) (c k : ℕ) (began : List Built) (snapshot : Snapshot) → (k ≡ c → ⊥)
+frames_others : ServerLaws → (frames : FramesState) (c k : ℕ) (began : List Built) (snapshot : Snapshot) → (k ≡ c → ⊥)
     → AreOfBuilt frames k began → AreOfBuilt (build_at frames c snapshot) k began
 frames_others laws frames c k began snapshot other are number held is some few =
     elim (laws.held frames c k number snapshot held is) [
@@ -88,7 +88,7 @@ frames_others laws frames c k began snapshot other are number held is some few =
     ]
 
 -- a frame more was built
-pub KeepsFrames-built : FrameLaws → (frames : FramesState) (histories : List History) (c : ℕ) (history : History) (snapshot : Snapshot) → c < places → length histories ≡ places
+pub KeepsFrames-built : ServerLaws → (frames : FramesState) (histories : List History) (c : ℕ) (history : History) (snapshot : Snapshot) → c < places → length histories ≡ places
     → AreOfBuilt (build_at frames c snapshot) c history.built → KeepsFrames frames histories → KeepsFrames (build_at frames c snapshot) (with_history histories c history)
 KeepsFrames-built laws frames histories c history snapshot lt count here keeps =
     let next = build_at frames c snapshot in
@@ -124,7 +124,7 @@ KeepsFrames-same frames histories c history lt count same_built keeps =
 -- ---- the base of a message
 
 -- it is near, it was built, and its number is the one that was asked for
-pub found_base : FrameLaws → (frames : FramesState) (c delta : ℕ) (began : List Built) (snapshot base : Snapshot) → snapshot.head.number ≡ length began + 1
+pub found_base : ServerLaws → (frames : FramesState) (c delta : ℕ) (began : List Built) (snapshot base : Snapshot) → snapshot.head.number ≡ length began + 1
     → AreOfBuilt frames c began → base_of (build_at frames c snapshot) c snapshot.head.number delta ≡ Some base
     → IsNear snapshot.head.number base × WasBuilt began base × (base.head.number ≡ delta)
 found_base laws frames c delta began snapshot base number_is are is =

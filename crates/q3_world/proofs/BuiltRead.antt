@@ -25,8 +25,8 @@ use Rattle.q3_ring.specs.Snapshot.{Snapshot}
 use Rattle.q3_rings.specs.declared.rings.NoBase.{NoBase}
 use Rattle.q3_rings.specs.Rings.{HeldSnapshots, held_snapshot, view_at}
 use Rattle.q3_clstate.specs.State.{context_of, has_base, received}
-use Rattle.q3_server.specs.Built.{Built, number_of, message_of, IsSnapshot, IsNear}
-use Rattle.q3_server.specs.Server.{built_bits}
+use Rattle.q3_slot.specs.Built.{Built, number_of, message_of, IsSnapshot, IsNear}
+use Rattle.q3_slot.specs.Emitting.{built_bits}
 use Rattle.q3_world.specs.MessageLaws.{AreBuilt, HoldsThis, BuiltIsRead}
 use Rattle.q3_world.proofs.Applying.{has_base_is}
 use Rattle.q3_world.proofs.Bases.{if_some_then}

@@ -28,23 +28,23 @@ use Rattle.q3_rings.specs.Rings.{HeldSnapshots, accept_at}
 use Rattle.q3_rings.specs.declared.rings.NoBase.{NoBase}
 use Rattle.q3_rings.specs.Accepted.{AcceptedFrom, newest_of, SnapshotsStandFor}
 use Rattle.q3_clstate.specs.State.{AppliedState}
-use Rattle.q3_server.specs.Built.{Built, IsHeld, IsArea, AreHeld, IsSnapshot, IsNear, IsBuilt}
-use Rattle.q3_server.specs.Server.{MapState, SlotState, new_slot, next_snapshot, begun_next, built_bytes}
-use Rattle.q3_server.specs.Taking.{last_run_of, last_time, runs}
+use Rattle.q3_map.specs.Map.{AreHeld, MapState}
+use Rattle.q3_slot.specs.Built.{Built, IsHeld, IsArea, IsSnapshot, IsNear, IsBuilt}
+use Rattle.q3_slot.specs.Slot.{SlotState, new_slot}
+use Rattle.q3_slot.specs.Emitting.{next_snapshot, begun_next, built_bytes}
+use Rattle.q3_slot.specs.Taking.{last_run_of, last_time, runs}
 use Rattle.q3_client.specs.Client.{ClientState, new_client}
 use Rattle.circular_buffer.specs.Buffer.{keep_last}
 use Rattle.q3_client.specs.Moves.{most_moves, carried, asks_delta, issue}
 use Rattle.q3_client.specs.Sending.{said_bytes, Said, next_message as next_said}
-use Rattle.q3_world.specs.Layers.{FrameLaws, RingLaws}
+use Rattle.q3_world.specs.Layers.{ServerLaws, RingLaws}
 use Rattle.q3_world.specs.World.{History, no_history, no_message, built_at, said_at}
 use Rattle.q3_world.specs.StandsFor.{messages_of, messages_said, KeepsSlot, KeepsClient, AreEnds, IsClient, WasBuilt, AreOfBuilt, Rise, WasAccepted, KeepsMoves, TakesBuilt, TakesSaid, AreAsked}
 use Rattle.q3_world.specs.Moves.{TimesRise, AreConsecutive}
 use Rattle.q3_world.proofs.Growth.{was_built_more, each_more, messages_stay, messages_said_stay}
 use Rattle.q3_world.proofs.Bases.{was_built_one, if_some, if_some_then, was_accepted_more, found_base}
 use Rattle.q3_world.proofs.Beginning.{BeginsMessages-new, BeginsMessages-handed, BeginsMessages-started}
-use Rattle.q3_world.proofs.Held.{AreHeld-take}
 use Rattle.q3_world.proofs.MoveLists.{last_time-append, TimesRise-append, runs_rise, runs_are, carried_consecutive, carried_each, carried_few, AreConsecutive-more, contains_more, KeepsMoves-none, KeepsMoves-begun, KeepsMoves-push}
-use Rattle.q3_server.proofs.Rising.{few_taken}
 
 -- ---- presence
 
@@ -165,24 +165,24 @@ module _ (profile : Profile) (slot : SlotState) (qport host : ℕ) (built : List
       }
 
 -- the snapshot that goes to a slot next is one that may be built
-next_is_snapshot : (profile : Profile) (map : MapState) (slot : SlotState) → map.time < 2 ^ 32 → AreHeld profile map.entities → slot.sending.number + 1 < sequence_end
+next_is_snapshot : ServerLaws → (profile : Profile) (map : MapState) (slot : SlotState) → map.time < 2 ^ 32 → AreHeld profile.entity map.entities → slot.sending.number + 1 < sequence_end
     → IsHeld profile slot.player → IsArea slot.area.items → IsSnapshot profile (next_snapshot map slot)
-next_is_snapshot profile map slot time entities fits player area =
+next_is_snapshot laws profile map slot time entities fits player area =
     record {
       number = fits;
       time = time;
       flags = refl;
       area = area;
       player = player;
-      entities = AreHeld-take profile most_entities map.entities entities;
-      few = few_taken most_entities map.entities;
+      entities = laws.lists.lowest profile.entity map.entities entities;
+      few = laws.lists.few map.entities;
     }
 
 -- what is known of its base: it is near, it was built, and its number is the one that was asked for
 abbrev pub BaseIs : ℕ → ℕ → List Built → Snapshot → Type 0
 BaseIs n delta began base = IsNear n base × WasBuilt began base × (base.head.number ≡ delta)
 
-pub next_base : FrameLaws → (map : MapState) (frames : FramesState) (c : ℕ) (slot : SlotState) (began : List Built) → slot.sending.number ≡ length began
+pub next_base : ServerLaws → (map : MapState) (frames : FramesState) (c : ℕ) (slot : SlotState) (began : List Built) → slot.sending.number ≡ length began
     → AreOfBuilt frames c began → IfSome (begun_next map frames c slot).base (BaseIs (slot.sending.number + 1) slot.delta began)
 next_base laws map frames c slot began begun are =
     if_some (begun_next map frames c slot).base (BaseIs (slot.sending.number + 1) slot.delta began)
@@ -192,8 +192,8 @@ next_base laws map frames c slot began begun are =
 abbrev pub slot_begun : Profile → SlotState → Built → SlotState
 slot_begun profile slot built = record slot { sending = started slot.sending (built_bytes profile built) }
 
-pub KeepsSlot-begun : FrameLaws → (profile : Profile) (map : MapState) (frames : FramesState) (c : ℕ) (slot : SlotState) (qport host : ℕ) (built : List Built) (run : List Move) → EndsSend
-    → map.time < 2 ^ 32 → AreHeld profile map.entities → slot.sending.number + 1 < sequence_end → IsSendable (built_bytes profile (begun_next map frames c slot))
+pub KeepsSlot-begun : ServerLaws → (profile : Profile) (map : MapState) (frames : FramesState) (c : ℕ) (slot : SlotState) (qport host : ℕ) (built : List Built) (run : List Move) → EndsSend
+    → map.time < 2 ^ 32 → AreHeld profile.entity map.entities → slot.sending.number + 1 < sequence_end → IsSendable (built_bytes profile (begun_next map frames c slot))
     → AreOfBuilt frames c built → KeepsSlot profile slot qport host built run
     → KeepsSlot profile (slot_begun profile slot (begun_next map frames c slot)) qport host (built ++ begun_next map frames c slot ∷ []) run
 KeepsSlot-begun laws profile map frames c slot qport host built run chan time entities fits sendable are keeps =
@@ -205,7 +205,7 @@ KeepsSlot-begun laws profile map frames c slot qport host built run chan time en
       snapshot = next_snapshot map slot;
       is = refl;
       number = refl;
-      are = next_is_snapshot profile map slot time entities fits keeps.player keeps.area;
+      are = next_is_snapshot laws profile map slot time entities fits keeps.player keeps.area;
       base_is = if_some_then next.base (BaseIs n slot.delta built) (IsNear n) (λ b known. known.0) base;
     } in
     let more = built ++ next ∷ [] in

@@ -2,8 +2,12 @@
 use Rattle.std.proofs.Common.{◌≡◌, ℕ, zero, suc, ◌+◌, ◌-◌, ◌^◌, ◌<◌, ◌≤◌, List, [], ◌∷◌, ◌++◌, length, get_or, replicate, Bool, true, Option, Some, None, refl, sym, ap, subst, ◌∙◌, arith, lit<}
 use Rattle.std.specs.Prelude.{slice_set, position, All, Contains, ◌⊎◌}
 use Rattle.std.proofs.lemmas.List.{get_or-replicate, set-get_or}
-use Rattle.std.proofs.lemmas.List.Elements.{All-append}
+use Rattle.std.proofs.lemmas.List.Elements.{All-nil, All-append}
 use Rattle.arrayvec.specs.ArrayVec.{ArrayVec}
+use Rattle.q3_fields.specs.Kinds.{Layout}
+use Rattle.q3_fields.specs.States.{AreWords}
+use Rattle.q3_entity.specs.declared.state.EntityState.{EntityState}
+use Rattle.q3_entity.specs.Entities.{IsNormal}
 use Rattle.q3_profile.specs.declared.profile.Profile.{Profile}
 use Rattle.q3_player.specs.State.{zero_player, normal_player}
 use Rattle.q3_player.specs.declared.state.PlayerState.{PlayerState}
@@ -19,13 +23,16 @@ use Rattle.q3_ring.specs.Snapshot.{Snapshot}
 use Rattle.q3_ring.specs.Places.{no_places}
 use Rattle.q3_frames.specs.Frames.{Frame, FramesState}
 use Rattle.q3_clstate.specs.State.{AppliedState}
-use Rattle.q3_server.specs.Built.{Built, IsHeld, IsArea, AreHeld, IsBuilt}
-use Rattle.q3_server.specs.Server.{MapState, SlotState, ServerState, places, slot_at, with_slot, is_of, new_slot, with_player, with_area, next_snapshot, next_frames, begun_next, built_bytes}
+use Rattle.q3_map.specs.Map.{AreHeld, MapState}
+use Rattle.q3_slot.specs.Built.{Built, IsHeld, IsArea, IsBuilt}
+use Rattle.q3_slot.specs.Slot.{SlotState, is_of, new_slot, with_player, with_area}
+use Rattle.q3_slot.specs.Emitting.{next_snapshot, next_frames, begun_next, built_bytes}
+use Rattle.q3_server.specs.Server.{ServerState, places, slot_at, with_slot}
 use Rattle.q3_client.specs.Client.{ClientState, new_client}
 use Rattle.q3_client.specs.Moves.{issue, asks_delta}
 use Rattle.q3_client.specs.Sending.{said_bytes, next_message as next_said}
 use Rattle.q3_world.specs.declared.made.Direction.TheVariants.{ToClient, ToServer}
-use Rattle.q3_world.specs.Layers.{FrameLaws, RingLaws}
+use Rattle.q3_world.specs.Layers.{ServerLaws, RingLaws}
 use Rattle.q3_world.specs.Ends.{Ends, client_at, with_client, no_address, address_at}
 use Rattle.q3_world.specs.World.{Tag, History, Whole, no_history, no_message, history_at, with_history, built_at, with_built, with_accepted, with_said, with_run, named, opening}
 use Rattle.q3_world.specs.StandsFor.{IsChecked, messages_of, messages_said, KeepsSlot, AreEnds, IsClient, IsPiece, IsWay, IsSent, KeepsFrames, Facts, snapshot_in, WasBuilt, WasAccepted, TakesBuilt, AreJoined, IsJoined, AllJoined}
@@ -35,12 +42,14 @@ use Rattle.q3_world.proofs.Bases.{KeepsFrames-built, KeepsFrames-same, frames_be
 use Rattle.q3_world.proofs.Found.{AllFound, found_changed, found_joined}
 use Rattle.q3_world.proofs.Clients.{no_client, a_client, a_slot, KeepsSlot-new, KeepsSlot-given, KeepsSlot-came, KeepsSlot-handed, KeepsClient-new, KeepsClient-took, KeepsClient-handed, KeepsClient-issued, KeepsClient-begun, client_begun, next_base, slot_begun, KeepsSlot-begun, TakesBuilt-new, TakesSaid-new, AreAsked-new, TakesBuilt-same, TakesSaid-same, TakesBuilt-more, TakesSaid-more, TakesSaid-issued, AreAsked-same, AreAsked-accepted, AreAsked-said, AreAsked-ran, AreAsked-built}
 use Rattle.q3_world.proofs.Beginning.{handed_piece}
-use Rattle.q3_world.proofs.Held.{AreHeld-none}
 
 -- what holds of a whole world
 pub record Holds (profile : Profile) (whole : Whole) : Type 0 where
   pub facts : Facts profile whole
   pub joined : AllJoined profile whole
+
+none_held : (table : Layout) → AreHeld table []
+none_held table = record { rise = tt; states = All-nil (λ (entity : EntityState). AreWords 64 entity.words); normal = All-nil (IsNormal table) }
 
 abbrev none_slot : Option SlotState
 none_slot = None
@@ -60,7 +69,7 @@ Holds-opening profile checked =
         addresses = refl;
         histories = refl;
         time = lit< tt;
-        entities = AreHeld-none profile;
+        entities = none_held profile.entity;
         each = λ c lt. rw (no_slots c lt, no_clients c lt, get_or-replicate places c no_history no_history lt) refl;
         found = λ c slot at. absurd (none_some (sym (nobody places c) ∙ at));
         sent = λ k d lt. absurd (omega (arith, lt));
@@ -121,7 +130,7 @@ Holds-at profile c old new differ client joined holds =
         addresses = at.addresses.count ∙ facts.addresses;
         histories = at.histories.count ∙ facts.histories;
         time = subst (λ (map : MapState). map.time < 2 ^ 32) (sym differ.map) facts.time;
-        entities = subst (λ (map : MapState). AreHeld profile map.entities) (sym differ.map) facts.entities;
+        entities = subst (λ (map : MapState). AreHeld profile.entity map.entities) (sym differ.map) facts.entities;
         each = each_at (IsClient profile) c old.ends new.ends old.histories new.histories at client facts.each;
         found = differ.found;
         sent = differ.sent;
@@ -429,7 +438,7 @@ Holds-handed profile whole c slot left sends lt found way holds =
     }) holds
 
 -- a message is begun, and its first piece is handed out
-pub Holds-begun : FrameLaws → (profile : Profile) (whole : Whole) (c : ℕ) (slot : SlotState) (left : UnderWay) → EndsSend → EndsGather → c < places
+pub Holds-begun : ServerLaws → (profile : Profile) (whole : Whole) (c : ℕ) (slot : SlotState) (left : UnderWay) → EndsSend → EndsGather → c < places
     → slot_at whole.ends.server c ≡ Some slot → slot.sending.number + 1 < sequence_end
     → IsSendable (built_bytes profile (begun_next whole.ends.server.map whole.ends.server.frames c slot))
     → (slot_begun profile slot (begun_next whole.ends.server.map whole.ends.server.frames c slot)).sending.under_way ≡ Some left → Holds profile whole
@@ -473,7 +482,7 @@ Holds-begun laws profile whole c slot left sends gathers lt found fits sendable 
     }) holds
 
 -- a message proves too long, and its frame stays
-pub Holds-too_long : FrameLaws → (profile : Profile) (whole : Whole) (c : ℕ) (slot : SlotState) → c < places → slot_at whole.ends.server c ≡ Some slot → Holds profile whole
+pub Holds-too_long : ServerLaws → (profile : Profile) (whole : Whole) (c : ℕ) (slot : SlotState) → c < places → slot_at whole.ends.server c ≡ Some slot → Holds profile whole
     → Holds profile (with_server_of whole c slot (next_frames whole.ends.server.map whole.ends.server.frames c slot) (history_at whole.histories c) whole.sent)
 Holds-too_long laws profile whole c slot lt found holds =
     let history = history_at whole.histories c in
@@ -724,7 +733,7 @@ names_built profile whole tag is built =
 abbrev pub with_map : Whole → MapState → Whole
 with_map whole map = record whole { ends = record whole.ends { server = record whole.ends.server { map = map } } }
 
-pub Holds-map : (profile : Profile) (whole : Whole) (map : MapState) → map.time < 2 ^ 32 → AreHeld profile map.entities → Holds profile whole → Holds profile (with_map whole map)
+pub Holds-map : (profile : Profile) (whole : Whole) (map : MapState) → map.time < 2 ^ 32 → AreHeld profile.entity map.entities → Holds profile whole → Holds profile (with_map whole map)
 Holds-map profile whole map time entities holds =
     let facts = holds.facts in
     record {

@@ -30,8 +30,8 @@ use Rattle.q3_clstate.specs.declared.applied.SnapOutcome.TheVariants.{Accepted, 
 use Rattle.q3_client.specs.declared.client.ClientTook.TheVariants.{Applied}
 use Rattle.q3_svmsg.specs.declared.error.Illegible.{Illegible}
 use Rattle.q3_client.specs.declared.client.ClientTook.{ClientTook}
-use Rattle.q3_server.specs.declared.taking.ServerTook.{ServerTook}
-use Rattle.q3_server.specs.declared.taking.ServerTook.TheVariants.{Stranger}
+use Rattle.q3_slot.specs.declared.taking.ServerTook.{ServerTook}
+use Rattle.q3_slot.specs.declared.taking.ServerTook.TheVariants.{Stranger}
 use Rattle.q3_clmsg.specs.declared.moves.Move.{Move}
 use Rattle.q3_io.specs.declared.address.Address.{Address}
 use Rattle.q3_world.specs.declared.answer.Answer.TheVariants as variants
@@ -39,8 +39,10 @@ use Rattle.q3_world.specs.declared.answer.Answer.TheVariants.{Unknown, Deliver}
 use Rattle.q3_world.specs.declared.made.Direction.{Direction}
 use Rattle.q3_world.specs.declared.made.Direction.TheVariants.{ToClient, ToServer}
 use Rattle.q3_world.specs.Layers.{Layers}
-use Rattle.q3_server.specs.Built.{Built, number_of, message_of, IsNear}
-use Rattle.q3_server.specs.Server.{SlotState, places, slot_at, built_bytes}
+use Rattle.q3_slot.specs.Built.{Built, number_of, message_of, IsNear}
+use Rattle.q3_slot.specs.Slot.{SlotState}
+use Rattle.q3_slot.specs.Emitting.{built_bytes}
+use Rattle.q3_server.specs.Server.{places, slot_at}
 use Rattle.q3_client.specs.Client.{ClientState, Taken, take_answer, take_gathered}
 use Rattle.q3_world.specs.Ends.{Ends, Answered, unknown, delivered, ran, client_at, address_at, with_client, newest}
 use Rattle.q3_world.specs.Kept.{SentBytes, Kept, KeptStep, opening_kept, kept_step, kept_after, kept_answers}
@@ -79,7 +81,7 @@ cited_of below profile checked =
       gathers = below.gathers;
       sends = below.sends;
       bytes = below.bytes;
-      frames = below.frames;
+      server = below.server;
       rings = below.rings;
     }
 

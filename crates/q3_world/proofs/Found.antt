@@ -6,7 +6,8 @@ use Rattle.std.proofs.lemmas.List.{length-set, get_or-set_other}
 use Rattle.std.proofs.lemmas.List.Folds.{position_or_len-set}
 use Rattle.std.proofs.lemmas.List.Sums.{prefix_len-le-length}
 use Rattle.std.proofs.lemmas.Bool.{cases_Bool, cases_eq, lt-ltb, ltb-false, eqb-true, eq-eqb, and_parts}
-use Rattle.q3_server.specs.Server.{SlotState, places, is_of}
+use Rattle.q3_slot.specs.Slot.{SlotState, is_of}
+use Rattle.q3_server.specs.Server.{places}
 use Rattle.q3_world.proofs.OnePlace.{set_there}
 
 -- the slots are so

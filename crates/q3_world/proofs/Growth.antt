@@ -9,8 +9,9 @@ use Rattle.q3_chan.specs.Datagrams.{piece_count, datagram}
 use Rattle.q3_clmsg.specs.declared.moves.Move.{Move}
 use Rattle.q3_clmsg.specs.Values.{empty_message}
 use Rattle.q3_ring.specs.Snapshot.{Snapshot}
-use Rattle.q3_server.specs.Built.{Built}
-use Rattle.q3_server.specs.Server.{places, built_bytes}
+use Rattle.q3_slot.specs.Built.{Built}
+use Rattle.q3_slot.specs.Emitting.{built_bytes}
+use Rattle.q3_server.specs.Server.{places}
 use Rattle.q3_client.specs.Sending.{said_bytes, Said}
 use Rattle.q3_world.specs.declared.made.Direction.{Direction}
 use Rattle.q3_world.specs.declared.made.Direction.TheVariants.{ToClient, ToServer}

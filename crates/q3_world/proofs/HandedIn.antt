@@ -13,14 +13,15 @@ use Rattle.q3_entity.specs.declared.state.EntityState.{EntityState}
 use Rattle.q3_entity.specs.Entities.{normal_entity}
 use Rattle.q3_clmsg.specs.declared.moves.Move.{Move}
 use Rattle.q3_client.specs.Moves.{is_issuable}
-use Rattle.q3_server.specs.Built.{IsHeld, IsArea}
-use Rattle.q3_server.specs.Server.{places, is_of, slot_at, with_player, with_entity, without_entity}
+use Rattle.q3_map.specs.Map.{with_entity, without_entity}
+use Rattle.q3_slot.specs.Built.{IsHeld, IsArea}
+use Rattle.q3_slot.specs.Slot.{is_of, with_player}
+use Rattle.q3_server.specs.Server.{places, slot_at}
 use Rattle.q3_world.specs.Ends.{EndsStep, client_at, join, set_entity, remove_entity, set_player, set_area, add_move}
 use Rattle.q3_world.specs.Kept.{kept_ends}
 use Rattle.q3_world.specs.World.{Whole, history_at, with_joined, with_issued, with_ends, with_noted}
 use Rattle.q3_world.proofs.MoveLists.{is_move}
 use Rattle.q3_world.proofs.Events.{Holds, with_new_slot, Holds-new, Holds-player, Holds-area, Holds-map, Holds-issued}
-use Rattle.q3_world.proofs.Held.{AreHeld-put, AreHeld-without}
 use Rattle.q3_world.proofs.Agree.{Cited, kept_of, Agree, found_or, unnoted, left_alone}
 
 -- ---- what the game hands in, or reads
@@ -68,7 +69,7 @@ holds_entity profile whole state cited le words holds =
     let server = whole.ends.server in
     let entity = normal_entity profile.entity state in
     let normal = cited.normal_entity state words in
-    let held = AreHeld-put profile entity server.map.entities (omega (arith, le, cited.end)) normal.0 normal.1 facts.entities in
+    let held = cited.server.lists.put profile.entity entity server.map.entities (omega (arith, le, cited.end)) normal.0 normal.1 facts.entities in
     subst (λ (p : Profile). Holds profile (record whole {
       ends = record whole.ends {
         server = record server {
@@ -78,12 +79,12 @@ holds_entity profile whole state cited le words holds =
     })) (sym facts.by)
     (Holds-map profile whole (record server.map { entities = with_entity entity server.map.entities }) facts.time held holds)
 
-pub holds_removed : (profile : Profile) (whole : Whole) (number : ℕ) → Holds profile whole
+pub holds_removed : (profile : Profile) (whole : Whole) (number : ℕ) → Cited profile → Holds profile whole
     → Holds profile (record whole { ends = (remove_entity whole.ends number).ends })
-holds_removed profile whole number holds =
+holds_removed profile whole number cited holds =
     let map = whole.ends.server.map in
     Holds-map profile whole (record map { entities = without_entity number map.entities }) holds.facts.time
-    (AreHeld-without profile number map.entities holds.facts.entities) holds
+    (cited.server.lists.without profile.entity number map.entities holds.facts.entities) holds
 
 -- ---- moves
 

@@ -20,8 +20,9 @@ use Rattle.q3_chan.specs.Tags.{IsQuiet}
 use Rattle.q3_chan.specs.Laws.{PiecesAreTagged, TaggedDoes}
 use Rattle.q3_svmsg.specs.declared.error.Illegible.{Illegible}
 use Rattle.q3_client.specs.declared.client.ClientTook.TheVariants.{Applied}
-use Rattle.q3_server.specs.Built.{Built}
-use Rattle.q3_server.specs.Server.{places, built_bytes}
+use Rattle.q3_slot.specs.Built.{Built}
+use Rattle.q3_slot.specs.Emitting.{built_bytes}
+use Rattle.q3_server.specs.Server.{places}
 use Rattle.q3_client.specs.Client.{ClientState, Taken, take_answer, take_gathered}
 use Rattle.q3_world.specs.declared.made.Direction.TheVariants.{ToClient}
 use Rattle.q3_world.specs.Ends.{client_at, with_client, delivered}

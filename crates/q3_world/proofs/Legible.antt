@@ -21,12 +21,14 @@ use Rattle.q3_chan.specs.Sending.{UnderWay}
 use Rattle.q3_chan.specs.Tags.{tagged, IsQuiet}
 use Rattle.q3_chan.specs.Laws.{TaggedDoes}
 use Rattle.q3_server.specs.declared.server.SlotError.{SlotError}
-use Rattle.q3_server.specs.Built.{Built}
+use Rattle.q3_slot.specs.Built.{Built}
+use Rattle.q3_slot.specs.Slot.{SlotState}
+use Rattle.q3_slot.specs.Emitting.{built_bytes}
+use Rattle.q3_server.specs.Server.{slot_at, add_client_at}
 use Rattle.q3_ring.specs.Snapshot.{Snapshot}
 use Rattle.q3_rings.specs.Rings.{is_young}
 use Rattle.q3_rings.specs.Accepted.{age_of}
-use Rattle.q3_server.specs.Server.{SlotState, slot_at, add_client_at, built_bytes}
-use Rattle.q3_server.specs.Taking as hears
+use Rattle.q3_slot.specs.Taking as by_slot
 use Rattle.q3_client.specs.declared.client.MoveError.{MoveError}
 use Rattle.q3_client.specs.Client.{ClientState, new_client, take_answer}
 use Rattle.q3_client.specs.Moves.{add_move_at}
@@ -133,10 +135,10 @@ legible_to_client profile whole number tag (Some client) cited is at holds =
 
 -- what a slot makes of a piece: nothing came whole, or its message did, and was run
 legible_heard : (datagram c n : ℕ) (slot : SlotState) (answer : Gathered) (said : Said) (moves : List Move) → IsQuiet answer ⊎ ((count : ℕ) × (answer ≡ CameWhole n count))
-    → IsLegible (ran datagram (hears.take_answer slot c answer (λ k. Ok said)).answer moves).answer
+    → IsLegible (ran datagram (by_slot.take_answer slot c answer (λ k. Ok said)).answer moves).answer
 legible_heard datagram c n slot answer said moves (inl quiet) = waits answer quiet
   where
-    waits : (answer : Gathered) → IsQuiet answer → IsLegible (ran datagram (hears.take_answer slot c answer (λ k. Ok said)).answer moves).answer
+    waits : (answer : Gathered) → IsQuiet answer → IsLegible (ran datagram (by_slot.take_answer slot c answer (λ k. Ok said)).answer moves).answer
     waits (CameWhole number count) is = absurd is
     waits gathered.Partial is = tt
     waits gathered.Old is = tt
@@ -156,7 +158,7 @@ legible_to_server does_so profile whole number tag from is holds =
     let took = tagged slot.gathering tag.number message tag.index in
     let does = does_so slot.gathering tag.number message tag.index in
     let next = record slot { address = from; gathering = took.gathering } in
-    rw found.1 (legible_heard number tag.client tag.number next took.answer said (hears.take_answer next tag.client took.answer (λ k. Ok said)).moves
+    rw found.1 (legible_heard number tag.client tag.number next took.answer said (by_slot.take_answer next tag.client took.answer (λ k. Ok said)).moves
     (elim does.either [ inl waits ↦ inl waits.quiet | inr came ↦ inr (length message, came.answer) ]))
 
 -- ---- every event

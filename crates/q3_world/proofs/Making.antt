@@ -10,14 +10,16 @@ use Rattle.q3_svmsg.specs.declared.error.Illegible.{Illegible}
 use Rattle.q3_chan.specs.Datagrams.{sequence_end, longest_message}
 use Rattle.q3_chan.specs.Sending.{UnderWay}
 use Rattle.q3_chan.specs.Laws.{IsSendable}
-use Rattle.q3_server.specs.declared.server.Emitted.{Emitted}
-use Rattle.q3_server.specs.declared.server.Emitted.TheVariants as emitted
+use Rattle.q3_slot.specs.declared.answer.Emitted.{Emitted}
+use Rattle.q3_slot.specs.declared.answer.Emitted.TheVariants as emitted
 use Rattle.q3_client.specs.declared.client.Sent.{Sent}
 use Rattle.q3_client.specs.declared.client.Sent.TheVariants as answered_sent
 use Rattle.q3_client.specs.Client.{ClientState}
 use Rattle.q3_client.specs.Sending as speaks
 use Rattle.q3_client.specs.Sending.{said_bits, next_message as next_said}
-use Rattle.q3_server.specs.Server.{SlotState, ServerState, Emission, places, slot_at, with_slot, next_frames, begun_next, built_bits, emit_built, most_placed, emit_new, emit_slot, emission_at, emit_from}
+use Rattle.q3_slot.specs.Slot.{SlotState}
+use Rattle.q3_slot.specs.Emitting.{next_frames, begun_next, built_bits, emit_built, most_placed, emit_new, emit_slot}
+use Rattle.q3_server.specs.Server.{ServerState, Emission, places, slot_at, with_slot, emission_at, emit_from}
 use Rattle.q3_world.specs.Ends.{client_at, address_at}
 use Rattle.q3_world.specs.Kept.{kept_serve, kept_said, kept_send}
 use Rattle.q3_world.specs.World.{Whole, serve, say, send}
@@ -59,12 +61,12 @@ served_built profile whole c slot cited lt is fits holds =
     let first : UnderWay = record { message = message_bytes bits; next = 0 } in
     let count = length-map whole.sent bytes_of in
     elim (cases_Bool (nat_lt longest_message (message_length (length bits)))) [
-      | inl long ↦ rw long (record { same = rw count refl; holds = Holds-too_long cited.frames profile whole c slot lt is holds })
+      | inl long ↦ rw long (record { same = rw count refl; holds = Holds-too_long cited.server profile whole c slot lt is holds })
       | inr short ↦
           let pushed = map_push bytes_of whole.sent (handed_tag c (slot_begun profile slot next) first) in
           rw short (record {
             same = rw (count, pushed) refl;
-            holds = Holds-begun cited.frames profile whole c slot first cited.sends cited.gathers lt is fits (sendable bits cited.bytes short) refl holds;
+            holds = Holds-begun cited.server profile whole c slot first cited.sends cited.gathers lt is fits (sendable bits cited.bytes short) refl holds;
           })
     ]
 

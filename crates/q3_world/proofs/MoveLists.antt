@@ -10,7 +10,7 @@ use Rattle.circular_buffer.specs.Buffer.{keep_last}
 use Rattle.q3_clmsg.specs.declared.moves.Move.{Move}
 use Rattle.q3_script.specs.Grammar.{IsSignedByte, IsHeldMove}
 use Rattle.q3_clmsg.specs.Moves.{IsStep, IsMove}
-use Rattle.q3_server.specs.Taking.{runs, last_time}
+use Rattle.q3_slot.specs.Taking.{runs, last_time}
 use Rattle.q3_client.specs.declared.moves.Issued.{Issued}
 use Rattle.q3_client.specs.Moves.{most_moves, is_step, is_issuable, is_carried, carried}
 use Rattle.q3_world.specs.Moves.{TimesRise, AreConsecutive, StandAmong}

@@ -3,7 +3,8 @@ use Rattle.std.proofs.Common.{◌≡◌, ℕ, ◌<◌, List, length, get_or, set
 use Rattle.std.proofs.lemmas.List.{get_or-set_same, get_or-set_other, length-set}
 use Rattle.std.proofs.lemmas.Bool.{cases_eq}
 use Rattle.q3_io.specs.declared.address.Address.{Address}
-use Rattle.q3_server.specs.Server.{SlotState, places, slot_at}
+use Rattle.q3_slot.specs.Slot.{SlotState}
+use Rattle.q3_server.specs.Server.{places, slot_at}
 use Rattle.q3_client.specs.Client.{ClientState}
 use Rattle.q3_world.specs.Ends.{Ends, client_at, no_address, address_at}
 use Rattle.q3_world.specs.World.{History, no_history, history_at}

@@ -10,10 +10,11 @@ use Rattle.q3_chan.specs.declared.gatherer.Gathered.TheVariants.{Whole as CameWh
 use Rattle.q3_chan.specs.Gathering.{Took, gathered as gathered_of}
 use Rattle.q3_chan.specs.Tags.{tagged, IsQuiet}
 use Rattle.q3_chan.specs.Laws.{TaggedDoes}
-use Rattle.q3_server.specs.declared.taking.ServerTook.TheVariants as answer
-use Rattle.q3_server.specs.Server.{SlotState, ServerState, slot_at, with_slot}
-use Rattle.q3_server.specs.Taking as hears
-use Rattle.q3_server.specs.Taking.{delta_behind, runs}
+use Rattle.q3_slot.specs.declared.taking.ServerTook.TheVariants as answer
+use Rattle.q3_slot.specs.Slot.{SlotState}
+use Rattle.q3_slot.specs.Taking.{delta_behind, runs}
+use Rattle.q3_server.specs.Server.{ServerState, slot_at, with_slot}
+use Rattle.q3_slot.specs.Taking as by_slot
 use Rattle.q3_client.specs.Client.{ClientState}
 use Rattle.q3_client.specs.Sending.{Said, said_bytes}
 use Rattle.q3_world.specs.declared.made.Direction.TheVariants as direction
@@ -55,14 +56,14 @@ moves_were_issued law profile all c is are within =
 
 -- ---- newer messages
 
-abbrev ran_so : ℕ → hears.SlotTaken → Answered
+abbrev ran_so : ℕ → by_slot.SlotTaken → Answered
 ran_so number taken = ran number taken.answer taken.moves
 
 -- what a delivery to the server answers, by its tag
 answers_said : (profile : Profile) (whole : Whole) (number : ℕ) (tag : Tag) (from : Address) (slot : SlotState) → slice_get whole.sent (number - 1) ≡ Some tag
     → tag.direction ≡ direction.ToServer from → slot_at whole.ends.server tag.client ≡ Some slot
     → (step profile whole (events.Deliver number)).answer
-    ≡ ran_so number (hears.take_gathered (record slot { address = from }) tag.client
+    ≡ ran_so number (by_slot.take_gathered (record slot { address = from }) tag.client
     (tagged slot.gathering tag.number (said_bytes profile (said_under whole.histories tag)) tag.index) (λ n. Ok (said_under whole.histories tag)))
 unfolding step
 answers_said profile whole number tag from slot at way found = rw (at, way, found) refl
@@ -71,7 +72,7 @@ answers_said profile whole number tag from slot at way found = rw (at, way, foun
 server_said : (profile : Profile) (whole : Whole) (number : ℕ) (tag : Tag) (from : Address) (slot : SlotState) → slice_get whole.sent (number - 1) ≡ Some tag
     → tag.direction ≡ direction.ToServer from → slot_at whole.ends.server tag.client ≡ Some slot
     → (step profile whole (events.Deliver number)).whole.ends.server
-    ≡ with_slot whole.ends.server tag.client (hears.take_gathered (record slot { address = from }) tag.client
+    ≡ with_slot whole.ends.server tag.client (by_slot.take_gathered (record slot { address = from }) tag.client
     (tagged slot.gathering tag.number (said_bytes profile (said_under whole.histories tag)) tag.index) (λ n. Ok (said_under whole.histories tag))).slot
 unfolding step
 server_said profile whole number tag from slot at way found = rw (at, way, found) refl
@@ -113,14 +114,14 @@ newer_is_run law below profile all number n count sent from slot is are at way f
     ap (λ (s : SentBytes). said_at (history_at whole.histories s.client).said tag.0.number) tag.2 ∙ ap (λ (k : ℕ). said_at (history_at whole.histories sent.client).said k) (sym number_is) in
     let by_bytes : kept_step kept (events.Deliver number) ≡ seen profile (step profile whole (events.Deliver number)) =
     ap (λ (k : Kept). kept_step k (events.Deliver number)) (kept_is profile kept whole stands) ∙ (delivers_agree profile whole number cited holds).same in
-    let heard = hears.take_gathered (record slot { address = from }) tag.0.client took (λ k. Ok said) in
-    let taken_is : heard ≡ hears.take_answer (record slot { address = from; gathering = took.gathering }) tag.0.client (CameWhole n count) (λ k. Ok said) =
-    ap (λ (a : Gathered). hears.take_answer (record slot { address = from; gathering = took.gathering }) tag.0.client a (λ k. Ok said)) whole_is in
+    let heard = by_slot.take_gathered (record slot { address = from }) tag.0.client took (λ k. Ok said) in
+    let taken_is : heard ≡ by_slot.take_answer (record slot { address = from; gathering = took.gathering }) tag.0.client (CameWhole n count) (λ k. Ok said) =
+    ap (λ (a : Gathered). by_slot.take_answer (record slot { address = from; gathering = took.gathering }) tag.0.client a (λ k. Ok said)) whole_is in
     let client_is : tag.0.client ≡ sent.client = ap (λ (s : SentBytes). s.client) tag.2 in
     let there = set_there whole.ends.server.slots tag.0.client None (Some heard.slot) holds.facts.slots sent_is.0 in (
       ap (λ (s : KeptStep). s.answer) by_bytes
           ∙ (answers_said profile whole number tag.0 from slot tag.1 goes slot_is
-          ∙ (ap (λ (t : hears.SlotTaken). ran_so number t) taken_is
+          ∙ (ap (λ (t : by_slot.SlotTaken). ran_so number t) taken_is
           ∙ (ap (λ (s : SentBytes). ran number (answer.Ran s.client n) (runs slot.last_run said.moves)) tag.2
           ∙ ap (λ (s : Said). ran number (answer.Ran sent.client n) (runs slot.last_run s.moves)) said_is))),
       (
@@ -128,6 +129,6 @@ newer_is_run law below profile all number n count sent from slot is are at way f
         ap (λ (s : KeptStep). slot_at s.kept.ends.server sent.client) by_bytes
             ∙ (ap (λ (server : ServerState). slot_at server sent.client) (server_said profile whole number tag.0 from slot tag.1 goes slot_is)
             ∙ (ap (λ (k : ℕ). slot_at (with_slot whole.ends.server tag.0.client heard.slot) k) (sym client_is) ∙ there)),
-        ap (λ (t : hears.SlotTaken). t.slot.delta) taken_is ∙ ap (λ (s : Said). delta_behind slot.delta s) said_is,
+        ap (λ (t : by_slot.SlotTaken). t.slot.delta) taken_is ∙ ap (λ (s : Said). delta_behind slot.delta s) said_is,
       ),
     )

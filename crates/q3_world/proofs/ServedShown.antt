@@ -20,9 +20,11 @@ use Rattle.q3_chan.specs.Datagrams.{sequence_end, longest_message, piece_count, 
 use Rattle.q3_chan.specs.Laws.{TaggedDoes}
 use Rattle.q3_chan.specs.Sending.{Sending, UnderWay, left_of, next_of}
 use Rattle.q3_clstate.specs.declared.applied.SnapOutcome.TheVariants.{Accepted}
-use Rattle.q3_server.specs.declared.server.Emitted.TheVariants as emitted
-use Rattle.q3_server.specs.Built.{Built, number_of}
-use Rattle.q3_server.specs.Server.{SlotState, ServerState, SlotEmission, places, slot_at, next_snapshot, next_frames, built_bits, built_bytes, most_placed, hand_out, emit_slot, emission_at, emit_at}
+use Rattle.q3_slot.specs.declared.answer.Emitted.TheVariants as emitted
+use Rattle.q3_slot.specs.Built.{Built, number_of}
+use Rattle.q3_slot.specs.Slot.{SlotState}
+use Rattle.q3_slot.specs.Emitting.{SlotEmission, next_snapshot, next_frames, built_bits, built_bytes, most_placed, hand_out, emit_slot}
+use Rattle.q3_server.specs.Server.{ServerState, places, slot_at, emission_at, emit_at}
 use Rattle.q3_client.specs.Client.{ClientState}
 use Rattle.q3_world.specs.Ends.{client_at}
 use Rattle.q3_world.specs.Kept.{Kept, opening_kept, kept_step, kept_after}

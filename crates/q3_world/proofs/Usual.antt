@@ -10,7 +10,7 @@ use Rattle.q3_rings.specs.Rings.{is_young}
 use Rattle.q3_rings.specs.Accepted.{AreAccepted, newest_of, age_of, held_among}
 use Rattle.q3_clstate.specs.declared.applied.Applied.{Applied}
 use Rattle.q3_clstate.specs.declared.applied.SnapOutcome.TheVariants.{Accepted}
-use Rattle.q3_server.specs.Built.{IsNear, IsBuilt}
+use Rattle.q3_slot.specs.Built.{IsNear, IsBuilt}
 use Rattle.q3_server.specs.Server.{places}
 use Rattle.q3_client.specs.Client.{ClientState}
 use Rattle.q3_world.specs.Ends.{Ends, client_at}

@@ -8,10 +8,10 @@ use Rattle.q3_clmsg.specs.declared.moves.Move.{Move}
 use Rattle.q3_io.specs.declared.address.Address.{Address}
 use Rattle.q3_ring.specs.Snapshot.{Snapshot}
 use Rattle.q3_rings.specs.Rings.{view_at}
-use Rattle.q3_server.specs.declared.server.Emitted.{Emitted}
-use Rattle.q3_server.specs.declared.server.NoClient.{NoClient}
+use Rattle.q3_slot.specs.declared.answer.Emitted.{Emitted}
+use Rattle.q3_slot.specs.declared.answer.NoClient.{NoClient}
 use Rattle.q3_server.specs.declared.server.SlotError.{SlotError}
-use Rattle.q3_server.specs.declared.taking.ServerTook.{ServerTook}
+use Rattle.q3_slot.specs.declared.taking.ServerTook.{ServerTook}
 use Rattle.q3_client.specs.declared.client.ClientTook.{ClientTook}
 use Rattle.q3_client.specs.declared.client.MoveError.{MoveError}
 use Rattle.q3_client.specs.declared.client.Sent.{Sent}

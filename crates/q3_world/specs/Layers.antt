@@ -5,11 +5,13 @@ use Rattle.q3_entity.specs.Laws.{NormalIsNormal as EntityNormalIsNormal}
 use Rattle.q3_chan.specs.Senders.{QportIsTold}
 use Rattle.q3_chan.specs.Laws.{SentIsTagged, TaggedDoes, EndsGather, EndsSend}
 use Rattle.q3_frames.specs.Laws.{HeldWasBuilt, BuildKeeps, BaseIsNear}
+use Rattle.q3_map.specs.Laws.{ListsStayHeld}
 use Rattle.q3_rings.specs.Laws.{AcceptedIsHeld, NothingStands, AcceptIsAdded, BaseIsOfList, HeldWasAccepted, NearIsHeldByAge, UsualRingHolds}
 use Rattle.q3_world.specs.MessageLaws.{BuiltIsRead, SaidIsRead}
 
--- what a server's frames hold, and which of them is a base
-pub record FrameLaws : Type 0 where
+-- that a server's entities stay held, what its frames hold, and which of these is a base
+pub record ServerLaws : Type 0 where
+  pub lists : ListsStayHeld
   pub held : HeldWasBuilt
   pub keeps : BuildKeeps
   pub near : BaseIsNear
@@ -25,7 +27,7 @@ pub record RingLaws : Type 0 where
   pub usual : UsualRingHolds
 
 -- what either end begins is read back, the normal form of a state is normal, what a datagram does and which qport it tells, how
--- both ends gather and send, how many bytes a message has, and what a server's frames and a client hold
+-- both ends gather and send, how many bytes a message has, and what a server and a client hold
 pub record Layers : Type 0 where
   pub reads : BuiltIsRead
   pub hears : SaidIsRead
@@ -38,5 +40,5 @@ pub record Layers : Type 0 where
   pub gathers : EndsGather
   pub sends : EndsSend
   pub bytes : MessageIsBytes
-  pub frames : FrameLaws
+  pub server : ServerLaws
   pub rings : RingLaws

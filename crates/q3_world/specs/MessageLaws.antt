@@ -8,9 +8,9 @@ use Rattle.q3_svmsg.specs.Reading.{message_at}
 use Rattle.q3_ring.specs.Snapshot.{Snapshot}
 use Rattle.q3_rings.specs.Rings.{HeldSnapshots, view_at}
 use Rattle.q3_clstate.specs.State.{context_of, received}
-use Rattle.q3_server.specs.Built.{Built, IsSnapshot, IsBuilt}
-use Rattle.q3_server.specs.Server.{built_bytes}
-use Rattle.q3_server.specs.Taking.{said_by}
+use Rattle.q3_slot.specs.Built.{Built, IsSnapshot, IsBuilt}
+use Rattle.q3_slot.specs.Emitting.{built_bytes}
+use Rattle.q3_slot.specs.Taking.{said_by}
 use Rattle.q3_clmsg.specs.Laws.{IsMessage}
 use Rattle.q3_client.specs.Sending.{said_bytes, Said}
 

@@ -14,7 +14,7 @@ use Rattle.q3_clstate.specs.declared.applied.SnapOutcome.{SnapOutcome}
 use Rattle.q3_clstate.specs.declared.applied.SnapOutcome.TheVariants.{Accepted, Skipped, Stale}
 use Rattle.q3_client.specs.declared.client.ClientTook.TheVariants.{Runt, Connectionless, BadFragment, Illegible, Dropped, Applied}
 use Rattle.q3_client.specs.declared.client.Sent.TheVariants as sent
-use Rattle.q3_server.specs.declared.taking.ServerTook.TheVariants as took
+use Rattle.q3_slot.specs.declared.taking.ServerTook.TheVariants as took
 use Rattle.q3_io.specs.declared.address.Address.{Address}
 use Rattle.q3_chan.specs.declared.gatherer.Gathered.TheVariants.{Whole as CameWhole}
 use Rattle.q3_chan.specs.Datagrams.{sequence_end, longest_message, piece_count, last_index}
@@ -23,9 +23,11 @@ use Rattle.q3_chan.specs.Gathering.{gathered}
 use Rattle.q3_world.specs.declared.answer.Answer.{Answer}
 use Rattle.q3_world.specs.declared.answer.Answer.TheVariants.{Send, Deliver, ToServer}
 use Rattle.q3_world.specs.declared.made.Direction.TheVariants as direction
-use Rattle.q3_server.specs.Built.{Built, number_of, IsNear}
-use Rattle.q3_server.specs.Server.{ServerState, SlotState, places, slot_at, next_snapshot, begun_next, built_bytes, most_placed}
-use Rattle.q3_server.specs.Taking.{delta_behind, runs}
+use Rattle.q3_slot.specs.Built.{Built, number_of, IsNear}
+use Rattle.q3_slot.specs.Slot.{SlotState}
+use Rattle.q3_slot.specs.Emitting.{next_snapshot, begun_next, built_bytes, most_placed}
+use Rattle.q3_slot.specs.Taking.{delta_behind, runs}
+use Rattle.q3_server.specs.Server.{ServerState, places, slot_at}
 use Rattle.q3_client.specs.Client.{ClientState}
 use Rattle.q3_world.specs.Moves.{TimesRise, StandAmong}
 use Rattle.q3_world.specs.Ends.{Ends, client_at, newest, unknown, delivered, ran}

@@ -20,9 +20,13 @@ use Rattle.q3_ring.specs.Snapshot.{Snapshot}
 use Rattle.q3_frames.specs.Frames.{FramesState, AreFrames, held_frame}
 use Rattle.q3_rings.specs.Rings.{view_at}
 use Rattle.q3_rings.specs.Accepted.{SnapshotsStandFor}
-use Rattle.q3_server.specs.Built.{Built, IsHeld, IsArea, AreHeld, IsBuilt}
-use Rattle.q3_server.specs.Server.{SlotState, places, slot_at, built_bytes}
-use Rattle.q3_server.specs.Taking.{last_time, sender_of}
+use Rattle.q3_map.specs.Map.{AreHeld}
+use Rattle.q3_slot.specs.Built.{Built, IsHeld, IsArea, IsBuilt}
+use Rattle.q3_slot.specs.Slot.{SlotState}
+use Rattle.q3_slot.specs.Emitting.{built_bytes}
+use Rattle.q3_slot.specs.Taking.{last_time}
+use Rattle.q3_server.specs.Server.{places, slot_at}
+use Rattle.q3_server.specs.Taking.{sender_of}
 use Rattle.q3_client.specs.declared.moves.Issued.{Issued}
 use Rattle.q3_client.specs.Client.{ClientState}
 use Rattle.q3_client.specs.Moves.{most_moves}
@@ -164,7 +168,7 @@ pub record Facts (profile : Profile) (whole : Whole) : Type 0 where
   pub addresses : length whole.ends.addresses ≡ places
   pub histories : length whole.histories ≡ places
   pub time : whole.ends.server.map.time < 2 ^ 32
-  pub entities : AreHeld profile whole.ends.server.map.entities
+  pub entities : AreHeld profile.entity whole.ends.server.map.entities
   pub each : (c : ℕ) → c < places
       → IsClient profile (slot_at whole.ends.server c) (client_at whole.ends c) (address_at whole.ends c) (history_at whole.histories c)
   pub found : (c : ℕ) (slot : SlotState) → slot_at whole.ends.server c ≡ Some slot

@@ -12,9 +12,12 @@ use Rattle.q3_clmsg.specs.declared.moves.Move.{Move}
 use Rattle.q3_clmsg.specs.Values.{empty_message}
 use Rattle.q3_ring.specs.Snapshot.{Snapshot}
 use Rattle.q3_clstate.specs.State.{apply_message}
-use Rattle.q3_server.specs.declared.taking.ServerTook.TheVariants.{Stranger}
-use Rattle.q3_server.specs.Built.{Built, built_of}
-use Rattle.q3_server.specs.Server.{SlotState, Emission, places, slot_at, emit_at, built_bytes}
+use Rattle.q3_slot.specs.declared.taking.ServerTook.TheVariants.{Stranger}
+use Rattle.q3_slot.specs.Built.{Built, built_of}
+use Rattle.q3_slot.specs.Slot.{SlotState}
+use Rattle.q3_slot.specs.Emitting.{built_bytes}
+use Rattle.q3_server.specs.Server.{Emission, places, slot_at, emit_at}
+use Rattle.q3_slot.specs.Taking as by_slot
 use Rattle.q3_server.specs.Taking as hears
 use Rattle.q3_client.specs.Client.{ClientState, Taken, take_gathered}
 use Rattle.q3_client.specs.Sending as speaks
@@ -209,7 +212,7 @@ to_server profile whole number tag from None = server_took whole number tag.clie
 to_server profile whole number tag from (Some slot) =
     server_took whole number tag.client
     (hears.taken_at whole.ends.server tag.client
-    (hears.take_gathered (record slot { address = from }) tag.client
+    (by_slot.take_gathered (record slot { address = from }) tag.client
     (tagged slot.gathering tag.number (said_bytes profile (said_under whole.histories tag)) tag.index)
     (λ n. Ok (said_under whole.histories tag))))
 

@@ -9,6 +9,7 @@ use q3_chan::laws as chan;
 use q3_clmsg::laws as clmsg;
 use q3_entity::laws as entity;
 use q3_frames::laws as frames;
+use q3_map::laws as map;
 use q3_player::laws as player;
 use q3_rings::laws as rings;
 use q3_svmsg::laws as svmsg;
@@ -46,6 +47,7 @@ fn layers()
     chan::ends_gather();
     chan::ends_send();
     bits::message_holds_bits();
+    map::lists_stay_held();
     frames::held_was_built();
     frames::build_keeps();
     frames::base_is_near();

@@ -3,7 +3,8 @@
 ghost use Rattle.std.specs.Prelude.{◌≡◌, ◌+◌, ◌-◌, ◌<◌, ◌≤◌, [], length, slice_get, option_map, IfOk, OnOk, OnErr};
 ghost use Rattle.q3_profile.specs.Profile.{IsProfile, IsCodec};
 ghost use Rattle.q3_script.specs.Grammar.{IsReplayEvent};
-ghost use Rattle.q3_server.specs.Server.{places, most_numbers, emit_at};
+ghost use Rattle.q3_map.specs.Map.{most_numbers};
+ghost use Rattle.q3_server.specs.Server.{places, emit_at};
 ghost use Rattle.q3_rings.specs.Loans.{snapshot_of};
 ghost use Rattle.q3_world.specs.Ends.{answered, lent, newest_of, newest, client_at, shown_of, join, set_time, set_entity, remove_entity, set_player, set_area, add_move};
 ghost use Rattle.q3_world.specs.Kept.{most_datagrams, opening_kept, kept_step, kept_ends, kept_serve, kept_send, kept_deliver};

@@ -13,7 +13,12 @@ returns c = record {
   gathers = c.ends_gather.ensures;
   sends = c.ends_send.ensures;
   bytes = c.message_holds_bits.ensures.bytes;
-  frames = record { held = c.held_was_built.ensures; keeps = c.build_keeps.ensures; near = c.base_is_near.ensures };
+  server = record {
+    lists = c.lists_stay_held.ensures;
+    held = c.held_was_built.ensures;
+    keeps = c.build_keeps.ensures;
+    near = c.base_is_near.ensures;
+  };
   rings = record {
     none = c.nothing_stands.ensures;
     added = c.accept_is_added.ensures;

@@ -1,0 +1,8 @@
+//! Laws of maps, each the contract of a call that does nothing.
+
+ghost use Rattle.q3_map.specs.Laws.{ListsStayHeld};
+
+/// Entities as a server holds them stay so where one is put in or taken away, and so are those of the lowest numbers.
+pub fn lists_stay_held()
+    ensures { ListsStayHeld }
+{}

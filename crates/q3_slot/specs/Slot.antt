@@ -1,0 +1,51 @@
+-- A client's slot: what is kept of it, and what the game hands in for it alone.
+use Rattle.std.specs.Prelude.{ℕ, ◌==◌, ◌&&◌, Bool, false, List, [], Option, Some, None}
+use Rattle.arrayvec.specs.ArrayVec.{ArrayVec}
+use Rattle.q3_io.specs.declared.address.Address.{Address}
+use Rattle.q3_chan.specs.declared.side.Side.TheVariants.{Server, Client}
+use Rattle.q3_chan.specs.Gathering.{Gathering, new_gathering}
+use Rattle.q3_chan.specs.Sending.{Sending, new_sending}
+use Rattle.q3_profile.specs.declared.profile.Profile.{Profile}
+use Rattle.q3_player.specs.declared.state.PlayerState.{PlayerState}
+use Rattle.q3_player.specs.State.{zero_player, normal_player}
+
+-- a client at the server: how it joined and from where, what is being sent to it, what was gathered of what it sends, the
+-- number of the snapshot that it asks to write the next one against, 0 for none, the time of its last move that was run, 0 for
+-- none, its player in normal form, and its area bytes
+pub record SlotState : Type 0 where
+  pub challenge : ℕ
+  pub address : Address
+  pub qport : ℕ
+  pub sending : Sending
+  pub gathering : Gathering
+  pub delta : ℕ
+  pub last_run : ℕ
+  pub player : PlayerState
+  pub area : ArrayVec ℕ
+
+-- a client that just joined
+abbrev pub new_slot : ℕ → ℕ → Address → SlotState
+new_slot challenge qport address = record {
+  challenge = challenge;
+  address = address;
+  qport = qport;
+  sending = new_sending Server 0;
+  gathering = new_gathering Client;
+  delta = 0;
+  last_run = 0;
+  player = zero_player;
+  area = record { items = [] };
+}
+
+-- whether a slot's client has this host and qport
+abbrev pub is_of : ℕ → ℕ → Option SlotState → Bool
+is_of host qport None = false
+is_of host qport (Some slot) = slot.address.host == host && slot.qport == qport
+
+-- the slot with another player, in the normal form of the profile's table
+abbrev pub with_player : Profile → SlotState → PlayerState → SlotState
+with_player profile slot player = record slot { player = normal_player profile.player.kinds player }
+
+-- the slot with other area bytes
+abbrev pub with_area : SlotState → List ℕ → SlotState
+with_area slot area = record slot { area = record { items = area } }

@@ -1,0 +1,27 @@
+//! What the server answers where a client's slot is asked.
+
+/// No such client was added.
+#[derive(Clone, Copy, Debug, PartialEq, Eq)]
+pub struct NoClient;
+
+/// What the server's emit answers.
+#[derive(Clone, Copy, Debug, PartialEq, Eq)]
+pub enum Emitted {
+    /// No such client was added.
+    NoClient,
+    /// A datagram with a further piece of the message of this number.
+    Fragment {
+        number: u32,
+    },
+    /// Message numbers have ended, or more than 2^62 entities were placed.
+    SequenceEnd,
+    /// The message has more than 16,384 bytes; its number is used again, and its frame stays.
+    Overlong,
+    /// A datagram with a snapshot, or its first piece: its message's number, the number of the base, 0 for none, and the
+    /// message's length.
+    Snapshot {
+        number: u32,
+        base: u32,
+        bytes: usize,
+    },
+}

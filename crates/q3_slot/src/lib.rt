@@ -1,0 +1,13 @@
+//! A place for a client at the server: what is sent to one client, and what is done with what it sends.
+#![tactic(auto)]
+
+pub mod answer;
+pub mod laws;
+pub mod slot;
+pub mod taking;
+#[cfg(test)]
+mod tests;
+
+pub use answer::{Emitted, NoClient};
+pub use slot::Slot;
+pub use taking::{Heard, ServerTook};
