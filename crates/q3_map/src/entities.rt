@@ -7,7 +7,7 @@ ghost use Rattle.q3_entity.specs.Entities.{RiseFrom, most_entities};
 ghost use Rattle.q3_map.specs.Map.{most_numbers, new_map, set_time_at, with_entity, without_entity, set_entity_at, remove_entity_at, AreListed};
 
 use q3_bits::NoMemory;
-use q3_entity::{EntityState, List};
+use q3_entity::EntityState;
 use q3_fields::Table;
 use std::alloc::Global;
 use std::marker::Model;
@@ -80,13 +80,12 @@ impl Map {
         drop_entity(&mut self.entities, number);
     }
 
-    /// Copies the entities of the lowest numbers, at most 256.
-    pub fn copy_lowest(&self, into: &mut List)
-        ensures front { into.new.items ≡ take most_entities self.now.entities }
-        ensures listed { AreListed into.new.items }
+    /// Lends the entities of the lowest numbers, at most 256.
+    pub fn lowest(&self) -> &[EntityState]
+        ensures front { result.now ≡ take most_entities self.now.entities }
+        ensures listed { AreListed result.now }
     {
-        into.clear();
-        into.try_extend_from_slice(lowest(&self.entities)).unwrap();
+        front(&self.entities)
     }
 }
 
@@ -150,8 +149,9 @@ fn first_from(entities: &[EntityState], number: u16) -> usize
     )
 }
 
-fn lowest(entities: &[EntityState]) -> &[EntityState]
-    ensures front { result.now ≡ take most_entities entities.now }
+/// The first entities, at most 256.
+fn front(entities: &[EntityState]) -> &[EntityState]
+    ensures items { result.now ≡ take most_entities entities.now }
     ensures few { length result.now ≤ most_entities }
 {
     match entities.get(..MOST_ENTITIES) {

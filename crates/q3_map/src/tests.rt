@@ -3,7 +3,7 @@
 ghost use Rattle.std.specs.Prelude.{◌<◌};
 
 use crate::Map;
-use q3_entity::{EntityState, List};
+use q3_entity::EntityState;
 use q3_fields::Table;
 use std::process::Abort;
 use std::test::*;
@@ -17,10 +17,10 @@ fn hand_in(map: &mut Map, table: &Table, number: u16, word: u32)
 }
 
 /// The numbers of the lowest entities are these.
-fn has(rt: &impl Abort, map: &Map, list: &mut List, numbers: &[u16]) {
-    map.copy_lowest(list);
-    assert_eq!(rt; list.len(), numbers.len());
-    for (entity, number) in list.iter().zip(numbers) {
+fn has(rt: &impl Abort, map: &Map, numbers: &[u16]) {
+    let lowest = map.lowest();
+    assert_eq!(rt; lowest.len(), numbers.len());
+    for (entity, number) in lowest.iter().zip(numbers) {
         assert_eq!(rt; entity.number, *number);
     }
 }
@@ -29,32 +29,33 @@ fn has(rt: &impl Abort, map: &Map, list: &mut List, numbers: &[u16]) {
 fn entities_lie_by_number(rt: HostRuntime) -> Result<(), Fail> {
     let table = Table::of(&[0, 8, -16]).expect(&rt, "a table");
     let mut map = Map::new(rt.alloc())?;
-    let mut list = List::new();
     map.set_time(50);
     assert_eq!(rt; map.time(), 50);
     hand_in(&mut map, &table, 5, 0);
     hand_in(&mut map, &table, 1022, 0);
     hand_in(&mut map, &table, 3, 0);
     hand_in(&mut map, &table, 5, 0x1ff);
-    has(&rt, &map, &mut list, &[3, 5, 1022]);
+    has(&rt, &map, &[3, 5, 1022]);
     // a field of 8 bits, and then a word behind the table's three
-    assert_eq!(rt; (list[1].words[1], list[1].words[3]), (0xff, 0));
+    let [_, second, _] = map.lowest() else {
+        return Err("three entities")?;
+    };
+    assert_eq!(rt; (second.words[1], second.words[3]), (0xff, 0));
     map.remove_entity(4);
     map.remove_entity(3);
-    has(&rt, &map, &mut list, &[5, 1022]);
+    has(&rt, &map, &[5, 1022]);
     Ok(())
 }
 
 #[test]
-fn lowest_256_are_copied(rt: HostRuntime) -> Result<(), Fail> {
+fn lowest_256_are_lent(rt: HostRuntime) -> Result<(), Fail> {
     let table = Table::of(&[0, 8, -16]).expect(&rt, "a table");
     let mut map = Map::new(rt.alloc())?;
-    let mut list = List::new();
     for place in 0..257 {
         hand_in(&mut map, &table, 256 - place, 0);
     }
-    map.copy_lowest(&mut list);
-    assert_eq!(rt; list.len(), 256);
-    assert_eq!(rt; (list[0].number, list[255].number), (0, 255));
+    let lowest = map.lowest();
+    assert_eq!(rt; lowest.len(), 256);
+    assert_eq!(rt; lowest.last().map(|last| last.number), Some(255));
     Ok(())
 }

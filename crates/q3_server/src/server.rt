@@ -18,11 +18,10 @@ use q3_entity::{Baselines, EntityState};
 use q3_frames::Frames;
 use q3_io::Address;
 use q3_map::Map;
-use q3_player::PlayerState;
+use q3_player::{PlayerState, SnapHead};
 use q3_profile::Profile;
 use q3_slot::laws::nothing_is_listed;
 use q3_slot::{Emitted, Heard, NoClient, ServerTook, Slot};
-use q3_svmsg::ServerMessage;
 use std::alloc::Global;
 use std::marker::Model;
 
@@ -41,7 +40,7 @@ pub enum SlotError {
 }
 
 /// The server: a copy of the profile, what the game handed in, a slot for each client, and the frames that were built for
-/// them; and places where a message is put together and written, and where one that came whole stands and is read into.
+/// them; and places for the head of a snapshot, for a message that is written, and where one that came whole stands and is read into.
 /// After `new` no call takes memory.
 #[derive(Drop)]
 pub struct Server {
@@ -50,7 +49,7 @@ pub struct Server {
     slots: Vec<Slot>,
     frames: Frames,
     baselines: Baselines,
-    message: ServerMessage,
+    head: SnapHead,
     buffer: Vec<u8>,
     said: ClientMessage,
     whole: Vec<u8>,
@@ -87,7 +86,7 @@ impl Server {
             slots: empty_slots(alloc, slots)?,
             frames: empty_frames(alloc, slots, profile.server_ring)?,
             baselines: Baselines::new(alloc)?,
-            message: ServerMessage::new(alloc)?,
+            head: SnapHead::new(),
             buffer: vec![in alloc; 0; LONGEST_MESSAGE]?,
             said: ClientMessage::new(alloc)?,
             whole: vec![in alloc; 0; LONGEST_MESSAGE]?,
@@ -233,7 +232,7 @@ impl Server {
             &self.map,
             &mut self.frames,
             &self.baselines,
-            &mut self.message,
+            &mut self.head,
             &mut self.buffer,
             out,
         )

@@ -10,7 +10,6 @@ use Rattle.q3_clmsg.specs.declared.moves.Move.{Move}
 use Rattle.q3_clmsg.specs.declared.error.ClientIllegible.{ClientIllegible}
 use Rattle.q3_clmsg.specs.Values.{Message}
 use Rattle.q3_profile.specs.declared.profile.Profile.{Profile}
-use Rattle.q3_svmsg.specs.declared.message.ServerMessage.{ServerMessage}
 use Rattle.q3_ring.specs.Snapshot.{Snapshot}
 use Rattle.q3_frames.specs.Frames.{FramesState, held_frame}
 use Rattle.q3_map.specs.Map.{MapState, AreListed}
@@ -38,10 +37,6 @@ slot_of sending gathering client = record {
   player = client.player;
   area = client.area;
 }
-
--- the snapshot that a message has room for
-abbrev pub snapshot_in : ServerMessage → Snapshot
-snapshot_in message = record { head = message.head; entities = message.entities.value.items }
 
 -- every frame that a slot holds has such entities
 pub record HoldLists (frames : FramesState) : Type 0 where

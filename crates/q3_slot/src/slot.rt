@@ -17,7 +17,7 @@ ghost use Rattle.q3_chan.specs.declared.side.Side.TheVariants.{Client};
 ghost use Rattle.q3_chan.specs.Gathering.{new_gathering};
 ghost use Rattle.q3_chan.specs.Sending.{HandsOut};
 ghost use Rattle.q3_clmsg.specs.Values.{said_of};
-ghost use Rattle.q3_slot.specs.Slots.{slot_of, snapshot_in, HoldLists, WritesAgainst, given, slot_after, frames_after, answer_of, piece_of, slot_behind, took_of, moves_of, delta_read, last_run_read, took_read, moves_read};
+ghost use Rattle.q3_slot.specs.Slots.{slot_of, HoldLists, WritesAgainst, given, slot_after, frames_after, answer_of, piece_of, slot_behind, took_of, moves_of, delta_read, last_run_read, took_read, moves_read};
 
 use crate::answer::{Emitted, NoClient};
 use crate::taking::{Heard, ServerTook, delta_behind, read_message, run_moves};
@@ -25,13 +25,14 @@ use arrayvec::ArrayVec;
 use q3_bits::{NoMemory, Overflow};
 use q3_chan::{Datagram, Gathered, Gatherer, SEQUENCE_END, Sender, Side};
 use q3_clmsg::{ClientIllegible, ClientMessage};
-use q3_entity::Baselines;
+use q3_entity::{Baselines, EntityState};
 use q3_frames::{Frames, laws};
 use q3_io::Address;
 use q3_map::Map;
-use q3_player::PlayerState;
+use q3_player::{PlayerState, SnapHead};
 use q3_profile::Profile;
-use q3_svmsg::{BaseView, Section, ServerMessage, write_snap};
+use q3_svmsg::{BaseView, SnapParts, write_parts};
+use q3_text::CommandRun;
 use std::alloc::Global;
 use std::marker::Model;
 
@@ -124,22 +125,16 @@ impl Joined {
         ServerTook::Ran { slot, number }
     }
 
-    /// Makes the snapshot that this sender sends to the client next. What was gathered doesn't count.
-    fn fill(&self, sender: &Sender, map: &Map, message: &mut ServerMessage)
+    /// Fills in the head of the snapshot that this sender sends to the client next. What was gathered doesn't count.
+    fn fill(&self, sender: &Sender, map: &Map, head: &mut SnapHead)
         requires { sender.now.number + 1 < 2 ^ 32 }
-        ensures ack { message.new.ack ≡ 0 }
-        ensures commands { message.new.commands.value.items ≡ [] }
-        ensures snapshot { snapshot_in message.new ≡ next_snapshot map.now (slot_of sender.now (new_gathering Client) self.now) }
-        ensures listed { AreListed message.new.entities.value.items }
+        ensures { head.new ≡ (next_snapshot map.now (slot_of sender.now (new_gathering Client) self.now)).head }
     {
-        message.ack = 0;
-        message.commands.clear();
-        message.head.number = sender.number() + 1;
-        message.head.time = map.time();
-        message.head.flags = 0;
-        copy_area(&self.area, &mut message.head.area);
-        message.head.player = self.player;
-        map.copy_lowest(&mut message.entities);
+        head.number = sender.number() + 1;
+        head.time = map.time();
+        head.flags = 0;
+        copy_area(&self.area, &mut head.area);
+        head.player = self.player;
     }
 }
 
@@ -266,7 +261,7 @@ impl Slot {
         map: &Map,
         frames: &mut Frames,
         baselines: &Baselines,
-        message: &mut ServerMessage,
+        head: &mut SnapHead,
         buffer: &mut [u8],
         out: &mut Datagram,
     ) -> Emitted
@@ -296,10 +291,19 @@ impl Slot {
         if has_ended(number, frames.placed()) {
             return Emitted::SequenceEnd;
         }
-        client.fill(&self.sender, map, message);
-        let delta = client.delta;
-        build(frames, slot, message);
-        let written = write_against(frames, slot, delta, profile, message, baselines, buffer);
+        client.fill(&self.sender, map, head);
+        let entities = map.lowest();
+        build(frames, slot, head, entities);
+        let written = write_against(
+            frames,
+            slot,
+            client.delta,
+            profile,
+            head,
+            entities,
+            baselines,
+            buffer,
+        );
         let Ok((base, bytes)) = written else {
             return Emitted::Overlong;
         };
@@ -313,47 +317,52 @@ impl Slot {
     }
 }
 
-/// Builds a frame of the snapshot in a message.
-fn build(frames: &mut Frames, slot: u8, message: &ServerMessage)
+/// Builds a frame of a snapshot, whose entities lie in the map.
+fn build(frames: &mut Frames, slot: u8, head: &SnapHead, entities: &[EntityState])
     requires slot { slot < length frames.old.slots }
     requires placed { frames.old.placed ≤ most_placed }
-    requires listed { AreListed message.now.entities.value.items }
-    ensures built { frames.new ≡ build_at frames.old slot (snapshot_in message.now) }
+    requires listed { AreListed entities.now }
+    ensures built { frames.new ≡ build_at frames.old slot (record { head = head.now; entities = entities.now }) }
     ensures slots { length frames.new.slots ≡ length frames.old.slots }
     ensures lists { HoldLists frames.old → HoldLists frames.new }
 {
     laws::build_keeps();
     laws::held_was_built();
-    frames.build(slot, &message.head, &message.entities);
+    frames.build(slot, head, entities);
 }
 
-/// Writes the snapshot in a message against the base of a slot's client, if its delta number names one. Answers the base's
-/// number, 0 for none, and the message's length. `Overflow` comes exactly where that is more than 16,384.
+/// Writes a snapshot, whose entities lie in the map, against the base of a slot's client, if its delta number names one.
+/// Answers the base's number, 0 for none, and the message's length. `Overflow` comes exactly where that is more than 16,384.
 fn write_against(
     frames: &Frames,
     slot: u8,
     delta: u32,
     profile: &Profile,
-    message: &mut ServerMessage,
+    head: &SnapHead,
+    entities: &[EntityState],
     baselines: &Baselines,
     buffer: &mut [u8],
 ) -> Result<(u32, usize), Overflow>
     requires lists { HoldLists frames.now }
-    requires ack { message.old.ack ≡ 0 }
-    requires commands { message.old.commands.value.items ≡ [] }
-    requires listed { AreListed message.old.entities.value.items }
+    requires listed { AreListed entities.now }
     requires lines { baselines.now ≡ no_lines }
     requires buffer { length buffer.old ≡ longest_message }
-    ensures { WritesAgainst profile.now (base_of frames.now slot message.old.head.number delta) (snapshot_in message.old) buffer.new result }
+    ensures { WritesAgainst profile.now (base_of frames.now slot head.now.number delta) (record { head = head.now; entities = entities.now }) buffer.new result }
 {
-    let (named, base) = base_in(frames, slot, message.head.number, delta);
-    message.section = Section::Snap {
+    let (named, base) = base_in(frames, slot, head.number, delta);
+    let parts = SnapParts {
+        ack: 0,
+        commands: CommandRun {
+            head: &[],
+            tail: &[],
+        },
         base: named,
-        held: true,
+        head,
+        entities,
     };
     // the entities' numbers are below the end mark
     prove!(profile.entity.end() == 1023);
-    let bytes = write_snap(profile, message, baselines, base, buffer)?;
+    let bytes = write_parts(profile, parts, baselines, base, buffer)?;
     Ok((named, bytes))
 }
 

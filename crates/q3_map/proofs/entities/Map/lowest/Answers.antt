@@ -3,10 +3,10 @@ use Rattle.q3_entity.specs.declared.state.EntityState.{EntityState}
 use Rattle.q3_entity.specs.Entities.{most_entities}
 use Rattle.q3_map.specs.Map.{AreListed}
 use Rattle.q3_map.proofs.Rising.{lowest_are}
-use Rattle.q3_map.proofs.entities.Map.copy_lowest.Goals as goal
+use Rattle.q3_map.proofs.entities.Map.lowest.Goals as goal
 
 pub returns-clause-listed : goal.returns-clause-listed
 returns-clause-listed c =
     let entities = c.self.inside.entities.items in
-    let front : c.try_extend_from_slice.new.self.items ≡ take most_entities entities = search rules in
+    let front : c.front.result.now ≡ take most_entities entities = search rules in
     subst (λ (es : List EntityState). AreListed es) (sym front) (lowest_are entities c.self.invariant.0)
