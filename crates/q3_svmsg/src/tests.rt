@@ -168,6 +168,7 @@ fn lent_parts_are_written_as_their_message(rt: HostRuntime) -> Result<(), Fail> 
     let baselines = Baselines::new(rt.alloc()).expect(&rt, "memory");
     let mut message = empty(&rt, rt.alloc());
     message.ack = 9;
+    message.commands.clear();
     message.commands.push(command(&rt, 2, b'a'));
     message.commands.push(command(&rt, 3, b'b'));
     message.section = Section::Snap {

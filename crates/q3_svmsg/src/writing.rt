@@ -8,7 +8,7 @@ ghost use Rattle.q3_text.specs.Commands.{commands_of};
 ghost use Rattle.q3_strings.specs.Commands.{commands_bits};
 ghost use Rattle.q3_entity.specs.Baselines.{Lines};
 ghost use Rattle.q3_entity.specs.Entities.{IsList};
-ghost use Rattle.q3_svmsg.specs.Values.{HasSnap, IsNamed, Message, Game, base_viewed, base_entities, distance_to, game_of, told_of, parts_told};
+ghost use Rattle.q3_svmsg.specs.Values.{HasSnap, IsNamed, Game, base_viewed, base_entities, distance_to, game_of, told_of, parts_told};
 ghost use Rattle.q3_gamestate.specs.Values.{gamestate_of};
 ghost use Rattle.q3_svmsg.specs.Texts.{head_bits, snapshot_bits, message_text};
 
