@@ -218,3 +218,16 @@ marked-fits mark count raw value few short = (
   rw (pow-add 2 count raw) (omega (arith, mul-add-lt (value % 2 ^ raw) (2 ^ count) (mark % 2 ^ count) (2 ^ raw) (mod_below value (2 ^ raw) (pow_pos raw)) (mod_below mark (2 ^ count) (pow_pos count)))),
   pow-le-pow_right {n = 2} (omega arith) {i = count + raw} {j = 14} (omega arith),
 )
+
+-- a mark and a short field, as one number
+pub short-fits : (mark count raw value words size : ℕ) → count ≤ 7 → raw < 8 → size ≤ 24 → words < 2 ^ size
+    → (words * 2 ^ (count + raw) % 2 ^ 64 ≡ words * 2 ^ (count + raw))
+    × (mark % 2 ^ count + value % 2 ^ raw * 2 ^ count + words * 2 ^ (count + raw) < 2 ^ (count + raw + size)) × (2 ^ (count + raw + size) ≤ 2 ^ 64)
+short-fits mark count raw value words size few short least fits =
+    joined-fits (count + raw) size (mark % 2 ^ count + value % 2 ^ raw * 2 ^ count) words (omega arith) (marked-fits mark count raw value few short).1 fits
+
+pub short-text : (code : List (List Bool)) (mark count width value words size : ℕ) → count ≤ 7 → low_bits size words ≡ bytes_bits code (width / 8) (value / 2 ^ (width % 8))
+    → low_bits (count + width % 8 + size) (mark % 2 ^ count + value % 2 ^ (width % 8) * 2 ^ count + words * 2 ^ (count + width % 8)) ≡ field_bits code count mark ++ field_bits code width value
+short-text code mark count width value words size few is =
+    low_bits-join (count + width % 8) size (mark % 2 ^ count + value % 2 ^ (width % 8) * 2 ^ count) words (marked-fits mark count (width % 8) value few (omega arith)).1
+    ∙ rw is (marked-put code mark count width value (omega (arith, few)))
