@@ -9,7 +9,7 @@ use Rattle.std.specs.List.{All, AllByRecursion as ByRecursion}
 use Rattle.q3_bits.specs.Bits.{low_bits, bits_of, message_bytes}
 use Rattle.q3_bits.specs.Buffer.{bits_within, writing_of, IsClear, IsWritten}
 use Rattle.q3_bits.specs.declared.writer.Writer.TheInside.{Inside}
-use Rattle.q3_bits.specs.Table.{bits_of_word, IsWord}
+use Rattle.q3_bits.specs.Table.{bits_of_word}
 use Rattle.q3_bits.specs.Words.{bytes_bits, field_bits, word_of}
 use Rattle.q3_bits.specs.declared.code.Word.{Word}
 use Rattle.q3_bits.proofs.Numbers.{low_bits-zero, low_bits-add, low_bits-join, low_bits-mod, bits_of-push, length-low_bits, length-bits_of, number_of-low_bits}
@@ -171,10 +171,15 @@ pub three-fit : (count low high raw first second : ℕ) → count + low + high �
     × (low_bits (count + low + high) (raw + first * 2 ^ count + second * 2 ^ (count + low)) ≡ low_bits count raw ++ (low_bits low first ++ low_bits high second))
 three-fit count low high raw first second few fits above higher =
     let two = joined-fits count low raw first (omega arith) fits above in
-    let all = joined-fits (count + low) high (raw + first * 2 ^ count) second (omega arith) two.1 higher in
-    (two.0, omega (arith, two.1, two.2), all.0, all.1, all.2,
-    low_bits-join (count + low) high (raw + first * 2 ^ count) second two.1
-    ∙ rw (low_bits-join count low raw first fits) (append_assoc (low_bits count raw) (low_bits low first) (low_bits high second)))
+    let all = joined-fits (count + low) high (raw + first * 2 ^ count) second (omega arith) two.1 higher in (
+      two.0,
+      omega (arith, two.1, two.2),
+      all.0,
+      all.1,
+      all.2,
+      low_bits-join (count + low) high (raw + first * 2 ^ count) second two.1
+          ∙ rw (low_bits-join count low raw first fits) (append_assoc (low_bits count raw) (low_bits low first) (low_bits high second)),
+    )
 
 -- a field is its raw bits, as a number, and the words of its bytes
 pub field_bits-put : (words : List (List Bool)) (width value : ℕ) → low_bits (width % 8) (value % 2 ^ (width % 8)) ++ bytes_bits words (width / 8) (value / 2 ^ (width % 8)) ≡ field_bits words width value

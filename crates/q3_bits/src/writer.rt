@@ -172,13 +172,7 @@ impl<'a> Writer<'a> {
     /// Writes raw bits, so many, given as the number that they spell, and behind them the words of a value's bytes, so
     /// many.
     #[inline(never)]
-    fn put_words(
-        &mut self,
-        raw: u32,
-        count: u32,
-        value: u32,
-        bytes: u32,
-    ) -> Result<(), Overflow>
+    fn put_words(&mut self, raw: u32, count: u32, value: u32, bytes: u32) -> Result<(), Overflow>
         requires few { count ≤ 14 }
         requires fits { raw < 2 ^ count }
         requires few_bytes { bytes ≤ 4 }

@@ -1,4 +1,4 @@
-use Rattle.std.proofs.Common.{◌≡◌, ◌+◌, ◌*◌, ◌%◌, ◌^◌, refl, ◌∙◌, arith}
+use Rattle.std.proofs.Common.{◌%◌, arith}
 use Rattle.std.proofs.lemmas.Nat.{one_shl}
 use Rattle.q3_bits.proofs.Written.{marked-fits, short-fits, short-text}
 use Rattle.q3_bits.proofs.writer.short_field.Goals as goal

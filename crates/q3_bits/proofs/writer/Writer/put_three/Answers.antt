@@ -1,4 +1,4 @@
-use Rattle.std.proofs.Common.{◌≡◌, ◌+◌, ◌*◌, ◌%◌, ◌^◌, ◌++◌, Bool, List, length, refl, ap, sym, ◌∙◌, inl, inr, arith}
+use Rattle.std.proofs.Common.{◌≡◌, ◌+◌, ◌*◌, ◌^◌, ◌++◌, Bool, List, length, refl, ap, ◌∙◌, inl, inr, arith}
 use Rattle.std.proofs.lemmas.Bool.{false≢true, cases_lt}
 use Rattle.std.proofs.lemmas.List.{length-append}
 use Rattle.q3_bits.specs.Bits.{low_bits, message_length}
@@ -57,5 +57,5 @@ returns c =
     let long : length (first ++ last) ≡ front.count + back.count = omega (arith, length-append first last, ap length first_is, ap length last_is, length-low_bits front.count front.bits, length-low_bits back.count back.bits) in
     let fits = joined-fits front.count back.count front.bits back.bits (omega (arith, c.if-count-gt56.false)) c.short_field-front.ensures.fits c.short_field-back.ensures.fits in
     let joined : low_bits (front.count + back.count) (front.bits + back.bits * 2 ^ front.count) ≡ first ++ last =
-        low_bits-join front.count back.count front.bits back.bits c.short_field-front.ensures.fits ∙ rw (first_is, last_is) refl in
+    low_bits-join front.count back.count front.bits back.bits c.short_field-front.ensures.fits ∙ rw (first_is, last_is) refl in
     Writes-whole s c.push.new.self (first ++ last) (λ over. omega (arith, over, c.if-not-has_room.ensures.0 refl, long)) (rw (c.push.ensures, fits.0, joined) refl)
