@@ -1,5 +1,5 @@
 -- Bits that are stored as eight bytes at once.
-use Rattle.std.proofs.Common.{◌≡◌, ℕ, zero, suc, ◌+◌, ◌-◌, ◌*◌, ◌/◌, ◌%◌, ◌^◌, ◌<◌, ◌≤◌, Bool, List, [], ◌∷◌, ◌++◌, length, get_or, take, drop, refl, sym, ap, subst, ◌∙◌, inl, inr, append_assoc, arith}
+use Rattle.std.proofs.Common.{◌≡◌, ℕ, zero, suc, ◌+◌, ◌-◌, ◌*◌, ◌/◌, ◌%◌, ◌^◌, ◌<◌, ◌≤◌, List, [], ◌∷◌, ◌++◌, length, get_or, take, drop, refl, sym, ap, subst, ◌∙◌, inl, inr, append_assoc, arith}
 use Rattle.std.proofs.lemmas.Bool.{cases_lt}
 use Rattle.std.proofs.lemmas.Nat.{shr_below, shr-shr, le_bytes_8}
 use Rattle.std.proofs.Math.Nat.{mod-eq_of_lt, pow-le-pow_right}
@@ -78,13 +78,13 @@ record Fronted (front now : List ℕ) (first rest : ℕ) : Type 0 where
 fronted-take : (front now : List ℕ) (first rest q : ℕ) → Fronted front now first rest → q ≤ 8 → take (first + q) now ≡ front ++ number_bytes q rest
 fronted-take front now first rest q f few =
     let cut : take (first + q) (front ++ number_bytes 8 rest) ≡ front ++ take q (number_bytes 8 rest) =
-        subst (λ (k : ℕ). take (k + q) (front ++ number_bytes 8 rest) ≡ front ++ take q (number_bytes 8 rest)) f.long (take-append-add front (number_bytes 8 rest) q) in
+    subst (λ (k : ℕ). take (k + q) (front ++ number_bytes 8 rest) ≡ front ++ take q (number_bytes 8 rest)) f.long (take-append-add front (number_bytes 8 rest) q) in
     sym (take-take (first + q) (first + 8) now (omega arith)) ∙ ap (take (first + q)) f.is ∙ cut ∙ ap (λ (xs : List ℕ). front ++ xs) (bytes_take 8 q rest few)
 
 fronted-get : (front now : List ℕ) (first rest j : ℕ) → Fronted front now first rest → j < 8 → get_or now (first + j) 0 ≡ get_or (number_bytes 8 rest) j 0
 fronted-get front now first rest j f few =
     let at : get_or (front ++ number_bytes 8 rest) (first + j) 0 ≡ get_or (number_bytes 8 rest) j 0 =
-        subst (λ (k : ℕ). get_or (front ++ number_bytes 8 rest) (k + j) 0 ≡ get_or (number_bytes 8 rest) j 0) f.long (get_or-append-add front (number_bytes 8 rest) j 0) in
+    subst (λ (k : ℕ). get_or (front ++ number_bytes 8 rest) (k + j) 0 ≡ get_or (number_bytes 8 rest) j 0) f.long (get_or-append-add front (number_bytes 8 rest) j 0) in
     sym (get_or-take (first + 8) now (first + j) 0 (omega arith)) ∙ ap (λ (xs : List ℕ). get_or xs (first + j) 0) f.is ∙ at
 
 -- the bits up to a place in those bytes
@@ -147,7 +147,7 @@ stored_at_once start now place bits count first rest clear fits few at room is w
     let place-is : first + q ≡ end / 8 = omega arith in
     let bit-is : r ≡ end % 8 = omega arith in
     let texts : bits_of (take first start) ++ low_bits left rest ≡ bits_within start place ++ low_bits count bits =
-        subst (λ (k : ℕ). bits_of (take k start) ++ low_bits (end - 8 * k) rest ≡ bits_within start place ++ low_bits count bits) (sym at) (rw part begun.bits) in
+    subst (λ (k : ℕ). bits_of (take k start) ++ low_bits (end - 8 * k) rest ≡ bits_within start place ++ low_bits count bits) (sym at) (rw part begun.bits) in
     record {
       stored =
           subst (λ (k : ℕ). bits_of (take k now) ++ low_bits (end % 8) (get_or now k 0) ≡ bits_within start place ++ low_bits count bits) place-is

@@ -9,7 +9,7 @@ use Rattle.std.specs.List.{All, AllByRecursion as ByRecursion}
 use Rattle.q3_bits.specs.Bits.{low_bits, bits_of, message_bytes}
 use Rattle.q3_bits.specs.Buffer.{bits_within, writing_of, IsClear, IsWritten}
 use Rattle.q3_bits.specs.declared.writer.Writer.TheInside.{Inside}
-use Rattle.q3_bits.specs.Table.{bits_of_word, IsWord}
+use Rattle.q3_bits.specs.Table.{bits_of_word}
 use Rattle.q3_bits.specs.Words.{bytes_bits, field_bits, word_of}
 use Rattle.q3_bits.specs.declared.code.Word.{Word}
 use Rattle.q3_bits.proofs.Numbers.{low_bits-zero, low_bits-add, low_bits-join, low_bits-mod, bits_of-push, length-low_bits, length-bits_of, number_of-low_bits}
@@ -171,10 +171,15 @@ pub three-fit : (count low high raw first second : ℕ) → count + low + high �
     × (low_bits (count + low + high) (raw + first * 2 ^ count + second * 2 ^ (count + low)) ≡ low_bits count raw ++ (low_bits low first ++ low_bits high second))
 three-fit count low high raw first second few fits above higher =
     let two = joined-fits count low raw first (omega arith) fits above in
-    let all = joined-fits (count + low) high (raw + first * 2 ^ count) second (omega arith) two.1 higher in
-    (two.0, omega (arith, two.1, two.2), all.0, all.1, all.2,
-    low_bits-join (count + low) high (raw + first * 2 ^ count) second two.1
-    ∙ rw (low_bits-join count low raw first fits) (append_assoc (low_bits count raw) (low_bits low first) (low_bits high second)))
+    let all = joined-fits (count + low) high (raw + first * 2 ^ count) second (omega arith) two.1 higher in (
+      two.0,
+      omega (arith, two.1, two.2),
+      all.0,
+      all.1,
+      all.2,
+      low_bits-join (count + low) high (raw + first * 2 ^ count) second two.1
+          ∙ rw (low_bits-join count low raw first fits) (append_assoc (low_bits count raw) (low_bits low first) (low_bits high second)),
+    )
 
 -- a field is its raw bits, as a number, and the words of its bytes
 pub field_bits-put : (words : List (List Bool)) (width value : ℕ) → low_bits (width % 8) (value % 2 ^ (width % 8)) ++ bytes_bits words (width / 8) (value / 2 ^ (width % 8)) ≡ field_bits words width value
@@ -218,3 +223,16 @@ marked-fits mark count raw value few short = (
   rw (pow-add 2 count raw) (omega (arith, mul-add-lt (value % 2 ^ raw) (2 ^ count) (mark % 2 ^ count) (2 ^ raw) (mod_below value (2 ^ raw) (pow_pos raw)) (mod_below mark (2 ^ count) (pow_pos count)))),
   pow-le-pow_right {n = 2} (omega arith) {i = count + raw} {j = 14} (omega arith),
 )
+
+-- a mark and a short field, as one number
+pub short-fits : (mark count raw value words size : ℕ) → count ≤ 7 → raw < 8 → size ≤ 24 → words < 2 ^ size
+    → (words * 2 ^ (count + raw) % 2 ^ 64 ≡ words * 2 ^ (count + raw))
+    × (mark % 2 ^ count + value % 2 ^ raw * 2 ^ count + words * 2 ^ (count + raw) < 2 ^ (count + raw + size)) × (2 ^ (count + raw + size) ≤ 2 ^ 64)
+short-fits mark count raw value words size few short least fits =
+    joined-fits (count + raw) size (mark % 2 ^ count + value % 2 ^ raw * 2 ^ count) words (omega arith) (marked-fits mark count raw value few short).1 fits
+
+pub short-text : (code : List (List Bool)) (mark count width value words size : ℕ) → count ≤ 7 → low_bits size words ≡ bytes_bits code (width / 8) (value / 2 ^ (width % 8))
+    → low_bits (count + width % 8 + size) (mark % 2 ^ count + value % 2 ^ (width % 8) * 2 ^ count + words * 2 ^ (count + width % 8)) ≡ field_bits code count mark ++ field_bits code width value
+short-text code mark count width value words size few is =
+    low_bits-join (count + width % 8) size (mark % 2 ^ count + value % 2 ^ (width % 8) * 2 ^ count) words (marked-fits mark count (width % 8) value few (omega arith)).1
+    ∙ rw is (marked-put code mark count width value (omega (arith, few)))

@@ -105,6 +105,56 @@ impl<'a> Writer<'a> {
         self.put_words(bits, count + raw, value >> raw, width / 8)
     }
 
+    /// Writes a field, a mark of up to 7 bits behind it, and another field behind that, each a value and its width, as
+    /// `put` writes them: at once where 56 bits are enough. The fields have at most 15 bits.
+    /// `Overflow` comes exactly where the message would be longer than its room; a front of the three then stands there.
+    pub fn put_three(
+        &mut self,
+        first: (u32, u32),
+        mark: (u32, u32),
+        last: (u32, u32),
+    ) -> Result<(), Overflow>
+        requires some { 1 ≤ first.1 }
+        requires most { first.1 ≤ 15 }
+        requires short { mark.1 ≤ 7 }
+        requires some_last { 1 ≤ last.1 }
+        requires most_last { last.1 ≤ 15 }
+        ensures { Writes self.old self.new (field_bits self.old.words first.1 first.0 ++ (field_bits self.old.words mark.1 mark.0 ++ field_bits self.old.words last.1 last.0)) result }
+    {
+        let front = short_field(self.code, (0, 0), first);
+        let back = short_field(self.code, mark, last);
+        let count = front.count + back.count;
+        if count > 56 {
+            return self.put_apart(first, mark, last);
+        }
+        if !self.has_room(count) {
+            return Err(Overflow);
+        }
+        let bits = front.bits + (back.bits << front.count);
+        self.push(bits, count);
+        Ok(())
+    }
+
+    /// The same, one behind the other.
+    #[cold]
+    #[inline(never)]
+    fn put_apart(
+        &mut self,
+        first: (u32, u32),
+        mark: (u32, u32),
+        last: (u32, u32),
+    ) -> Result<(), Overflow>
+        requires some { 1 ≤ first.1 }
+        requires most { first.1 ≤ 15 }
+        requires short { mark.1 ≤ 7 }
+        requires some_last { 1 ≤ last.1 }
+        requires most_last { last.1 ≤ 15 }
+        ensures { Writes self.old self.new (field_bits self.old.words first.1 first.0 ++ (field_bits self.old.words mark.1 mark.0 ++ field_bits self.old.words last.1 last.0)) result }
+    {
+        self.put(first.0, first.1)?;
+        self.put_marked(mark.0, mark.1, last.0, last.1)
+    }
+
     /// Writes raw bits, so many, given as the number that they spell.
     fn put_bits(&mut self, bits: u32, count: u32) -> Result<(), Overflow>
         requires few { count ≤ 7 }
@@ -122,13 +172,7 @@ impl<'a> Writer<'a> {
     /// Writes raw bits, so many, given as the number that they spell, and behind them the words of a value's bytes, so
     /// many.
     #[inline(never)]
-    fn put_words(
-        &mut self,
-        raw: u32,
-        count: u32,
-        value: u32,
-        bytes: u32,
-    ) -> Result<(), Overflow>
+    fn put_words(&mut self, raw: u32, count: u32, value: u32, bytes: u32) -> Result<(), Overflow>
         requires few { count ≤ 14 }
         requires fits { raw < 2 ^ count }
         requires few_bytes { bytes ≤ 4 }
@@ -269,6 +313,25 @@ fn gather(code: &Code, value: u32, count: u32) -> Gathered
         };
     }
     two_words(low, code.word((value / 256 % 256) as u8))
+}
+
+/// A mark of up to 7 bits, and a field of at most 15 behind it, each a value and its width.
+fn short_field(code: &Code, mark: (u32, u32), field: (u32, u32)) -> Gathered
+    requires short { mark.1 ≤ 7 }
+    requires most { field.1 ≤ 15 }
+    ensures text { low_bits result.count result.bits ≡ field_bits code.now mark.1 mark.0 ++ field_bits code.now field.1 field.0 }
+    ensures fits { result.bits < 2 ^ result.count }
+    ensures few { result.count ≤ 38 }
+{
+    let raw = field.1 % 8;
+    let low = mark.0 % (1 << mark.1) + ((field.0 % (1 << raw)) << mark.1);
+    let words = gather(code, field.0 >> raw, field.1 / 8);
+    let count = mark.1 + raw;
+    let bits = u64::from(low) + (words.bits << count);
+    Gathered {
+        bits,
+        count: count + words.count,
+    }
 }
 
 /// Two words, one behind the other.

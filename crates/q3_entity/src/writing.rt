@@ -7,7 +7,7 @@ ghost use Rattle.q3_entity.specs.Changed.{changed_delta};
 
 use crate::state::EntityState;
 use q3_bits::{Overflow, Writer, laws};
-use q3_fields::{StateKind, Table, changed_count, write_marked_counted};
+use q3_fields::{StateKind, Table, changed_count, write_numbered};
 
 /// The marks of an entity that is there and didn't change, and of one that did: first a bit for its removal, then one for
 /// a change.
@@ -52,13 +52,10 @@ fn write_changed(
     requires few { count ≤ 64 }
     ensures { Writes w.old w.new (changed_delta w.old.words table.now count from.now to.now) result }
 {
-    laws::texts_are_written();
-    w.put(u32::from(to.number), table.number_bits())?;
-    // the marks go with the count that stands behind them
-    write_marked_counted(
+    write_numbered(
         w,
-        CHANGED,
-        2,
+        (u32::from(to.number), table.number_bits()),
+        (CHANGED, 2),
         StateKind::Entity,
         table,
         count,

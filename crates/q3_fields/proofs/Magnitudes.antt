@@ -131,6 +131,18 @@ magnitude-below m some most =
     let h = magnitude-parts m some most in
     (omega (arith, h.is, h.few, h.small), omega (arith, h.is, h.few, h.small))
 
+-- its lowest bits are 0
+moved-low : (m p : ℕ) → m * (2048 * p) ≡ 2048 * (m * p)
+moved-low m p = omega arith
+
+pub magnitude-low : (m : ℕ) → 1 ≤ m → m ≤ 4096 → magnitude m % 2048 ≡ 0
+magnitude-low m some most =
+    let h = magnitude-parts m some most in
+    let all : 11 + (12 - h.exponent) ≡ 23 - h.exponent = omega (arith, h.few) in
+    let power : 2 ^ (23 - h.exponent) ≡ 2048 * 2 ^ (12 - h.exponent) = ap (λ n. 2 ^ n) (sym all) ∙ pow-add 2 11 (12 - h.exponent) in
+    let whole : 2 ^ 23 + h.fraction ≡ 2048 * (m * 2 ^ (12 - h.exponent)) = h.whole ∙ ap (λ n. m * n) power ∙ moved-low m (2 ^ (12 - h.exponent)) in
+    omega (arith, h.is, whole)
+
 -- a magnitude as shifts make it
 pub magnitude-shifted : (m e : ℕ) → 1 ≤ m → m ≤ 4096 → e ≡ exponent_up_to 12 m
     → ((127 + e) * 8388608) % 4294967296 + ((m - (1 * 2 ^ e) % 4294967296) * 2 ^ (23 - e)) % 4294967296 ≡ magnitude m

@@ -6,7 +6,7 @@ use Rattle.std.proofs.lemmas.Int.{ints}
 use Rattle.q3_fields.specs.Floats.{magnitude, pattern, small_numbers, small_float}
 use Rattle.q3_fields.specs.Texts.{biased, unbiased}
 use Rattle.q3_fields.specs.Laws.{IsSmall}
-use Rattle.q3_fields.proofs.Magnitudes.{magnitude-leading, magnitude-below}
+use Rattle.q3_fields.proofs.Magnitudes.{magnitude-leading, magnitude-below, magnitude-low}
 
 -- ---- patterns
 
@@ -45,6 +45,13 @@ unfolding pattern
 pattern-no_negative_zero (pos zero) h e = absurd (omega arith)
 pattern-no_negative_zero (pos (suc k)) h e = absurd (omega (arith, (magnitude-below (k + 1) (omega arith) (positive-small k h)).1))
 pattern-no_negative_zero (negsuc k) h e = absurd (omega (arith, (magnitude-below (k + 1) (omega arith) (negative-small k h)).0))
+
+-- the lowest bits of a pattern are 0
+pattern-low : (k : ℤ) → IsSmall k → pattern k % 2048 ≡ 0
+unfolding pattern
+pattern-low (pos zero) h = refl
+pattern-low (pos (suc k)) h = magnitude-low (k + 1) (omega arith) (positive-small k h)
+pattern-low (negsuc k) h = omega (arith, magnitude-low (k + 1) (omega arith) (negative-small k h))
 
 -- a pattern is a word
 pub pattern-fits : (k : ℤ) → IsSmall k → pattern k < 4294967296
@@ -147,6 +154,13 @@ small_float-only word k other only differs = go (small_float word) refl
         let found = small_float-some word j other e in
         absurd (differs (ap pattern (sym (only j found.0 found.1)) ∙ found.1))
     go None e = e
+
+-- a float whose lowest bits aren't 0 isn't small
+pub small_float_low : (word : ℕ) → word % 2048 ≢ 0 → small_float word ≡ None
+unfolding pattern
+small_float_low word some =
+    small_float-only word (pos zero) (λ e. some (ap (λ (w : ℕ). w % 2048) e)) (λ j h e. absurd (some (ap (λ (w : ℕ). w % 2048) (sym e) ∙ pattern-low j h)))
+    (λ e. some (ap (λ (w : ℕ). w % 2048) (sym e)))
 
 -- a negative zero is 0
 pub small_float-negative_zero : small_float 2147483648 ≡ Some (pos 0)

@@ -132,28 +132,32 @@ pub fn write_counted(
     requires few { count ≤ 64 }
     ensures { Writes w.old w.new (counted_text state w.old.words table.now.kinds count from.now to.now) result }
 {
-    laws::marks_are_joined();
-    write_marked_counted(w, 0, 0, state, table, count, from, to)
+    laws::texts_are_written();
+    w.put(count as u32, 8)?;
+    write_fields(w, state, table, count, from, to)
 }
 
-/// Writes a mark of up to 7 bits, and behind it what `write_counted` does.
-pub fn write_marked_counted(
+/// Writes a number and a mark of up to 7 bits, each a value and its width, and behind them what `write_counted` does.
+/// The number has at most 15 bits.
+pub fn write_numbered(
     w: &mut Writer,
-    mark: u32,
-    bits: u32,
+    number: (u32, u32),
+    mark: (u32, u32),
     state: StateKind,
     table: &Table,
     count: usize,
     from: &[u32; 64],
     to: &[u32; 64],
 ) -> Result<(), Overflow>
-    requires short { bits ≤ 7 }
+    requires some { 1 ≤ number.1 }
+    requires most { number.1 ≤ 15 }
+    requires short { mark.1 ≤ 7 }
     requires in_table { count ≤ length table.now.kinds }
     requires few { count ≤ 64 }
-    ensures { Writes w.old w.new (field_bits w.old.words bits mark ++ counted_text state w.old.words table.now.kinds count from.now to.now) result }
+    ensures { Writes w.old w.new (field_bits w.old.words number.1 number.0 ++ (field_bits w.old.words mark.1 mark.0 ++ counted_text state w.old.words table.now.kinds count from.now to.now)) result }
 {
     laws::texts_are_written();
-    w.put_marked(mark, bits, count as u32, 8)?;
+    w.put_three(number, mark, (count as u32, 8))?;
     write_fields(w, state, table, count, from, to)
 }
 

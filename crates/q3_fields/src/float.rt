@@ -22,11 +22,16 @@ pub fn pattern_of(k: i32) -> u32
 }
 
 /// The whole number from -4096 to 4095 whose pattern a word is. Negative zero is 0.
+#[tactic(auto, using(crate::proofs::SmallFloats::small_float_low))]
 pub fn small_of(word: u32) -> Option<i32>
     ensures { result ≡ small_float word }
 {
     if word == 1 << 31 {
         return Some(0);
+    }
+    // most floats that aren't small differ from these in the bits far behind the point
+    if word % (1 << 11) != 0 {
+        return None;
     }
     let k = nearest(word);
     if pattern_of(k) != word {

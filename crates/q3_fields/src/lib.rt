@@ -11,7 +11,7 @@ pub mod writing;
 
 pub use delta::{
     DeltaError, StateKind, agree, changed_count, normalize, read_counted, write_counted,
-    write_marked_counted,
+    write_numbered,
 };
 pub use float::{pattern_of, small_of};
 pub use kind::{Kind, norm};

@@ -3,7 +3,6 @@ use Rattle.std.proofs.lemmas.List.{take-append-drop, take_rest, length-take-le}
 use Rattle.std.proofs.lemmas.Result.{err_from_is_err_and}
 use Rattle.q3_entity.specs.Entities.{most_entities}
 use Rattle.q3_entity.specs.Walking.{kept_below}
-use Rattle.q3_entity.specs.declared.error.EntityError.{EntityError}
 use Rattle.q3_entity.proofs.Numbers.{kept_below-fits, kept_below-many, refused}
 use Rattle.q3_entity.proofs.list_reading.keep_front.Goals as goal
 
@@ -19,9 +18,9 @@ returns-in_err-end-clause-many c =
     let few : length first ≤ most_entities = omega (arith, long, c.requires, c.in_err-end.ensures.fits) in
     let more : most_entities < length first + length (take below part) = omega (arith, long, many.1) in
     rw (p.1, p.2) (λ behind.
-      let parts = ap (λ xs. xs ++ behind) (sym (take-append-drop below part)) ∙ append_assoc (take below part) (drop below part) behind in
-      ap (kept_below number first) parts ∙ kept_below-many number first (take below part) (drop below part ++ behind) c.count_below-below.ensures.below few more
-      ∙ refused many.0)
+    let parts = ap (λ xs. xs ++ behind) (sym (take-append-drop below part)) ∙ append_assoc (take below part) (drop below part) behind in
+    ap (kept_below number first) parts ∙ kept_below-many number first (take below part) (drop below part ++ behind) c.count_below-below.ensures.below few more
+    ∙ refused many.0)
 
 pub returns-clause-kept : goal.returns-clause-kept
 returns-clause-kept c =

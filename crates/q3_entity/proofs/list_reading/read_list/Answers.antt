@@ -1,4 +1,4 @@
-use Rattle.std.proofs.Common.{◌≡◌, ◌^◌, List, [], take, refl, sym, ap, ◌∙◌, arith}
+use Rattle.std.proofs.Common.{◌^◌, [], take, refl, sym, ◌∙◌, arith}
 use Rattle.std.proofs.lemmas.Result.{err_from_is_err_and}
 use Rattle.q3_entity.specs.Entities.{run_of}
 use Rattle.q3_entity.proofs.Turns.{list_begun, list_refused, list_goes_on, list_stops, list_ends, next_rises, turn_rises}

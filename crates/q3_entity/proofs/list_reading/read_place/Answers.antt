@@ -1,4 +1,4 @@
-use Rattle.std.proofs.Common.{◌≡◌, ◌≤◌, set, take, refl, sym, arith}
+use Rattle.std.proofs.Common.{set, take, arith}
 use Rattle.std.proofs.lemmas.List.{length-take-le, take-set, take_more_set}
 use Rattle.std.proofs.lemmas.Result.{err_from_is_err_and}
 use Rattle.q3_entity.proofs.Turns.{entry_counted, entry_refused}

@@ -1,4 +1,4 @@
-use Rattle.std.proofs.Common.{◌≡◌, ◌<◌, ◌+◌, ◌*◌, ◌^◌, ℕ, ◌++◌, ℤ, Bool, List, Option, Some, None, refl, sym, ap, subst, ◌∙◌, append_assoc, arith}
+use Rattle.std.proofs.Common.{◌≡◌, ◌+◌, ◌*◌, ◌^◌, ℕ, ◌++◌, ℤ, Bool, List, Option, Some, None, refl, sym, ap, subst, ◌∙◌, append_assoc, arith}
 use Rattle.std.specs.Prelude.{option_map}
 use Rattle.std.proofs.lemmas.Nat.{one_shl}
 use Rattle.q3_bits.specs.Words.{field_bits}
@@ -29,7 +29,7 @@ returns-in_default c =
     let one : mark + 1 * 2 ^ count ≡ mark + 2 ^ count = omega arith in
     let both = c.marks_are_joined.ensures.join words count 1 mark 1 (omega (arith, c.requires.few)) c.requires.fits in
     let text = joined (field_bits words count mark) (field_bits words 1 1) (field_bits words 32 c.args.word) (field_bits words (count + 1) (mark + 1 * 2 ^ count)) both
-        ∙ ap (λ (x : List Bool). field_bits words count mark ++ x) (in_full words c.args.word (small_float c.args.word) (sym c.in_default.is ∙ c.carried_in_13.ensures)) in
+    ∙ ap (λ (x : List Bool). field_bits words count mark ++ x) (in_full words c.args.word (small_float c.args.word) (sym c.in_default.is ∙ c.carried_in_13.ensures)) in
     let writes = rw (shift, ← one) at c.put_marked.ensures.writes in
     subst (λ (x : List Bool). Writes c.args.w.now c.put_marked.new.self x c.put_marked.result) text writes
 
@@ -41,5 +41,5 @@ returns c =
     let same : mark + 0 * 2 ^ count ≡ mark = omega arith in
     let both = c.marks_are_joined.ensures.join words count 1 mark 0 (omega (arith, c.requires.few)) c.requires.fits in
     let text = joined (field_bits words count mark) (field_bits words 1 0) (field_bits words 13 c.in-Some.carried) (field_bits words (count + 1) mark) (rw same at both)
-        ∙ ap (λ (x : List Bool). field_bits words count mark ++ x) (in_13 words c.args.word c.in-Some.carried (small_float c.args.word) (sym c.in-Some.is ∙ c.carried_in_13.ensures)) in
+    ∙ ap (λ (x : List Bool). field_bits words count mark ++ x) (in_13 words c.args.word c.in-Some.carried (small_float c.args.word) (sym c.in-Some.is ∙ c.carried_in_13.ensures)) in
     subst (λ (x : List Bool). Writes c.args.w.now c.put_marked-2.new.self x c.put_marked-2.result) text c.put_marked-2.ensures.writes

@@ -1,4 +1,3 @@
-use Rattle.std.proofs.Common.{◌++◌}
 use Rattle.q3_fields.proofs.writing.write_player_field.Goals as goal
 
 pub returns : goal.returns

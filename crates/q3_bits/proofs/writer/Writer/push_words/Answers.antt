@@ -29,5 +29,5 @@ returns-then-front-high-le56 c =
     let high = c.args.high in
     let fits = three-fit c.args.count low.count high.count c.args.raw low.bits high.bits c.if-front-high-le56.true c.requires.fits c.requires.low_fits c.requires.high_fits in
     let number : c.from.result + low.bits * 2 ^ c.args.count % 18446744073709551616 + high.bits * 2 ^ (c.args.count + low.count) % 18446744073709551616
-        ≡ c.args.raw + low.bits * 2 ^ c.args.count + high.bits * 2 ^ (c.args.count + low.count) = omega (arith, c.from.ensures, fits.0, fits.2) in
+    ≡ c.args.raw + low.bits * 2 ^ c.args.count + high.bits * 2 ^ (c.args.count + low.count) = omega (arith, c.from.ensures, fits.0, fits.2) in
     rw (c.push.ensures, number, fits.5) refl

@@ -1,4 +1,4 @@
-use Rattle.std.proofs.Common.{◌≡◌, ◌%◌, ◌+◌, ◌*◌, ◌^◌, Bool, List, subst, arith}
+use Rattle.std.proofs.Common.{◌%◌, Bool, List, subst, arith}
 use Rattle.std.proofs.lemmas.Nat.{one_shl}
 use Rattle.q3_bits.specs.Streams.{Writes}
 use Rattle.q3_bits.proofs.Written.{marked-put, marked-fits}

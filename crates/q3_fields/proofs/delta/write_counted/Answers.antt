@@ -1,5 +1,0 @@
-use Rattle.std.proofs.Common.{◌++◌}
-use Rattle.q3_fields.proofs.delta.write_counted.Goals as goal
-
-pub returns : goal.returns
-returns c = rw (c.marks_are_joined.ensures.none c.args.w.now.words 0) at c.write_marked_counted.ensures
