@@ -53,17 +53,6 @@ impl<'a> Ahead<'a> {
         if self.taken <= 39 {
             return self;
         }
-        self.gathered_anew()
-    }
-
-    /// The same, gathered from the next bit on.
-    #[cold]
-    #[inline(never)]
-    fn gathered_anew(self) -> Ahead<'a>
-        ensures bits { bits_ahead result ≡ bits_ahead self.entry }
-        ensures bytes { length result.bytes.now ≤ length self.entry.bytes.now }
-        ensures ready { result.taken ≤ 39 }
-    {
         Ahead::of(self.rest())
     }
 

@@ -112,20 +112,6 @@ fn byte_from<'a>(code: &Code, ahead: Ahead<'a>) -> Result<(u8, Ahead<'a>), ReadE
     if short > 0 && ready.has(short) {
         return Ok((entry.byte, ready.skip(short)));
     }
-    long_byte_from(code, ready)
-}
-
-/// The same, word by word.
-#[cold]
-#[inline(never)]
-fn long_byte_from<'a>(code: &Code, ready: Ahead<'a>) -> Result<(u8, Ahead<'a>), ReadError>
-    requires { ready.taken ≤ 39 }
-    ensures byte { found_ahead result ≡ byte_at code.now (bits_ahead ready.entry) }
-    ensures bytes { IfOk result (λ found. length found.1.bytes.now ≤ length ready.entry.bytes.now) }
-    ensures near { IfOk result (λ found. length (bits_ahead ready.entry) ≤ length (bits_ahead found.1) + 24) }
-    ensures small { IfOk result (λ found. found.0 < 256) }
-{
-    let window = ready.window();
     let count = ready.count();
     match code.search(window, count) {
         Some((byte, length)) => Ok((byte, ready.skip(u32::from(length)))),
