@@ -4,7 +4,8 @@ ghost use Rattle.std.specs.Prelude.{◌≡◌, ◌≤◌, length, IfOk};
 ghost use Rattle.std.specs.Vec.{vec_len};
 
 use crate::{
-    Datagram, Gathered, Gatherer, NoQport, SEQUENCE_END, Sender, Side, qport_of, scramble,
+    Datagram, Gathered, Gatherer, NoQport, SEQUENCE_END, Sender, Side, client_start, qport_of,
+    scramble, server_start,
 };
 use q3_text::Text;
 use std::alloc::{AllocError, Global};

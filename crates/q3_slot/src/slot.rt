@@ -333,13 +333,13 @@ fn build(frames: &mut Frames, slot: u8, head: &SnapHead, entities: &[EntityState
 
 /// Writes a snapshot, whose entities lie in the map, against the base of a slot's client, if its delta number names one.
 /// Answers the base's number, 0 for none, and the message's length. `Overflow` comes exactly where that is more than 16,384.
-fn write_against(
+fn write_against<'a>(
     frames: &Frames,
     slot: u8,
     delta: u32,
     profile: &Profile,
-    head: &SnapHead,
-    entities: &[EntityState],
+    head: &'a SnapHead,
+    entities: &'a [EntityState],
     baselines: &Baselines,
     buffer: &mut [u8],
 ) -> Result<(u32, usize), Overflow>
