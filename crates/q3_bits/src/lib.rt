@@ -4,6 +4,7 @@
 mod ahead;
 pub mod code;
 pub mod laws;
+mod lengths;
 pub mod reader;
 mod rest;
 pub mod words;
@@ -92,6 +93,18 @@ mod tests {
         assert_eq!(rt; writer.put(1, 1), Err(Overflow));
         assert_eq!(rt; writer.length(), 1);
         assert_eq!(rt; writer.bytes(), [0x5a].as_slice());
+        Ok(())
+    }
+
+    #[test]
+    fn rows_are_measured(rt: HostRuntime) -> Result<(), Fail> {
+        let plain = Code::plain(rt.alloc())?;
+        assert_eq!(rt; plain.row_length(&[]), 0);
+        assert_eq!(rt; plain.row_length(&[(5, 32), (0, 1), (9, 10)]), 43);
+        // the words of 0, 1 and 255 have 1, 2 and 24 bits
+        let long = code_of(rt.alloc(), &long_texts(rt.alloc())?).expect(&rt, "a code");
+        assert_eq!(rt; long.row_length(&[(0x00ff_0001, 32)]), 28);
+        assert_eq!(rt; long.row_length(&[(0x1fe03, 17), (1, 8)]), 29);
         Ok(())
     }
 

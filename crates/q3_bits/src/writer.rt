@@ -290,13 +290,13 @@ impl<'a> Writer<'a> {
 
 /// Bits, so many, given as the number that they spell.
 #[derive(Clone, Copy)]
-struct Gathered {
-    bits: u64,
-    count: u32,
+pub(crate) struct Gathered {
+    pub(crate) bits: u64,
+    pub(crate) count: u32,
 }
 
 /// The words of a value's bytes, up to two, least byte first.
-fn gather(code: &Code, value: u32, count: u32) -> Gathered
+pub(crate) fn gather(code: &Code, value: u32, count: u32) -> Gathered
     requires { count ≤ 2 }
     ensures words { low_bits result.count result.bits ≡ bytes_bits code.now count value }
     ensures fits { result.bits < 2 ^ result.count }

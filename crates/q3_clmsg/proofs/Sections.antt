@@ -1,8 +1,6 @@
 -- The text of a message's moves.
-use Rattle.std.proofs.Common.{◌≡◌, ◌<◌, ◌%◌, ℕ, Bool, List, [], ◌∷◌, ◌++◌, length, refl, arith}
-use Rattle.std.proofs.Math.Nat.{div-one, mod-mod}
-use Rattle.q3_bits.specs.Bits.{low_bits}
-use Rattle.q3_bits.specs.Words.{bytes_bits, field_bits, row_bits}
+use Rattle.std.proofs.Common.{◌≡◌, ◌<◌, ℕ, Bool, List, [], ◌∷◌, ◌++◌, length, refl, arith}
+use Rattle.q3_bits.specs.Words.{row_bits}
 use Rattle.q3_clmsg.specs.declared.moves.Move.{Move}
 use Rattle.q3_clmsg.specs.Moves.{no_move, moves_bits}
 use Rattle.q3_clmsg.specs.Texts.{move_operation, section_bits}
@@ -12,14 +10,9 @@ pub section_none : (words : List (List Bool)) (key : ℕ) (delta : Bool) (moves 
 section_none words key delta [] none = refl
 section_none words key delta (one ∷ moves) none = absurd (omega (arith, none))
 
--- a byte holds a number's lowest eight bits
-pub byte_cut : (words : List (List Bool)) (value : ℕ) → field_bits words 8 (value % 256) ≡ field_bits words 8 value
-unfolding field_bits bytes_bits low_bits
-byte_cut words value = rw (div-one (value % 256), div-one value, mod-mod value 256) refl
-
--- with some it is the operation, how many they are as a byte, and their deltas
+-- with some it is the operation, how many they are, and their deltas
 pub section_some : (words : List (List Bool)) (key : ℕ) (delta : Bool) (moves : List Move) → 0 < length moves
-    → section_bits words key delta moves ≡ row_bits words ((move_operation delta, 8) ∷ (length moves % 256, 8) ∷ []) ++ moves_bits words key no_move moves
+    → section_bits words key delta moves ≡ row_bits words ((move_operation delta, 8) ∷ (length moves, 8) ∷ []) ++ moves_bits words key no_move moves
 unfolding row_bits
 section_some words key delta [] some = absurd (omega (arith, some))
-section_some words key delta (one ∷ moves) some = rw (byte_cut words (length (one ∷ moves))) refl
+section_some words key delta (one ∷ moves) some = refl

@@ -29,7 +29,8 @@ pub fn write_client_message(
     write_said(code, parts_of(message), key, into)
 }
 
-/// Writes a message whose parts are lent, as `write_client_message` writes one. A server reads at most 32 moves.
+/// Writes a message whose parts are lent, as `write_client_message` writes one. It has at most 32 moves, as many as a server
+/// reads.
 pub fn write_said(
     code: &Code,
     parts: SaidParts,
@@ -38,6 +39,7 @@ pub fn write_said(
 ) -> Result<usize, Overflow>
     requires some { 1 ≤ length into.old }
     requires most { length into.old ≤ 16384 }
+    requires few { length parts.moves.now ≤ 32 }
     ensures { Fills into.old into.new (client_text code.now key (parts_said parts.entry)) result }
 {
     let mut w = Writer::new(code, into.len());
@@ -47,7 +49,8 @@ pub fn write_said(
 
 /// The parts of a message; its commands are one piece.
 fn parts_of(message: &ClientMessage) -> SaidParts<'_>
-    ensures { parts_said result ≡ said_of message.now }
+    ensures few { length result.moves.now ≤ 32 }
+    ensures parts { parts_said result ≡ said_of message.now }
 {
     SaidParts {
         id: message.id,
@@ -65,6 +68,7 @@ fn parts_of(message: &ClientMessage) -> SaidParts<'_>
 /// Writes the three longs, the commands, the moves, and the end.
 #[tactic(auto, unfolding(crate::specs::Texts::client_text))]
 fn write_message(w: &mut Writer, parts: SaidParts, key: u32) -> Result<(), Overflow>
+    requires few { length parts.moves.now ≤ 32 }
     ensures { Writes w.old w.new (client_text w.old.words key (parts_said parts.entry)) result }
 {
     laws::texts_are_written();
@@ -80,6 +84,7 @@ fn write_message(w: &mut Writer, parts: SaidParts, key: u32) -> Result<(), Overf
 
 /// Writes the moves, and before them their operation and how many they are; nothing where there are none.
 fn write_section(w: &mut Writer, key: u32, delta: bool, moves: &[Move]) -> Result<(), Overflow>
+    requires few { length moves.now ≤ 32 }
     ensures { Writes w.old w.new (section_bits w.old.words key delta moves.now) result }
 {
     laws::texts_are_written();
@@ -88,8 +93,7 @@ fn write_section(w: &mut Writer, key: u32, delta: bool, moves: &[Move]) -> Resul
     if moves.is_empty() {
         return Ok(());
     }
-    // how many they are is one byte
-    let count = (moves.len() % 256) as u32;
+    let count = moves.len() as u32;
     w.put_all(&[(operation_of(delta), 8), (count, 8)])?;
     write_moves(w, key, moves)
 }

@@ -15,6 +15,7 @@ use Rattle.q3_svmsg.specs.declared.message.Section.{Section}
 use Rattle.q3_svmsg.specs.declared.message.Section.TheVariants as sections
 use Rattle.q3_svmsg.specs.declared.message.ServerMessage.{ServerMessage}
 use Rattle.q3_svmsg.specs.declared.message.SnapParts.{SnapParts}
+use Rattle.q3_svmsg.specs.declared.message.GameParts.{GameParts}
 use Rattle.q3_svmsg.specs.declared.bases.BaseView.{BaseView}
 
 -- what a snapshot is written against
@@ -79,6 +80,14 @@ parts_told parts = record {
   ack = parts.ack;
   commands = commands_of parts.commands;
   section = Snap parts.base parts.head.now parts.entities.now;
+}
+
+-- and what those of a gamestate say
+abbrev pub game_told : GameParts → Message
+game_told parts = record {
+  ack = parts.ack;
+  commands = commands_of parts.commands;
+  section = Game (gamestate_of parts.numbers parts.configs.now parts.baselines.now);
 }
 
 -- the entities of a snapshot, where there is one, are a list

@@ -6,7 +6,7 @@ use arrayvec::ArrayVec;
 use q3_bits::NoMemory;
 use q3_config::Configs;
 use q3_entity::{Baselines, EntityState, List};
-use q3_gamestate::BigString;
+use q3_gamestate::{BigString, Numbers};
 use q3_player::SnapHead;
 use q3_text::{Command, CommandRun};
 use std::alloc::Global;
@@ -55,6 +55,17 @@ pub struct SnapParts<'a> {
     pub base: u32,
     pub head: &'a SnapHead,
     pub entities: &'a [EntityState],
+}
+
+/// A message with a gamestate, its parts lent by those who keep them: the number of the last client command executed, the
+/// commands, the gamestate's numbers, the config strings, and the baselines.
+#[derive(Clone, Copy)]
+pub struct GameParts<'a> {
+    pub ack: u32,
+    pub commands: CommandRun<'a>,
+    pub numbers: Numbers,
+    pub configs: &'a Configs,
+    pub baselines: &'a Baselines,
 }
 
 impl ServerMessage {

@@ -6,14 +6,13 @@ ghost use Rattle.q3_bits.specs.Streams.{Writes, Fills};
 ghost use Rattle.q3_bits.specs.Words.{row_bits};
 ghost use Rattle.q3_text.specs.Commands.{commands_of};
 ghost use Rattle.q3_strings.specs.Commands.{commands_bits};
-ghost use Rattle.q3_entity.specs.Baselines.{Lines};
+ghost use Rattle.q3_entity.specs.Baselines.{Lines, no_lines};
 ghost use Rattle.q3_entity.specs.Entities.{IsList};
-ghost use Rattle.q3_svmsg.specs.Values.{HasSnap, IsNamed, Game, base_viewed, base_entities, distance_to, game_of, told_of, parts_told};
-ghost use Rattle.q3_gamestate.specs.Values.{gamestate_of};
+ghost use Rattle.q3_svmsg.specs.Values.{HasSnap, IsNamed, Game, base_viewed, base_entities, distance_to, game_of, told_of, parts_told, game_told};
 ghost use Rattle.q3_svmsg.specs.Texts.{head_bits, snapshot_bits, message_text};
 
 use crate::bases::{BaseView, base_or};
-use crate::message::{Section, ServerMessage, SnapParts};
+use crate::message::{GameParts, Section, ServerMessage, SnapParts};
 use crate::operations::{SERVER_COMMAND, SNAPSHOT};
 use q3_bits::{Overflow, Writer, laws};
 use q3_entity::{Baselines, EntityState, write_list};
@@ -85,18 +84,48 @@ pub fn write_game(
     requires most { length into.old ≤ 16384 }
     ensures { (lines : Lines) → Fills into.old into.new (message_text profile.now lines None (told_of message.now)) result }
 {
-    fill_game(profile, message, into)
+    write_game_parts(profile, game_parts_of(message), into)
+}
+
+/// Writes a message with a gamestate whose parts are lent, as `write_game` writes one.
+pub fn write_game_parts(
+    profile: &Profile,
+    parts: GameParts,
+    into: &mut [u8],
+) -> Result<usize, Overflow>
+    requires some { 1 ≤ length into.old }
+    requires most { length into.old ≤ 16384 }
+    ensures { (lines : Lines) → Fills into.old into.new (message_text profile.now lines None (game_told parts.entry)) result }
+{
+    fill_game(profile, parts, into)
 }
 
 /// Writes a message with its gamestate to the front of a buffer.
-fn fill_game(profile: &Profile, message: &ServerMessage, into: &mut [u8]) -> Result<usize, Overflow>
+fn fill_game(profile: &Profile, parts: GameParts, into: &mut [u8]) -> Result<usize, Overflow>
     requires some { 1 ≤ length into.old }
     requires most { length into.old ≤ 16384 }
-    ensures { Fills into.old into.new (message_text profile.now message.now.baselines None (record (told_of message.now) { section = Game (game_of message.now) })) result }
+    ensures { Fills into.old into.new (message_text profile.now no_lines None (game_told parts.entry)) result }
 {
     let mut w = Writer::new(&profile.code, into.len());
-    write_game_bits(&mut w, profile, message)?;
+    write_game_bits(&mut w, profile, parts)?;
     Ok(w.copy_to(into))
+}
+
+/// The parts of a message with its gamestate; its commands are one piece.
+fn game_parts_of(message: &ServerMessage) -> GameParts<'_>
+    ensures { game_told result ≡ record (told_of message.now) { section = Game (game_of message.now) } }
+{
+    GameParts {
+        ack: message.ack,
+        commands: run_of(&message.commands),
+        numbers: Numbers {
+            command: message.command,
+            slot: message.slot,
+            feed: message.feed,
+        },
+        configs: &message.configs,
+        baselines: &message.baselines,
+    }
 }
 
 /// The parts of a message with a snapshot that names this base; its commands are one piece.
@@ -156,22 +185,12 @@ fn write_snap_bits(
 
 /// Writes a message with a gamestate: the front, the gamestate, and the end.
 #[tactic(auto, unfolding(crate::specs::Texts::message_text, crate::specs::Texts::section_bits))]
-fn write_game_bits(
-    w: &mut Writer,
-    profile: &Profile,
-    message: &ServerMessage,
-) -> Result<(), Overflow>
-    ensures { Writes w.old w.new (message_text (record profile.now { code = w.old.words }) message.now.baselines None (record (told_of message.now) { section = Game (game_of message.now) })) result }
+fn write_game_bits(w: &mut Writer, profile: &Profile, parts: GameParts) -> Result<(), Overflow>
+    ensures { Writes w.old w.new (message_text (record profile.now { code = w.old.words }) no_lines None (game_told parts.entry)) result }
 {
     laws::texts_are_written();
-    write_front(w, message.ack, run_of(&message.commands))?;
-    write_gamestate(
-        w,
-        profile,
-        numbers_of(message),
-        &message.configs,
-        &message.baselines,
-    )?;
+    write_front(w, parts.ack, parts.commands)?;
+    write_gamestate(w, profile, parts.numbers, parts.configs, parts.baselines)?;
     w.put_all(&[(EOF, 8)])
 }
 
@@ -182,17 +201,6 @@ fn write_front(w: &mut Writer, ack: u32, commands: CommandRun) -> Result<(), Ove
     laws::texts_are_written();
     w.put_all(&[(ack, 32)])?;
     write_commands(w, SERVER_COMMAND as u8, commands)
-}
-
-/// The numbers of a message's gamestate.
-fn numbers_of(message: &ServerMessage) -> Numbers
-    ensures { gamestate_of result message.now.configs message.now.baselines ≡ game_of message.now }
-{
-    Numbers {
-        command: message.command,
-        slot: message.slot,
-        feed: message.feed,
-    }
 }
 
 /// Writes a snapshot against its base, which is given with its number: the head, the player, and the entities.
