@@ -1,23 +1,35 @@
 -- A client's end. Each call gives the client after it, and its answer.
 use Rattle.std.specs.Prelude.{ℕ, if◌then◌else◌, Bool, true, false, List, [], Option, Some, None, Result, Ok, Err}
+use Rattle.q3_bits.specs.Bits.{bits_of}
+use Rattle.q3_bits.specs.ResultBind.{◌>>=◌}
+use Rattle.q3_text.specs.declared.text.Command.{Command}
+use Rattle.q3_window.specs.declared.outgoing.BadAck.{BadAck}
+use Rattle.q3_window.specs.declared.outgoing.WindowFull.{WindowFull}
+use Rattle.q3_window.specs.Outgoing.{OutgoingState, new_outgoing, issue_at, acknowledge_at, text_at}
 use Rattle.q3_profile.specs.declared.profile.Profile.{Profile}
 use Rattle.q3_chan.specs.declared.side.Side.TheVariants.{Server, Client}
 use Rattle.q3_chan.specs.declared.gatherer.Gathered.{Gathered}
 use Rattle.q3_chan.specs.declared.gatherer.Gathered.TheVariants as gathered
 use Rattle.q3_chan.specs.Gathering.{Gathering, Took, new_gathering, gathered as gathered_of}
 use Rattle.q3_chan.specs.Sending.{Sending, new_sending}
+use Rattle.q3_chan.specs.Scrambling.{scrambled}
+use Rattle.q3_chan.specs.Keys.{server_start}
 use Rattle.q3_svmsg.specs.declared.error.Illegible as cause
+use Rattle.q3_svmsg.specs.declared.error.Illegible.TheVariants as causes
+use Rattle.q3_svmsg.specs.Values.{Message}
+use Rattle.q3_svmsg.specs.Reading.{bits_read, ack_at}
 use Rattle.q3_ring.specs.Snapshot.{Snapshot}
 use Rattle.q3_clstate.specs.declared.applied.SnapOutcome.{SnapOutcome}
 use Rattle.q3_clstate.specs.declared.applied.SnapOutcome.TheVariants as outcomes
-use Rattle.q3_clstate.specs.State.{AppliedState, Application, new_state, apply_at}
+use Rattle.q3_clstate.specs.State.{AppliedState, Application, new_state, apply_at, apply_message}
 use Rattle.q3_client.specs.declared.client.ClientTook.{ClientTook}
 use Rattle.q3_client.specs.declared.client.ClientTook.TheVariants.{Dropped, Runt, Connectionless, Old, OutOfOrder, BadFragment, Partial, Illegible, Applied}
 use Rattle.q3_client.specs.declared.moves.Issued.{Issued}
 
 -- a client: what the messages that were applied left; how it joined, of how many messages before it a message repeats the
 -- moves, the newest number taken and what was gathered, whether the newest message's snapshot was accepted, why it was dropped,
--- if it was, what is being sent, the newest 32 moves issued, and the time of the last, 0 before the first
+-- if it was, what is being sent, the commands that it issued, the newest 32 moves issued, and the time of the last, 0 before the
+-- first
 pub record ClientState : Type 0 where
   pub state : AppliedState
   pub challenge : ℕ
@@ -27,6 +39,7 @@ pub record ClientState : Type 0 where
   pub delta : Bool
   pub dropped : Option cause.Illegible
   pub sending : Sending
+  pub issued : OutgoingState
   pub moves : List Issued
   pub last_time : ℕ
 
@@ -42,19 +55,31 @@ new_client profile challenge qport dup =
       delta = false;
       dropped = None;
       sending = new_sending Client qport;
+      issued = new_outgoing;
       moves = [];
       last_time = 0;
     }
 
--- what a take gives: the client after it, its answer, and the snapshot that it accepted, if it did
+-- a client issues a command: the messages that are begun next carry it
+pub record Typed : Type 0 where
+  pub client : ClientState
+  pub answer : Result ℕ WindowFull
+
+abbrev pub type_at : ClientState → List ℕ → Typed
+type_at client text =
+    let issuing = issue_at client.issued text in
+    record { client = record client { issued = issuing.window }; answer = issuing.answer }
+
+-- what a take gives: the client after it, its answer, the snapshot that it accepted, if it did, and the commands that it executed
 pub record Taken : Type 0 where
   pub client : ClientState
   pub answer : ClientTook
-  pub heard : Option Snapshot
+  pub accepted : Option Snapshot
+  pub heard : List Command
 
--- a client that accepted nothing
+-- a client that accepted and executed nothing
 abbrev pub answers : ClientState → ClientTook → Taken
-answers client answer = record { client = client; answer = answer; heard = None }
+answers client answer = record { client = client; answer = answer; accepted = None; heard = [] }
 
 -- whether a snapshot was accepted
 abbrev pub is_accepted : SnapOutcome → Bool
@@ -65,38 +90,80 @@ is_accepted other = false
 abbrev pub moves_behind : Bool → List Issued → List Issued
 moves_behind game moves = if game then [] else moves
 
--- a client behind a message that was applied
-abbrev pub applies : ClientState → Application → Taken
-applies client applied = record {
-  client = record client { state = applied.state; delta = is_accepted applied.answer.snap; moves = moves_behind applied.answer.game client.moves };
-  answer = Applied applied.answer;
-  heard = applied.accepted;
+-- what a message is to a client: its commands once the acknowledgement is taken, and what applying the message gives
+pub record Reception : Type 0 where
+  pub issued : OutgoingState
+  pub application : Application
+
+-- what the whole value of a message of a number is to it
+abbrev pub receive_message : ClientState → ℕ → Message → Reception
+receive_message client number message = record {
+  issued = (acknowledge_at client.issued message.ack).window;
+  application = apply_message client.state number message;
 }
 
--- a client behind bytes that were applied, if they were; by what isn't legible it is dropped, and nothing else changes
-abbrev pub applies_read : ClientState → Result Application cause.Illegible → Taken
-applies_read client (Ok applied) = applies client applied
+-- an acknowledgement that the window takes, or the cause for which the message isn't legible
+abbrev pub ack_taken : ℕ → Result (Unit {0}) BadAck → Result (Unit {0}) cause.Illegible
+ack_taken ack (Ok x) = Ok x
+ack_taken ack (Err e) = Err (causes.Ack ack)
+
+-- a message of a number cleared, by the text of the command that it acknowledges
+abbrev pub cleared : ℕ → ℕ → List ℕ → List ℕ → List ℕ
+cleared challenge number text bytes = scrambled 4 (server_start challenge number) text bytes
+
+-- what bytes are as a message of a number, by what was applied, the commands that were issued, and the challenge: the leading long
+-- counts as it is read before the message is cleared
+abbrev pub receive_by : AppliedState → OutgoingState → ℕ → ℕ → List ℕ → Result Reception cause.Illegible
+receive_by state issued challenge number bytes = do
+  ack ← bits_read (ack_at state.profile.code (bits_of bytes))
+  taken ← ack_taken ack.0 (acknowledge_at issued ack.0).answer
+  application ← apply_at state number (cleared challenge number (text_at issued ack.0) bytes)
+  Ok (record { issued = (acknowledge_at issued ack.0).window; application = application })
+
+-- and to a client
+abbrev pub receive_bytes : ClientState → ℕ → List ℕ → Result Reception cause.Illegible
+receive_bytes client number bytes = receive_by client.state client.issued client.challenge number bytes
+
+-- a client behind a message that it received
+abbrev pub applies : ClientState → Reception → Taken
+applies client received =
+    let applied = received.application in
+    record {
+      client = record client {
+        state = applied.state;
+        issued = received.issued;
+        delta = is_accepted applied.answer.snap;
+        moves = moves_behind applied.answer.game client.moves;
+      };
+      answer = Applied applied.answer;
+      accepted = applied.accepted;
+      heard = applied.heard;
+    }
+
+-- a client behind bytes that it received, if they are legible; by what isn't it is dropped, and nothing else changes
+abbrev pub applies_read : ClientState → Result Reception cause.Illegible → Taken
+applies_read client (Ok received) = applies client received
 applies_read client (Err e) = answers (record client { dropped = Some e }) (Illegible e)
 
--- a message that came whole is applied under its number, and every other answer is handed on
-abbrev pub take_answer : ClientState → Gathered → (ℕ → Result Application cause.Illegible) → Taken
-take_answer client (gathered.Whole number count) apply = applies_read client (apply number)
-take_answer client gathered.Partial apply = answers client Partial
-take_answer client gathered.Old apply = answers client Old
-take_answer client gathered.OutOfOrder apply = answers client OutOfOrder
-take_answer client gathered.BadFragment apply = answers client BadFragment
-take_answer client gathered.Runt apply = answers client Runt
-take_answer client gathered.Connectionless apply = answers client Connectionless
+-- a message that came whole is received under its number, and every other answer is handed on
+abbrev pub take_answer : ClientState → Gathered → (ℕ → Result Reception cause.Illegible) → Taken
+take_answer client (gathered.Whole number count) receive = applies_read client (receive number)
+take_answer client gathered.Partial receive = answers client Partial
+take_answer client gathered.Old receive = answers client Old
+take_answer client gathered.OutOfOrder receive = answers client OutOfOrder
+take_answer client gathered.BadFragment receive = answers client BadFragment
+take_answer client gathered.Runt receive = answers client Runt
+take_answer client gathered.Connectionless receive = answers client Connectionless
 
 -- a client with what was gathered, and what it does with a message that came whole
-abbrev pub take_gathered : ClientState → Took → (ℕ → Result Application cause.Illegible) → Taken
-take_gathered client took apply = take_answer (record client { gathering = took.gathering }) took.answer apply
+abbrev pub take_gathered : ClientState → Took → (ℕ → Result Reception cause.Illegible) → Taken
+take_gathered client took receive = take_answer (record client { gathering = took.gathering }) took.answer receive
 
 -- a client that was dropped takes nothing more
 abbrev pub take_unless : ClientState → List ℕ → Option cause.Illegible → Taken
 take_unless client datagram None =
     take_gathered client (gathered_of client.gathering datagram)
-    (λ number. apply_at client.state number (gathered_of client.gathering datagram).message)
+    (λ number. receive_bytes client number (gathered_of client.gathering datagram).message)
 take_unless client datagram (Some cause) = answers client (Dropped cause)
 
 -- a client takes a datagram, by its bytes

@@ -1,6 +1,8 @@
 -- What a client's end answers, as reports print it.
 use Rattle.std.specs.Prelude.{ℕ, List, [], ◌∷◌, codes, decimal, Option, Some, None}
 use Rattle.std.specs.List.{concat}
+use Rattle.q3_text.specs.declared.text.Command.{Command}
+use Rattle.q3_window.specs.declared.outgoing.WindowFull.{WindowFull}
 use Rattle.q3_svmsg.specs.Report.{cause_word, cause_number}
 use Rattle.q3_clstate.specs.Report.{applied_text}
 use Rattle.q3_client.specs.declared.client.ClientTook.{ClientTook}
@@ -15,21 +17,25 @@ abbrev pub illegible_text : List ℕ → Option ℕ → List ℕ
 illegible_text word None = concat (codes " illegible " ∷ word ∷ codes "\n" ∷ [])
 illegible_text word (Some number) = concat (codes " illegible " ∷ word ∷ codes " " ∷ decimal number ∷ codes "\n" ∷ [])
 
--- what stands behind ` client C`
-abbrev pub took_text : ClientTook → List ℕ
-took_text (Dropped cause) = codes " dropped\n"
-took_text Runt = codes " runt\n"
-took_text Connectionless = codes " connectionless\n"
-took_text Old = codes " old\n"
-took_text OutOfOrder = codes " outoforder\n"
-took_text BadFragment = codes " badfragment\n"
-took_text Partial = codes " partial\n"
-took_text (Illegible cause) = illegible_text (cause_word cause) (cause_number cause)
-took_text (Applied applied) = concat (codes " applied " ∷ decimal applied.number ∷ codes "\n" ∷ applied_text applied ∷ [])
+-- what stands behind ` client C`, with the commands that were executed
+abbrev pub took_text : ClientTook → List Command → List ℕ
+took_text (Dropped cause) commands = codes " dropped\n"
+took_text Runt commands = codes " runt\n"
+took_text Connectionless commands = codes " connectionless\n"
+took_text Old commands = codes " old\n"
+took_text OutOfOrder commands = codes " outoforder\n"
+took_text BadFragment commands = codes " badfragment\n"
+took_text Partial commands = codes " partial\n"
+took_text (Illegible cause) commands = illegible_text (cause_word cause) (cause_number cause)
+took_text (Applied applied) commands = concat (codes " applied " ∷ decimal applied.number ∷ codes "\n" ∷ applied_text applied commands ∷ [])
 
 -- what stands behind `deliver D`
-abbrev pub client_text : ℕ → ClientTook → List ℕ
-client_text c took = concat (codes " client " ∷ decimal c ∷ took_text took ∷ [])
+abbrev pub client_text : ℕ → ClientTook → List Command → List ℕ
+client_text c took commands = concat (codes " client " ∷ decimal c ∷ took_text took commands ∷ [])
+
+-- why a client can't issue a command
+abbrev pub window_full_text : WindowFull → List ℕ
+window_full_text e = codes "windowfull"
 
 -- why a move can't be issued
 abbrev pub move_error_text : MoveError → List ℕ
@@ -41,6 +47,7 @@ abbrev pub sent_text : Sent → ℕ → List ℕ
 sent_text (sent.Dropped cause) datagram = codes " dropped\n"
 sent_text (sent.Fragment number) datagram = concat (codes " fragment " ∷ decimal number ∷ codes " datagram " ∷ decimal datagram ∷ codes "\n" ∷ [])
 sent_text sent.SequenceEnd datagram = codes " sequenceend\n"
+sent_text sent.Unclear datagram = codes " unclear\n"
 sent_text sent.Overlong datagram = codes " overlong\n"
 sent_text (sent.Message number bytes) datagram =
     concat (codes " message " ∷ decimal number ∷ codes " bytes " ∷ decimal bytes ∷ codes " datagram " ∷ decimal datagram ∷ codes "\n" ∷ [])

@@ -1,12 +1,19 @@
 -- What a client sends. Each emission gives the client after it, its answer, and what it hands out.
-use Rattle.std.specs.Prelude.{ℕ, ◌+◌, if◌then◌else◌, Bool, List, [], length, nat_le, nat_lt, Option, Some, None}
+use Rattle.std.specs.Prelude.{ℕ, ◌+◌, if◌then◌else◌, ◌≡◌, Bool, false, List, [], ◌∷◌, length, nat_le, nat_lt, Option, Some, None}
 use Rattle.q3_bits.specs.Bits.{message_bytes, message_length}
+use Rattle.q3_bits.specs.Words.{row_bits}
+use Rattle.q3_text.specs.declared.text.Command.{Command}
+use Rattle.q3_window.specs.Outgoing.{carried as waiting_of}
 use Rattle.q3_chan.specs.Datagrams.{sequence_end, longest_message}
 use Rattle.q3_chan.specs.Sending.{UnderWay, Piece, started, next_of}
+use Rattle.q3_chan.specs.Scrambling.{scrambled}
+use Rattle.q3_chan.specs.Keys.{client_start}
 use Rattle.q3_clmsg.specs.declared.moves.Move.{Move}
 use Rattle.q3_clmsg.specs.Moves.{message_key}
 use Rattle.q3_clmsg.specs.Texts.{client_text}
 use Rattle.q3_clmsg.specs.Values.{Message}
+use Rattle.q3_clmsg.specs.Laws.{IsMessage}
+use Rattle.q3_text.specs.Texts.{IsText}
 use Rattle.q3_profile.specs.declared.profile.Profile.{Profile}
 use Rattle.q3_svmsg.specs.declared.error.Illegible.{Illegible}
 use Rattle.q3_client.specs.declared.client.Sent.{Sent}
@@ -14,27 +21,50 @@ use Rattle.q3_client.specs.declared.client.Sent.TheVariants as sent
 use Rattle.q3_client.specs.Client.{ClientState}
 use Rattle.q3_client.specs.Moves.{carried, asks_delta}
 
--- the whole value of a message that was begun
-abbrev pub Said : Type 0
-Said = Message
+-- a message that was begun, the number from which its keys start, and their text: that of the last server command executed
+pub record Said : Type 0 where
+  pub message : Message
+  pub start : ℕ
+  pub text : List ℕ
 
--- a message with these moves; the interim rules: no map's id, and no commands
-abbrev pub message_with : ℕ → Bool → List Move → Said
-message_with acknowledged delta moves =
-    record { id = 0; acknowledged = acknowledged; command = 0; commands = []; delta = asks_delta delta moves; moves = moves }
+-- a message with these commands and moves, which acknowledges a server message and a server command; the interim rule: no
+-- map's id
+abbrev pub message_with : ℕ → ℕ → List Command → Bool → List Move → Message
+message_with acknowledged command commands delta moves =
+    record { id = 0; acknowledged = acknowledged; command = command; commands = commands; delta = asks_delta delta moves; moves = moves }
 
--- the message that goes to the server next
-abbrev pub next_message : ClientState → Said
+-- the message that goes to the server next: it carries all commands that aren't acknowledged
+abbrev pub next_message : ClientState → Message
 next_message client =
-    message_with client.gathering.taken client.delta (carried (client.sending.number + 1) client.dup client.moves)
+    message_with client.gathering.taken client.state.executed.executed (waiting_of client.issued) client.delta
+    (carried (client.sending.number + 1) client.dup client.moves)
 
--- the bits of a message; the interim rules: the map's checksum feed is 0, and the text of the newest server command empty
+-- and with it what it is scrambled by
+abbrev pub next_said : ClientState → Said
+next_said client = record {
+  message = next_message client;
+  start = client_start client.challenge 0 client.gathering.taken;
+  text = client.state.executed.last;
+}
+
+-- the bits of a message; the interim rule: the map's checksum feed is 0
 abbrev pub said_bits : Profile → Said → List Bool
-said_bits profile said = client_text profile.code (message_key 0 said.acknowledged []) said
+said_bits profile said = client_text profile.code (message_key 0 said.message.acknowledged said.text) said.message
 
--- and its bytes
+-- and its bytes, scrambled behind the three leading longs
 abbrev pub said_bytes : Profile → Said → List ℕ
-said_bytes profile said = message_bytes (said_bits profile said)
+said_bytes profile said = scrambled 12 said.start said.text (message_bytes (said_bits profile said))
+
+-- whether the leading longs of a message take more than their 96 bits, so that scrambled bytes would hide a part of them
+abbrev pub is_unclear : Profile → Message → Bool
+is_unclear profile message = nat_lt 96 (length (row_bits profile.code ((message.id, 32) ∷ (message.acknowledged, 32) ∷ (message.command, 32) ∷ [])))
+
+-- a message as a client begins it that joined with a challenge
+pub record IsSaid (profile : Profile) (challenge : ℕ) (said : Said) : Type 0 where
+  pub message : IsMessage said.message
+  pub start : said.start ≡ client_start challenge said.message.id said.message.acknowledged
+  pub text : IsText said.text
+  pub clear : is_unclear profile said.message ≡ false
 
 -- what an emit gives: the client after it, the answer, the message that it began, and the datagram that it hands out
 pub record Emission : Type 0 where
@@ -60,14 +90,15 @@ hand_out client index answer began = record {
 abbrev pub emit_bits : ClientState → Said → List Bool → Emission
 emit_bits client said bits =
     if nat_lt longest_message (message_length (length bits)) then nothing client sent.Overlong
-    else hand_out (record client { sending = started client.sending (message_bytes bits) }) 0
+    else hand_out (record client { sending = started client.sending (scrambled 12 said.start said.text (message_bytes bits)) }) 0
     (sent.Message (client.sending.number + 1) (message_length (length bits))) (Some said)
 
--- the next message, unless message numbers have ended
+-- the next message, unless message numbers have ended, or its leading longs would be hidden
 abbrev pub emit_new : ClientState → Emission
 emit_new client =
     if nat_le sequence_end (client.sending.number + 1) then nothing client sent.SequenceEnd
-    else emit_bits client (next_message client) (said_bits client.state.profile (next_message client))
+    else if is_unclear client.state.profile (next_message client) then nothing client sent.Unclear
+    else emit_bits client (next_said client) (said_bits client.state.profile (next_said client))
 
 -- what is left of a message goes before another is begun
 abbrev pub emit_left : ClientState → Option UnderWay → Emission

@@ -1,28 +1,32 @@
 //! A client's end: pure state, one call an event.
-//! Keeps the rules "what a receiver answers" and "fragmentation", by q3_chan, "layout of a client message" and "move
-//! section", by q3_clmsg, "which moves may be issued", "which moves a message carries", and "end of message numbers", which
-//! is this project's own.
+//! Keeps the rules "what a receiver answers", "fragmentation" and "scrambling", by q3_chan, "layout of a client message"
+//! and "move section", by q3_clmsg, "reliable command windows", by q3_window, "which moves may be issued", "which moves a
+//! message carries", and "unclear messages" and "end of message numbers", which are this project's own.
 
 ghost use Rattle.std.specs.Prelude.{◌≡◌, ◌≤◌, IfOk, IfSome, option_map};
+ghost use Rattle.q3_window.specs.Outgoing.{issued_of};
 ghost use Rattle.q3_entity.specs.Entities.{Rises, run_of};
 ghost use Rattle.q3_chan.specs.Sending.{HandsOut};
-ghost use Rattle.q3_clmsg.specs.Values.{said_of};
 ghost use Rattle.q3_rings.specs.Loans.{snapshot_of};
 ghost use Rattle.q3_rings.specs.Rings.{view_at};
-ghost use Rattle.q3_client.specs.Client.{new_client, take_at, is_accepted, moves_behind};
-ghost use Rattle.q3_client.specs.Moves.{most_moves, add_move_at, carried};
-ghost use Rattle.q3_client.specs.Sending.{message_with, emit_at};
+ghost use Rattle.q3_client.specs.Client.{new_client, type_at, take_at, is_accepted, moves_behind};
+ghost use Rattle.q3_client.specs.Moves.{add_move_at};
+ghost use Rattle.q3_client.specs.Sending.{emit_at};
 
 use crate::moves::{Issued, MOST_MOVES, carry, is_issuable};
+use crate::receiving::{gather, receive_front};
+use crate::saying::{is_unclear, write_scrambled};
+use arrayvec::ArrayVec;
 use circular_buffer::HeapCircularBuffer;
 use q3_bits::NoMemory;
 use q3_chan::{Datagram, Gathered, Gatherer, LONGEST_MESSAGE, SEQUENCE_END, Sender, Side};
-use q3_clmsg::{ClientMessage, Move, message_key, write_client_message};
-use q3_clstate::{Applied, ClState, SnapOutcome};
+use q3_clmsg::Move;
+use q3_clstate::{Applied, ClState, Log, SnapOutcome};
 use q3_profile::Profile;
 use q3_rings::SnapView;
 use q3_svmsg::Illegible;
 use q3_text::Text;
+use q3_window::{Outgoing, WindowFull};
 use std::alloc::Global;
 use std::marker::Model;
 
@@ -67,6 +71,9 @@ pub enum Sent {
     Fragment { number: u32 },
     /// Message numbers have ended.
     SequenceEnd,
+    /// The message's leading longs take more than their 96 bits, so that scrambling would hide a part of them; its number
+    /// is used again.
+    Unclear,
     /// The message has more than 16,384 bytes; its number is used again.
     Overlong,
     /// A datagram with a message, or its first piece: the message's number and its length.
@@ -74,8 +81,8 @@ pub enum Sent {
 }
 
 /// A client: what the messages that were applied left, with a copy of the profile; what it gathers, a place for the bytes of a
-/// message that came whole, whether the newest message's snapshot was accepted, what it sends, the moves that it issued, and
-/// places where a message is put together and written. After `new` no call takes memory.
+/// message that came whole, whether the newest message's snapshot was accepted, what it sends, the commands and the moves that
+/// it issued, and places for the moves and the bytes of a message. After `new` no call takes memory.
 #[derive(Drop)]
 pub struct Client {
     state: ClState,
@@ -87,9 +94,10 @@ pub struct Client {
     delta: bool,
     dropped: Option<Illegible>,
     sender: Sender,
+    outgoing: Outgoing,
     moves: HeapCircularBuffer<Issued>,
     last_time: u32,
-    message: ClientMessage,
+    carried: ArrayVec<Move, 32>,
     buffer: Vec<u8>,
 }
 
@@ -110,6 +118,7 @@ impl Model for Client {
       delta = c.delta;
       dropped = c.dropped;
       sending = c.sender;
+      issued = c.outgoing;
       moves = c.moves.items;
       last_time = c.last_time;
     } };
@@ -142,24 +151,28 @@ impl Client {
             delta: false,
             dropped: None,
             sender: Sender::new(alloc, Side::Client, qport)?,
+            outgoing: Outgoing::new(alloc)?,
             moves: HeapCircularBuffer::with_capacity(alloc, MOST_MOVES)?,
             last_time: 0,
-            message: ClientMessage::new(alloc)?,
+            carried: ArrayVec::new(),
             buffer: vec![in alloc; 0; LONGEST_MESSAGE]?,
         })
     }
 
-    /// Takes a datagram, any bytes. A message that came whole is read; by one that isn't legible the client is dropped, and
-    /// nothing else changes. `Dropped` comes exactly where it was dropped before, and nothing changes then.
+    /// Takes a datagram, any bytes, and tells which of the server's commands it executed. A message that came whole is read;
+    /// by one that isn't legible the client is dropped, and nothing else changes. `Dropped` comes exactly where it was dropped
+    /// before, and nothing changes then.
     #[tactic(auto, unfolding(crate::specs::Client::take_at))]
-    pub fn take(&mut self, datagram: &[u8]) -> ClientTook
+    pub fn take(&mut self, datagram: &[u8], log: &mut Log) -> ClientTook
         ensures client { self.new ≡ (take_at self.old datagram.now).client }
         ensures answer { result ≡ (take_at self.old datagram.now).answer }
+        ensures log { log.new.commands.items ≡ (take_at self.old datagram.now).heard }
     {
+        log.commands.clear();
         if let Some(cause) = self.dropped {
             return ClientTook::Dropped(cause);
         }
-        let (number, length) = match self.gatherer.take(datagram, &mut self.whole) {
+        let (number, length) = match gather(&mut self.gatherer, datagram, &mut self.whole) {
             Gathered::Whole { number, length } => (number, length),
             Gathered::Partial => return ClientTook::Partial,
             Gathered::Old => return ClientTook::Old,
@@ -168,7 +181,15 @@ impl Client {
             Gathered::Runt => return ClientTook::Runt,
             Gathered::Connectionless => return ClientTook::Connectionless,
         };
-        match self.state.apply(number, &self.whole[..length]) {
+        match receive_front(
+            &mut self.state,
+            &mut self.outgoing,
+            self.challenge,
+            number,
+            &mut self.whole,
+            length,
+            log,
+        ) {
             Ok(applied) => {
                 self.note(&applied);
                 ClientTook::Applied(applied)
@@ -210,6 +231,21 @@ impl Client {
         Ok(())
     }
 
+    /// Issues a command, whose number is the answer: the messages that are begun next carry it, until it is acknowledged. A
+    /// client that was dropped issues commands too. `WindowFull` comes exactly where it doesn't fit, and nothing changes then.
+    pub fn type_command(&mut self, text: &Text) -> Result<u32, WindowFull>
+        ensures { type_at self.old text.now ≡ record { client = self.new; answer = result } }
+    {
+        self.outgoing.issue(text)
+    }
+
+    /// The number of the last command that it issued, 0 for none.
+    pub fn issued(&self) -> u32
+        ensures { result ≡ issued_of self.now.issued }
+    {
+        self.outgoing.issued()
+    }
+
     /// Makes the next datagram for the server: it is empty where nothing is handed out. `Dropped` comes exactly where the
     /// client was dropped.
     #[tactic(auto, unfolding(crate::specs::Sending::emit_at))]
@@ -233,20 +269,17 @@ impl Client {
             return Sent::SequenceEnd;
         }
         let acknowledged = self.gatherer.taken();
-        let message = &mut self.message;
-        fill(
-            message,
+        if is_unclear(&self.state, acknowledged) {
+            return Sent::Unclear;
+        }
+        carry(&self.moves, number, self.dup, &mut self.carried);
+        let Ok(bytes) = write_scrambled(
+            &self.state,
+            &self.outgoing,
+            self.challenge,
             acknowledged,
             self.delta,
-            &self.moves,
-            number,
-            self.dup,
-        );
-        let key = message_key(0, acknowledged, &Text::new());
-        let Ok(bytes) = write_client_message(
-            &self.state.profile().code,
-            message,
-            key,
+            &self.carried,
             &mut self.buffer,
         ) else {
             return Sent::Overlong;
@@ -277,24 +310,4 @@ fn is_accepted(outcome: SnapOutcome) -> bool
     ensures { result ≡ is_accepted outcome }
 {
     matches!(outcome, SnapOutcome::Accepted { .. })
-}
-
-/// Puts the message of a number together, with the moves that it carries.
-fn fill(
-    message: &mut ClientMessage,
-    acknowledged: u32,
-    delta: bool,
-    moves: &HeapCircularBuffer<Issued>,
-    number: u32,
-    dup: u8,
-)
-    requires { moves.now.capacity ≡ most_moves }
-    ensures { said_of message.new ≡ message_with acknowledged delta (carried number dup moves.now.items) }
-{
-    message.id = 0;
-    message.acknowledged = acknowledged;
-    message.command = 0;
-    message.commands.clear();
-    carry(moves, number, dup, &mut message.moves);
-    message.delta = delta && !message.moves.is_empty();
 }

@@ -4,6 +4,8 @@
 pub mod client;
 mod moves;
 pub mod print;
+mod receiving;
+mod saying;
 #[cfg(test)]
 mod tests;
 

@@ -8,19 +8,19 @@ ghost use Rattle.q3_svmsg.specs.Report.{cause_word, cause_number};
 ghost use Rattle.q3_client.specs.Report.{illegible_text, client_text, move_error_text, send_text};
 
 use crate::client::{ClientTook, MoveError, Sent};
-use q3_clstate::{Applied, print_applied};
+use q3_clstate::{Applied, Log, print_applied};
 use q3_io::{Failed, Piece, Sink, laws, print_all};
 use q3_svmsg::{Illegible, cause_number, cause_word};
 
-/// Prints what stands behind `deliver D`, or `arrive`, where a client took a datagram: the rest of that line, and the line
-/// of the snapshot. `Failed` comes where the sink failed, behind a front of it.
-pub fn print_took<O: Sink>(c: u8, took: &ClientTook, out: &mut O) -> Result<(), Failed>
+/// Prints what stands behind `deliver D`, or `arrive`, where a client took a datagram: the rest of that line, and the lines
+/// of the commands that it executed and of the snapshot. `Failed` comes where the sink failed, behind a front of it.
+pub fn print_took<O: Sink>(c: u8, took: &ClientTook, log: &Log, out: &mut O) -> Result<(), Failed>
     ensures adds { Adds (O.written out.old) (O.written out.new)
-        (client_text c took.now) result }
+        (client_text c took.now log.now.commands.items) result }
     ensures cause { HasCause (O.faults out.old) (O.faults out.new) result }
 {
     let word: &[u8] = match took {
-        ClientTook::Applied(applied) => return print_delivered(c, applied, out),
+        ClientTook::Applied(applied) => return print_delivered(c, applied, log, out),
         ClientTook::Illegible(cause) => return print_illegible(c, *cause, out),
         ClientTook::Dropped(_) => b" dropped\n",
         ClientTook::Runt => b" runt\n",
@@ -73,13 +73,13 @@ fn print_illegible<O: Sink>(c: u8, cause: Illegible, out: &mut O) -> Result<(), 
 }
 
 /// Prints the lines of a delivery of what was applied.
-fn print_delivered<O: Sink>(c: u8, applied: &Applied, out: &mut O) -> Result<(), Failed>
-    ensures adds { Adds (O.written out.old) (O.written out.new) (client_text c (ClientTook.Applied applied.now)) result }
+fn print_delivered<O: Sink>(c: u8, applied: &Applied, log: &Log, out: &mut O) -> Result<(), Failed>
+    ensures adds { Adds (O.written out.old) (O.written out.new) (client_text c (ClientTook.Applied applied.now) log.now.commands.items) result }
     ensures cause { HasCause (O.faults out.old) (O.faults out.new) result }
 {
     laws::texts_follow();
     print_number(c, applied.number, out)?;
-    print_applied(applied, out)
+    print_applied(applied, log, out)
 }
 
 fn print_number<O: Sink>(c: u8, number: u32, out: &mut O) -> Result<(), Failed>
@@ -153,6 +153,7 @@ pub fn print_sent<O: Sink>(c: u8, answer: &Sent, datagram: u32, out: &mut O) -> 
         }
         Sent::Dropped(_) => b" dropped\n",
         Sent::SequenceEnd => b" sequenceend\n",
+        Sent::Unclear => b" unclear\n",
         Sent::Overlong => b" overlong\n",
     };
     print_all(

@@ -1,42 +1,52 @@
 //! What a client takes and sends, with bytes worked by hand, by the plain code, entity widths 0, 8, -16 and player widths
-//! 0, 16, and what is printed of its answers.
+//! 0, 16, and what is printed of its answers. The challenge is 17, and where no command is acknowledged each byte of message n is
+//! scrambled by 17 xor n.
 
 use super::*;
+use arrayvec::ArrayVec;
 use q3_bits::{Code, NoMemory, ReadError};
 use q3_chan::Datagram;
 use q3_clmsg::Move;
-use q3_clstate::{Applied, SnapOutcome};
+use q3_clstate::{Applied, Log, SnapOutcome};
 use q3_fields::Table;
 use q3_memory::MemSink;
 use q3_profile::Profile;
 use q3_rings::NoBase;
 use q3_svmsg::Illegible;
+use q3_text::{Command, Text};
+use q3_window::WindowFull;
 use std::alloc::Global;
 use std::process::Abort;
 use std::test::*;
 
 /// The datagram of server message 1: no commands, and a snapshot without a base, of the time 1000, with no entity.
 const SNAPSHOT: [u8; 20] = [
-    1, 0, 0, 0, 0, 0, 0, 0, 7, 0xe8, 3, 0, 0, 0, 2, 0, 0, 0xfe, 0x47, 0,
+    1, 0, 0, 0, 0, 0, 0, 0, 0x17, 0xf8, 0x13, 0x10, 0x10, 0x10, 0x12, 0x10, 0x10, 0xee, 0x57, 0x10,
 ];
 
 /// The datagram of server message 2, with a snapshot against that of message 1, of the time 1000, with no entity.
 const DELTA_SNAPSHOT: [u8; 20] = [
-    2, 0, 0, 0, 0, 0, 0, 0, 7, 0xe8, 3, 0, 0, 1, 2, 0, 0, 0xfe, 0x47, 0,
+    2, 0, 0, 0, 0, 0, 0, 0, 0x14, 0xfb, 0x10, 0x13, 0x13, 0x12, 0x11, 0x13, 0x13, 0xed, 0x54, 0x13,
 ];
 
 /// The datagram of server message 4, with a snapshot against that of message 3.
 const SKIPPED_SNAPSHOT: [u8; 20] = [
-    4, 0, 0, 0, 0, 0, 0, 0, 7, 0xe8, 3, 0, 0, 1, 2, 0, 0, 0xfe, 0x47, 0,
+    4, 0, 0, 0, 0, 0, 0, 0, 0x12, 0xfd, 0x16, 0x15, 0x15, 0x14, 0x17, 0x15, 0x15, 0xeb, 0x52, 0x15,
 ];
 
 /// The datagram of server message 2, which has nothing in it.
-const NOTHING: [u8; 10] = [2, 0, 0, 0, 0, 0, 0, 0, 8, 0];
+const NOTHING: [u8; 10] = [2, 0, 0, 0, 0, 0, 0, 0, 0x1b, 0x13];
+
+/// The datagram of server message 1, with the command 1, `b`.
+const COMMAND: [u8; 17] = [
+    1, 0, 0, 0, 0, 0, 0, 0, 0x15, 0x11, 0x10, 0x10, 0x10, 0x72, 0x10, 0x18, 0x10,
+];
 
 /// The datagram of server message 5, with a gamestate in which nothing but the server's id is set.
 const GAME: [u8; 42] = [
-    5, 0, 0, 0, 0, 0, 0, 0, 2, 0, 0, 0, 0, 3, 1, 0, 0x5c, 0x73, 0x76, 0x5f, 0x73, 0x65, 0x72, 0x76,
-    0x65, 0x72, 0x69, 0x64, 0x5c, 0x31, 0, 8, 0, 0, 0, 0, 0, 0, 0, 0, 8, 0,
+    5, 0, 0, 0, 0, 0, 0, 0, 0x16, 0x14, 0x14, 0x14, 0x14, 0x17, 0x15, 0x14, 0x48, 0x67, 0x62, 0x4b,
+    0x67, 0x71, 0x66, 0x62, 0x71, 0x66, 0x7d, 0x70, 0x48, 0x25, 0x14, 0x1c, 0x14, 0x14, 0x14, 0x14,
+    0x14, 0x14, 0x14, 0x14, 0x1c, 0x14,
 ];
 
 /// A client with the qport 5000.
@@ -70,9 +80,22 @@ fn issue(client: &mut Client, time: u32, forward: i8) -> Result<(), MoveError> {
     client.add_move(&one)
 }
 
-/// Takes a datagram.
+/// A place for the commands that are executed.
+fn new_log() -> Log {
+    Log {
+        commands: ArrayVec::new(),
+    }
+}
+
+/// Takes a datagram, whatever it executes.
 fn take(client: &mut Client, datagram: &[u8]) -> ClientTook {
-    client.take(datagram)
+    client.take(datagram, &mut new_log())
+}
+
+/// Issues a command.
+fn type_text(client: &mut Client, text: &[u8]) -> Option<u32> {
+    let text = Text::of(text).ok()?;
+    client.type_command(&text).ok()
 }
 
 /// Sends a message, and compares the datagram.
@@ -88,14 +111,14 @@ fn messages_have_their_moves(rt: HostRuntime) -> Result<(), Fail> {
     let accepted = applied(1, SnapOutcome::Accepted { base: 0 });
     assert_eq!(rt; take(&mut client, &SNAPSHOT), accepted);
     let empty = [
-        1, 0, 0, 0, 0x88, 0x13, 0, 0, 0, 0, 1, 0, 0, 0, 0, 0, 0, 0, 5, 0,
+        1, 0, 0, 0, 0x88, 0x13, 0, 0, 0, 0, 1, 0, 0, 0, 0, 0, 0, 0, 0x15, 0x10,
     ];
     sends(&rt, &mut client, 1, 14, &empty);
     // the key is 1 xor 500, and 10 xor 245 is 255
     assert_eq!(rt; issue(&mut client, 500, 10), Ok(()));
     let with_delta = [
-        2, 0, 0, 0, 0x88, 0x13, 0, 0, 0, 0, 1, 0, 0, 0, 0, 0, 0, 0, 2, 1, 0xe8, 3, 0, 0, 0xe2,
-        0x3f, 0x14, 0,
+        2, 0, 0, 0, 0x88, 0x13, 0, 0, 0, 0, 1, 0, 0, 0, 0, 0, 0, 0, 0x12, 0x11, 0xf8, 0x13, 0x10,
+        0x10, 0xf2, 0x2f, 4, 0x10,
     ];
     sends(&rt, &mut client, 2, 22, &with_delta);
     let nothing = applied(2, SnapOutcome::NoSnap);
@@ -103,10 +126,88 @@ fn messages_have_their_moves(rt: HostRuntime) -> Result<(), Fail> {
     // the key is 2 xor 520, and 10 xor 10 is 0
     assert_eq!(rt; issue(&mut client, 520, 10), Ok(()));
     let without_delta = [
-        3, 0, 0, 0, 0x88, 0x13, 0, 0, 0, 0, 2, 0, 0, 0, 0, 0, 0, 0, 3, 1, 0x10, 4, 0, 0, 0x22, 0,
-        0x14, 0,
+        3, 0, 0, 0, 0x88, 0x13, 0, 0, 0, 0, 2, 0, 0, 0, 0, 0, 0, 0, 0x10, 0x12, 3, 0x17, 0x13,
+        0x13, 0x31, 0x13, 7, 0x13,
     ];
     sends(&rt, &mut client, 3, 22, &without_delta);
+    Ok(())
+}
+
+#[test]
+fn commands_are_carried_until_they_are_acknowledged(rt: HostRuntime) -> Result<(), Fail> {
+    let mut client = client(&rt, rt.alloc(), 0)?;
+    assert_eq!(rt; type_text(&mut client, b"a"), Some(1));
+    assert_eq!(rt; client.issued(), 1);
+    // 4, the number, the text and 5, each xor 17
+    let carries = [
+        1, 0, 0, 0, 0x88, 0x13, 0, 0, 0, 0, 0, 0, 0, 0, 0, 0, 0, 0, 0x15, 0x10, 0x11, 0x11, 0x11,
+        0x70, 0x11, 0x14, 0x11,
+    ];
+    sends(&rt, &mut client, 1, 21, &carries);
+    // the keys are 16 xor `a`, 0x71, and that xor 0xc2
+    let nothing = applied(1, SnapOutcome::NoSnap);
+    let acknowledges = [1, 0, 0, 0, 1, 0, 0, 0, 0x79, 0xb3];
+    assert_eq!(rt; take(&mut client, &acknowledges), nothing);
+    let empty = [
+        2, 0, 0, 0, 0x88, 0x13, 0, 0, 0, 0, 1, 0, 0, 0, 0, 0, 0, 0, 0x15, 0x10,
+    ];
+    sends(&rt, &mut client, 2, 14, &empty);
+    assert_eq!(rt; client.issued(), 1);
+    Ok(())
+}
+
+#[test]
+fn commands_of_the_server_are_executed(rt: HostRuntime) -> Result<(), Fail> {
+    let mut client = client(&rt, rt.alloc(), 0)?;
+    let mut log = new_log();
+    let nothing = applied(1, SnapOutcome::NoSnap);
+    assert_eq!(rt; client.take(&COMMAND, &mut log), nothing);
+    assert_eq!(rt; (log.commands.len(), client.state().executed()), (1, 1));
+    // the keys are 16 xor `b`, 0x72, and that xor 0xc4
+    let names_it = [
+        1, 0, 0, 0, 0x88, 0x13, 0, 0, 0, 0, 1, 0, 0, 0, 1, 0, 0, 0, 0x77, 0xb6,
+    ];
+    sends(&rt, &mut client, 1, 14, &names_it);
+    assert_eq!(rt; client.take(&COMMAND, &mut log), ClientTook::Old);
+    assert!(rt; log.commands.is_empty());
+    Ok(())
+}
+
+#[test]
+fn acknowledgements_are_checked(rt: HostRuntime) -> Result<(), Fail> {
+    let nothing = applied(1, SnapOutcome::NoSnap);
+    // what a client without commands answers to its first datagram
+    let cases: [(&[u8], ClientTook); 4] = [
+        (&[1, 0, 0, 0, 0, 0, 0, 0, 0x18, 0x10], nothing),
+        (
+            &[1, 0, 0, 0, 5, 0, 0, 0, 0x18, 0x10],
+            ClientTook::Illegible(Illegible::Ack(5)),
+        ),
+        (
+            &[1, 0, 0, 0],
+            ClientTook::Illegible(Illegible::Bits(ReadError::End)),
+        ),
+        (
+            &[1, 0, 0, 0, 0, 0, 0, 0, 0x19, 0x10],
+            ClientTook::Illegible(Illegible::BadOp(9)),
+        ),
+    ];
+    for (datagram, answer) in cases {
+        let mut client = client(&rt, rt.alloc(), 0)?;
+        assert_eq!(rt; take(&mut client, datagram), answer);
+    }
+    Ok(())
+}
+
+#[test]
+fn window_has_room_for_63_commands(rt: HostRuntime) -> Result<(), Fail> {
+    let mut client = client(&rt, rt.alloc(), 0)?;
+    let text = Text::of(b"say hi").expect(&rt, "a text");
+    for number in 1..64u32 {
+        assert_eq!(rt; client.type_command(&text), Ok(number));
+    }
+    assert_eq!(rt; client.type_command(&text), Err(WindowFull));
+    assert_eq!(rt; client.issued(), 63);
     Ok(())
 }
 
@@ -123,7 +224,13 @@ fn last_of(client: &mut Client, moves: u32, messages: u32, more: u32) -> (Option
     for _ in 0..more {
         client.emit(&mut out);
     }
-    (out.get(19).copied(), out.get(20).copied())
+    (plain_byte(client, &out, 19), plain_byte(client, &out, 20))
+}
+
+/// A byte of a message of a client that executed no command, as it was before it was scrambled.
+fn plain_byte(client: &Client, out: &Datagram, place: usize) -> Option<u8> {
+    let key = (17 ^ client.state().number()) as u8;
+    Some(out.get(place).copied()? ^ key)
 }
 
 #[test]
@@ -172,7 +279,7 @@ fn dropped_client_keeps_the_first_cause(rt: HostRuntime) -> Result<(), Fail> {
     let cause = Illegible::BadOp(9);
     // the operation 9, and then a runt, the operation 10, and what would be read
     assert_eq!(rt;
-        take(&mut client, &[1, 0, 0, 0, 0, 0, 0, 0, 9, 0]),
+        take(&mut client, &[1, 0, 0, 0, 0, 0, 0, 0, 0x19, 0x10]),
         ClientTook::Illegible(cause)
     );
     let later: [&[u8]; 3] = [&[], &[2, 0, 0, 0, 0, 0, 0, 0, 10, 0], &NOTHING];
@@ -182,6 +289,7 @@ fn dropped_client_keeps_the_first_cause(rt: HostRuntime) -> Result<(), Fail> {
     let mut out = Datagram::new();
     assert_eq!(rt; client.emit(&mut out), Sent::Dropped(cause));
     assert!(rt; out.is_empty());
+    assert_eq!(rt; type_text(&mut client, b"a"), Some(1));
     Ok(())
 }
 
@@ -195,7 +303,7 @@ fn operation_sent(client: &mut Client, time: u32) -> Option<u8> {
     let _ = issue(client, time, 10);
     let mut out = Datagram::new();
     client.emit(&mut out);
-    out.get(18).copied()
+    plain_byte(client, &out, 18)
 }
 
 /// The number of the newest snapshot.
@@ -247,13 +355,13 @@ type Row = (&'static [u8], usize, ClientTook);
 /// Datagrams that a client takes one after the other. The pieces are of message 5, but for one of message 0.
 fn hostile() -> [Row; 13] {
     let nothing = applied(2, SnapOutcome::NoSnap);
-    let bad = Illegible::BadOp(0);
+    let bad = Illegible::BadOp(0x14);
     [
         (&[1, 2, 3], 3, ClientTook::Runt),
         (&[255, 255, 255, 255], 5, ClientTook::Connectionless),
         (&[0, 0, 0, 0], 10, ClientTook::Old),
         (&[0, 0, 0, 0x80], 8, ClientTook::Old),
-        (&[2, 0, 0, 0, 0, 0, 0, 0, 8], 10, nothing),
+        (&NOTHING, 10, nothing),
         (&[2, 0, 0, 0, 0, 0, 0, 0, 9], 10, ClientTook::Old),
         // the header of a fragment has 8 bytes
         (&[5, 0, 0, 0x80], 7, ClientTook::Runt),
@@ -266,7 +374,7 @@ fn hostile() -> [Row; 13] {
             ClientTook::BadFragment,
         ),
         (&[5, 0, 0, 0], 16_389, ClientTook::BadFragment),
-        // 1,300 bytes, and the end, by which the message has no operation that may stand there
+        // 1,300 bytes, and the end, by which the message has no operation that may stand there: 0 xor 17 xor 5
         (&[5, 0, 0, 0x80, 0, 0, 0x14, 5], 1308, ClientTook::Partial),
         (
             &[5, 0, 0, 0x80, 0x14, 5, 0, 0],
@@ -297,7 +405,7 @@ fn hostile_datagrams_are_refused(rt: HostRuntime) -> Result<(), Fail> {
 /// Prints what a client answered to a datagram, which gives this text.
 fn took_prints(rt: &impl Abort, alloc: Global, c: u8, took: ClientTook, text: &[u8]) {
     let mut out = MemSink::new(alloc, 128, &[]).expect(rt, "memory");
-    assert_eq!(rt; print_took(c, &took, &mut out), Ok(()));
+    assert_eq!(rt; print_took(c, &took, &new_log(), &mut out), Ok(()));
     assert_eq!(rt; out.bytes(), text);
 }
 
@@ -312,6 +420,8 @@ fn takes_are_printed(rt: HostRuntime) {
     took_prints(&rt, alloc, 15, op, b" client 15 illegible op 255\n");
     let end = ClientTook::Illegible(Illegible::Bits(ReadError::End));
     took_prints(&rt, alloc, 1, end, b" client 1 illegible end\n");
+    let ack = ClientTook::Illegible(Illegible::Ack(5));
+    took_prints(&rt, alloc, 0, ack, b" client 0 illegible ack 5\n");
     let nothing = applied(2, SnapOutcome::NoSnap);
     took_prints(&rt, alloc, 0, nothing, b" client 0 applied 2\n");
     let accepted = applied(40, SnapOutcome::Accepted { base: 39 });
@@ -321,6 +431,20 @@ fn takes_are_printed(rt: HostRuntime) {
     let skipped = applied(40, SnapOutcome::Skipped { base: 8, cause });
     let lines = b" client 0 applied 40\n+ skipped 40 base 8 entitiesgone 300\n";
     took_prints(&rt, alloc, 0, skipped, lines);
+}
+
+#[test]
+fn executed_commands_are_printed(rt: HostRuntime) {
+    let mut log = new_log();
+    log.commands.push(Command {
+        number: 1,
+        text: Text::of(b"cp \"hi\"").expect(&rt, "a text"),
+    });
+    let accepted = applied(2, SnapOutcome::Accepted { base: 1 });
+    let mut out = MemSink::new(rt.alloc(), 128, &[]).expect(&rt, "memory");
+    assert_eq!(rt; print_took(0, &accepted, &log, &mut out), Ok(()));
+    let lines = b" client 0 applied 2\n+ command 1 \"cp \\\"hi\\\"\"\n+ accepted 2 base 1\n";
+    assert_eq!(rt; out.bytes(), lines.as_slice());
 }
 
 /// Prints what a client answered to a `send`, which gives this text.
@@ -352,6 +476,7 @@ fn sends_and_move_errors_are_printed(rt: HostRuntime) {
     let dropped = Sent::Dropped(Illegible::BadOp(9));
     sent_prints(&rt, alloc, dropped, 0, b"send 3 dropped\n");
     sent_prints(&rt, alloc, Sent::SequenceEnd, 0, b"send 3 sequenceend\n");
+    sent_prints(&rt, alloc, Sent::Unclear, 0, b"send 3 unclear\n");
     sent_prints(&rt, alloc, Sent::Overlong, 0, b"send 3 overlong\n");
     error_prints(&rt, alloc, MoveError::NotLater(530), b"notlater 530");
     error_prints(&rt, alloc, MoveError::Range, b"range");

@@ -12,6 +12,7 @@ abbrev pub state_in : Inside → AppliedState
 state_in s = record {
   profile = s.profile;
   number = s.number;
+  executed = s.incoming;
   has_game = s.has_game;
   lines = s.holding.baselines;
   held = s.holding.rings.held;

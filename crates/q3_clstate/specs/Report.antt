@@ -1,6 +1,8 @@
 -- What became of a message, as reports print it.
-use Rattle.std.specs.Prelude.{ℕ, List, [], ◌∷◌, codes, decimal}
+use Rattle.std.specs.Prelude.{ℕ, List, [], ◌∷◌, ◌++◌, codes, decimal}
 use Rattle.std.specs.List.{concat}
+use Rattle.q3_text.specs.declared.text.Command.{Command}
+use Rattle.q3_window.specs.Report.{commands_text}
 use Rattle.q3_rings.specs.declared.rings.NoBase.{NoBase}
 use Rattle.q3_rings.specs.declared.rings.NoBase.TheVariants.{NeverHeld, Overwritten, EntitiesGone}
 use Rattle.q3_clstate.specs.declared.applied.Applied.{Applied}
@@ -21,6 +23,6 @@ outcome_text number (Skipped base cause) =
     concat (codes "+ skipped " ∷ decimal number ∷ codes " base " ∷ decimal base ∷ codes " " ∷ cause_text cause ∷ codes "\n" ∷ [])
 outcome_text number Stale = concat (codes "+ stale " ∷ decimal number ∷ codes "\n" ∷ [])
 
--- the lines under an applied message
-abbrev pub applied_text : Applied → List ℕ
-applied_text applied = outcome_text applied.number applied.snap
+-- the lines under an applied message: its commands that were executed, and what became of its snapshot
+abbrev pub applied_text : Applied → List Command → List ℕ
+applied_text applied commands = commands_text commands ++ outcome_text applied.number applied.snap

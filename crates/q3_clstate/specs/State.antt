@@ -1,7 +1,9 @@
 -- What the messages that were applied left at a client, and what one more does.
-use Rattle.std.specs.Prelude.{ℕ, zero, suc, ◌+◌, nat_le, if◌then◌else◌, Bool, true, false, List, Option, Some, None, option_map, Result, Ok, Err, is_ok}
+use Rattle.std.specs.Prelude.{ℕ, zero, suc, ◌+◌, nat_le, if◌then◌else◌, Bool, true, false, List, [], Option, Some, None, option_map, Result, Ok, Err, is_ok}
 use Rattle.q3_bits.specs.Bits.{bits_of}
 use Rattle.q3_bits.specs.ResultBind.{◌>>=◌}
+use Rattle.q3_text.specs.declared.text.Command.{Command}
+use Rattle.q3_window.specs.Incoming.{IncomingState, new_incoming, fresh_of, executes}
 use Rattle.q3_profile.specs.declared.profile.Profile.{Profile}
 use Rattle.q3_entity.specs.Baselines.{Lines, no_lines}
 use Rattle.q3_gamestate.specs.Values.{Gamestate}
@@ -17,18 +19,26 @@ use Rattle.q3_clstate.specs.declared.applied.Applied.{Applied}
 use Rattle.q3_clstate.specs.declared.applied.SnapOutcome.{SnapOutcome}
 use Rattle.q3_clstate.specs.declared.applied.SnapOutcome.TheVariants.{NoSnap, Accepted, Skipped, Stale}
 
--- by which profile messages are read; the number of the last one that was applied, 0 for none; whether a gamestate was
--- applied, and the baselines of the last; and the snapshots that are held since then
+-- by which profile messages are read; the number of the last one that was applied, 0 for none; the server's commands that were
+-- executed; whether a gamestate was applied, and the baselines of the last; and the snapshots that are held since then
 pub record AppliedState : Type 0 where
   pub profile : Profile
   pub number : ℕ
+  pub executed : IncomingState
   pub has_game : Bool
   pub lines : Lines
   pub held : HeldSnapshots
 
 -- no message was applied
 abbrev pub new_state : Profile → AppliedState
-new_state profile = record { profile = profile; number = 0; has_game = false; lines = no_lines; held = no_snapshots profile.parse_ring }
+new_state profile = record {
+  profile = profile;
+  number = 0;
+  executed = new_incoming;
+  has_game = false;
+  lines = no_lines;
+  held = no_snapshots profile.parse_ring;
+}
 
 -- ---- what a message is read against
 
@@ -38,11 +48,12 @@ context_of held lines = record { base = λ number. option_map base_from (view_at
 
 -- ---- what a message does
 
--- the state after a message, what became of it, and the snapshot that was accepted, if one was
+-- the state after a message, what became of it, the snapshot that was accepted, if one was, and the commands that were executed
 pub record Application : Type 0 where
   pub state : AppliedState
   pub answer : Applied
   pub accepted : Option Snapshot
+  pub heard : List Command
 
 -- a message is applied of which no snapshot is accepted
 abbrev pub passes : AppliedState → ℕ → SnapOutcome → Application
@@ -50,6 +61,7 @@ passes state number outcome = record {
   state = record state { number = number };
   answer = record { number = number; game = false; snap = outcome };
   accepted = None;
+  heard = [];
 }
 
 -- a snapshot is accepted, against the base of a number, 0 for none
@@ -58,6 +70,7 @@ accepts state number base snapshot = record {
   state = record state { number = number; held = accept_at state.held snapshot };
   answer = record { number = number; game = false; snap = Accepted base };
   accepted = Some snapshot;
+  heard = [];
 }
 
 -- a gamestate is applied: no snapshot of before is held any more, and its baselines take the place of others
@@ -66,6 +79,7 @@ applies_game state number game = record {
   state = record state { number = number; has_game = true; lines = game.lines; held = no_snapshots state.held.ring };
   answer = record { number = number; game = true; snap = NoSnap };
   accepted = None;
+  heard = [];
 }
 
 -- whether a snapshot isn't newer than all that were accepted
@@ -88,9 +102,18 @@ apply_section state number (told.Skipped base) =
     if is_stale state.held number then passes state number Stale
     else passes state number (Skipped base (skipped_for (held_snapshot state.held base)))
 
--- what a message of a number does, as it was read
+-- the state once the commands of a message are executed: those above the last one executed, also across a gap
+abbrev pub hearing : AppliedState → List Command → AppliedState
+hearing state commands = record state { executed = executes state.executed commands }
+
+-- what was applied behind these commands, of which those above the last one executed were executed
+abbrev pub heard_with : AppliedState → List Command → Application → Application
+heard_with state commands applied = record applied { heard = fresh_of state.executed.executed commands }
+
+-- what a message of a number does, as it was read: its commands are executed, whatever becomes of its section
 abbrev pub apply_read : AppliedState → ℕ → Message → Application
-apply_read state number message = apply_section state number message.section
+apply_read state number message =
+    heard_with state message.commands (apply_section (hearing state message.commands) number message.section)
 
 -- what bytes do as a message of a number
 abbrev pub apply_at : AppliedState → ℕ → List ℕ → Result Application Illegible
@@ -108,6 +131,11 @@ abbrev pub answered : Result Application Illegible → Result Applied Illegible
 answered (Ok applied) = Ok applied.answer
 answered (Err e) = Err e
 
+-- and the commands that were executed
+abbrev pub heard_in : Result Application Illegible → List Command
+heard_in (Ok applied) = applied.heard
+heard_in (Err e) = []
+
 -- ---- the same of a message's whole value
 
 -- whether a snapshot can be read against the base of a number: 0 is that of a whole one, which needs none
@@ -122,4 +150,5 @@ received held section = section
 
 -- what the whole value of a message of a number does
 abbrev pub apply_message : AppliedState → ℕ → Message → Application
-apply_message state number message = apply_section state number (received state.held message.section)
+apply_message state number message =
+    heard_with state message.commands (apply_section (hearing state message.commands) number (received state.held message.section))

@@ -1,6 +1,8 @@
 //! What became of a message that was applied.
 
+use arrayvec::ArrayVec;
 use q3_rings::NoBase;
+use q3_text::Command;
 
 /// What became of the snapshot of a message.
 #[derive(Clone, Copy, Debug, PartialEq, Eq)]
@@ -22,4 +24,11 @@ pub struct Applied {
     pub number: u32,
     pub game: bool,
     pub snap: SnapOutcome,
+}
+
+/// The server's commands that a client executed of one message, by rising number. Whoever applies messages keeps one, in a box of
+/// its own since it has room for 64 texts, and lends it to each call.
+#[derive(Drop)]
+pub struct Log {
+    pub commands: ArrayVec<Command, 64>,
 }

@@ -9,6 +9,6 @@ pub mod state;
 #[cfg(test)]
 mod tests;
 
-pub use applied::{Applied, SnapOutcome};
+pub use applied::{Applied, Log, SnapOutcome};
 pub use print::print_applied;
 pub use state::ClState;

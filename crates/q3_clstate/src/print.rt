@@ -6,14 +6,25 @@ ghost use Rattle.q3_io.specs.Faults.{HasCause};
 ghost use Rattle.q3_io.specs.Written.{Adds};
 ghost use Rattle.q3_clstate.specs.Report.{cause_text, outcome_text, applied_text};
 
-use crate::applied::{Applied, SnapOutcome};
+use crate::applied::{Applied, Log, SnapOutcome};
 use q3_io::{Failed, Piece, Sink, laws, print_all};
 use q3_rings::NoBase;
+use q3_window::print_commands;
 
-/// Prints the lines under an applied message: that of its snapshot, where it has one. `Failed` comes where the sink failed,
-/// behind a front of them.
-pub fn print_applied<O: Sink>(applied: &Applied, out: &mut O) -> Result<(), Failed>
-    ensures adds { Adds (O.written out.old) (O.written out.new) (applied_text applied.now) result }
+/// Prints the lines under an applied message: one for each command that was executed, and that of its snapshot, where it has one.
+/// `Failed` comes where the sink failed, behind a front of them.
+pub fn print_applied<O: Sink>(applied: &Applied, log: &Log, out: &mut O) -> Result<(), Failed>
+    ensures adds { Adds (O.written out.old) (O.written out.new) (applied_text applied.now log.now.commands.items) result }
+    ensures cause { HasCause (O.faults out.old) (O.faults out.new) result }
+{
+    laws::texts_follow();
+    print_commands(&log.commands, out)?;
+    print_outcome(applied, out)
+}
+
+/// Prints the line of what became of a message's snapshot, where it has one.
+fn print_outcome<O: Sink>(applied: &Applied, out: &mut O) -> Result<(), Failed>
+    ensures adds { Adds (O.written out.old) (O.written out.new) (outcome_text applied.now.number applied.now.snap) result }
     ensures cause { HasCause (O.faults out.old) (O.faults out.new) result }
 {
     match applied.snap {

@@ -1,30 +1,34 @@
 //! What a client has of the messages that were applied. Keeps the rules "held snapshots of a client", "snapshot whose base
-//! is not held" and, as far as it is built, "what a gamestate resets": the engine's `CL_ParseServerMessage`,
-//! `CL_ParseSnapshot` and `CL_ParseGamestate` (cl_parse.c). Which bases are held, and that a snapshot without its base
-//! changes nothing, is this project's own.
+//! is not held", "gaps in command numbers" and, as far as it is built, "what a gamestate resets": the engine's
+//! `CL_ParseServerMessage`, `CL_ParseCommandString`, `CL_ParseSnapshot` and `CL_ParseGamestate` (cl_parse.c). Which bases
+//! are held, and that a snapshot without its base changes nothing, is this project's own.
 
 ghost use Rattle.std.specs.Prelude.{◌≡◌, ◌<◌, ◌≤◌, option_map, slice_index_or, None, IfOk, IfSome};
 ghost use Rattle.q3_entity.specs.Entities.{Rises, run_of};
 ghost use Rattle.q3_rings.specs.Loans.{snapshot_of, head_of, head_from};
 ghost use Rattle.q3_rings.specs.Rings.{AreHeldSnapshots, view_at};
-ghost use Rattle.q3_clstate.specs.State.{new_state, apply_at, state_behind, answered};
+ghost use Rattle.q3_clstate.specs.State.{new_state, apply_at, state_behind, answered, heard_in};
 
-use crate::applied::{Applied, SnapOutcome};
+use crate::applied::{Applied, Log, SnapOutcome};
 use crate::holding::Holding;
 use q3_bits::NoMemory;
 use q3_entity::laws::list_rises;
 use q3_profile::Profile;
 use q3_rings::{Held, NoBase, SnapView};
 use q3_svmsg::{Illegible, Section, ServerMessage, read_server_message};
+use q3_text::Text;
+use q3_window::Incoming;
 use std::alloc::Global;
 use std::marker::Model;
 
-/// What the messages that were applied left: a copy of the profile by which they are read, the number of the last, whether a
-/// gamestate was among them, and what others are read against; and a place to read into. After `new` no call takes memory.
+/// What the messages that were applied left: a copy of the profile by which they are read, the number of the last, the server's
+/// commands that were executed, whether a gamestate was among them, and what others are read against; and a place to read into.
+/// After `new` no call takes memory.
 #[derive(Drop)]
 pub struct ClState {
     profile: Profile,
     number: u32,
+    incoming: Incoming,
     has_game: bool,
     holding: Holding,
     message: ServerMessage,
@@ -52,20 +56,29 @@ impl ClState {
         Ok(ClState {
             profile: profile.copy()?,
             number: 0,
+            incoming: Incoming::new(),
             has_game: false,
             holding: Holding::new(alloc, profile.parse_ring)?,
             message: ServerMessage::new(alloc)?,
         })
     }
 
-    /// Applies a message of a number, any bytes. `Err` is why it isn't legible; nothing changes then.
+    /// Applies a message of a number, any bytes, and tells which of its commands it executed: those above the last one executed,
+    /// also across a gap. `Err` is why it isn't legible; nothing changes then, and nothing was executed.
     ///
     /// Of its snapshot `Stale` is told exactly where the number isn't above the newest accepted since the last gamestate, else
     /// `Skipped` exactly where its base isn't held, and why, else `Accepted`. A gamestate ends what was held before.
-    pub fn apply(&mut self, number: u32, message: &[u8]) -> Result<Applied, Illegible>
+    pub fn apply(
+        &mut self,
+        number: u32,
+        message: &[u8],
+        log: &mut Log,
+    ) -> Result<Applied, Illegible>
         ensures state { self.new ≡ state_behind self.old (apply_at self.old number message.now) }
         ensures answer { result ≡ answered (apply_at self.old number message.now) }
+        ensures log { log.new.commands.items ≡ heard_in (apply_at self.old number message.now) }
     {
+        log.commands.clear();
         list_rises();
         read_server_message(
             &self.profile,
@@ -75,6 +88,10 @@ impl ClState {
             &mut self.message,
         )?;
         self.number = number;
+        // a message has room for as many
+        prove!(self.message.commands.len() <= 64);
+        self.incoming
+            .execute(&self.message.commands, &mut log.commands);
         let snap = match self.message.section {
             Section::Nothing => SnapOutcome::NoSnap,
             Section::Game => {
@@ -108,6 +125,20 @@ impl ClState {
         ensures { result ≡ self.now.number }
     {
         self.number
+    }
+
+    /// The number of the last server command executed, 0 for none.
+    pub fn executed(&self) -> u32
+        ensures { result ≡ self.now.executed.executed }
+    {
+        self.incoming.executed()
+    }
+
+    /// The text of the last server command executed, empty for none.
+    pub fn last_text(&self) -> &Text
+        ensures { result.now ≡ self.now.executed.last }
+    {
+        self.incoming.last()
     }
 
     /// Whether a gamestate was applied.

@@ -1,12 +1,14 @@
 //! Messages with bytes worked by hand, by the plain code, entity widths 0, 8, -16 and player widths 0, 16, in a ring of 512.
 
 use super::*;
+use arrayvec::ArrayVec;
 use q3_bits::{Code, Overflow, ReadError, Writer};
 use q3_fields::Table;
 use q3_memory::MemSink;
 use q3_profile::Profile;
 use q3_rings::NoBase;
 use q3_svmsg::Illegible;
+use q3_text::{Command, Text};
 use std::alloc::Global;
 use std::process::Abort;
 use std::test::*;
@@ -80,6 +82,18 @@ fn write_crowd(w: &mut Writer) -> Result<(), Overflow> {
     w.put_all(&[(1023, 10), (8, 8)])
 }
 
+/// A place for the commands that are executed.
+fn new_log() -> Log {
+    Log {
+        commands: ArrayVec::new(),
+    }
+}
+
+/// Applies a message, whatever it executes.
+fn apply(state: &mut ClState, number: u32, message: &[u8]) -> Result<Applied, Illegible> {
+    state.apply(number, message, &mut new_log())
+}
+
 /// Applies a message without a gamestate, and checks what became of its snapshot.
 fn check(rt: &impl Abort, state: &mut ClState, number: u32, message: &[u8], snap: SnapOutcome) {
     let applied = Applied {
@@ -87,7 +101,7 @@ fn check(rt: &impl Abort, state: &mut ClState, number: u32, message: &[u8], snap
         game: false,
         snap,
     };
-    assert_eq!(rt; state.apply(number, message), Ok(applied));
+    assert_eq!(rt; apply(state, number, message), Ok(applied));
     assert_eq!(rt; state.number(), number);
 }
 
@@ -148,7 +162,7 @@ fn snapshots_are_read_against_what_is_held(rt: HostRuntime) -> Result<(), Fail> 
     }
     // what is skipped, stale or not legible leaves what is held
     let bad = Illegible::BadOp(9);
-    assert_eq!(rt; state.apply(36, b"\0\0\0\0\x09\x08"), Err(bad));
+    assert_eq!(rt; apply(&mut state, 36, b"\0\0\0\0\x09\x08"), Err(bad));
     assert_eq!(rt; numbers(&state), (34, false, 33));
     check_view(&rt, &state, 2, 2, 3);
     check_view(&rt, &state, 33, 3, 5);
@@ -190,7 +204,7 @@ fn gamestate_ends_what_was_held(rt: HostRuntime) -> Result<(), Fail> {
         game: true,
         snap: SnapOutcome::NoSnap,
     };
-    assert_eq!(rt; state.apply(9, GAME), Ok(applied));
+    assert_eq!(rt; apply(&mut state, 9, GAME), Ok(applied));
     assert_eq!(rt; numbers(&state), (9, true, 0));
     assert!(rt; state.view(8).is_none() && state.held(8).is_none());
     let cause = NoBase::NeverHeld;
@@ -206,12 +220,37 @@ fn gamestate_that_is_cut_short_changes_nothing(rt: HostRuntime) -> Result<(), Fa
     let mut state = new_state(&rt, rt.alloc());
     let end = Illegible::Bits(ReadError::End);
     check(&rt, &mut state, 1, NOTHING, SnapOutcome::NoSnap);
-    assert_eq!(rt; state.apply(2, CUT_GAME), Err(end));
+    assert_eq!(rt; apply(&mut state, 2, CUT_GAME), Err(end));
     assert_eq!(rt; numbers(&state), (1, false, 0));
     let accepted = SnapOutcome::Accepted { base: 0 };
     check(&rt, &mut state, 3, AS_BASELINE, accepted);
     check_view(&rt, &state, 3, 1, 0);
     Ok(())
+}
+
+/// Applies a message, and checks how many commands it executes, and the number of the last one executed.
+fn check_commands(rt: &impl Abort, state: &mut ClState, message: &[u8], count: usize, last: u32) {
+    let mut log = new_log();
+    assert!(rt; state.apply(1, message, &mut log).is_ok());
+    assert_eq!(rt; (log.commands.len(), state.executed()), (count, last));
+}
+
+#[test]
+fn commands_are_executed_once(rt: HostRuntime) {
+    let mut state = new_state(&rt, rt.alloc());
+    // the commands 1 and 2; 2 again, and 3; and 6, across a gap
+    let first = b"\0\0\0\0\x05\x01\0\0\0a\0\x05\x02\0\0\0b\0\x08\0";
+    check_commands(&rt, &mut state, first, 2, 2);
+    let again = b"\0\0\0\0\x05\x02\0\0\0b\0\x05\x03\0\0\0c\0\x08\0";
+    check_commands(&rt, &mut state, again, 1, 3);
+    let gap = b"\0\0\0\0\x05\x06\0\0\0d\0\x08\0";
+    check_commands(&rt, &mut state, gap, 1, 6);
+    assert_eq!(rt; state.last_text().bytes(), b"d".as_slice());
+    // what isn't legible executes none
+    let bad = Illegible::BadOp(9);
+    let cut = b"\0\0\0\0\x05\x07\0\0\0e\0\x09\0";
+    assert_eq!(rt; apply(&mut state, 1, cut), Err(bad));
+    assert_eq!(rt; state.executed(), 6);
 }
 
 /// Prints what became of message 40 without a gamestate, which gives this text.
@@ -222,7 +261,7 @@ fn prints(rt: &impl Abort, alloc: Global, snap: SnapOutcome, text: &[u8]) {
         snap,
     };
     let mut out = MemSink::new(alloc, 128, &[]).expect(rt, "memory");
-    assert_eq!(rt; print_applied(&applied, &mut out), Ok(()));
+    assert_eq!(rt; print_applied(&applied, &new_log(), &mut out), Ok(()));
     assert_eq!(rt; out.bytes(), text);
 }
 
@@ -230,6 +269,24 @@ fn prints(rt: &impl Abort, alloc: Global, snap: SnapOutcome, text: &[u8]) {
 fn skipped_prints(rt: &impl Abort, alloc: Global, cause: NoBase, text: &[u8]) {
     let skipped = SnapOutcome::Skipped { base: 8, cause };
     prints(rt, alloc, skipped, text);
+}
+
+#[test]
+fn commands_are_printed(rt: HostRuntime) {
+    let mut log = new_log();
+    log.commands.push(Command {
+        number: 3,
+        text: Text::of(b"cp hi").expect(&rt, "a text"),
+    });
+    let applied = Applied {
+        number: 40,
+        game: false,
+        snap: SnapOutcome::Stale,
+    };
+    let mut out = MemSink::new(rt.alloc(), 128, &[]).expect(&rt, "memory");
+    assert_eq!(rt; print_applied(&applied, &log, &mut out), Ok(()));
+    let lines = b"+ command 3 \"cp hi\"\n+ stale 40\n";
+    assert_eq!(rt; out.bytes(), lines.as_slice());
 }
 
 #[test]

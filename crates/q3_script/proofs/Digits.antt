@@ -48,11 +48,11 @@ digit_spelled digit value e small = digit_is value (value_small digit value e) �
 abbrev done : {A : Type 0} → A → Result A FromHexError
 done x = Ok x
 
-done_is : {A : Type 0} (x y : A) → done x ≡ done y → x ≡ y
+pub done_is : {A : Type 0} (x y : A) → done x ≡ done y → x ≡ y
 done_is x y e = cc
 
 -- the value of a step that wasn't refused
-bind_done : {A B : Type 0} (r : Result A FromHexError) (f : A → Result B FromHexError) (y : B) → (r >>= f) ≡ Ok y → (x : A) × (r ≡ Ok x) × (f x ≡ Ok y)
+pub bind_done : {A B : Type 0} (r : Result A FromHexError) (f : A → Result B FromHexError) (y : B) → (r >>= f) ≡ Ok y → (x : A) × (r ≡ Ok x) × (f x ≡ Ok y)
 bind_done (Ok x) f y e = (x, refl, e)
 bind_done (Err fault) f y e = absurd cc
 

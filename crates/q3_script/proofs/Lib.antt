@@ -5,10 +5,14 @@ pub mod Addresses
 pub mod FieldWords
 pub mod Digits
 pub mod HexWords
+pub mod Fronts
+pub mod Unquoted
+pub mod Coming
 pub mod Rising
 pub mod Steps
 pub mod NumberWords
 pub mod SpelledMoves
+pub mod SpelledCommands
 pub mod SpelledEvents
 pub mod SpelledScripts
 pub mod PlayerParts

@@ -1,7 +1,8 @@
 -- The words of a line against the grammar of events: what is read was spelled so, and what is spelled so is read.
-use Rattle.std.proofs.Common.{◌≡◌, ℕ, ◌^◌, ◌%◌, ◌<◌, Bool, true, false, cond, List, [], ◌∷◌, length, set, replicate, slice_index_or, Some, Result, Ok, Err, inl, inr, refl, sym, ap, subst, ◌∙◌, arith}
+use Rattle.std.proofs.Common.{◌≡◌, ℕ, ◌^◌, ◌%◌, ◌<◌, Bool, true, false, cond, List, [], ◌∷◌, length, set, replicate, slice_index_or, take, drop, Some, Result, Ok, Err, inl, inr, refl, sym, ap, subst, ◌∙◌, arith}
 use Rattle.std.specs.Prelude.{codes, All}
 use Rattle.std.specs.Fmt.{decimal}
+use Rattle.std.specs.List.{position_or_len}
 use Rattle.std.specs.Option.{ok_or}
 use Rattle.std.specs.Str.{bytes_eq}
 use Rattle.std.specs.Int.{w16, cast_signed}
@@ -19,19 +20,22 @@ use Rattle.q3_entity.specs.declared.state.EntityState.{EntityState}
 use Rattle.q3_player.specs.declared.state.PlayerState.{PlayerState}
 use Rattle.q3_io.specs.declared.address.Address.{Address}
 use Rattle.q3_script.specs.declared.event.Event.{Event}
-use Rattle.q3_script.specs.declared.event.Event.TheVariants.{Client, Entity, Remove, Player, Area, Time, Move, Serve, Send, Deliver, Show}
+use Rattle.q3_script.specs.declared.event.Event.TheVariants.{Client, Entity, Remove, Player, Area, Time, Say, TypeText, Move, Serve, Send, Deliver, Show}
 use Rattle.q3_script.specs.declared.cause.LineCause.{LineCause}
 use Rattle.q3_script.specs.declared.cause.LineCause.TheVariants as causes
 use Rattle.q3_bits.specs.ResultBind.{◌>>=◌, bind_ok}
+use Rattle.q3_script.specs.Words.{words_of, words_left}
 use Rattle.q3_script.specs.Addresses.{address_at}
 use Rattle.q3_script.specs.Hex.{area_at}
 use Rattle.q3_script.specs.Fields.{values_of, player_of, entity_at, player_at}
-use Rattle.q3_script.specs.Lines.{last_entity, last_datagram, number_word, entity_word, client_word, client_line, entity_line, remove_line, player_line, area_line, time_line, serve_line, send_line, deliver_line, show_line, Table, replay_lines, line_in, line_at}
+use Rattle.q3_script.specs.Lines.{last_entity, last_datagram, number_word, entity_word, client_word, client_line, entity_line, remove_line, player_line, area_line, time_line, say_line, type_line, move_line, serve_line, send_line, deliver_line, show_line, Table, replay_lines, line_in, line_at}
 use Rattle.q3_script.specs.Grammar.{AreFields, SpellsEntity, SpellsPlayer, SpellsEvent}
+use Rattle.q3_script.proofs.Spaces.{is_space, words_at_space, AreLeft}
 use Rattle.q3_script.proofs.NumberWords.{done, ok_is, ok_or-ok, number_word-spelled, number_word-again}
 use Rattle.q3_script.proofs.Addresses.{address_at-spelled, address_at-again}
 use Rattle.q3_script.proofs.FieldWords.{entity_at-spelled, entity_at-again, player_at-spelled, player_at-again}
 use Rattle.q3_script.proofs.HexWords.{area_at-spelled, area_at-again}
+use Rattle.q3_script.proofs.SpelledCommands.{command_at-again, say_line-spelled, type_line-spelled}
 use Rattle.q3_script.proofs.SpelledMoves.{move_line-spelled, move_line-again}
 
 -- a refusal
@@ -223,29 +227,83 @@ show_line-spelled (word ∷ other ∷ others) event e = absurd cc
 word_is : (word text : List ℕ) (others : List (List ℕ)) (event : Event) → bytes_eq text word ≡ true → SpellsEvent (text ∷ others) event → SpellsEvent (word ∷ others) event
 word_is word text others event same spelled = subst (λ (w : List ℕ). SpellsEvent (w ∷ others) event) ((bytes_eq-Decides text word).0 same) spelled
 
+-- what is left of a line, read as an event, was spelled so behind the line's first word
+abbrev ReadIsSpelled : List ℕ × (List (List ℕ) → Result Event LineCause) → Type 0
+ReadIsSpelled line = (others : List (List ℕ)) (event : Event) → AreLeft others → line.1 others ≡ Ok event → SpellsEvent (line.0 ∷ others) event
+
+-- also of any other words
+of_any : (word : List ℕ) (line : List (List ℕ) → Result Event LineCause) → ((words : List (List ℕ)) (event : Event) → line words ≡ Ok event → SpellsEvent (word ∷ words) event) → ReadIsSpelled (word, line)
+of_any word line each = λ others event left e. each others event e
+
 -- a line of a table, whose entries each read what is spelled so
 abbrev EachIsSpelled : Table → Type 0
 EachIsSpelled [] = Unit {0}
-EachIsSpelled (line ∷ lines) = ((others : List (List ℕ)) (event : Event) → line.1 others ≡ Ok event → SpellsEvent (line.0 ∷ others) event) × EachIsSpelled lines
+EachIsSpelled (line ∷ lines) = ReadIsSpelled line × EachIsSpelled lines
 
-found : (lines : Table) (word : List ℕ) (others : List (List ℕ)) (event : Event) → EachIsSpelled lines → line_in lines word others ≡ Ok event → SpellsEvent (word ∷ others) event
-found [] word others event each e = let none : refuse causes.Word ≡ done event = e in absurd cc
-found (line ∷ lines) word others event each e =
+found : (lines : Table) (word : List ℕ) (others : List (List ℕ)) (event : Event) → EachIsSpelled lines → AreLeft others → line_in lines word others ≡ Ok event → SpellsEvent (word ∷ others) event
+found [] word others event each left e = let none : refuse causes.Word ≡ done event = e in absurd cc
+found (line ∷ lines) word others event each left e =
     elim (cases_Bool (bytes_eq line.0 word)) [
-      | inl same ↦ word_is word line.0 others event same (each.0 others event (rw same at e))
-      | inr other ↦ found lines word others event each.1 (rw other at e)
+      | inl same ↦ word_is word line.0 others event same (each.0 others event left (rw same at e))
+      | inr other ↦ found lines word others event each.1 left (rw other at e)
     ]
 
--- what is read of a line was spelled so
-pub line_at-spelled : (words : List (List ℕ)) (event : Event) → line_at words ≡ Ok event → SpellsEvent words event
+-- what is read of words behind a first one was spelled so
+others_spelled : (word : List ℕ) (others : List (List ℕ)) (event : Event) → AreLeft others → line_at (word ∷ others) ≡ Ok event → SpellsEvent (word ∷ others) event
 unfolding line_at
-line_at-spelled [] event e = absurd cc
-line_at-spelled (word ∷ others) event e =
-    found replay_lines word others event (client_line-spelled, (entity_line-spelled, (remove_line-spelled, (player_line-spelled, (area_line-spelled, (time_line-spelled, (move_line-spelled, (serve_line-spelled, (send_line-spelled, (deliver_line-spelled, (show_line-spelled, tt))))))))))) e
+others_spelled word others event left e =
+    found replay_lines word others event (
+      of_any (codes "client") client_line client_line-spelled,
+      (
+        of_any (codes "entity") entity_line entity_line-spelled,
+        (
+          of_any (codes "remove") remove_line remove_line-spelled,
+          (
+            of_any (codes "player") player_line player_line-spelled,
+            (
+              of_any (codes "area") area_line area_line-spelled,
+              (
+                of_any (codes "time") time_line time_line-spelled,
+                (
+                  say_line-spelled,
+                  (
+                    type_line-spelled,
+                    (
+                      of_any (codes "move") move_line move_line-spelled,
+                      (
+                        of_any (codes "serve") serve_line serve_line-spelled,
+                        (
+                          of_any (codes "send") send_line send_line-spelled,
+                          (
+                            of_any (codes "deliver") deliver_line deliver_line-spelled,
+                            (
+                              of_any (codes "show") show_line show_line-spelled,
+                              tt,
+                            ),
+                          ),
+                        ),
+                      ),
+                    ),
+                  ),
+                ),
+              ),
+            ),
+          ),
+        ),
+      ),
+    ) left e
+
+-- what is read of a line was spelled so
+pub line_at-spelled : (line : List ℕ) (event : Event) → line_at (words_of line) ≡ Ok event → SpellsEvent (words_of line) event
+line_at-spelled line event e =
+    let cut = words_at_space line in
+    let first = take (position_or_len is_space line) line in
+    let rest = drop (position_or_len is_space line) line in
+    subst (λ (words : List (List ℕ)). SpellsEvent words event) (sym cut) (others_spelled first (words_left rest) event (rest, refl) (ap line_at (sym cut) ∙ e))
 
 -- and what is spelled so is read
 pub line_at-again : (words : List (List ℕ)) (event : Event) → SpellsEvent words event → line_at words ≡ Ok event
-unfolding line_at client_line entity_line remove_line player_line area_line time_line serve_line send_line deliver_line show_line
+unfolding line_at client_line entity_line remove_line player_line area_line time_line say_line type_line serve_line send_line deliver_line show_line
 line_at-again words (Client c challenge qport dup address) spelled =
     let is = spelled.event_of_replay in
     ap line_at spelled.whole.2 ∙ rw (
@@ -266,6 +324,8 @@ line_at-again words (Area c area) spelled =
     let is = spelled.event_of_replay in
     ap line_at spelled.whole.2 ∙ rw (number_word-again 0 0 c (omega arith) (omega arith) (omega arith), area_at-again spelled.whole.0 area spelled.whole.1 is.1 is.2) refl
 line_at-again words (Time time) spelled = let is = spelled.event_of_replay in ap line_at spelled.whole ∙ rw (number_word-again 0 4294967295 time (omega arith) (omega arith) (omega arith)) refl
+line_at-again words (Say c text) spelled = let is = spelled.event_of_replay in ap line_at spelled.whole.2 ∙ rw (command_at-again c text spelled.whole.0 is.0 spelled.whole.1) refl
+line_at-again words (TypeText c text) spelled = let is = spelled.event_of_replay in ap line_at spelled.whole.2 ∙ rw (command_at-again c text spelled.whole.0 is.0 spelled.whole.1) refl
 line_at-again words (Move c one) spelled = let is = spelled.event_of_replay in ap line_at spelled.whole ∙ move_line-again c one is.0 is.1
 line_at-again words (Serve c) spelled = let is = spelled.event_of_replay in ap line_at spelled.whole ∙ rw (number_word-again 0 0 c (omega arith) (omega arith) (omega arith)) refl
 line_at-again words (Send c) spelled = let is = spelled.event_of_replay in ap line_at spelled.whole ∙ rw (number_word-again 0 0 c (omega arith) (omega arith) (omega arith)) refl

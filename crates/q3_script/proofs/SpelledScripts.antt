@@ -52,7 +52,7 @@ events_from-spelled number before (line ∷ lines) events e =
           let rest = bind_ok (events_from (number + 1) (before + 1) lines) (λ events. Ok (event.0 ∷ events)) events event.2 in
           let others = events_from-spelled (number + 1) (before + 1) lines rest.0 rest.1 in
           let below = leb-false most_events before room.0 in
-          let whole : WereEvents before (line ∷ lines) (event.0 ∷ rest.0) = record { spelled = rw read (line_at-spelled (words_of line) event.0 room.1, others.spelled); few = λ le. (let few = others.few (omega arith) in omega arith) } in
+          let whole : WereEvents before (line ∷ lines) (event.0 ∷ rest.0) = record { spelled = rw read (line_at-spelled line event.0 room.1, others.spelled); few = λ le. (let few = others.few (omega arith) in omega arith) } in
           subst (λ (x : List Event). WereEvents before (line ∷ lines) x) (ok_is (event.0 ∷ rest.0) events rest.2) whole
     ]
 

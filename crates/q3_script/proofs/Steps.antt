@@ -4,11 +4,12 @@ use Rattle.std.specs.Option.{ok_or}
 use Rattle.q3_script.specs.declared.event.Event.TheVariants.{Client, Entity, Remove, Player, Area, Time, Move, Serve, Send, Deliver, Show}
 use Rattle.q3_script.specs.declared.cause.LineCause.TheVariants.{Address, Count, Number}
 use Rattle.q3_bits.specs.ResultBind.{◌>>=◌}
-use Rattle.q3_script.specs.Words.{next_of, three_of, only_of}
+use Rattle.q3_script.specs.Words.{next_of, three_of, only_of, text_from}
 use Rattle.q3_script.specs.Addresses.{address_at}
 use Rattle.q3_script.specs.Hex.{area_at}
+use Rattle.q3_script.specs.Quotes.{text_word}
 use Rattle.q3_script.specs.Fields.{entity_at, player_at}
-use Rattle.q3_script.specs.Lines.{last_datagram, number_word, entity_word, client_word, angles_at, steps_at, move_with, client_line, entity_line, remove_line, player_line, area_line, time_line, move_line, serve_line, send_line, deliver_line, show_line}
+use Rattle.q3_script.specs.Lines.{last_datagram, number_word, entity_word, client_word, angles_at, steps_at, move_with, client_line, entity_line, remove_line, player_line, area_line, time_line, command_at, move_line, serve_line, send_line, deliver_line, show_line}
 
 -- a client: four words and the last, then each of them
 pub client_steps : (words : List (List ℕ)) → client_line words ≡ (ok_or (next_of words) Count >>= λ c. ok_or (next_of c.1) Count >>= λ challenge. ok_or (next_of challenge.1) Count >>= λ qport. ok_or (next_of qport.1) Count >>= λ dup. ok_or (only_of dup.1) Count >>= λ address.
@@ -56,6 +57,13 @@ pub player_steps : (words : List (List ℕ)) → player_line words ≡ (ok_or (n
 unfolding player_line
 player_steps [] = refl
 player_steps (c ∷ fields) = refl
+
+-- a command: a word, and the text behind it, then each of them
+pub command_steps : (words : List (List ℕ)) → command_at words ≡ (ok_or (next_of words) Count >>= λ c. ok_or (text_from c.1) Count >>= λ text. client_word c.0 >>= λ c. text_word text >>= λ text. Ok (c, text))
+unfolding command_at
+command_steps [] = refl
+command_steps (c ∷ []) = refl
+command_steps (c ∷ first ∷ rest) = refl
 
 -- a move: nine words and the last, then each of them
 pub move_steps : (words : List (List ℕ)) → move_line words ≡ (ok_or (three_of words) Count >>= λ front. ok_or (three_of front.3) Count >>= λ middle. ok_or (three_of middle.3) Count >>= λ back. ok_or (only_of back.3) Count >>= λ weapon.

@@ -1,5 +1,5 @@
 -- The grammar of a script: which words spell which event, and which lines which events.
-use Rattle.std.specs.Prelude.{◌≡◌, ℕ, ◌^◌, ◌<◌, ◌≤◌, ℤ, pos, neg_ℤ, ◌≤ℤ◌, Bool, true, false, List, [], ◌∷◌, ◌++◌, length, map, codes, decimal, All}
+use Rattle.std.specs.Prelude.{◌≡◌, ℕ, ◌^◌, ◌<◌, ◌≤◌, ℤ, pos, neg_ℤ, ◌≤ℤ◌, Bool, true, false, List, [], ◌∷◌, ◌++◌, length, map, codes, decimal, All, Ok}
 use Rattle.q3_fields.specs.Places.{Change, AreRising}
 use Rattle.q3_fields.specs.States.{AreWords}
 use Rattle.q3_clmsg.specs.declared.moves.Move.{Move as MoveValue}
@@ -8,9 +8,11 @@ use Rattle.q3_entity.specs.declared.state.EntityState.{EntityState}
 use Rattle.q3_player.specs.State.{IsState}
 use Rattle.q3_player.specs.declared.state.PlayerState.{PlayerState}
 use Rattle.q3_io.specs.Print.{indexed_text}
+use Rattle.q3_io.specs.Quoted.{quoted}
 use Rattle.q3_io.specs.declared.address.Address.{Address}
+use Rattle.q3_text.specs.Texts.{IsText, text_of}
 use Rattle.q3_script.specs.declared.event.Event.{Event}
-use Rattle.q3_script.specs.declared.event.Event.TheVariants.{Client, Entity, Remove, Player, Area, Time, Move, Serve, Send, Deliver, Show}
+use Rattle.q3_script.specs.declared.event.Event.TheVariants.{Client, Entity, Remove, Player, Area, Time, Say, TypeText, Move, Serve, Send, Deliver, Show}
 use Rattle.q3_script.specs.Words.{words_of}
 use Rattle.q3_script.specs.Addresses.{host_of}
 use Rattle.q3_script.specs.Hex.{hex_text, most_area}
@@ -42,6 +44,8 @@ IsReplayEvent (Remove number) = number ≤ last_entity
 IsReplayEvent (Player c player) = (c ≡ 0) × IsState player
 IsReplayEvent (Area c area) = (c ≡ 0) × (length area.items ≤ most_area) × All (λ byte. byte < 256) area.items
 IsReplayEvent (Time time) = time < 2 ^ 32
+IsReplayEvent (Say c text) = (c ≡ 0) × IsText text
+IsReplayEvent (TypeText c text) = (c ≡ 0) × IsText text
 IsReplayEvent (Move c one) = (c ≡ 0) × IsHeldMove one
 IsReplayEvent (Serve c) = c ≡ 0
 IsReplayEvent (Send c) = c ≡ 0
@@ -98,6 +102,13 @@ pub record SpellsPlayer (words : List (List ℕ)) (player : PlayerState) : Type 
       ++ field_words (codes "u") powerups
   pub state : player ≡ player_of fields stats persistant ammo powerups
 
+-- the words of bytes in quotes, none of them 0, which become a text
+pub record SpellsText (words : List (List ℕ)) (text : List ℕ) : Type 0 where
+  pub bytes : List ℕ
+  pub are_bytes : All (λ byte. (0 < byte) × (byte < 256)) bytes
+  pub becomes : text_of bytes ≡ Ok text
+  pub whole : words ≡ words_of (quoted bytes)
+
 -- the words that an event is spelled by
 abbrev pub HasWords : List (List ℕ) → Event → Type 0
 HasWords words (Client c challenge qport dup address) =
@@ -107,6 +118,8 @@ HasWords words (Remove number) = words ≡ codes "remove" ∷ decimal number ∷
 HasWords words (Player c player) = (fields : List (List ℕ)) × SpellsPlayer fields player × (words ≡ codes "player" ∷ decimal c ∷ fields)
 HasWords words (Area c area) = (last : List ℕ) × SpellsHex last area.items × (words ≡ codes "area" ∷ decimal c ∷ last ∷ [])
 HasWords words (Time time) = words ≡ codes "time" ∷ decimal time ∷ []
+HasWords words (Say c text) = (last : List (List ℕ)) × SpellsText last text × (words ≡ codes "say" ∷ decimal c ∷ last)
+HasWords words (TypeText c text) = (last : List (List ℕ)) × SpellsText last text × (words ≡ codes "type" ∷ decimal c ∷ last)
 HasWords words (Move c one) = words ≡ codes "move" ∷ decimal c ∷ move_words one
 HasWords words (Serve c) = words ≡ codes "serve" ∷ decimal c ∷ []
 HasWords words (Send c) = words ≡ codes "send" ∷ decimal c ∷ []

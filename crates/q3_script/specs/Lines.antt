@@ -1,11 +1,12 @@
 -- The event that a line of a script spells, or the first cause for which it is refused.
 use Rattle.std.specs.Prelude.{ℕ, ℤ, pos, neg_ℤ, List, [], ◌∷◌, codes, Option, option_map, Result, Ok, Err}
 use Rattle.std.specs.Option.{ok_or, option_map_or}
+use Rattle.std.specs.List.{join_with_byte}
 use Rattle.std.specs.Map.{lookup}
 use Rattle.std.specs.Str.{bytes_eq}
 use Rattle.q3_clmsg.specs.declared.moves.Move.{Move as MoveValue}
 use Rattle.q3_script.specs.declared.event.Event.{Event}
-use Rattle.q3_script.specs.declared.event.Event.TheVariants.{Client, Entity, Remove, Player, Area, Time, Move, Serve, Send, Deliver, Show}
+use Rattle.q3_script.specs.declared.event.Event.TheVariants.{Client, Entity, Remove, Player, Area, Time, Say, TypeText, Move, Serve, Send, Deliver, Show}
 use Rattle.q3_script.specs.declared.cause.LineCause.{LineCause}
 use Rattle.q3_script.specs.declared.cause.LineCause.TheVariants as causes
 use Rattle.q3_bits.specs.ResultBind.{◌>>=◌}
@@ -13,6 +14,7 @@ use Rattle.q3_text.specs.Decimals.{number_at}
 use Rattle.q3_script.specs.Words.{behind}
 use Rattle.q3_script.specs.Addresses.{address_at}
 use Rattle.q3_script.specs.Hex.{area_at}
+use Rattle.q3_script.specs.Quotes.{text_word}
 use Rattle.q3_script.specs.Fields.{entity_at, player_at}
 
 -- the greatest number of a datagram that a line can name
@@ -87,6 +89,24 @@ time_line (time ∷ []) = do
   time ← number_word 0 4294967295 time
   Ok (Time time)
 time_line words = Err causes.Count
+
+-- a client and the command to it or from it, which is the rest of the line with its spaces
+unfoldable pub command_at : List (List ℕ) → Result (ℕ × List ℕ) LineCause
+command_at (c ∷ first ∷ rest) = do
+  c ← client_word c
+  text ← text_word (join_with_byte 32 (first ∷ rest))
+  Ok (c, text)
+command_at words = Err causes.Count
+
+unfoldable pub say_line : List (List ℕ) → Result Event LineCause
+say_line words = do
+  command ← command_at words
+  Ok (Say command.0 command.1)
+
+unfoldable pub type_line : List (List ℕ) → Result Event LineCause
+type_line words = do
+  command ← command_at words
+  Ok (TypeText command.0 command.1)
 
 -- three angles
 abbrev pub angles_at : List ℕ → List ℕ → List ℕ → Result (List ℕ) LineCause
@@ -168,6 +188,8 @@ replay_lines =
     ∷ (codes "player", player_line)
     ∷ (codes "area", area_line)
     ∷ (codes "time", time_line)
+    ∷ (codes "say", say_line)
+    ∷ (codes "type", type_line)
     ∷ (codes "move", move_line)
     ∷ (codes "serve", serve_line)
     ∷ (codes "send", send_line)

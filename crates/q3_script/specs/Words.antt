@@ -1,6 +1,6 @@
 -- The words of a line, and what stands behind a prefix.
 use Rattle.std.specs.Prelude.{ℕ, ◌==◌, List, [], ◌∷◌, take, drop, length, Option, Some, None}
-use Rattle.std.specs.List.{slice_split}
+use Rattle.std.specs.List.{slice_split, join_with_byte}
 use Rattle.std.specs.Bool.{then_some}
 use Rattle.std.specs.Str.{bytes_eq}
 
@@ -28,6 +28,11 @@ abbrev pub only_of : List (List ℕ) → Option (List ℕ)
 only_of [] = None
 only_of (word ∷ []) = Some word
 only_of (word ∷ next ∷ words) = None
+
+-- words as the one text that they were cut from, if there are any
+abbrev pub text_from : List (List ℕ) → Option (List ℕ)
+text_from [] = None
+text_from (word ∷ words) = Some (join_with_byte 32 (word ∷ words))
 
 -- what stands behind a prefix
 unfoldable pub behind : List ℕ → List ℕ → Option (List ℕ)

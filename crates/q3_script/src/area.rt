@@ -10,7 +10,8 @@ use arrayvec::ArrayVec;
 /// The most area bytes of a snapshot.
 const MOST_AREA: usize = 32;
 
-fn has_capital(word: &[u8]) -> bool
+/// Whether a letter of a word is a capital.
+pub fn has_capital(word: &[u8]) -> bool
     ensures { result ≡ list_any is_capital word.now }
 {
     word.iter().any(|byte| byte.is_ascii_uppercase())

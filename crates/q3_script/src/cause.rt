@@ -26,6 +26,8 @@ pub enum LineCause {
     Number,
     /// A word is no field and no value of an array, or its place doesn't rise.
     Fields,
+    /// What is left of the line is no text in quotes, or one of more than 1,023 bytes.
+    Text,
     /// The word isn't an address.
     Address,
 }

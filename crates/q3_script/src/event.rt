@@ -5,6 +5,7 @@ use q3_clmsg::Move;
 use q3_entity::EntityState;
 use q3_io::Address;
 use q3_player::PlayerState;
+use q3_text::Text;
 
 /// What one line of a script says: one call of one end, or something that the game hands in.
 /// `c` is the number of a client, of which there is one at this stage, 0.
@@ -40,6 +41,16 @@ pub enum Event {
     /// The server's time, in milliseconds.
     Time {
         time: u32,
+    },
+    /// The server issues a command to the client.
+    Say {
+        c: u8,
+        text: Text,
+    },
+    /// The client issues a command to the server.
+    TypeText {
+        c: u8,
+        text: Text,
     },
     /// The client issues a move.
     Move {

@@ -10,6 +10,7 @@ pub mod laws;
 mod line;
 mod moves;
 mod numbers;
+mod quotes;
 mod script;
 mod words;
 

@@ -2,7 +2,7 @@
 
 ghost use Rattle.std.specs.Prelude.{◌≡◌, ◌∷◌};
 ghost use Rattle.q3_script.specs.Words.{words_of, words_left};
-ghost use Rattle.q3_script.specs.Lines.{client_line, entity_line, remove_line, player_line, area_line, time_line, serve_line, send_line, deliver_line, show_line, line_at};
+ghost use Rattle.q3_script.specs.Lines.{client_line, entity_line, remove_line, player_line, area_line, time_line, command_at, say_line, type_line, serve_line, send_line, deliver_line, show_line, line_at};
 
 use crate::address::address;
 use crate::area::area_bytes;
@@ -11,7 +11,9 @@ use crate::event::Event;
 use crate::fields::{entity_state, player_state};
 use crate::moves::move_line;
 use crate::numbers::{client_word, entity_word, number_word};
-use crate::words::{first_word, is, next_word, only_word};
+use crate::quotes::text_word;
+use crate::words::{first_word, is, next_word, only_word, text_left};
+use q3_text::Text;
 
 #[tactic(auto, using(crate::proofs::Steps::client_steps))]
 fn client(left: &[u8]) -> Result<Event, LineCause>
@@ -85,6 +87,32 @@ fn time(left: &[u8]) -> Result<Event, LineCause>
     })
 }
 
+/// A client, and the command to it or from it.
+#[tactic(auto, using(crate::proofs::Steps::command_steps))]
+fn command(left: &[u8]) -> Result<(u8, Text), LineCause>
+    ensures { result ≡ command_at (words_left left.now) }
+{
+    let (c, left) = next_word(left).ok_or(LineCause::Count)?;
+    let text = text_left(left).ok_or(LineCause::Count)?;
+    Ok((client_word(c)?, text_word(text)?))
+}
+
+#[tactic(auto, unfolding(crate::specs::Lines::say_line))]
+fn say(left: &[u8]) -> Result<Event, LineCause>
+    ensures { result ≡ say_line (words_left left.now) }
+{
+    let (c, text) = command(left)?;
+    Ok(Event::Say { c, text })
+}
+
+#[tactic(auto, unfolding(crate::specs::Lines::type_line))]
+fn type_text(left: &[u8]) -> Result<Event, LineCause>
+    ensures { result ≡ type_line (words_left left.now) }
+{
+    let (c, text) = command(left)?;
+    Ok(Event::TypeText { c, text })
+}
+
 #[tactic(auto, using(crate::proofs::Steps::serve_steps))]
 fn serve(left: &[u8]) -> Result<Event, LineCause>
     ensures { result ≡ serve_line (words_left left.now) }
@@ -142,6 +170,10 @@ fn event(word: &[u8], left: &[u8]) -> Result<Event, LineCause>
         area(left)
     } else if is(word, b"time") {
         time(left)
+    } else if is(word, b"say") {
+        say(left)
+    } else if is(word, b"type") {
+        type_text(left)
     } else if is(word, b"move") {
         move_line(left)
     } else if is(word, b"serve") {

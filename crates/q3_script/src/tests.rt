@@ -4,11 +4,13 @@ use q3_clmsg::Move;
 use q3_entity::EntityState;
 use q3_io::Address;
 use q3_player::PlayerState;
+use q3_text::Text;
+use std::alloc::{AllocError, Global};
 use std::test::*;
 
 /// One line of each kind, with two between them that are passed over.
 const SCRIPT: &str =
-    "client 0 17 5000 1 10.0.0.1:27960\ntime 1000\n\nentity 5 2:1 63:4294967295\nremove 1022\narea 0 1fa0\narea 0 -\nplayer 0 1:7 s3:65535 s4:32768 s5:65536 p0:1 a15:7 u0:65536 u15:4294967295\nmove 0 1050 0 65535 7 -128 127 -1 3 255\nserve 0\n# a note\nsend 0\ndeliver 1\nshow 0\n";
+    "client 0 17 5000 1 10.0.0.1:27960\ntime 1000\n\nentity 5 2:1 63:4294967295\nremove 1022\narea 0 1fa0\narea 0 -\nplayer 0 1:7 s3:65535 s4:32768 s5:65536 p0:1 a15:7 u0:65536 u15:4294967295\nmove 0 1050 0 65535 7 -128 127 -1 3 255\nsay 0 \"hi\"\ntype 0 \"a b\"\nserve 0\n# a note\nsend 0\ndeliver 1\nshow 0\n";
 
 /// 33 area bytes, one too many.
 const AREA_OF_33: &str =
@@ -65,6 +67,14 @@ fn one_line_of_each_kind(rt: HostRuntime) -> Result<(), Fail> {
                 weapon: 255,
             },
         },
+        Event::Say {
+            c: 0,
+            text: Text::of(b"hi").ok().ok_or("a text")?,
+        },
+        Event::TypeText {
+            c: 0,
+            text: Text::of(b"a b").ok().ok_or("a text")?,
+        },
         Event::Serve { c: 0 },
         Event::Send { c: 0 },
         Event::Deliver { datagram: 1 },
@@ -89,6 +99,62 @@ fn most_area_bytes(rt: HostRuntime) -> Result<(), Fail> {
     Ok(())
 }
 
+/// The events of commands in quotes.
+#[test]
+fn texts_in_quotes(rt: HostRuntime) -> Result<(), Fail> {
+    let table: [(&str, &[u8]); 6] = [
+        ("say 0 \"\"", b""),
+        ("say 0 \"hi\"", b"hi"),
+        ("say 0 \"a b  c\"", b"a b  c"),
+        ("say 0 \"\\\"\\\\\\n\\x07\\xc8\"", b"\"\\\n\x07."),
+        ("say 0 \" ~\\x7f%\"", b" ~\x7f."),
+        ("say 0 \"\\\\x41\"", b"\\x41"),
+    ];
+    for (line, bytes) in table {
+        let text = Text::of(bytes).ok().ok_or("a text")?;
+        assert!(rt;
+            said(rt.alloc(), line.as_bytes()) == Some(text),
+            "at {line}"
+        );
+    }
+    Ok(())
+}
+
+/// The text that the server says in a script of one line.
+fn said(alloc: Global, line: &[u8]) -> Option<Text> {
+    match read_script(alloc, ScriptKind::Replay, line).ok()?.pop()? {
+        Event::Say { text, .. } => Some(text),
+        _ => None,
+    }
+}
+
+/// A line that says so many bytes.
+fn line_of(alloc: Global, count: usize) -> Result<Vec<u8>, AllocError> {
+    let mut line = Vec::new(alloc);
+    line.extend_from_slice(b"say 0 \"")?;
+    for _ in 0..count {
+        line.push(b'a')?;
+    }
+    line.push(b'"')?;
+    Ok(line)
+}
+
+#[test]
+fn longest_text(rt: HostRuntime) -> Result<(), Fail> {
+    let longest = line_of(rt.alloc(), 1_023)?;
+    let text = said(rt.alloc(), &longest).ok_or("a text")?;
+    assert_eq!(rt; text.bytes().len(), 1_023);
+    let longer = line_of(rt.alloc(), 1_024)?;
+    assert!(rt;
+        read_script(rt.alloc(), ScriptKind::Replay, &longer)
+            == Err(ScriptError::Line {
+                line: 1,
+                cause: LineCause::Text
+            })
+    );
+    Ok(())
+}
+
 #[test]
 fn bad_scripts(rt: HostRuntime) {
     let table = [
@@ -105,6 +171,24 @@ fn bad_scripts(rt: HostRuntime) {
         ("move 0 0 0 0 0 0 0 +1 0 0\n", 1, LineCause::Number),
         ("move 0 0 0 0 0 0 0 -01 0 0\n", 1, LineCause::Number),
         ("move 0 0 0 0 0 0 0 0 0 256\n", 1, LineCause::Number),
+        ("say\n", 1, LineCause::Count),
+        ("say 0\n", 1, LineCause::Count),
+        ("say 1 \"x\"\n", 1, LineCause::Number),
+        ("say 1 x\n", 1, LineCause::Number),
+        ("say 0 \n", 1, LineCause::Text),
+        ("say 0 hi\n", 1, LineCause::Text),
+        ("say 0 \"hi\n", 1, LineCause::Text),
+        ("say 0 \"hi\" \n", 1, LineCause::Text),
+        ("say 0 \"\\x41\"\n", 1, LineCause::Text),
+        ("say 0 \"\\x00\"\n", 1, LineCause::Text),
+        ("say 0 \"\\x0a\"\n", 1, LineCause::Text),
+        ("say 0 \"\\xC8\"\n", 1, LineCause::Text),
+        ("say 0 \"\\xc\"\n", 1, LineCause::Text),
+        ("say 0 \"a\"b\"\n", 1, LineCause::Text),
+        ("say 0 \"\\t\"\n", 1, LineCause::Text),
+        ("say 0 \"\t\"\n", 1, LineCause::Text),
+        ("say 0 \"\\\"\n", 1, LineCause::Text),
+        ("type 0 \"\n", 1, LineCause::Text),
         ("send\n", 1, LineCause::Count),
         ("send 1\n", 1, LineCause::Number),
         ("deliver 0\n", 1, LineCause::Number),

@@ -2,7 +2,7 @@
 
 ghost use Rattle.std.specs.Prelude.{◌≡◌, ◌∷◌, option_map};
 ghost use Rattle.std.specs.Str.{bytes_eq};
-ghost use Rattle.q3_script.specs.Words.{words_of, words_left, next_of, three_of, only_of, behind};
+ghost use Rattle.q3_script.specs.Words.{words_of, words_left, next_of, three_of, only_of, text_from, behind};
 
 use q3_text::place_of;
 
@@ -42,6 +42,16 @@ pub fn only_word(left: &[u8]) -> Option<&[u8]>
 {
     let (word, behind) = next_word(left)?;
     if behind.is_empty() { Some(word) } else { None }
+}
+
+/// All that is left of a line behind a space, as one text. `None` where nothing is left.
+pub fn text_left(left: &[u8]) -> Option<&[u8]>
+    ensures { option_map (λ text. text.now) result ≡ text_from (words_left left.now) }
+{
+    match left {
+        [] => None,
+        [_, text @ ..] => Some(text),
+    }
 }
 
 /// Whether a word is this text.

@@ -12,8 +12,12 @@ use Rattle.q3_map.specs.Map.{MapState, new_map}
 use Rattle.q3_slot.specs.declared.answer.Emitted.{Emitted}
 use Rattle.q3_slot.specs.declared.answer.Emitted.TheVariants as emitted
 use Rattle.q3_slot.specs.declared.answer.NoClient.{NoClient}
+use Rattle.q3_slot.specs.declared.answer.SayError.{SayError}
+use Rattle.q3_slot.specs.declared.answer.SayError.TheVariants as refused
+use Rattle.q3_window.specs.Outgoing.{issue_at}
 use Rattle.q3_slot.specs.Built.{Built}
 use Rattle.q3_slot.specs.Slot.{SlotState, new_slot, is_of, with_player, with_area}
+use Rattle.q3_slot.specs.Slots.{said_or}
 use Rattle.q3_slot.specs.Emitting.{SlotEmission, emit_slot}
 use Rattle.q3_server.specs.declared.server.SlotError.{SlotError}
 use Rattle.q3_server.specs.declared.server.SlotError.TheVariants.{Range, Taken, Twin}
@@ -94,6 +98,21 @@ set_player_at server c player = give server c (λ slot. with_player server.profi
 -- the area bytes of a client
 abbrev pub set_area_at : ServerState → ℕ → List ℕ → Handed NoClient
 set_area_at server c area = give server c (λ slot. with_area slot area) (slot_at server c)
+
+-- the server after a command, and its number, or why it wasn't issued
+pub record Saying : Type 0 where
+  pub server : ServerState
+  pub answer : Result ℕ SayError
+
+-- a command for the client at a place, if there is one: the messages that are begun next carry it
+abbrev pub say_to : ServerState → ℕ → List ℕ → Option SlotState → Saying
+say_to server c text None = record { server = server; answer = Err refused.NoClient }
+say_to server c text (Some slot) =
+    let issuing = issue_at slot.issued text in
+    record { server = with_slot server c (record slot { issued = issuing.window }); answer = said_or issuing.answer }
+
+abbrev pub say_at : ServerState → ℕ → List ℕ → Saying
+say_at server c text = say_to server c text (slot_at server c)
 
 -- ---- messages
 

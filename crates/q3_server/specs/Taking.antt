@@ -4,6 +4,7 @@ use Rattle.q3_io.specs.declared.address.Address.{Address}
 use Rattle.q3_chan.specs.declared.qport.NoQport.{NoQport}
 use Rattle.q3_chan.specs.declared.qport.NoQport.TheVariants as no
 use Rattle.q3_chan.specs.Senders.{qport_of}
+use Rattle.q3_text.specs.declared.text.Command.{Command}
 use Rattle.q3_clmsg.specs.declared.moves.Move.{Move}
 use Rattle.q3_slot.specs.declared.taking.ServerTook.{ServerTook}
 use Rattle.q3_slot.specs.declared.taking.ServerTook.TheVariants.{Runt, Connectionless, Stranger}
@@ -15,19 +16,20 @@ use Rattle.q3_server.specs.Server.{ServerState, slot_at, with_slot}
 abbrev pub sender_of : ServerState → ℕ → ℕ → Option ℕ
 sender_of server host qport = position (is_of host qport) server.slots
 
--- what a take gives: the server after it, its answer, and the moves that were run
+-- what a take gives: the server after it, its answer, and the commands and the moves that were run
 pub record Taken : Type 0 where
   pub server : ServerState
   pub answer : ServerTook
+  pub commands : List Command
   pub moves : List Move
 
 -- a server that runs nothing
 abbrev pub unmoved : ServerState → ServerTook → Taken
-unmoved server answer = record { server = server; answer = answer; moves = [] }
+unmoved server answer = record { server = server; answer = answer; commands = []; moves = [] }
 
 -- what a slot took, at its place
 abbrev pub taken_at : ServerState → ℕ → SlotTaken → Taken
-taken_at server c taken = record { server = with_slot server c taken.slot; answer = taken.answer; moves = taken.moves }
+taken_at server c taken = record { server = with_slot server c taken.slot; answer = taken.answer; commands = taken.commands; moves = taken.moves }
 
 -- a datagram for the client in a slot
 abbrev pub take_by : ServerState → ℕ → Address → List ℕ → Option SlotState → Taken

@@ -6,14 +6,17 @@ ghost use Rattle.std.specs.List.{concat, flat_map};
 ghost use Rattle.q3_io.specs.Faults.{HasCause};
 ghost use Rattle.q3_io.specs.Written.{Adds};
 ghost use Rattle.q3_clmsg.specs.Report.{move_text, cause_word, cause_number};
-ghost use Rattle.q3_server.specs.Report.{serve_text, slot_error_text, slot_text, illegible_text, ran_text, server_text};
+ghost use Rattle.q3_server.specs.Report.{serve_text, slot_error_text, say_error_text, slot_text, illegible_text, gap_text, ran_text, server_text};
+ghost use Rattle.q3_window.specs.Report.{commands_text};
 ghost use Rattle.q3_clmsg.specs.Report.{spaced};
 
 use crate::server::SlotError;
 use q3_clmsg::report::{cause_number, cause_word};
 use q3_clmsg::{ClientIllegible, Move};
 use q3_io::{Failed, Piece, Sink, laws, print_all};
-use q3_slot::{Emitted, Heard, ServerTook};
+use q3_slot::{Emitted, Heard, SayError, ServerTook};
+use q3_text::Command;
+use q3_window::print_commands;
 
 /// Prints the line of a `serve`. The datagram's number is used where one was handed out. `Failed` comes where the sink
 /// failed, behind a front of the line.
@@ -65,6 +68,7 @@ pub fn print_emitted<O: Sink>(
         }
         Emitted::NoClient => b" noclient\n",
         Emitted::SequenceEnd => b" sequenceend\n",
+        Emitted::Unclear => b" unclear\n",
         Emitted::Overlong => b" overlong\n",
     };
     print_all(
@@ -93,11 +97,22 @@ pub fn print_slot_error<O: Sink>(error: SlotError, out: &mut O) -> Result<(), Fa
     }
 }
 
+/// Prints why the server can't issue a command: a word. `Failed` comes where the sink failed, behind a front of it.
+pub fn print_say_error<O: Sink>(error: SayError, out: &mut O) -> Result<(), Failed>
+    ensures adds { Adds (O.written out.old) (O.written out.new) (say_error_text error) result }
+    ensures cause { HasCause (O.faults out.old) (O.faults out.new) result }
+{
+    match error {
+        SayError::NoClient => out.write_all(b"noclient"),
+        SayError::WindowFull => out.write_all(b"windowfull"),
+    }
+}
+
 /// Prints what stands behind `deliver D`, or `arrive`, where the server took a datagram: the rest of that line, and a line
-/// for each move that it ran, which `heard` holds since that take. `Failed` comes where the sink failed, behind a front of
-/// it.
+/// for each command and each move that it ran, which `heard` holds since that take. `Failed` comes where the sink failed,
+/// behind a front of it.
 pub fn print_took<O: Sink>(took: &ServerTook, heard: &Heard, out: &mut O) -> Result<(), Failed>
-    ensures adds { Adds (O.written out.old) (O.written out.new) (server_text took.now heard.now.moves.items) result }
+    ensures adds { Adds (O.written out.old) (O.written out.new) (server_text took.now heard.now.commands.items heard.now.moves.items) result }
     ensures cause { HasCause (O.faults out.old) (O.faults out.new) result }
 {
     match took {
@@ -109,7 +124,10 @@ pub fn print_took<O: Sink>(took: &ServerTook, heard: &Heard, out: &mut O) -> Res
         ServerTook::BadFragment(slot) => print_word(*slot, b"badfragment", out),
         ServerTook::Partial(slot) => print_word(*slot, b"partial", out),
         ServerTook::Illegible(slot, cause) => print_illegible(*slot, *cause, out),
-        ServerTook::Ran { slot, number } => print_ran(*slot, *number, &heard.moves, out),
+        ServerTook::Gap { slot, number } => print_gap(*slot, *number, out),
+        ServerTook::Ran { slot, number } => {
+            print_ran(*slot, *number, &heard.commands, &heard.moves, out)
+        }
     }
 }
 
@@ -161,14 +179,53 @@ fn print_illegible<O: Sink>(slot: u8, cause: ClientIllegible, out: &mut O) -> Re
     )
 }
 
-/// Prints the line of a message that was run, and a line for each move.
-fn print_ran<O: Sink>(slot: u8, number: u32, moves: &[Move], out: &mut O) -> Result<(), Failed>
-    ensures adds { Adds (O.written out.old) (O.written out.new) (ran_text slot number ++ flat_map move_text moves.now) result }
+/// Prints the line of a message that leaves a gap before one of its commands.
+fn print_gap<O: Sink>(slot: u8, number: u32, out: &mut O) -> Result<(), Failed>
+    ensures adds { Adds (O.written out.old) (O.written out.new) (gap_text slot number) result }
+    ensures cause { HasCause (O.faults out.old) (O.faults out.new) result }
+{
+    print_all(
+        &[
+            Piece::Text(b" server "),
+            Piece::Number(u64::from(slot)),
+            Piece::Text(b" gap "),
+            Piece::Number(u64::from(number)),
+            Piece::Text(b"\n"),
+        ],
+        out,
+    )
+}
+
+/// Prints the line of a message that was run, and a line for each command and each move.
+fn print_ran<O: Sink>(
+    slot: u8,
+    number: u32,
+    commands: &[Command],
+    moves: &[Move],
+    out: &mut O,
+) -> Result<(), Failed>
+    ensures adds { Adds (O.written out.old) (O.written out.new)
+        (ran_text slot number ++ commands_text commands.now ++ flat_map move_text moves.now) result }
+    ensures cause { HasCause (O.faults out.old) (O.faults out.new) result }
+{
+    laws::texts_follow();
+    print_front(slot, number, commands, out)?;
+    print_moves(moves, out)
+}
+
+/// Prints the line of a message that was run, and a line for each command.
+fn print_front<O: Sink>(
+    slot: u8,
+    number: u32,
+    commands: &[Command],
+    out: &mut O,
+) -> Result<(), Failed>
+    ensures adds { Adds (O.written out.old) (O.written out.new) (ran_text slot number ++ commands_text commands.now) result }
     ensures cause { HasCause (O.faults out.old) (O.faults out.new) result }
 {
     laws::texts_follow();
     print_number(slot, number, out)?;
-    print_moves(moves, out)
+    print_commands(commands, out)
 }
 
 /// Prints the line of a message that was run.

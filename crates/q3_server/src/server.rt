@@ -8,7 +8,7 @@ ghost use Rattle.q3_frames.specs.Frames.{no_frames};
 ghost use Rattle.q3_map.specs.Map.{most_numbers};
 ghost use Rattle.q3_slot.specs.Slot.{is_of};
 ghost use Rattle.q3_slot.specs.Slots.{HoldLists};
-ghost use Rattle.q3_server.specs.Server.{places, new_server, add_client_at, set_time_at, set_entity_at, remove_entity_at, set_player_at, set_area_at, emit_at, slot_at};
+ghost use Rattle.q3_server.specs.Server.{places, new_server, add_client_at, set_time_at, set_entity_at, remove_entity_at, set_player_at, set_area_at, say_at, emit_at, slot_at};
 ghost use Rattle.q3_server.specs.Taking.{take_at};
 
 use q3_bits::NoMemory;
@@ -21,7 +21,8 @@ use q3_map::Map;
 use q3_player::{PlayerState, SnapHead};
 use q3_profile::Profile;
 use q3_slot::laws::nothing_is_listed;
-use q3_slot::{Emitted, Heard, NoClient, ServerTook, Slot};
+use q3_slot::{Emitted, Heard, NoClient, SayError, ServerTook, Slot};
+use q3_text::Text;
 use std::alloc::Global;
 use std::marker::Model;
 
@@ -40,8 +41,8 @@ pub enum SlotError {
 }
 
 /// The server: a copy of the profile, what the game handed in, a slot for each client, and the frames that were built for
-/// them; and places for the head of a snapshot, for a message that is written, and where one that came whole stands and is read into.
-/// After `new` no call takes memory.
+/// them; and places for the head of a snapshot, for a message that is written, and where one that came whole stands, is cleared,
+/// and is read into. After `new` no call takes memory.
 #[derive(Drop)]
 pub struct Server {
     profile: Profile,
@@ -168,6 +169,18 @@ impl Server {
         self.slots[slot as usize].set_area(area)
     }
 
+    /// Issues a command to a client, whose number is the answer: the messages that are begun for it next carry the command, until
+    /// the client acknowledges it. In this order, `NoClient` comes exactly where no client was added in the slot, and
+    /// `WindowFull` exactly where the command doesn't fit into the client's window; nothing changes then.
+    pub fn say(&mut self, slot: u8, text: &Text) -> Result<u32, SayError>
+        ensures { say_at self.old slot text.now ≡ record { server = self.new; answer = result } }
+    {
+        if !self.has(slot) {
+            return Err(SayError::NoClient);
+        }
+        self.slots[slot as usize].say(text)
+    }
+
     /// The address of a client, with the port that its last datagram came from: `None` exactly where no client was added
     /// in the slot.
     pub fn address(&self, slot: u8) -> Option<Address>
@@ -184,14 +197,17 @@ impl Server {
     ///
     /// In this order: `Runt` and `Connectionless` where the datagram has no qport; `Stranger` exactly where no client has
     /// that host and qport; `Old`, `OutOfOrder`, `BadFragment` and `Partial` as the gathering of the client's slot answers;
-    /// `Illegible` where a message that came whole isn't legible: then only the newest number, the port and what was
-    /// gathered have changed; and else `Ran`.
+    /// `Illegible` where a message that came whole isn't legible, or acknowledges a command that the client's window doesn't
+    /// take; `Gap` where one of its commands leaves a gap; with both, only the newest number, the port and what was gathered
+    /// have changed; and else `Ran`.
     #[tactic(auto, unfolding(crate::specs::Taking::take_at))]
     pub fn take(&mut self, from: Address, datagram: &[u8], heard: &mut Heard) -> ServerTook
         ensures server { self.new ≡ (take_at self.old from datagram.now).server }
         ensures answer { result ≡ (take_at self.old from datagram.now).answer }
+        ensures commands { heard.new.commands.items ≡ (take_at self.old from datagram.now).commands }
         ensures moves { heard.new.moves.items ≡ (take_at self.old from datagram.now).moves }
     {
+        heard.commands.clear();
         heard.moves.clear();
         let qport = match qport_of(datagram) {
             Ok(qport) => qport,
@@ -214,8 +230,9 @@ impl Server {
 
     /// Makes the next datagram for a client: it is empty where nothing is handed out. In this order: `NoClient` exactly
     /// where no client was added in the slot; `Fragment` where pieces of a message are left; `SequenceEnd` where message
-    /// numbers have ended or more than 2^62 entities were placed; `Overlong` where the next message has more than 16,384
-    /// bytes: nothing changes then but the frames, which keep its own; else `Snapshot`.
+    /// numbers have ended or more than 2^62 entities were placed; `Unclear` where the next message's leading long takes more than
+    /// 32 bits; `Overlong` where the next message has more than 16,384 bytes: nothing changes then but the frames, which keep its
+    /// own; else `Snapshot`.
     #[tactic(auto, unfolding(crate::specs::Server::emit_at))]
     pub fn emit(&mut self, slot: u8, out: &mut Datagram) -> Emitted
         ensures server { self.new ≡ (emit_at self.old slot).server }

@@ -1,21 +1,9 @@
 -- What a slot runs of a message, part by part.
-use Rattle.std.proofs.Common.{◌≡◌, ◌∙◌, ◌+◌, ◌<◌, ◌≤◌, ◌++◌, ℕ, List, [], ◌∷◌, length, drop, get_or, Result, Ok, Err, refl, sym, ap, arith}
+use Rattle.std.proofs.Common.{◌≡◌, ◌∙◌, ◌+◌, ◌<◌, ◌≤◌, ◌++◌, ℕ, List, [], ◌∷◌, length, drop, get_or, refl, sym, ap, arith}
 use Rattle.std.proofs.lemmas.List.{drop_more, drop_all, length_push, append_assoc, append-nil}
 use Rattle.std.proofs.lemmas.Bool.{lt-ltb, le-ltb}
 use Rattle.q3_clmsg.specs.declared.moves.Move.{Move}
-use Rattle.q3_clmsg.specs.declared.error.ClientIllegible.{ClientIllegible}
-use Rattle.q3_clmsg.specs.Values.{Message}
-use Rattle.q3_slot.specs.Slot.{SlotState}
-use Rattle.q3_slot.specs.Taking.{runs, last_time, last_run_of, run_read}
-use Rattle.q3_slot.specs.Slots.{delta_read, last_run_read, took_read, moves_read}
-
--- what was read of a message runs its moves
-pub read_is : (slot : SlotState) (c number : ℕ) (read : Result Message ClientIllegible)
-    → ((run_read slot c number read).slot ≡ record slot { delta = delta_read slot.delta read; last_run = last_run_read slot.last_run read })
-    × ((run_read slot c number read).answer ≡ took_read c number read)
-    × ((run_read slot c number read).moves ≡ moves_read slot.last_run read)
-read_is slot c number (Ok message) = (refl, refl, refl)
-read_is slot c number (Err cause) = (refl, refl, refl)
+use Rattle.q3_slot.specs.Taking.{runs, last_time, last_run_of}
 
 -- a later move runs
 pub runs_later : (last : ℕ) (moves : List Move) (k : ℕ) (d : Move) → k < length moves → last < (get_or moves k d).time

@@ -1,30 +1,51 @@
 -- What the server builds: messages with a snapshot, whole or against a base.
-use Rattle.std.specs.Prelude.{◌≡◌, ℕ, ◌+◌, ◌^◌, ◌<◌, ◌≤◌, List, [], length, All, Option, Some, None, IfSome}
+use Rattle.std.specs.Prelude.{◌≡◌, ℕ, ◌+◌, ◌^◌, ◌<◌, ◌≤◌, Bool, false, nat_lt, List, [], ◌∷◌, length, All, Option, Some, None, IfSome}
+use Rattle.q3_bits.specs.Words.{row_bits}
+use Rattle.q3_text.specs.declared.text.Command.{Command}
+use Rattle.q3_text.specs.Texts.{IsText}
+use Rattle.q3_strings.specs.Laws.{IsCommand}
 use Rattle.q3_profile.specs.declared.profile.Profile.{Profile}
 use Rattle.q3_player.specs.declared.state.PlayerState.{PlayerState}
 use Rattle.q3_player.specs.State.{IsState, IsNormal}
 use Rattle.q3_entity.specs.Entities.{most_entities}
 use Rattle.q3_chan.specs.Datagrams.{sequence_end}
+use Rattle.q3_chan.specs.Keys.{server_start}
 use Rattle.q3_svmsg.specs.Values.{Snap, Message}
 use Rattle.q3_ring.specs.Snapshot.{Snapshot}
 use Rattle.q3_map.specs.Map.{AreHeld}
 
--- a message that was begun, and the snapshot that it is written against, if it is
+-- a message that was begun, the snapshot that it is written against, if it is, the number from which its keys start, and their
+-- text: that of the last client command executed
 pub record Built : Type 0 where
   pub message : Message
   pub base : Option Snapshot
+  pub start : ℕ
+  pub text : List ℕ
 
 -- the number of a base, 0 for none
 abbrev pub number_of : Option Snapshot → ℕ
 number_of None = 0
 number_of (Some base) = base.head.number
 
--- the message that carries a snapshot against a base: no client command was executed, and there are no commands
-abbrev pub message_of : Option Snapshot → Snapshot → Message
-message_of base snapshot = record { ack = 0; commands = []; section = Snap (number_of base) snapshot.head snapshot.entities }
+-- what a message says besides its section, and by what it is scrambled: the last client command executed with its text, the
+-- commands that aren't acknowledged, and the number from which its keys start
+pub record Telling : Type 0 where
+  pub ack : Command
+  pub commands : List Command
+  pub start : ℕ
 
-abbrev pub built_of : Option Snapshot → Snapshot → Built
-built_of base snapshot = record { message = message_of base snapshot; base = base }
+-- the message that carries a snapshot against a base
+abbrev pub message_of : Telling → Option Snapshot → Snapshot → Message
+message_of telling base snapshot =
+    record { ack = telling.ack.number; commands = telling.commands; section = Snap (number_of base) snapshot.head snapshot.entities }
+
+abbrev pub built_of : Telling → Option Snapshot → Snapshot → Built
+built_of telling base snapshot =
+    record { message = message_of telling base snapshot; base = base; start = telling.start; text = telling.ack.text }
+
+-- whether the leading long of a message takes more than its 32 bits, so that scrambled bytes would hide a part of it
+abbrev pub is_unclear : Profile → ℕ → Bool
+is_unclear profile ack = nat_lt 32 (length (row_bits profile.code ((ack, 32) ∷ [])))
 
 -- a player as the server holds it: a state of the program's type, in normal form
 pub record IsHeld (profile : Profile) (player : PlayerState) : Type 0 where
@@ -52,10 +73,21 @@ pub record IsNear (n : ℕ) (base : Snapshot) : Type 0 where
   pub below : base.head.number < n
   pub near : n < base.head.number + 29
 
--- a message as it is built under a number
-pub record IsBuilt (profile : Profile) (n : ℕ) (built : Built) : Type 0 where
+-- what a message under a number tells a client that joined with a challenge
+pub record IsTelling (profile : Profile) (challenge n : ℕ) (telling : Telling) : Type 0 where
+  pub ack : telling.ack.number < 2 ^ 32
+  pub text : IsText telling.ack.text
+  pub few : length telling.commands ≤ 64
+  pub commands : All IsCommand telling.commands
+  pub start : telling.start ≡ server_start challenge n
+  pub clear : is_unclear profile telling.ack.number ≡ false
+
+-- a message as it is built under a number, for a client that joined with a challenge
+pub record IsBuilt (profile : Profile) (challenge n : ℕ) (built : Built) : Type 0 where
+  pub telling : Telling
   pub snapshot : Snapshot
-  pub is : built ≡ built_of built.base snapshot
+  pub is : built ≡ built_of telling built.base snapshot
+  pub tells : IsTelling profile challenge n telling
   pub number : snapshot.head.number ≡ n
   pub are : IsSnapshot profile snapshot
   pub base_is : IfSome built.base (IsNear n)

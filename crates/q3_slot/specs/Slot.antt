@@ -5,12 +5,15 @@ use Rattle.q3_io.specs.declared.address.Address.{Address}
 use Rattle.q3_chan.specs.declared.side.Side.TheVariants.{Server, Client}
 use Rattle.q3_chan.specs.Gathering.{Gathering, new_gathering}
 use Rattle.q3_chan.specs.Sending.{Sending, new_sending}
+use Rattle.q3_window.specs.Outgoing.{OutgoingState, new_outgoing}
+use Rattle.q3_window.specs.Incoming.{IncomingState, new_incoming}
 use Rattle.q3_profile.specs.declared.profile.Profile.{Profile}
 use Rattle.q3_player.specs.declared.state.PlayerState.{PlayerState}
 use Rattle.q3_player.specs.State.{zero_player, normal_player}
 
 -- a client at the server: how it joined and from where, what is being sent to it, what was gathered of what it sends, the
--- number of the snapshot that it asks to write the next one against, 0 for none, the time of its last move that was run, 0 for
+-- commands that were issued to it, those of its own that were executed, the number of the snapshot that it asks to write the next one
+-- against, 0 for none, the time of its last move that was run, 0 for
 -- none, its player in normal form, and its area bytes
 pub record SlotState : Type 0 where
   pub challenge : ℕ
@@ -18,6 +21,8 @@ pub record SlotState : Type 0 where
   pub qport : ℕ
   pub sending : Sending
   pub gathering : Gathering
+  pub issued : OutgoingState
+  pub executed : IncomingState
   pub delta : ℕ
   pub last_run : ℕ
   pub player : PlayerState
@@ -31,6 +36,8 @@ new_slot challenge qport address = record {
   qport = qport;
   sending = new_sending Server 0;
   gathering = new_gathering Client;
+  issued = new_outgoing;
+  executed = new_incoming;
   delta = 0;
   last_run = 0;
   player = zero_player;

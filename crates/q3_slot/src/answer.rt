@@ -4,6 +4,15 @@
 #[derive(Clone, Copy, Debug, PartialEq, Eq)]
 pub struct NoClient;
 
+/// Why the server can't issue a command.
+#[derive(Clone, Copy, Debug, PartialEq, Eq)]
+pub enum SayError {
+    /// No such client was added.
+    NoClient,
+    /// The command doesn't fit into the client's window.
+    WindowFull,
+}
+
 /// What the server's emit answers.
 #[derive(Clone, Copy, Debug, PartialEq, Eq)]
 pub enum Emitted {
@@ -15,6 +24,8 @@ pub enum Emitted {
     },
     /// Message numbers have ended, or more than 2^62 entities were placed.
     SequenceEnd,
+    /// The next message's leading long takes more than 32 bits, so that a part of it would be scrambled.
+    Unclear,
     /// The message has more than 16,384 bytes; its number is used again, and its frame stays.
     Overlong,
     /// A datagram with a snapshot, or its first piece: its message's number, the number of the base, 0 for none, and the

@@ -2,12 +2,14 @@
 #![tactic(auto)]
 
 pub mod answer;
+mod emitting;
+pub mod joined;
 pub mod laws;
 pub mod slot;
 pub mod taking;
 #[cfg(test)]
 mod tests;
 
-pub use answer::{Emitted, NoClient};
+pub use answer::{Emitted, NoClient, SayError};
 pub use slot::Slot;
 pub use taking::{Heard, ServerTook};

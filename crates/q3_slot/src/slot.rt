@@ -1,62 +1,40 @@
 //! A place for a client at the server.
-//! Keeps the rules "what the server sends", with q3_map, "choice of the delta base", by q3_frames, "fragmentation" and "what a
-//! receiver answers", by q3_chan, and "end of message numbers", which is this project's own.
+//! Keeps the rules "fragmentation" and "what a receiver answers", by q3_chan, "when a command may be issued", by q3_window, and
+//! "end of message numbers", which is this project's own.
 
-ghost use Rattle.std.specs.Prelude.{◌≡◌, ◌+◌, ◌^◌, ◌<◌, ◌≤◌, [], None, Some, IfOk, length, option_map, nat_le, nat_lt, ◌||◌, is_some};
-ghost use Rattle.q3_entity.specs.Baselines.{no_lines};
-ghost use Rattle.q3_player.specs.State.{normal_player};
-ghost use Rattle.q3_svmsg.specs.Values.{base_viewed, base_from, base_entities, IsNamed};
-ghost use Rattle.q3_frames.specs.Frames.{base_of, build_at};
-ghost use Rattle.q3_chan.specs.Datagrams.{longest_message, sequence_end};
-ghost use Rattle.q3_map.specs.Map.{AreListed};
-ghost use Rattle.q3_slot.specs.Built.{number_of};
-ghost use Rattle.q3_slot.specs.Slot.{is_of, new_slot, with_player, with_area};
-ghost use Rattle.q3_slot.specs.Emitting.{most_placed, next_snapshot};
-ghost use Rattle.q3_bits.specs.Streams.{holding};
-ghost use Rattle.q3_chan.specs.declared.side.Side.TheVariants.{Client};
-ghost use Rattle.q3_chan.specs.Gathering.{new_gathering};
+ghost use Rattle.std.specs.Prelude.{◌≡◌, ◌<◌, ◌≤◌, [], None, Some, IfOk, length, option_map, is_some};
+ghost use Rattle.q3_chan.specs.Datagrams.{longest_message};
 ghost use Rattle.q3_chan.specs.Sending.{HandsOut};
-ghost use Rattle.q3_clmsg.specs.Values.{said_of};
-ghost use Rattle.q3_slot.specs.Slots.{slot_of, HoldLists, WritesAgainst, given, slot_after, frames_after, answer_of, piece_of, slot_behind, took_of, moves_of, delta_read, last_run_read, took_read, moves_read};
+ghost use Rattle.q3_entity.specs.Baselines.{no_lines};
+ghost use Rattle.q3_slot.specs.Slot.{is_of, new_slot, with_player, with_area};
+ghost use Rattle.q3_slot.specs.Slots.{HoldLists, given, slot_saying, said_of_slot, slot_after, frames_after, answer_of, piece_of, slot_behind, took_of, commands_run, moves_run};
 
-use crate::answer::{Emitted, NoClient};
-use crate::taking::{Heard, ServerTook, delta_behind, read_message, run_moves};
+use crate::answer::{Emitted, NoClient, SayError};
+use crate::emitting::{build, has_ended, is_unclear, write_scrambled};
+use crate::joined::Joined;
+use crate::taking::{Heard, ServerTook};
 use arrayvec::ArrayVec;
-use q3_bits::{NoMemory, Overflow};
-use q3_chan::{Datagram, Gathered, Gatherer, SEQUENCE_END, Sender, Side};
-use q3_clmsg::{ClientIllegible, ClientMessage};
-use q3_entity::{Baselines, EntityState};
-use q3_frames::{Frames, laws};
+use q3_bits::NoMemory;
+use q3_chan::{Datagram, Gathered, Gatherer, Sender, Side};
+use q3_clmsg::ClientMessage;
+use q3_entity::Baselines;
+use q3_frames::Frames;
 use q3_io::Address;
 use q3_map::Map;
 use q3_player::{PlayerState, SnapHead};
 use q3_profile::Profile;
-use q3_svmsg::{BaseView, SnapParts, write_parts};
-use q3_text::CommandRun;
+use q3_text::Text;
+use q3_window::{Incoming, Outgoing, WindowFull};
 use std::alloc::Global;
 use std::marker::Model;
 
-/// How many entities may have been placed where a message is begun.
-const MOST_PLACED: u64 = 1 << 62;
-
-/// How a client joined and from where, the number of the snapshot that it asks to write the next one against, 0 for none, the
-/// time of its last move that was run, and what the game handed in for it alone.
-#[derive(Drop)]
-pub(crate) struct Joined {
-    pub challenge: u32,
-    pub address: Address,
-    pub qport: u16,
-    pub delta: u32,
-    pub last_run: u32,
-    pub player: PlayerState,
-    pub area: ArrayVec<u8, 32>,
-}
-
-/// A sender and a gatherer, and the client at their other end, once one has joined. After `new` no call takes memory.
+/// A sender, a gatherer and the window of the commands that are issued, and the client at their other end, once one has
+/// joined. After `new` no call takes memory.
 #[derive(Drop)]
 pub struct Slot {
     sender: Sender,
     gatherer: Gatherer,
+    issued: Outgoing,
     client: Option<Joined>,
 }
 
@@ -66,76 +44,16 @@ impl Model for Slot {
     ghost use Rattle.q3_chan.specs.declared.side.Side.TheVariants.{Server, Client};
     ghost use Rattle.q3_chan.specs.Gathering.{new_gathering};
     ghost use Rattle.q3_chan.specs.Sending.{new_sending};
+    ghost use Rattle.q3_window.specs.Outgoing.{new_outgoing};
     ghost use Rattle.q3_slot.specs.Slot.{SlotState};
     ghost use Rattle.q3_slot.specs.Slots.{slot_of};
 
     ghost Value = { Option SlotState };
 
-    ghost view = { λ s. option_map (slot_of s.sender s.gatherer) s.client };
+    ghost view = { λ s. option_map (slot_of s.sender s.gatherer s.issued) s.client };
 
     ghost invariant = { λ s. (s.sender.number < sequence_end)
-        × MatchOption s.client ((s.sender ≡ new_sending Server 0) × (s.gatherer ≡ new_gathering Client)) (λ client. ⊤) };
-}
-
-impl Joined {
-    /// Takes over the player, in normal form.
-    fn set_player(&mut self, profile: &Profile, player: &PlayerState)
-        ensures { self.new ≡ record self.old { player = normal_player profile.now.player.kinds player.now } }
-    {
-        self.player = player.normal(&profile.player);
-    }
-
-    /// Takes over the area bytes.
-    fn set_area(&mut self, area: &[u8])
-        requires { length area.now ≤ 32 }
-        ensures { self.new ≡ record self.old { area = record { items = area.now } } }
-    {
-        copy_area(area, &mut self.area);
-    }
-
-    /// Takes over the address.
-    fn set_address(&mut self, address: Address)
-        ensures { self.new ≡ record self.old { address = address } }
-    {
-        self.address = address;
-    }
-
-    /// Runs what was read of a message of the client in a slot, under a number.
-    fn run(
-        &mut self,
-        slot: u8,
-        number: u32,
-        read: Result<(), ClientIllegible>,
-        message: &ClientMessage,
-        heard: &mut Heard,
-    ) -> ServerTook
-        requires { heard.old.moves.items ≡ [] }
-        ensures client { self.new ≡ record self.old {
-          delta = delta_read self.old.delta (holding (said_of message.now) read);
-          last_run = last_run_read self.old.last_run (holding (said_of message.now) read);
-        } }
-        ensures answer { result ≡ took_read slot number (holding (said_of message.now) read) }
-        ensures moves { heard.new.moves.items ≡ moves_read self.old.last_run (holding (said_of message.now) read) }
-    {
-        if let Err(cause) = read {
-            return ServerTook::Illegible(slot, cause);
-        }
-        self.delta = delta_behind(self.delta, message);
-        self.last_run = run_moves(self.last_run, &message.moves, &mut heard.moves);
-        ServerTook::Ran { slot, number }
-    }
-
-    /// Fills in the head of the snapshot that this sender sends to the client next. What was gathered doesn't count.
-    fn fill(&self, sender: &Sender, map: &Map, head: &mut SnapHead)
-        requires { sender.now.number + 1 < 2 ^ 32 }
-        ensures { head.new ≡ (next_snapshot map.now (slot_of sender.now (new_gathering Client) self.now)).head }
-    {
-        head.number = sender.number() + 1;
-        head.time = map.time();
-        head.flags = 0;
-        copy_area(&self.area, &mut head.area);
-        head.player = self.player;
-    }
+        × MatchOption s.client ((s.sender ≡ new_sending Server 0) × (s.gatherer ≡ new_gathering Client) × (s.issued ≡ new_outgoing)) (λ client. ⊤) };
 }
 
 impl Slot {
@@ -146,6 +64,7 @@ impl Slot {
         Ok(Slot {
             sender: Sender::new(alloc, Side::Server, 0)?,
             gatherer: Gatherer::new(alloc, Side::Client)?,
+            issued: Outgoing::new(alloc)?,
             client: None,
         })
     }
@@ -176,6 +95,7 @@ impl Slot {
             challenge,
             address,
             qport,
+            executed: Incoming::new(),
             delta: 0,
             last_run: 0,
             player: PlayerState::zero(),
@@ -215,9 +135,23 @@ impl Slot {
         Ok(())
     }
 
+    /// Issues a command to the client, whose number is the answer: the messages that are begun next carry it, until the
+    /// client acknowledges it. `WindowFull` comes exactly where it doesn't fit into the window; nothing changes then.
+    pub fn say(&mut self, text: &Text) -> Result<u32, SayError>
+        ensures slot { self.new ≡ slot_saying text.now self.old }
+        ensures answer { result ≡ said_of_slot text.now self.old }
+    {
+        if self.client.is_none() {
+            return Err(SayError::NoClient);
+        }
+        match self.issued.issue(text) {
+            Ok(number) => Ok(number),
+            Err(WindowFull) => Err(SayError::WindowFull),
+        }
+    }
+
     /// Takes a datagram of the client in this slot, from an address, which it takes over. A message that came whole is
-    /// read and run; one that isn't legible changes nothing else.
-    #[tactic(auto, using(crate::proofs::Runs::read_is))]
+    /// read and run; one that isn't legible, or one of whose commands leaves a gap, changes nothing else.
     pub fn take(
         &mut self,
         profile: &Profile,
@@ -229,10 +163,12 @@ impl Slot {
         heard: &mut Heard,
     ) -> ServerTook
         requires whole { length whole.old ≡ longest_message }
-        requires heard { heard.old.moves.items ≡ [] }
+        requires no_commands { heard.old.commands.items ≡ [] }
+        requires no_moves { heard.old.moves.items ≡ [] }
         ensures slot { self.new ≡ slot_behind profile.now slot from datagram.now self.old }
         ensures answer { result ≡ took_of profile.now slot from datagram.now self.old }
-        ensures moves { heard.new.moves.items ≡ moves_of profile.now slot from datagram.now self.old }
+        ensures commands { heard.new.commands.items ≡ commands_run profile.now slot from datagram.now self.old }
+        ensures moves { heard.new.moves.items ≡ moves_run profile.now slot from datagram.now self.old }
         ensures whole { length whole.new ≡ longest_message }
     {
         let Some(client) = &mut self.client else {
@@ -248,8 +184,8 @@ impl Slot {
             Gathered::Runt => return ServerTook::Runt,
             Gathered::Connectionless => return ServerTook::Connectionless,
         };
-        let read = read_message(profile, &whole[..length], message);
-        client.run(slot, number, read, message, heard)
+        let read = client.read(profile, &self.issued, &mut whole[..length], message);
+        client.run(&mut self.issued, slot, number, read, message, heard)
     }
 
     /// Hands out what is left of a message, or begins the next and hands out its first piece: its frame is built, and it is
@@ -291,13 +227,17 @@ impl Slot {
         if has_ended(number, frames.placed()) {
             return Emitted::SequenceEnd;
         }
+        if is_unclear(profile, client.executed.executed()) {
+            return Emitted::Unclear;
+        }
         client.fill(&self.sender, map, head);
         let entities = map.lowest();
         build(frames, slot, head, entities);
-        let written = write_against(
+        let written = write_scrambled(
             frames,
             slot,
-            client.delta,
+            client,
+            &self.issued,
             profile,
             head,
             entities,
@@ -315,89 +255,4 @@ impl Slot {
             bytes,
         }
     }
-}
-
-/// Builds a frame of a snapshot, whose entities lie in the map.
-fn build(frames: &mut Frames, slot: u8, head: &SnapHead, entities: &[EntityState])
-    requires slot { slot < length frames.old.slots }
-    requires placed { frames.old.placed ≤ most_placed }
-    requires listed { AreListed entities.now }
-    ensures built { frames.new ≡ build_at frames.old slot (record { head = head.now; entities = entities.now }) }
-    ensures slots { length frames.new.slots ≡ length frames.old.slots }
-    ensures lists { HoldLists frames.old → HoldLists frames.new }
-{
-    laws::build_keeps();
-    laws::held_was_built();
-    frames.build(slot, head, entities);
-}
-
-/// Writes a snapshot, whose entities lie in the map, against the base of a slot's client, if its delta number names one.
-/// Answers the base's number, 0 for none, and the message's length. `Overflow` comes exactly where that is more than 16,384.
-fn write_against<'a>(
-    frames: &Frames,
-    slot: u8,
-    delta: u32,
-    profile: &Profile,
-    head: &'a SnapHead,
-    entities: &'a [EntityState],
-    baselines: &Baselines,
-    buffer: &mut [u8],
-) -> Result<(u32, usize), Overflow>
-    requires lists { HoldLists frames.now }
-    requires listed { AreListed entities.now }
-    requires lines { baselines.now ≡ no_lines }
-    requires buffer { length buffer.old ≡ longest_message }
-    ensures { WritesAgainst profile.now (base_of frames.now slot head.now.number delta) (record { head = head.now; entities = entities.now }) buffer.new result }
-{
-    let (named, base) = base_in(frames, slot, head.number, delta);
-    let parts = SnapParts {
-        ack: 0,
-        commands: CommandRun {
-            head: &[],
-            tail: &[],
-        },
-        base: named,
-        head,
-        entities,
-    };
-    // the entities' numbers are below the end mark
-    prove!(profile.entity.end() == 1023);
-    let bytes = write_parts(profile, parts, baselines, base, buffer)?;
-    Ok((named, bytes))
-}
-
-/// The base of a message, if the client's delta number names one: its number, 0 for none, and what it is.
-fn base_in<'a>(frames: &'a Frames, slot: u8, number: u32, delta: u32) -> (u32, Option<BaseView<'a>>)
-    requires { HoldLists frames.now }
-    ensures number { result.0 ≡ number_of (base_of frames.now slot number delta) }
-    ensures base { option_map base_viewed result.1 ≡ option_map base_from (base_of frames.now slot number delta) }
-    ensures named { IsNamed (option_map base_viewed result.1) number result.0 }
-    ensures listed { AreListed (base_entities (option_map base_viewed result.1)) }
-{
-    laws::base_is_near();
-    match frames.base_for(slot, number, delta) {
-        Some(base) => {
-            let view = BaseView {
-                player: base.player,
-                entities: base.entities,
-            };
-            (base.number, Some(view))
-        }
-        None => (0, None),
-    }
-}
-
-/// Whether no message of a number may be begun any more, where so many entities were placed.
-fn has_ended(number: u32, placed: u64) -> bool
-    ensures { result ≡ (nat_le sequence_end number || nat_lt most_placed placed) }
-{
-    number >= SEQUENCE_END || placed > MOST_PLACED
-}
-
-fn copy_area(from: &[u8], into: &mut ArrayVec<u8, 32>)
-    requires { length from.now ≤ 32 }
-    ensures { into.new.items ≡ from.now }
-{
-    into.clear();
-    into.try_extend_from_slice(from).unwrap();
 }

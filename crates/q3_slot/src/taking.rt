@@ -1,21 +1,30 @@
-//! What a client's message does to its slot. Keeps the rules "layout of a client message", "move section", "move key and text hash" and
-//! "which moves run", the engine's `SV_ExecuteClientMessage` and `SV_UserMove` (sv_client.c). That a move runs exactly
-//! where its time is above that of the last one run is this project's own.
+//! What a client's message does to its slot. Keeps the rules "layout of a client message", "move section", "move key and
+//! text hash", "scrambling", "gaps in command numbers" and "which moves run", the engine's `SV_ExecuteClientMessage` and
+//! `SV_UserMove` (sv_client.c) and `SV_Netchan_Decode` (sv_net_chan.c). That a move runs exactly where its time is above that
+//! of the last one run is this project's own.
 
-ghost use Rattle.std.specs.Prelude.{◌≡◌, ◌≤◌, [], length};
+ghost use Rattle.std.specs.Prelude.{◌≡◌, ◌≤◌, [], length, IfOk};
 ghost use Rattle.q3_bits.specs.Streams.{holding};
 ghost use Rattle.q3_clmsg.specs.Values.{said_of};
-ghost use Rattle.q3_slot.specs.Taking.{said_by, delta_behind, runs, last_run_of};
+ghost use Rattle.q3_window.specs.Incoming.{executes, fresh_of, gap_in};
+ghost use Rattle.q3_window.specs.Outgoing.{acknowledge_at, issued_of};
+ghost use Rattle.q3_slot.specs.Slots.{said_with};
+ghost use Rattle.q3_slot.specs.Taking.{ack_taken, said_under, with_heads, delta_behind, runs, last_run_of};
 
 use arrayvec::ArrayVec;
+use q3_chan::{client_start, scramble};
 use q3_clmsg::{
-    ClientIllegible, ClientMessage, Move, message_key, read_client_message, read_heads,
+    ClientIllegible, ClientMessage, Heads, Move, message_key, read_client_message, read_heads,
 };
 use q3_profile::Profile;
-use q3_text::Text;
+use q3_text::{Command, Text};
+use q3_window::{Incoming, Outgoing};
 
 /// The checksum feed of the key, while there are no maps.
 const NO_FEED: u32 = 0;
+
+/// A client's message is scrambled from this byte on, behind its three leading longs.
+const CLEAR: usize = 12;
 
 /// What the server's take answers.
 #[derive(Clone, Copy, Debug, PartialEq, Eq)]
@@ -36,38 +45,117 @@ pub enum ServerTook {
     Partial(u8),
     /// A message that came whole and isn't legible: its slot, and the first fault in reading order.
     Illegible(u8, ClientIllegible),
+    /// A message that came whole, one of whose commands leaves a gap: its slot, and the first such command's number. Nothing
+    /// of the message was run.
+    Gap { slot: u8, number: u32 },
     /// The message was run: its slot and number.
     Ran { slot: u8, number: u32 },
 }
 
-/// What a take ran of a client's message: the moves, by rising time.
+/// What a take ran of a client's message: the commands by rising number, and the moves by rising time.
 #[derive(Drop)]
 pub struct Heard {
+    pub commands: ArrayVec<Command, 64>,
     pub moves: ArrayVec<Move, 32>,
 }
 
 impl Heard {
     /// Nothing was run.
     pub fn new() -> Heard
-        ensures { result.moves.items ≡ [] }
+        ensures commands { result.commands.items ≡ [] }
+        ensures moves { result.moves.items ≡ [] }
     {
         Heard {
+            commands: ArrayVec::new(),
             moves: ArrayVec::new(),
         }
     }
 }
 
-/// Reads a client's message, with the key that its own leading longs tell. After a refusal `into` may hold anything.
+/// Reads a message of the client that joined with a challenge, by the commands that were issued to it: what its leading longs
+/// say counts, and by the text of the command that they acknowledge the bytes behind them are cleared in their place. After a
+/// refusal `into` may hold anything.
+///
+/// `Err` is the first of: `Bits` where the leading longs don't read; `Ack` where the window doesn't take the acknowledgement;
+/// and what `read_client_message` refuses.
 pub(crate) fn read_message(
     profile: &Profile,
-    bytes: &[u8],
+    challenge: u32,
+    issued: &Outgoing,
+    bytes: &mut [u8],
     into: &mut ClientMessage,
 ) -> Result<(), ClientIllegible>
-    ensures { holding (said_of into.new) result ≡ said_by profile.now bytes.now }
+    ensures { holding (said_of into.new) result ≡ said_with profile.now challenge issued.now bytes.old }
 {
     let heads = read_heads(&profile.code, bytes)?;
-    let key = message_key(NO_FEED, heads.acknowledged, &Text::new());
-    read_client_message(&profile.code, bytes, key, into)
+    check_ack(issued, heads.command)?;
+    read_under(
+        profile,
+        challenge,
+        heads,
+        issued.text(heads.command),
+        bytes,
+        into,
+    )
+}
+
+/// Refuses the acknowledgement of a command that the window doesn't take.
+fn check_ack(issued: &Outgoing, command: u32) -> Result<(), ClientIllegible>
+    ensures taken { result ≡ ack_taken command (acknowledge_at issued.now command).answer }
+    ensures within { IfOk result (λ _. (issued.now.acknowledged ≤ command) × (command ≤ issued_of issued.now)) }
+{
+    if command < issued.acknowledged() || issued.issued() < command {
+        return Err(ClientIllegible::Ack(command));
+    }
+    Ok(())
+}
+
+/// Reads a message with these leading longs, by the text of the command that they acknowledge.
+fn read_under(
+    profile: &Profile,
+    challenge: u32,
+    heads: Heads,
+    text: &Text,
+    bytes: &mut [u8],
+    into: &mut ClientMessage,
+) -> Result<(), ClientIllegible>
+    ensures { holding (said_of into.new) result ≡ said_under profile.now challenge heads text.now bytes.old }
+{
+    let start = client_start(challenge, heads.id, heads.acknowledged);
+    scramble(bytes, CLEAR, start, text);
+    let key = message_key(NO_FEED, heads.acknowledged, text);
+    read_client_message(&profile.code, bytes, key, into)?;
+    put_heads(into, heads);
+    Ok(())
+}
+
+/// The leading longs as they were read before the rest was cleared.
+fn put_heads(message: &mut ClientMessage, heads: Heads)
+    ensures { said_of message.new ≡ with_heads heads (said_of message.old) }
+{
+    message.id = heads.id;
+    message.acknowledged = heads.acknowledged;
+    message.command = heads.command;
+}
+
+/// The number of the first command of a message that leaves a gap.
+pub(crate) fn gap_before(executed: &Incoming, message: &ClientMessage) -> Option<u32>
+    ensures { result ≡ gap_in executed.now.executed (said_of message.now).commands }
+{
+    executed.gap_in(&message.commands)
+}
+
+/// Executes those commands of a message that weren't executed, and puts them into a list that is empty.
+pub(crate) fn execute_commands(
+    executed: &mut Incoming,
+    message: &ClientMessage,
+    into: &mut ArrayVec<Command, 64>,
+)
+    requires empty { into.old.items ≡ [] }
+    ensures window { executed.new ≡ executes executed.old (said_of message.now).commands }
+    ensures ran { into.new.items ≡ fresh_of executed.old.executed (said_of message.now).commands }
+{
+    executed.execute(&message.commands, into);
 }
 
 /// Puts the moves that run behind the last one into a list that is empty, and answers the time of the last one run.

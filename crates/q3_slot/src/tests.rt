@@ -24,11 +24,12 @@ fn profile(alloc: Global, entity: Table, player: Table) -> Result<Profile, NoMem
     })
 }
 
-/// Slot 1, with a client at host 1 with the qport 5000.
+/// Slot 1, with a client at host 1 with the qport 5000, that joined with the challenge 0: the keys of a message that
+/// acknowledges nothing are 0.
 fn joined(alloc: Global) -> Result<Slot, NoMemory> {
     let mut slot = Slot::new(alloc)?;
     let (host, port) = (1, 27960);
-    slot.join(7, 5000, Address { host, port });
+    slot.join(0, 5000, Address { host, port });
     Ok(slot)
 }
 
@@ -45,6 +46,7 @@ fn take(
         host: 1,
         port: 27960,
     };
+    heard.commands.clear();
     heard.moves.clear();
     slot.take(profile, 1, from, datagram, &mut whole, said, heard)
 }

@@ -11,7 +11,7 @@ use Rattle.q3_world.specs.World.{Whole, step}
 use Rattle.q3_world.specs.StandsFor.{StandsFor}
 use Rattle.q3_world.proofs.Events.{Holds, Holds-map}
 use Rattle.q3_world.proofs.Agree.{Cited, kept_of, seen, Agree}
-use Rattle.q3_world.proofs.HandedIn.{handed, holds_join, holds_player, holds_area, holds_entity, holds_removed, holds_move}
+use Rattle.q3_world.proofs.HandedIn.{handed, holds_join, holds_player, holds_area, holds_entity, holds_removed, holds_say, holds_type, holds_move}
 use Rattle.q3_world.proofs.Making.{served, sends_agree}
 use Rattle.q3_world.proofs.Arriving.{delivers_agree}
 
@@ -31,6 +31,8 @@ steps_agree profile whole (events.Area c area) cited is holds =
 steps_agree profile whole (events.Player c player) cited is holds =
     handed profile whole (set_player whole.ends c player) (holds_player profile whole c player (cited.normal player is.1) (omega (arith, is.0)) holds)
 steps_agree profile whole (events.Time time) cited is holds = record { same = refl; holds = Holds-map profile whole (record whole.ends.server.map { time = time }) is holds.facts.entities holds }
+steps_agree profile whole (events.Say c text) cited is holds = record { same = refl; holds = holds_say profile whole c text cited is.1 (omega (arith, is.0)) holds }
+steps_agree profile whole (events.TypeText c text) cited is holds = record { same = refl; holds = holds_type profile whole c text cited is.1 (omega (arith, is.0)) holds }
 steps_agree profile whole (events.Move c one) cited is holds = record { same = refl; holds = holds_move profile whole c one is.1 (omega (arith, is.0)) holds }
 steps_agree profile whole (events.Serve c) cited is holds = served profile whole c cited (omega (arith, is)) holds
 steps_agree profile whole (events.Send c) cited is holds = sends_agree profile whole c cited (omega (arith, is)) holds

@@ -10,13 +10,14 @@ use Rattle.q3_io.specs.declared.address.Address.{Address}
 use Rattle.q3_script.specs.declared.event.Event.TheVariants as events
 use Rattle.q3_clmsg.specs.declared.moves.Move.{Move}
 use Rattle.q3_clmsg.specs.declared.error.ClientIllegible.{ClientIllegible}
-use Rattle.q3_clmsg.specs.Laws.{IsMessage}
 use Rattle.q3_clmsg.specs.Values as client_told
-use Rattle.q3_clmsg.specs.Values.{empty_message}
+use Rattle.q3_window.specs.Outgoing.{OutgoingState, IsOutgoing, acknowledge_at}
+use Rattle.q3_window.specs.Incoming.{fresh_of, gap_in, executes}
+use Rattle.q3_window.specs.Flow.{Flow}
 use Rattle.q3_svmsg.specs.declared.error.Illegible.{Illegible}
 use Rattle.q3_ring.specs.Snapshot.{Snapshot}
 use Rattle.q3_rings.specs.Rings.{accept_at}
-use Rattle.q3_clstate.specs.State.{Application, apply_at, apply_message}
+use Rattle.q3_clstate.specs.State.{Application, apply_message}
 use Rattle.q3_chan.specs.declared.side.Side.{Side}
 use Rattle.q3_chan.specs.declared.side.Side.TheVariants.{Server, Client}
 use Rattle.q3_chan.specs.declared.gatherer.Gathered.{Gathered}
@@ -28,9 +29,9 @@ use Rattle.q3_chan.specs.Gathering.{Gathering, Took, gathered as gathered_of}
 use Rattle.q3_chan.specs.Tags.{tagged, IsQuiet, PieceDoes}
 use Rattle.q3_chan.specs.Senders.{qport_of}
 use Rattle.q3_chan.specs.Laws.{HoldsFront, SentIsTagged, Gathers}
-use Rattle.q3_client.specs.Client.{ClientState, Taken, take_answer, take_gathered, take_unless, take_at}
-use Rattle.q3_client.specs.Sending.{said_bytes, Said}
-use Rattle.q3_slot.specs.Built.{Built, message_of, IsNear, IsSnapshot, IsBuilt}
+use Rattle.q3_client.specs.Client.{ClientState, Taken, Reception, receive_message, receive_bytes, applies, applies_read, take_answer, take_gathered, take_unless, take_at}
+use Rattle.q3_client.specs.Sending.{said_bytes, Said, IsSaid}
+use Rattle.q3_slot.specs.Built.{Built, IsNear, IsSnapshot, IsBuilt}
 use Rattle.q3_slot.specs.Slot.{SlotState}
 use Rattle.q3_slot.specs.Emitting.{built_bytes}
 use Rattle.q3_slot.specs.Taking.{asked_with, delta_behind, runs, last_run_of, said_by}
@@ -43,15 +44,16 @@ use Rattle.q3_world.specs.declared.made.Direction.TheVariants.{ToClient, ToServe
 use Rattle.q3_world.specs.MessageLaws.{HoldsThis}
 use Rattle.q3_world.specs.Ends.{client_at, address_at}
 use Rattle.q3_world.specs.Kept.{kept_client_took, kept_to_client, kept_server_took, kept_arrive, kept_deliver, kept_step}
-use Rattle.q3_world.specs.World.{Tag, Whole, History, history_at, named, client_took, to_client, said_under, server_took, to_server, arrive, deliver, step}
-use Rattle.q3_world.specs.StandsFor.{BeginsMessages, KeepsSlot, IsPiece, IsSent, IsClient, IsWay, WasBuilt, WasAccepted, messages_of, messages_said, bytes_of}
+use Rattle.q3_world.specs.World.{Tag, Whole, History, no_said, history_at, named, client_took, to_client, said_under, server_took, to_server, arrive, deliver, step}
+use Rattle.q3_world.specs.StandsFor.{BeginsMessages, KeepsSlot, IsPiece, IsSent, IsClient, IsWay, WasBuilt, WasAccepted, carried_built, acks_built, carried_said, acks_said, AreCommanded, messages_of, messages_said, bytes_of}
 use Rattle.q3_world.proofs.MoveLists.{consecutive_issued, runs_are}
 use Rattle.q3_world.proofs.Clients.{no_client, no_end, at_number, said_number, KeepsSlot-ran, TakesBuilt-gathered, TakesBuilt-passed, TakesBuilt-accepted}
 use Rattle.q3_world.proofs.Bases.{if_some_then}
 use Rattle.q3_world.proofs.Knowing.{KnownBase, known_base, was_built_is, held_are_built, holds_this}
-use Rattle.q3_world.proofs.Applying.{applies_built}
-use Rattle.q3_world.proofs.Events.{Holds, Has, Holds-taken, Holds-heard, has_slot, has_client, tag_was_built, names_built}
-use Rattle.q3_world.proofs.Agree.{HearsBack, Cited, kept_of, Agree, found_or}
+use Rattle.q3_world.proofs.Applying.{applies_message}
+use Rattle.q3_world.proofs.Commanded.{ClientHears, client_hears, SlotHears, slot_hears}
+use Rattle.q3_world.proofs.Events.{Holds, Has, TakesSo, Holds-taken, HearsSo, Holds-heard, has_slot, has_client, tag_was_built, names_built}
+use Rattle.q3_world.proofs.Agree.{Cited, kept_of, Agree, found_or}
 
 -- ---- what a datagram does
 
@@ -69,7 +71,7 @@ piece_is messages g side qport count sending tag law front from fits begins is =
 -- ---- delivering to a client
 
 abbrev pub Read : Type 0
-Read = Result Application Illegible
+Read = Result Reception Illegible
 
 -- where nothing came whole, nothing is read
 pub quiet_same : (client : ClientState) (answer : Gathered) (read other : ℕ → Read) → IsQuiet answer → take_answer client answer read ≡ take_answer client answer other
@@ -81,26 +83,31 @@ quiet_same client gathered.BadFragment read other is = absurd is
 quiet_same client gathered.Runt read other is = absurd is
 quiet_same client gathered.Connectionless read other is = absurd is
 
--- the client is as it was, and accepts nothing
+-- the client is as it was, and accepts and executes nothing
 pub quiet_client : (client : ClientState) (answer : Gathered) (read : ℕ → Read) → IsQuiet answer
-    → ((take_answer client answer read).client ≡ client) × ((take_answer client answer read).heard ≡ None)
+    → ((take_answer client answer read).client ≡ client) × ((take_answer client answer read).accepted ≡ None) × ((take_answer client answer read).heard ≡ [])
 quiet_client client (gathered.Whole number count) read is = absurd is
-quiet_client client gathered.Partial read is = (refl, refl)
-quiet_client client gathered.Old read is = (refl, refl)
-quiet_client client gathered.OutOfOrder read is = (refl, refl)
+quiet_client client gathered.Partial read is = (refl, refl, refl)
+quiet_client client gathered.Old read is = (refl, refl, refl)
+quiet_client client gathered.OutOfOrder read is = (refl, refl, refl)
 quiet_client client gathered.BadFragment read is = absurd is
 quiet_client client gathered.Runt read is = absurd is
 quiet_client client gathered.Connectionless read is = absurd is
 
--- what comes whole is applied as the message that was built
+-- what comes whole is received as the message that was built
 pub taken_alike : (profile : Profile) (client : ClientState) (took : Took) (number : ℕ) (built : Built)
-    → apply_at client.state number (built_bytes profile built) ≡ Ok (apply_message client.state number built.message)
+    → (client.gathering.taken < number → receive_bytes client number (built_bytes profile built) ≡ Ok (receive_message client number built.message))
     → PieceDoes client.gathering number (built_bytes profile built) took
-    → take_gathered client took (λ n. apply_at client.state n took.message) ≡ take_gathered client took (λ n. Ok (apply_message client.state n built.message))
-taken_alike profile client took number built applied does =
+    → take_gathered client took (λ n. receive_bytes client n took.message) ≡ take_gathered client took (λ n. Ok (receive_message client n built.message))
+taken_alike profile client took number built received does =
+    let now = record client { gathering = took.gathering } in
     elim does.either [
-      | inl waits ↦ quiet_same (record client { gathering = took.gathering }) took.answer (λ n. apply_at client.state n took.message) (λ n. Ok (apply_message client.state n built.message)) waits.quiet
-      | inr came ↦ rw (came.answer, came.message_is, applied) refl
+      | inl waits ↦ quiet_same now took.answer (λ n. receive_bytes client n took.message) (λ n. Ok (receive_message client n built.message)) waits.quiet
+      | inr came ↦
+          let read : receive_bytes client number took.message ≡ Ok (receive_message client number built.message) =
+          ap (λ (m : List ℕ). receive_bytes client number m) came.message_is ∙ received came.newer in
+          ap (λ (a : Gathered). take_answer now a (λ n. receive_bytes client n took.message)) came.answer
+          ∙ (ap (λ (x : Read). applies_read now x) read ∙ ap (λ (a : Gathered). take_answer now a (λ n. Ok (receive_message client n built.message))) (sym came.answer))
     ]
 
 -- a tag of a datagram for a client
@@ -151,76 +158,112 @@ tag_gathers profile whole tag client cited is found holds =
     (cited.gathers.piece messages (length built) client.gathering tag.number tag.index had.1.joined.of_client.gathers is.1.begun)
 
 -- what is known of a message that is named by a tag
-pub record Named (profile : Profile) (whole : Whole) (c n : ℕ) (built : Built) : Type 0 where
-  pub is : IsBuilt profile n built
+pub record Named (profile : Profile) (whole : Whole) (c n : ℕ) (slot : SlotState) (client : ClientState) (built : Built) : Type 0 where
+  pub is : IsBuilt profile client.challenge n built
   pub was : WasBuilt (history_at whole.histories c).built is.snapshot
   pub base : IfSome built.base (KnownBase n (history_at whole.histories c).built (history_at whole.histories c).accepted)
+  pub hears : client.gathering.taken < n → ClientHears slot client (history_at whole.histories c) n built
 
-pub names : (profile : Profile) (whole : Whole) (tag : Tag) (client : ClientState) → IsFor profile whole tag → client_at whole.ends tag.client ≡ Some client → Holds profile whole
-    → Named profile whole tag.client tag.number (named whole.histories tag)
-names profile whole tag client is found holds =
+pub names : (profile : Profile) (whole : Whole) (tag : Tag) (slot : SlotState) (client : ClientState) → Cited profile → IsFor profile whole tag → Has profile whole tag.client slot client
+    → Named profile whole tag.client tag.number slot client (named whole.histories tag)
+names profile whole tag slot client cited is had =
     let c = tag.client in
     let history = history_at whole.histories c in
-    let had = has_client profile whole c client is.0 found holds in
-    let built = tag_was_built profile whole tag client is.0 is.1 found holds in
+    let built = tag_was_built profile whole tag slot client is.1 had in
+    let of_slot = subst (λ (challenge : ℕ). IsBuilt profile challenge tag.number (named whole.histories tag)) (sym had.keeps.challenge) built in
     record {
       is = built;
-      was = names_built profile whole tag is.1 built;
-      base = known_base profile had.0 client history tag.number is.1.some is.1.begun built had.1.keeps.of_slot had.1.joined.asked;
+      was = names_built profile whole tag is.1 client.challenge built;
+      base = known_base profile slot client history tag.number is.1.some is.1.begun of_slot had.keeps.of_slot had.joined.asked;
+      hears = λ newer. client_hears cited.windows.flow slot client history tag.number newer is.1.begun had.joined.commanded;
     }
 
--- by its bytes it is applied as the value that was built
-pub applied_alike : (profile : Profile) (whole : Whole) (c n : ℕ) (slot : SlotState) (client : ClientState) (built : Built) → Cited profile → Has profile whole c slot client
-    → Named profile whole c n built → apply_at client.state n (built_bytes profile built) ≡ Ok (apply_message client.state n built.message)
-applied_alike profile whole c n slot client built cited had named_is =
+-- by its bytes it is received as the value that was built
+pub received_alike : (profile : Profile) (whole : Whole) (c n : ℕ) (slot : SlotState) (client : ClientState) (built : Built) → Cited profile → Has profile whole c slot client
+    → Named profile whole c n slot client built → client.gathering.taken < n
+    → receive_bytes client n (built_bytes profile built) ≡ Ok (receive_message client n built.message)
+received_alike profile whole c n slot client built cited had named_is newer =
     let history = history_at whole.histories c in
     let takes = had.joined.of_client in
     let are = had.keeps.of_slot.built in
-    let read = cited.reads client.state.held n built named_is.is
-    (held_are_built cited.rings profile client.state.held history.built history.accepted are takes.stands takes.accepted)
+    let hears = named_is.hears newer in
+    cited.reads client n built named_is.is had.keeps.of_client.by takes.lines hears.takes hears.text
+    (held_are_built cited.rings profile slot.challenge client.state.held history.built history.accepted are takes.stands takes.accepted)
     (if_some_then built.base (KnownBase n history.built history.accepted) (λ base. IsSnapshot profile base × HoldsThis client.state.held base)
-    (λ base known. (was_built_is profile history.built base are known.1, holds_this cited.rings client.state.held history.built history.accepted base takes.stands takes.accepted known.1))
-    named_is.base) in
-    rw (had.keeps.of_client.by, takes.lines, read) refl
+    (λ base known. (was_built_is profile slot.challenge history.built base are known.1, holds_this cited.rings client.state.held history.built history.accepted base takes.stands takes.accepted known.1))
+    named_is.base)
+
+-- where nothing comes whole, the commands on their way are as they were
+waits_so : (slot : SlotState) (client : ClientState) (history : History) (g : Gathering) → g.taken ≡ client.gathering.taken → IsOutgoing client.issued → AreCommanded slot client history
+    → TakesSo slot history g client.state client.issued []
+waits_so slot client history g taken window are =
+    record {
+      is = window;
+      to_client = subst (λ (texts : List (List ℕ)). Flow slot.issued client.state.executed history.server_commands texts (carried_built history.built) (acks_said history.said) slot.gathering.taken)
+          (sym (append-nil history.client_executed)) are.to_client;
+      to_server = subst (λ (n : ℕ). Flow client.issued slot.executed history.client_commands history.server_executed (carried_said history.said) (acks_built history.built) n) (sym taken) are.to_server;
+    }
+
+-- a client's window behind a message
+abbrev pub window_heard : ClientState → Built → OutgoingState
+window_heard client built = (acknowledge_at client.issued built.message.ack).window
 
 -- what arrives of a piece: what holds stays
 pub holds_piece : (profile : Profile) (whole : Whole) (c number n : ℕ) (slot : SlotState) (client : ClientState) (took : Took) (built : Built) → Cited profile → c < places
     → Has profile whole c slot client → PieceDoes client.gathering n (built_bytes profile built) took
     → Gathers (messages_of profile (history_at whole.histories c).built) (length (history_at whole.histories c).built) took.gathering
-    → Named profile whole c n built
-    → Holds profile whole → Holds profile (client_took whole number c (take_gathered client took (λ k. Ok (apply_message client.state k built.message)))).whole
+    → Named profile whole c n slot client built
+    → Holds profile whole → Holds profile (client_took whole number c (take_gathered client took (λ k. Ok (receive_message client k built.message)))).whole
 holds_piece profile whole c number n slot client took built cited lt had does gathers named_is holds =
     let g = took.gathering in
     let history = history_at whole.histories c in
     let state = client.state in
-    let is = named_is.is in
-    let snapshot = is.snapshot in
+    let now = record client { gathering = g } in
+    let read : ℕ → Read = λ k. Ok (receive_message client k built.message) in
     let joined = had.joined.of_client in
+    let window = had.keeps.of_client.window in
     elim does.either [
       | inl waits ↦
-          let same = quiet_client (record client { gathering = g }) took.answer (λ k. Ok (apply_message state k built.message)) waits.quiet in
-          rw (same.0, same.1) (Holds-taken profile whole c client g state client.delta None lt had.client_is does.side refl refl
-          (λ takes. TakesBuilt-gathered profile client history.built history.accepted g waits.taken gathers takes) holds)
+          let same = quiet_client now took.answer read waits.quiet in
+          rw (same.0, same.1, same.2) (Holds-taken profile whole c slot client g state client.issued client.delta None [] lt had does.side refl refl
+          (waits_so slot client history g waits.taken window had.joined.commanded)
+          (TakesBuilt-gathered profile client history.built history.accepted g waits.taken gathers joined) holds)
       | inr came ↦
           let newer = came.newer in
           let below = joined.below in
+          let is = named_is.is in
+          let snapshot = is.snapshot in
           let number_is = is.number in
-          let message_is : built.message ≡ message_of built.base snapshot = ap (λ (b : Built). b.message) is.is in
-          let known = if_some_then built.base (KnownBase n history.built history.accepted) (λ base. IsNear n base × Contains history.accepted base) (λ base known. (known.0, known.2)) named_is.base in
           let taken = came.taken in
-          rw (came.answer, message_is)
-          (elim (applies_built cited.rings state history.accepted n built.base snapshot joined.stands (omega (arith, newer, below)) known) [
-            | inl accepted ↦ rw accepted.1 (Holds-taken profile whole c client g (record state { number = n; held = accept_at state.held snapshot }) true (Some snapshot) lt had.client_is does.side refl refl
-                (λ takes. TakesBuilt-accepted cited.rings profile client history.built history.accepted g n snapshot (taken ∙ sym number_is) gathers is.are.few named_is.was
-                (omega (arith, newer, number_is)) takes) holds)
-            | inr skipped ↦ rw skipped.2 (Holds-taken profile whole c client g (record state { number = n }) false None lt had.client_is does.side refl refl
-                (λ takes. TakesBuilt-passed profile client history.built history.accepted g n (omega (arith, taken, newer)) gathers takes) holds)
-          ])
+          let hears = named_is.hears newer in
+          let after = window_heard client built in
+          let commands = built.message.commands in
+          let executed = executes state.executed commands in
+          let fresh = fresh_of state.executed.executed commands in
+          let known = if_some_then built.base (KnownBase n history.built history.accepted) (λ base. IsNear n base × Contains history.accepted base) (λ base known. (known.0, known.2)) named_is.base in
+          let still : IsOutgoing after = cited.windows.stays.acknowledges client.issued built.message.ack window in
+          let to_server : Flow after slot.executed history.client_commands history.server_executed (carried_said history.said) (acks_built history.built) g.taken =
+          subst (λ (k : ℕ). Flow after slot.executed history.client_commands history.server_executed (carried_said history.said) (acks_built history.built) k) (sym taken) hears.to_server in
+          let applied_as : Application → Taken = λ application. applies now (record { issued = after; application = application }) in
+          let came_so : take_answer now took.answer read ≡ applied_as (apply_message state n built.message) = ap (λ (a : Gathered). take_answer now a read) came.answer in
+          elim (applies_message cited.rings state history.accepted n built is.telling snapshot is.is joined.stands (omega (arith, newer, below)) known) [
+            | inl accepted ↦
+                subst (λ (t : Taken). Holds profile (client_took whole number c t).whole) (sym (came_so ∙ ap applied_as accepted.1))
+                (Holds-taken profile whole c slot client g (record state { number = n; executed = executed; held = accept_at state.held snapshot }) after true (Some snapshot) fresh lt had does.side refl refl
+                (record { is = still; to_client = hears.to_client; to_server = to_server })
+                (TakesBuilt-accepted cited.rings profile client history.built history.accepted g after executed n snapshot (taken ∙ sym number_is) gathers is.are.few named_is.was
+                (omega (arith, newer, number_is)) joined) holds)
+            | inr skipped ↦
+                subst (λ (t : Taken). Holds profile (client_took whole number c t).whole) (sym (came_so ∙ ap applied_as skipped.2))
+                (Holds-taken profile whole c slot client g (record state { number = n; executed = executed }) after false None fresh lt had does.side refl refl
+                (record { is = still; to_client = hears.to_client; to_server = to_server })
+                (TakesBuilt-passed profile client history.built history.accepted g after executed n (omega (arith, taken, newer)) gathers joined) holds)
+          ]
     ]
 
 -- a client takes a datagram by what its bytes do
 pub taken_by_bytes : (client : ClientState) (bytes : List ℕ) (took : Took) → client.dropped ≡ None → gathered_of client.gathering bytes ≡ took
-    → take_at client bytes ≡ take_gathered client took (λ n. apply_at client.state n took.message)
+    → take_at client bytes ≡ take_gathered client took (λ n. receive_bytes client n took.message)
 unfolding take_at
 taken_by_bytes client bytes took legible e = ap (λ (dropped : Option Illegible). take_unless client bytes dropped) legible ∙ rw e refl
 
@@ -231,13 +274,13 @@ delivered_to profile whole number tag None cited is at holds = record { same = r
 delivered_to profile whole number tag (Some client) cited is at holds =
     let built = named whole.histories tag in
     let had = has_client profile whole tag.client client is.0 at holds in
-    let named_is = names profile whole tag client is at holds in
+    let named_is = names profile whole tag had.0 client cited is had.1 in
     let took = tagged client.gathering tag.number (built_bytes profile built) tag.index in
     let does = cited.does client.gathering tag.number (built_bytes profile built) tag.index in
     record {
       same = ap (λ (t : Taken). kept_client_took (kept_of profile whole) number tag.client t)
           (taken_by_bytes client tag.bytes took had.1.joined.of_client.legible (tag_is profile whole tag client cited is at holds)
-          ∙ taken_alike profile client took tag.number built (applied_alike profile whole tag.client tag.number had.0 client built cited had.1 named_is) does);
+          ∙ taken_alike profile client took tag.number built (received_alike profile whole tag.client tag.number had.0 client built cited had.1 named_is) does);
       holds = holds_piece profile whole tag.client number tag.number had.0 client took built cited is.0 had.1 does (tag_gathers profile whole tag client cited is at holds) named_is holds;
     }
 
@@ -256,26 +299,31 @@ quiet_heard slot c gathered.BadFragment read other is = absurd is
 quiet_heard slot c gathered.Runt read other is = absurd is
 quiet_heard slot c gathered.Connectionless read other is = absurd is
 
--- the slot is as it was, and runs nothing
+-- the slot is as it was, and executes and runs nothing
 pub quiet_slot : (slot : SlotState) (c : ℕ) (answer : Gathered) (read : ℕ → Heard) → IsQuiet answer
-    → ((by_slot.take_answer slot c answer read).slot ≡ slot) × ((by_slot.take_answer slot c answer read).moves ≡ [])
+    → ((by_slot.take_answer slot c answer read).slot ≡ slot) × ((by_slot.take_answer slot c answer read).commands ≡ []) × ((by_slot.take_answer slot c answer read).moves ≡ [])
 quiet_slot slot c (gathered.Whole number count) read is = absurd is
-quiet_slot slot c gathered.Partial read is = (refl, refl)
-quiet_slot slot c gathered.Old read is = (refl, refl)
-quiet_slot slot c gathered.OutOfOrder read is = (refl, refl)
+quiet_slot slot c gathered.Partial read is = (refl, refl, refl)
+quiet_slot slot c gathered.Old read is = (refl, refl, refl)
+quiet_slot slot c gathered.OutOfOrder read is = (refl, refl, refl)
 quiet_slot slot c gathered.BadFragment read is = absurd is
 quiet_slot slot c gathered.Runt read is = absurd is
 quiet_slot slot c gathered.Connectionless read is = absurd is
 
 -- what comes whole is read as the message that was said
-pub heard_alike : (profile : Profile) (slot : SlotState) (c : ℕ) (took : Took) (number : ℕ) (said : Said) → HearsBack profile → IsMessage said
+pub heard_alike : (profile : Profile) (slot : SlotState) (c : ℕ) (took : Took) (number : ℕ) (said : Said)
+    → (slot.gathering.taken < number → said_by profile slot (said_bytes profile said) ≡ Ok said.message)
     → PieceDoes slot.gathering number (said_bytes profile said) took
     → (from : Address)
-    → by_slot.take_gathered (record slot { address = from }) c took (λ k. said_by profile took.message) ≡ by_slot.take_gathered (record slot { address = from }) c took (λ k. Ok said)
-heard_alike profile slot c took number said hears_back is does from =
+    → by_slot.take_gathered (record slot { address = from }) c took (λ k. said_by profile slot took.message)
+    ≡ by_slot.take_gathered (record slot { address = from }) c took (λ k. Ok said.message)
+heard_alike profile slot c took number said hears_back does from =
+    let now = record slot { address = from; gathering = took.gathering } in
     elim does.either [
-      | inl waits ↦ quiet_heard (record slot { address = from; gathering = took.gathering }) c took.answer (λ k. said_by profile took.message) (λ k. Ok said) waits.quiet
-      | inr came ↦ rw (came.answer, came.message_is, hears_back said is) refl
+      | inl waits ↦ quiet_heard now c took.answer (λ k. said_by profile slot took.message) (λ k. Ok said.message) waits.quiet
+      | inr came ↦
+          let read : said_by profile slot took.message ≡ Ok said.message = ap (λ (m : List ℕ). said_by profile slot m) came.message_is ∙ hears_back came.newer in
+          ap (λ (r : Heard). by_slot.take_answer now c took.answer (λ k. r)) read
     ]
 
 -- a tag of a client's datagram
@@ -312,40 +360,80 @@ heard_by_bytes profile whole tag from slot cited is at holds =
     ∙ ap (λ (p : Profile). hears.taken_at server c (by_slot.take_slot p c from tag.bytes slot)) holds.facts.by))
 
 -- what a slot writes against behind a message was accepted, or is none
-asked_behind : (accepted : List Snapshot) (before : ℕ) (said : Said) → (before ≡ 0) ⊎ WasAccepted accepted before → (said.delta ≡ true → WasAccepted accepted said.acknowledged)
-    → (delta_behind before said ≡ 0) ⊎ WasAccepted accepted (delta_behind before said)
-asked_behind accepted before said was asks = with_moves said.moves
+asked_behind : (accepted : List Snapshot) (before : ℕ) (message : client_told.Message) → (before ≡ 0) ⊎ WasAccepted accepted before
+    → (message.delta ≡ true → WasAccepted accepted message.acknowledged)
+    → (delta_behind before message ≡ 0) ⊎ WasAccepted accepted (delta_behind before message)
+asked_behind accepted before message was asks = with_moves message.moves
   where
-    if_asked : (delta : Bool) → said.delta ≡ delta → ((if delta then said.acknowledged else 0) ≡ 0) ⊎ WasAccepted accepted (if delta then said.acknowledged else 0)
+    if_asked : (delta : Bool) → message.delta ≡ delta → ((if delta then message.acknowledged else 0) ≡ 0) ⊎ WasAccepted accepted (if delta then message.acknowledged else 0)
     if_asked true so = inr (asks so)
     if_asked false so = inl refl
 
-    with_moves : (moves : List Move) → (asked_with before said moves ≡ 0) ⊎ WasAccepted accepted (asked_with before said moves)
+    with_moves : (moves : List Move) → (asked_with before message moves ≡ 0) ⊎ WasAccepted accepted (asked_with before message moves)
     with_moves [] = was
-    with_moves (one ∷ moves) = if_asked said.delta refl
+    with_moves (one ∷ moves) = if_asked message.delta refl
+
+-- where nothing comes whole, the commands on their way are as they were
+hears_nothing : (slot : SlotState) (client : ClientState) (history : History) (g : Gathering) → g.taken ≡ slot.gathering.taken → AreCommanded slot client history
+    → HearsSo client history g slot.issued slot.executed []
+hears_nothing slot client history g taken are =
+    record {
+      to_client = subst (λ (n : ℕ). Flow slot.issued client.state.executed history.server_commands history.client_executed (carried_built history.built) (acks_said history.said) n) (sym taken) are.to_client;
+      to_server = subst (λ (texts : List (List ℕ)). Flow client.issued slot.executed history.client_commands texts (carried_said history.said) (acks_built history.built) client.gathering.taken)
+          (sym (append-nil history.server_executed)) are.to_server;
+    }
+
+-- a message leaves no gap, and so it runs
+pub runs_whole : (slot : SlotState) (c n : ℕ) (message : client_told.Message) → gap_in slot.executed.executed message.commands ≡ None
+    → by_slot.run_message slot c n message ≡ by_slot.run_unless slot c n message None
+runs_whole slot c n message none = ap (λ (gap : Option ℕ). by_slot.run_unless slot c n message gap) none
 
 -- what comes of a piece: what holds stays
-pub holds_heard : (profile : Profile) (whole : Whole) (c number n : ℕ) (from : Address) (slot : SlotState) (took : Took) (said : Said) → c < places → slot_at whole.ends.server c ≡ Some slot
-    → from.host ≡ slot.address.host → PieceDoes slot.gathering n (said_bytes profile said) took
+pub holds_heard : (profile : Profile) (whole : Whole) (c number n : ℕ) (from : Address) (slot : SlotState) (client : ClientState) (took : Took) (said : Said) → Cited profile → c < places
+    → Has profile whole c slot client → from.host ≡ slot.address.host → PieceDoes slot.gathering n (said_bytes profile said) took
     → Gathers (messages_said profile (history_at whole.histories c).said) (length (history_at whole.histories c).said) took.gathering
-    → All (Contains (history_at whole.histories c).issued) said.moves
-    → (slot.delta ≡ 0) ⊎ WasAccepted (history_at whole.histories c).accepted slot.delta
-    → (said.delta ≡ true → WasAccepted (history_at whole.histories c).accepted said.acknowledged) → Holds profile whole
-    → Holds profile (server_took whole number c (hears.taken_at whole.ends.server c (by_slot.take_gathered (record slot { address = from }) c took (λ k. Ok said)))).whole
-holds_heard profile whole c number n from slot took said lt at host does gathers were before asks holds =
+    → All (Contains (history_at whole.histories c).issued) said.message.moves
+    → (said.message.delta ≡ true → WasAccepted (history_at whole.histories c).accepted said.message.acknowledged)
+    → (slot.gathering.taken < n → SlotHears slot client (history_at whole.histories c) n said) → Holds profile whole
+    → Holds profile (server_took whole number c (hears.taken_at whole.ends.server c (by_slot.take_gathered (record slot { address = from }) c took (λ k. Ok said.message)))).whole
+holds_heard profile whole c number n from slot client took said cited lt had host does gathers were asks hears_so holds =
     let g = took.gathering in
     let history = history_at whole.histories c in
+    let now = record slot { address = from; gathering = g } in
+    let read : ℕ → Heard = λ k. Ok said.message in
+    let keeps = had.keeps.of_slot in
+    let before = had.joined.asked.delta in
     elim does.either [
       | inl waits ↦
-          let same = quiet_slot (record slot { address = from; gathering = g }) c took.answer (λ k. Ok said) waits.quiet in
-          rw (same.0, same.1) (Holds-heard profile whole c slot from g slot.delta slot.last_run [] lt at host does.side gathers
-          (λ keeps. subst (λ (run : List Move). KeepsSlot profile slot history.qport history.host history.built run) (sym (append-nil history.run)) keeps)
+          let same = quiet_slot now c took.answer read waits.quiet in
+          rw (same.0, same.1, same.2) (Holds-heard profile whole c slot client from g slot.issued slot.executed slot.delta slot.last_run [] [] lt had host does.side gathers
+          (subst (λ (run : List Move). KeepsSlot profile slot history.qport history.host history.built run history.server_commands) (sym (append-nil history.run)) keeps)
+          (hears_nothing slot client history g waits.taken had.joined.commanded)
           (All-nil (Contains history.issued)) before holds)
       | inr came ↦
-          rw came.answer (Holds-heard profile whole c slot from g (delta_behind slot.delta said) (last_run_of slot.last_run said.moves) (runs slot.last_run said.moves) lt at host does.side gathers
-          (λ keeps. KeepsSlot-ran profile slot history.qport history.host history.built history.run said.moves (delta_behind slot.delta said) keeps)
-          (runs_are (Contains history.issued) slot.last_run said.moves were) (asked_behind history.accepted slot.delta said before asks) holds)
+          let message = said.message in
+          let heard = hears_so came.newer in
+          let after = (acknowledge_at slot.issued message.command).window in
+          let executed = executes slot.executed message.commands in
+          let still : IsOutgoing after = cited.windows.stays.acknowledges slot.issued message.command keeps.window in
+          let to_client : Flow after client.state.executed history.server_commands history.client_executed (carried_built history.built) (acks_said history.said) g.taken =
+          subst (λ (k : ℕ). Flow after client.state.executed history.server_commands history.client_executed (carried_built history.built) (acks_said history.said) k) (sym came.taken) heard.to_client in
+          let ran_so : by_slot.take_answer now c took.answer read ≡ by_slot.run_unless now c n message None =
+          ap (λ (a : Gathered). by_slot.take_answer now c a read) came.answer ∙ runs_whole now c n message heard.gap in
+          subst (λ (t : by_slot.SlotTaken). Holds profile (server_took whole number c (hears.taken_at whole.ends.server c t)).whole) (sym ran_so)
+          (Holds-heard profile whole c slot client from g after executed (delta_behind slot.delta message) (last_run_of slot.last_run message.moves)
+          (fresh_of slot.executed.executed message.commands) (runs slot.last_run message.moves) lt had host does.side gathers
+          (KeepsSlot-ran profile slot history.qport history.host history.built history.run history.server_commands after executed message.moves (delta_behind slot.delta message) still keeps)
+          (record { to_client = to_client; to_server = heard.to_server })
+          (runs_are (Contains history.issued) slot.last_run message.moves were) (asked_behind history.accepted slot.delta message before asks) holds)
     ]
+
+-- what is known of a message that the tag of a client's datagram names
+pub said_hears : (profile : Profile) (whole : Whole) (tag : Tag) (from : Address) (slot : SlotState) (client : ClientState) → Cited profile → IsOf profile whole tag from
+    → Has profile whole tag.client slot client → slot.gathering.taken < tag.number
+    → SlotHears slot client (history_at whole.histories tag.client) tag.number (said_under whole.histories tag)
+said_hears profile whole tag from slot client cited is had newer =
+    slot_hears cited.windows.flow slot client (history_at whole.histories tag.client) tag.number newer is.2.begun had.joined.commanded
 
 -- its client has a slot
 pub slot_of_tag : (profile : Profile) (whole : Whole) (tag : Tag) (from : Address) → IsOf profile whole tag from → Holds profile whole
@@ -398,18 +486,22 @@ heard_at profile whole number tag from cited is holds =
     let took = tagged slot.gathering tag.number (said_bytes profile said) tag.index in
     let does = cited.does slot.gathering tag.number (said_bytes profile said) tag.index in
     let takes = said_tag_is profile whole tag from slot cited is at holds in
+    let hears_so = said_hears profile whole tag from slot had.0 cited is had.1 in
+    let said_is : IsSaid profile slot.challenge said =
+    subst (λ (challenge : ℕ). IsSaid profile challenge said) (sym keeps.challenge) (keeps.of_client.said (tag.number - 1) no_said within) in
+    let reads : slot.gathering.taken < tag.number → said_by profile slot (said_bytes profile said) ≡ Ok said.message =
+    λ newer. let heard = hears_so newer in cited.hears slot said said_is heard.takes heard.text in
     let gathers : Gathers messages (length history.said) took.gathering =
     subst (λ (m : List ℕ). Gathers messages (length history.said) (tagged slot.gathering tag.number m tag.index).gathering) at_said
     (cited.gathers.piece messages (length history.said) slot.gathering tag.number tag.index had.1.joined.of_slot.gathers is.2.begun) in
     rw at (record {
       same = ap (λ (t : hears.Taken). kept_server_took (kept_of profile whole) number t)
           (heard_by_bytes profile whole tag from slot cited is at holds
-          ∙ (ap (λ (t : Took). hears.taken_at whole.ends.server c (by_slot.take_gathered (record slot { address = from }) c t (λ k. said_by profile t.message))) takes
-          ∙ ap (λ (t : by_slot.SlotTaken). hears.taken_at whole.ends.server c t)
-          (heard_alike profile slot c took tag.number said cited.hears (keeps.of_client.said (tag.number - 1) empty_message within) does from)));
-      holds = holds_heard profile whole c number tag.number from slot took said is.0 at (is.1 ∙ sym keeps.of_slot.host) does gathers
-          (consecutive_issued said.moves history.issued (keeps.of_client.carried (tag.number - 1) empty_message within)) had.1.joined.asked.delta
-          (All-get_or (λ (s : Said). s.delta ≡ true → WasAccepted history.accepted s.acknowledged) history.said (tag.number - 1) empty_message within had.1.joined.asked.asks) holds;
+          ∙ (ap (λ (t : Took). hears.taken_at whole.ends.server c (by_slot.take_gathered (record slot { address = from }) c t (λ k. said_by profile slot t.message))) takes
+          ∙ ap (λ (t : by_slot.SlotTaken). hears.taken_at whole.ends.server c t) (heard_alike profile slot c took tag.number said reads does from)));
+      holds = holds_heard profile whole c number tag.number from slot had.0 took said cited is.0 had.1 (is.1 ∙ sym keeps.of_slot.host) does gathers
+          (consecutive_issued said.message.moves history.issued (keeps.of_client.carried (tag.number - 1) no_said within))
+          (All-get_or (λ (s : Said). s.message.delta ≡ true → WasAccepted history.accepted s.message.acknowledged) history.said (tag.number - 1) no_said within had.1.joined.asked.asks) hears_so holds;
     })
 
 -- ---- every delivery

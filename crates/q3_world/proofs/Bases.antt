@@ -7,7 +7,7 @@ use Rattle.std.proofs.lemmas.Bool.{cases_eq}
 use Rattle.q3_ring.specs.Snapshot.{Snapshot}
 use Rattle.q3_ring.specs.Places.{place_of}
 use Rattle.q3_frames.specs.Frames.{FramesState, base_of, build_at}
-use Rattle.q3_slot.specs.Built.{Built, IsNear, built_of}
+use Rattle.q3_slot.specs.Built.{Built, Telling, IsNear, built_of}
 use Rattle.q3_server.specs.Server.{places}
 use Rattle.q3_world.specs.Layers.{ServerLaws}
 use Rattle.q3_world.specs.World.{History, no_history, no_message, history_at, with_history, built_at}
@@ -24,10 +24,10 @@ was_built_one built x y same first second =
     some_one x y (sym first.2 ∙ (ap (λ (n : ℕ). snapshot_in (built_at built n).message.section) same ∙ second.2))
 
 -- what was built last was built
-pub was_built_last : (built : List Built) (base : Option Snapshot) (snapshot : Snapshot) → snapshot.head.number ≡ length built + 1
-    → WasBuilt (built ++ built_of base snapshot ∷ []) snapshot
-was_built_last built base snapshot number =
-    let next = built_of base snapshot in
+pub was_built_last : (built : List Built) (telling : Telling) (base : Option Snapshot) (snapshot : Snapshot) → snapshot.head.number ≡ length built + 1
+    → WasBuilt (built ++ built_of telling base snapshot ∷ []) snapshot
+was_built_last built telling base snapshot number =
+    let next = built_of telling base snapshot in
     let place : length built ≡ snapshot.head.number - 1 = omega (arith, number) in (
       omega (arith, number),
       omega (arith, number, length_push built next),
@@ -50,14 +50,14 @@ was_accepted_more accepted more number was = (was.0, Contains-append_left accept
 -- ---- frames
 
 -- of a client for which a message more was begun
-pub frames_begun : ServerLaws → (frames : FramesState) (c : ℕ) (began : List Built) (base : Option Snapshot) (snapshot : Snapshot)
-    → snapshot.head.number ≡ length began + 1 → AreOfBuilt frames c began → AreOfBuilt (build_at frames c snapshot) c (began ++ built_of base snapshot ∷ [])
-frames_begun laws frames c began base snapshot number_is are number held is some few =
-    let next = built_of base snapshot in
+pub frames_begun : ServerLaws → (frames : FramesState) (c : ℕ) (began : List Built) (telling : Telling) (base : Option Snapshot) (snapshot : Snapshot)
+    → snapshot.head.number ≡ length began + 1 → AreOfBuilt frames c began → AreOfBuilt (build_at frames c snapshot) c (began ++ built_of telling base snapshot ∷ [])
+frames_begun laws frames c began telling base snapshot number_is are number held is some few =
+    let next = built_of telling base snapshot in
     elim (laws.held frames c c number snapshot held is) [
       | inl this ↦ (
         ap (λ (s : Snapshot). s.head.number) this.2 ∙ sym this.1,
-        subst (WasBuilt (began ++ next ∷ [])) (sym this.2) (was_built_last began base snapshot number_is),
+        subst (WasBuilt (began ++ next ∷ [])) (sym this.2) (was_built_last began telling base snapshot number_is),
       )
       | inr before ↦
           elim (cases_eq number snapshot.head.number) [

@@ -1,242 +1,130 @@
 -- A message that was built is read back from its bytes.
-use Rattle.std.proofs.Common.{◌≡◌, ℕ, zero, suc, ◌+◌, ◌-◌, ◌*◌, ◌<◌, Bool, true, false, List, [], ◌∷◌, ◌++◌, length, map, get_or, replicate, Option, Some, None, Result, Ok, Err, refl, sym, ap, subst, ◌∙◌, inl, inr, arith, lit<}
-use Rattle.std.specs.Prelude.{◌==◌, ◌⊎◌, IfSome, is_ok, option_map, if◌then◌else◌}
-use Rattle.std.specs.Result.{result_ok}
-use Rattle.std.proofs.lemmas.List.{length-replicate}
-use Rattle.std.proofs.lemmas.List.Elements.{All-nil, All-head, All-tail}
-use Rattle.std.proofs.lemmas.Bool.{cases_Bool, eq-eqb, cond-true, cond-false}
-use Rattle.q3_bits.specs.Bits.{message_length}
+use Rattle.std.proofs.Common.{◌≡◌, ℕ, ◌-◌, ◌*◌, ◌^◌, ◌<◌, ◌≤◌, Bool, false, List, [], ◌∷◌, ◌++◌, length, drop, replicate, Option, Result, Ok, refl, sym, ap, subst, ◌∙◌, append_assoc, arith}
+use Rattle.std.specs.Prelude.{IfSome, option_map}
+use Rattle.std.proofs.lemmas.Bool.{ltb-false}
+use Rattle.q3_bits.specs.Bits.{bits_of, message_bytes, message_length}
 use Rattle.q3_bits.specs.ResultBind.{◌>>=◌}
-use Rattle.q3_bits.specs.Laws.{MessageHoldsBits}
-use Rattle.q3_fields.specs.Kinds.{Layout}
-use Rattle.q3_fields.specs.States.{AreWords}
+use Rattle.q3_bits.specs.declared.reader.ReadError.{ReadError}
+use Rattle.q3_bits.specs.Words.{IsCode, row_bits}
+use Rattle.q3_bits.specs.Laws.{PutIsRead, MessageHoldsBits}
+use Rattle.q3_strings.specs.Commands.{commands_bits}
+use Rattle.q3_strings.specs.Rows.{row-last}
+use Rattle.q3_window.specs.declared.outgoing.BadAck.{BadAck}
+use Rattle.q3_window.specs.Outgoing.{acknowledge_at, text_at}
+use Rattle.q3_chan.specs.Scrambling.{scrambled}
+use Rattle.q3_chan.specs.Keys.{server_start}
+use Rattle.q3_chan.specs.Laws.{TwiceIsNone, FrontStays}
 use Rattle.q3_profile.specs.declared.profile.Profile.{Profile}
 use Rattle.q3_profile.specs.Profile.{IsCodec}
-use Rattle.q3_player.specs.declared.state.PlayerState.{PlayerState}
-use Rattle.q3_entity.specs.declared.state.EntityState.{EntityState}
-use Rattle.q3_entity.specs.Entities.{normal_entity, IsNormal, AreNormal}
-use Rattle.q3_entity.specs.Baselines.{most_lines, no_lines, set_at, AreLines}
+use Rattle.q3_entity.specs.Baselines.{Lines, no_lines}
 use Rattle.q3_svmsg.specs.declared.error.Illegible.{Illegible}
-use Rattle.q3_svmsg.specs.Values.{Base, base_from, IsNamed, Context, Message}
-use Rattle.q3_svmsg.specs.Texts.{message_text}
-use Rattle.q3_svmsg.specs.Reading.{held_base, message_after, message_at}
-use Rattle.q3_svmsg.specs.Laws.{IsBase, IsContext, IsMessage, WrittenIsRead, ReadIsSkipped}
+use Rattle.q3_svmsg.specs.Values.{Base, base_from, Message}
+use Rattle.q3_svmsg.specs.Texts.{section_bits, message_text}
+use Rattle.q3_svmsg.specs.Reading.{bits_read, ack_at, message_at}
+use Rattle.q3_svmsg.specs.Laws.{WrittenIsRead, ReadIsSkipped}
 use Rattle.q3_ring.specs.Snapshot.{Snapshot}
-use Rattle.q3_rings.specs.declared.rings.NoBase.{NoBase}
-use Rattle.q3_rings.specs.Rings.{HeldSnapshots, held_snapshot, view_at}
-use Rattle.q3_clstate.specs.State.{context_of, has_base, received}
-use Rattle.q3_slot.specs.Built.{Built, number_of, message_of, IsSnapshot, IsNear}
-use Rattle.q3_slot.specs.Emitting.{built_bits}
+use Rattle.q3_clstate.specs.State.{Application, context_of, received, apply_read, apply_at}
+use Rattle.q3_slot.specs.Built.{Built, Telling, message_of, built_of, IsSnapshot, IsNear, IsTelling}
+use Rattle.q3_slot.specs.Emitting.{built_bits, built_bytes}
+use Rattle.q3_client.specs.Client.{ClientState, Reception, receive_message, receive_bytes, ack_taken, cleared}
 use Rattle.q3_world.specs.MessageLaws.{AreBuilt, HoldsThis, BuiltIsRead}
-use Rattle.q3_world.proofs.Applying.{has_base_is}
+use Rattle.q3_world.proofs.BitFronts.{begins_both}
 use Rattle.q3_world.proofs.Bases.{if_some_then}
 use Rattle.q3_world.proofs.Knowing.{three_some}
+use Rattle.q3_world.proofs.BuiltText.{value_of, text_is_received}
 
--- no baseline is set
-none_at : {X : Type 0} (count number : ℕ) (no_line : Option X) → no_line ≡ None → get_or (replicate count no_line) number None ≡ None
-none_at zero number no_line is = refl
-none_at (suc count) zero no_line is = is
-none_at (suc count) (suc number) no_line is = none_at count number no_line is
+-- the leading long of a message
+abbrev long_of : Profile → Message → List Bool
+long_of profile message = row_bits profile.code ((message.ack, 32) ∷ [])
 
-none_set : (number : ℕ) → set_at no_lines number ≡ None
-none_set number = none_at {X = EntityState} most_lines number None refl
+-- a message's text begins with it, also with what follows it
+begins_with_long : (profile : Profile) (lines : Lines) (against : Option Base) (message : Message) (rest : List Bool)
+    → (left : List Bool) × (message_text profile lines against message ++ rest ≡ long_of profile message ++ left)
+unfolding message_text
+begins_with_long profile lines against message rest =
+    ((commands_bits profile.code 5 message.commands ++ section_bits profile lines against message.section ++ row_bits profile.code ((8, 8) ∷ [])) ++ rest, simp append_assoc)
 
-of_none : (P : EntityState → Type 0) (number : ℕ) → IfSome (set_at no_lines number) P
-of_none P number = subst (λ (o : Option EntityState). IfSome o P) (sym (none_set number)) tt
+-- it is read, whatever follows it
+long_is_read : PutIsRead → (words : List (List Bool)) → IsCode words → (ack : ℕ) (rest : List Bool) → ack < 2 ^ 32
+    → (bits : ℕ) × (ack_at words (row_bits words ((ack, 32) ∷ []) ++ rest) ≡ Ok (ack, bits))
+long_is_read put words code ack rest fits = (
+  length (row_bits words ((ack, 32) ∷ []) ++ rest) - length rest,
+  rw (row-last words code put ack 32 rest fits) refl,
+)
 
-no_lines_are : (table : Layout) → AreLines table no_lines
-no_lines_are table =
-    record {
-      places = length-replicate most_lines no_state;
-      numbers = λ number. of_none (λ state. state.number ≡ number) number;
-      states = λ number. of_none (λ state. AreWords 64 state.words) number;
-      normal = λ number. of_none (IsNormal table) number;
-    }
-  where
-    no_state : Option EntityState
-    no_state = None
+-- bytes cleared by the text of the command that they acknowledge
+abbrev cleared_at : ClientState → ℕ → ℕ → List ℕ → List ℕ
+cleared_at client n ack bytes = cleared client.challenge n (text_at client.issued ack) bytes
 
--- ---- contexts
+-- what is received behind what is read of the leading long, behind the acknowledgement, and behind what is read of the rest
+abbrev with_application : ClientState → ℕ → Result Application Illegible → Result Reception Illegible
+with_application client ack applied =
+    applied >>= λ application. Ok (record { issued = (acknowledge_at client.issued ack).window; application = application })
 
--- a reader's bases, with no baselines
-abbrev with_bases : (ℕ → Option Base) → Context
-with_bases bases = record { base = bases; lines = no_lines }
+abbrev by_long : ClientState → ℕ → List ℕ → Result (ℕ × ℕ) ReadError → Result Reception Illegible
+by_long client n bytes found = bits_read found >>= λ ack.
+    ack_taken ack.0 (acknowledge_at client.issued ack.0).answer >>= λ taken.
+    apply_at client.state n (cleared_at client n ack.0 bytes) >>= λ application.
+    Ok (record { issued = (acknowledge_at client.issued ack.0).window; application = application })
 
-some_base : (x y : Base) → Some x ≡ Some y → x ≡ y
-some_base x y e = cc
+abbrev by_ack : ClientState → ℕ → List ℕ → ℕ → Result (Unit {0}) BadAck → Result Reception Illegible
+by_ack client n bytes ack answer = ack_taken ack answer >>= λ taken. with_application client ack (apply_at client.state n (cleared_at client n ack bytes))
 
-abbrev no_base : Option Base
-no_base = None
+abbrev by_read : ClientState → ℕ → ℕ → Result Message Illegible → Result Reception Illegible
+by_read client n ack read = with_application client ack (read >>= λ one. Ok (apply_read client.state n one))
 
--- a snapshot that was built is a base
-snapshot_is_base : (profile : Profile) (snapshot : Snapshot) → IsSnapshot profile snapshot → IsBase profile (base_from snapshot)
-snapshot_is_base profile snapshot is =
-    record {
-      state = is.player.state;
-      normal = is.player.normal;
-      entities = record { list = record { rise = is.entities.rise; few = is.few }; states = is.entities.states };
-      normal_entities = is.entities.normal;
-    }
+-- a message whose leading long is read is received as what is read of the rest
+received_by : (client : ClientState) (n bits : ℕ) (bytes : List ℕ) (message : Message) → ack_at client.state.profile.code (bits_of bytes) ≡ Ok (message.ack, bits)
+    → (acknowledge_at client.issued message.ack).answer ≡ Ok tt
+    → message_at client.state.profile (context_of client.state.held client.state.lines) n (bits_of (cleared_at client n message.ack bytes))
+    ≡ Ok (record message { section = received client.state.held message.section })
+    → receive_bytes client n bytes ≡ Ok (receive_message client n message)
+received_by client n bits bytes message found taken is =
+    ap (by_long client n bytes) found ∙ (ap (by_ack client n bytes message.ack) taken ∙ ap (by_read client n message.ack) is)
 
-viewed_is_base : (profile : Profile) (view : Option Snapshot) (base : Base) → ((snapshot : Snapshot) → view ≡ Some snapshot → IsSnapshot profile snapshot)
-    → option_map base_from view ≡ Some base → IsBase profile base
-viewed_is_base profile None base are found = absurd cc
-viewed_is_base profile (Some snapshot) base are found =
-    subst (IsBase profile) (some_base (base_from snapshot) base found) (snapshot_is_base profile snapshot (are snapshot refl))
+-- what is read of bytes, by a profile and baselines
+abbrev read_with : ClientState → ℕ → List ℕ → Profile → Lines → Result Message Illegible
+read_with client n bytes profile lines = message_at profile (context_of client.state.held lines) n (bits_of bytes)
 
-held_is_context : (profile : Profile) (held : HeldSnapshots) → AreBuilt profile held → IsContext profile (context_of held no_lines)
-held_is_context profile held are =
-    record { bases = λ number base found. viewed_is_base profile (view_at held number) base (are number) found; lines = no_lines_are profile.entity }
+module _ (put : PutIsRead) (holds : MessageHoldsBits) (twice : TwiceIsNone) (front : FrontStays) (law : WrittenIsRead) (skips : ReadIsSkipped) where
+  -- a message by what it tells beside its snapshot
+  told_is_read : (profile : Profile) → IsCodec profile → (client : ClientState) (n : ℕ) (telling : Telling) (base : Option Snapshot) (snapshot : Snapshot)
+      → IsTelling profile client.challenge n telling → IsSnapshot profile snapshot → snapshot.head.number ≡ n → client.state.profile ≡ profile → client.state.lines ≡ no_lines
+      → AreBuilt profile client.state.held → IfSome base (λ b. IsNear n b × IsSnapshot profile b × HoldsThis client.state.held b)
+      → (acknowledge_at client.issued telling.ack.number).answer ≡ Ok tt → text_at client.issued telling.ack.number ≡ telling.ack.text
+      → receive_bytes client n (built_bytes profile (built_of telling base snapshot)) ≡ Ok (receive_message client n (message_of telling base snapshot))
+  told_is_read profile codec client n telling base snapshot tells is number of_profile no_line are known taken same =
+      let words = profile.code in
+      let held = client.state.held in
+      let built = built_of telling base snapshot in
+      let message = message_of telling base snapshot in
+      let bits = built_bits profile built in
+      let plain = message_bytes bits in
+      let bytes = built_bytes profile built in
+      let rest = replicate (8 * message_length (length bits) - length bits) false in
+      let row = long_of profile message in
+      let few : length row ≤ 32 = ltb-false 32 (length row) tells.clear in
+      let begins = begins_with_long profile no_lines (option_map base_from base) message rest in
+      let left = begins_both 4 row begins.0 plain bytes (omega (arith, few)) ((front 4 telling.start telling.ack.text plain).1 4 (omega arith)) (holds bits ∙ begins.1) in
+      let found = long_is_read put words codec.code telling.ack.number (drop (length row) (bits_of bytes)) tells.ack in
+      let clear : cleared_at client n telling.ack.number bytes ≡ plain =
+      ap (λ (t : List ℕ). scrambled 4 (server_start client.challenge n) t bytes) same
+      ∙ (ap (λ (start : ℕ). scrambled 4 start telling.ack.text bytes) (sym tells.start) ∙ twice 4 telling.start telling.ack.text plain) in
+      received_by client n found.0 bytes message (ap (λ (p : Profile). ack_at p.code (bits_of bytes)) of_profile ∙ (ap (ack_at words) left ∙ found.1)) taken
+      (ap (λ (p : Profile). read_with client n (cleared_at client n telling.ack.number bytes) p client.state.lines) of_profile
+      ∙ (ap (λ (lines : Lines). read_with client n (cleared_at client n telling.ack.number bytes) profile lines) no_line
+      ∙ (ap (λ (l : List ℕ). read_with client n l profile no_lines) clear
+      ∙ (ap (message_at profile (context_of held no_lines) n) (holds bits)
+      ∙ ap value_of (text_is_received profile client.challenge law skips codec held n telling base snapshot rest tells is number are known)))))
 
--- the one snapshot under its number
-abbrev only : Snapshot → ℕ → Option Base
-only base number = if number == base.head.number then Some (base_from base) else None
-
-only_there : (base : Snapshot) → only base base.head.number ≡ Some (base_from base)
-only_there base = rw (eq-eqb base.head.number base.head.number refl) refl
-
-only_is_context : (profile : Profile) (base : Snapshot) → IsSnapshot profile base → IsContext profile (with_bases (only base))
-only_is_context profile base is = record { bases = λ number found at. one number found at; lines = no_lines_are profile.entity }
-  where
-    none_some : (found : Base) → no_base ≡ Some found → ⊥
-    none_some found e = absurd cc
-
-    one : (number : ℕ) (found : Base) → only base number ≡ Some found → IsBase profile found
-    one number found at =
-        elim (cases_Bool (number == base.head.number)) [
-          | inl same ↦ subst (IsBase profile) (some_base (base_from base) found (sym (cond-true (number == base.head.number) (Some (base_from base)) no_base same) ∙ at)) (snapshot_is_base profile base is)
-          | inr other ↦ absurd (none_some found (sym (cond-false (number == base.head.number) (Some (base_from base)) no_base other) ∙ at))
-        ]
-
--- a number above 0 is looked up
-looked_up : (context : Context) (number : ℕ) → 0 < number → held_base context number ≡ context.base number
-looked_up context zero some = absurd (omega (arith, some))
-looked_up context (suc number) some = let same : number + 1 ≡ suc number = omega arith in ap (λ (k : ℕ). context.base k) same
-
--- entities in normal form are their normal form
-all_normal : (table : Layout) (entities : List EntityState) → AreNormal table entities → map (normal_entity table) entities ≡ entities
-all_normal table [] normal = refl
-all_normal table (entity ∷ others) normal =
-    ap (λ (e : EntityState). e ∷ map (normal_entity table) others) (All-head (IsNormal table) entity others normal)
-    ∙ ap (λ (rest : List EntityState). entity ∷ rest) (all_normal table others (All-tail (IsNormal table) entity others normal))
-
--- ---- a message that was built
-
--- a base that is found for a message is named by it
-named_so : (context : Context) (n : ℕ) (base : Option Snapshot) → IfSome base (IsNear n) → held_base context (number_of base) ≡ option_map base_from base
-    → IsNamed (held_base context (number_of base)) n (number_of base)
-named_so context n None near found = refl
-named_so context n (Some base) near found =
-    let near_by = near.near in
-    subst (λ (o : Option Base). IsNamed o n base.head.number) (sym found) (near.some, near.below, omega (arith, near_by))
-
--- it is a message as the program's type holds it
-built_is_message : (profile : Profile) (context : Context) (n : ℕ) (base : Option Snapshot) (snapshot : Snapshot) → IsSnapshot profile snapshot → snapshot.head.number ≡ n
-    → IfSome base (IsNear n) → held_base context (number_of base) ≡ option_map base_from base → IsMessage profile context n (message_of base snapshot)
-built_is_message profile context n base snapshot is number near found =
-    let fits = is.number in
-    let flags = is.flags in
-    record {
-      ack = lit< tt;
-      few = omega arith;
-      commands = All-nil _;
-      section = (
-        record {
-          number = omega (arith, fits);
-          time = is.time;
-          flags = omega (arith, flags);
-          area = is.area.bytes;
-          short = is.area.short;
-          player = is.player.state;
-        },
-        record { list = record { rise = is.entities.rise; few = is.few }; states = is.entities.states },
-        subst (λ (k : ℕ). IsNamed (held_base context (number_of base)) k (number_of base)) (sym number) (named_so context n base near found),
-      );
-      number_is = number;
-    }
-
-abbrev Read : Type 0
-Read = Result (Message × List Bool) Illegible
-
-abbrev done : Option Snapshot → List Bool → Snapshot → Read
-done base rest snapshot = Ok (message_of base snapshot, rest)
-
-abbrev value_of : Read → Result Message Illegible
-value_of read = read >>= λ one. Ok one.0
-
-abbrev some_view : HeldSnapshots → Option Snapshot → ℕ → Type 0
-some_view held view number = view_at held number ≡ view
-
--- the text of a message with a snapshot
-abbrev text : Profile → Option Snapshot → Snapshot → List Bool
-text profile base snapshot = message_text profile no_lines (option_map base_from base) (message_of base snapshot)
-
-module _ (profile : Profile) (law : WrittenIsRead) (codec : IsCodec profile) (n : ℕ) (base : Option Snapshot) (snapshot : Snapshot) (is : IsSnapshot profile snapshot) (number : snapshot.head.number ≡ n) (rest : List Bool) where
-  -- where its base is found, it is read back from its text, with whatever follows it
-  pub text_is_read : (bases : ℕ → Option Base) → IsContext profile (with_bases bases) → IfSome base (IsNear n)
-      → held_base (with_bases bases) (number_of base) ≡ option_map base_from base
-      → message_after profile (with_bases bases) n (text profile base snapshot ++ rest) ≡ done base rest snapshot
-  text_is_read bases context near found =
-      let head = snapshot.head in
-      let entities = snapshot.entities in
-      let message = message_of base snapshot in
-      ap (λ (o : Option Base). message_after profile (with_bases bases) n (message_text profile no_lines o message ++ rest)) (sym found)
-      ∙ (law profile (with_bases bases) n message rest codec context (built_is_message profile (with_bases bases) n base snapshot is number near found)
-      ∙ (ap (λ (p : PlayerState). done base rest (record { head = record head { player = p }; entities = map (normal_entity profile.entity) entities })) is.player.normal
-      ∙ ap (λ (es : List EntityState). done base rest (record { head = head; entities = es })) (all_normal profile.entity entities is.entities.normal)))
-
--- what is read against all that is held: the message, or a skipped snapshot
-abbrev read_so : HeldSnapshots → Message → List Bool → Read
-read_so held message rest = Ok (record message { section = received held message.section }, rest)
-
-held_or : (r : Result Snapshot NoBase) → ((snapshot : Snapshot) × (r ≡ Ok snapshot)) ⊎ ((cause : NoBase) × (r ≡ Err cause))
-held_or (Ok snapshot) = inl (snapshot, refl)
-held_or (Err cause) = inr (cause, refl)
-
-text_is_received : (profile : Profile) → WrittenIsRead → ReadIsSkipped → IsCodec profile → (held : HeldSnapshots) (n : ℕ) (base : Option Snapshot) (snapshot : Snapshot) (rest : List Bool)
-    → IsSnapshot profile snapshot → snapshot.head.number ≡ n → AreBuilt profile held → IfSome base (λ b. IsNear n b × IsSnapshot profile b × HoldsThis held b)
-    → message_after profile (context_of held no_lines) n (text profile base snapshot ++ rest) ≡ read_so held (message_of base snapshot) rest
-text_is_received profile law skips codec held n None snapshot rest is number are known =
-    text_is_read profile law codec n None snapshot is number rest (context_of held no_lines).base (held_is_context profile held are) tt refl
-text_is_received profile law skips codec held n (Some base) snapshot rest is number are known =
-    let b = base.head.number in
-    let context = context_of held no_lines in
-    let near = known.0 in
-    let is_context = held_is_context profile held are in
-    let at = looked_up context b near.some in
-    let has = has_base_is held b near.some in
-    elim (held_or (held_snapshot held b)) [
-      | inl found ↦
-          let viewed : view_at held b ≡ Some found.0 = ap (λ (r : Result Snapshot NoBase). result_ok r) found.1 in
-          let this : found.0 ≡ base = known.2 found.0 viewed in
-          let there : held_base context b ≡ Some (base_from base) = at ∙ (ap (λ (o : Option Snapshot). option_map base_from o) viewed ∙ ap (λ (s : Snapshot). some_base_of s) this) in
-          let may : has_base held b ≡ true = has ∙ ap (λ (r : Result Snapshot NoBase). is_ok r) found.1 in
-          rw may (text_is_read profile law codec n (Some base) snapshot is number rest context.base is_context near there)
-      | inr missing ↦
-          let viewed : view_at held b ≡ None = ap (λ (r : Result Snapshot NoBase). result_ok r) missing.1 in
-          let none : held_base context b ≡ None = at ∙ ap (λ (o : Option Snapshot). option_map base_from o) viewed in
-          let may : has_base held b ≡ false = has ∙ ap (λ (r : Result Snapshot NoBase). is_ok r) missing.1 in
-          let alone = with_bases (only base) in
-          let alone_is = only_is_context profile base known.1 in
-          let whole = text_is_read profile law codec n (Some base) snapshot is number rest (only base) alone_is near (looked_up alone b near.some ∙ only_there base) in
-          rw may (skips profile alone context n b snapshot.head snapshot.entities (message_of (Some base) snapshot) (text profile (Some base) snapshot ++ rest) rest
-          codec alone_is is_context refl near.some none whole)
-    ]
-  where
-    some_base_of : Snapshot → Option Base
-    some_base_of s = Some (base_from s)
-
-pub built_is_read : MessageHoldsBits → WrittenIsRead → ReadIsSkipped → BuiltIsRead
-built_is_read holds law skips profile codec held n built is are known =
-    let snapshot = is.snapshot in
-    let base = built.base in
-    let bits = built_bits profile built in
-    let rest = replicate (8 * message_length (length bits) - length bits) false in
-    let message_is : built.message ≡ message_of base snapshot = ap (λ (b : Built). b.message) is.is in
-    let received_so = text_is_received profile law skips codec held n base snapshot rest is.are is.number are
-    (three_some base (IsNear n) (IsSnapshot profile) (HoldsThis held) is.base_is
-    (if_some_then base (λ b. IsSnapshot profile b × HoldsThis held b) (IsSnapshot profile) (λ b one. one.0) known)
-    (if_some_then base (λ b. IsSnapshot profile b × HoldsThis held b) (HoldsThis held) (λ b one. one.1) known)) in
-    ap (message_at profile (context_of held no_lines) n) (holds bits)
-    ∙ subst (λ (m : Message). value_of (message_after profile (context_of held no_lines) n (message_text profile no_lines (option_map base_from base) m ++ rest))
-    ≡ value_of (read_so held m rest)) (sym message_is) (ap value_of received_so)
+  pub built_is_read : BuiltIsRead
+  built_is_read profile codec client n built is of_profile no_line taken same are known =
+      let held = client.state.held in
+      let base = built.base in
+      let IsReceived : Built → Type 0 = λ b. (acknowledge_at client.issued b.message.ack).answer ≡ Ok tt → text_at client.issued b.message.ack ≡ b.text
+      → receive_bytes client n (built_bytes profile b) ≡ Ok (receive_message client n b.message) in
+      let bases = three_some base (IsNear n) (IsSnapshot profile) (HoldsThis held) is.base_is
+      (if_some_then base (λ b. IsSnapshot profile b × HoldsThis held b) (IsSnapshot profile) (λ b one. one.0) known)
+      (if_some_then base (λ b. IsSnapshot profile b × HoldsThis held b) (HoldsThis held) (λ b one. one.1) known) in
+      subst IsReceived (sym is.is)
+      (λ is_taken is_same. told_is_read profile codec client n is.telling base is.snapshot is.tells is.are is.number of_profile no_line are bases is_taken is_same) taken same

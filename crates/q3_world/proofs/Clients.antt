@@ -4,7 +4,7 @@ use Rattle.std.specs.Prelude.{All, Contains, IfSome, ◌⊎◌, option_map, unwr
 use Rattle.std.specs.List.{last_or}
 use Rattle.std.specs.Result.{result_ok}
 use Rattle.std.proofs.lemmas.List.{length_push, get_or_append_left, get_or_push}
-use Rattle.std.proofs.lemmas.List.Elements.{All-nil, All-append, All-push, All-weaker, All-contains, All-from_get_or, Contains-push, Contains-append_left}
+use Rattle.std.proofs.lemmas.List.Elements.{All-nil, All-push, All-weaker, All-contains, All-from_get_or, Contains-push, Contains-append_left}
 use Rattle.std.proofs.lemmas.Bool.{cases_lt}
 use Rattle.arrayvec.specs.ArrayVec.{ArrayVec}
 use Rattle.q3_profile.specs.declared.profile.Profile.{Profile}
@@ -20,8 +20,10 @@ use Rattle.q3_chan.specs.Laws.{IsSendable, Gathers, EndsGather, EndsSend}
 use Rattle.q3_clmsg.specs.declared.moves.Move.{Move}
 use Rattle.q3_clmsg.specs.Moves.{IsMove}
 use Rattle.q3_clmsg.specs.Laws.{IsMessage}
-use Rattle.q3_clmsg.specs.Values.{empty_message}
-use Rattle.q3_strings.specs.Laws.{IsCommand}
+use Rattle.q3_text.specs.Texts.{IsText}
+use Rattle.q3_window.specs.Outgoing.{OutgoingState, IsOutgoing}
+use Rattle.q3_window.specs.Incoming.{IncomingState}
+use Rattle.q3_window.specs.Laws.{StaysOutgoing}
 use Rattle.q3_ring.specs.Snapshot.{Snapshot}
 use Rattle.q3_frames.specs.Frames.{FramesState}
 use Rattle.q3_rings.specs.Rings.{HeldSnapshots, accept_at}
@@ -29,22 +31,23 @@ use Rattle.q3_rings.specs.declared.rings.NoBase.{NoBase}
 use Rattle.q3_rings.specs.Accepted.{AcceptedFrom, newest_of, SnapshotsStandFor}
 use Rattle.q3_clstate.specs.State.{AppliedState}
 use Rattle.q3_map.specs.Map.{AreHeld, MapState}
-use Rattle.q3_slot.specs.Built.{Built, IsHeld, IsArea, IsSnapshot, IsNear, IsBuilt}
+use Rattle.q3_slot.specs.Built.{Built, IsHeld, IsArea, IsSnapshot, IsNear, IsTelling, IsBuilt, is_unclear}
 use Rattle.q3_slot.specs.Slot.{SlotState, new_slot}
-use Rattle.q3_slot.specs.Emitting.{next_snapshot, begun_next, built_bytes}
+use Rattle.q3_slot.specs.Emitting.{next_snapshot, telling_of, begun_next, built_bytes}
 use Rattle.q3_slot.specs.Taking.{last_run_of, last_time, runs}
 use Rattle.q3_client.specs.Client.{ClientState, new_client}
 use Rattle.circular_buffer.specs.Buffer.{keep_last}
 use Rattle.q3_client.specs.Moves.{most_moves, carried, asks_delta, issue}
-use Rattle.q3_client.specs.Sending.{said_bytes, Said, next_message as next_said}
+use Rattle.q3_client.specs.Sending.{said_bytes, Said, IsSaid, next_message, next_said, is_unclear as is_said_unclear}
 use Rattle.q3_world.specs.Layers.{ServerLaws, RingLaws}
-use Rattle.q3_world.specs.World.{History, no_history, no_message, built_at, said_at}
+use Rattle.q3_world.specs.World.{History, no_history, no_message, no_said, built_at, said_at}
 use Rattle.q3_world.specs.StandsFor.{messages_of, messages_said, KeepsSlot, KeepsClient, AreEnds, IsClient, WasBuilt, AreOfBuilt, Rise, WasAccepted, KeepsMoves, TakesBuilt, TakesSaid, AreAsked}
 use Rattle.q3_world.specs.Moves.{TimesRise, AreConsecutive}
 use Rattle.q3_world.proofs.Growth.{was_built_more, each_more, messages_stay, messages_said_stay}
 use Rattle.q3_world.proofs.Bases.{was_built_one, if_some, if_some_then, was_accepted_more, found_base}
+use Rattle.q3_world.proofs.Commanded.{MayName, may_carry}
 use Rattle.q3_world.proofs.Beginning.{BeginsMessages-new, BeginsMessages-handed, BeginsMessages-started}
-use Rattle.q3_world.proofs.MoveLists.{last_time-append, TimesRise-append, runs_rise, runs_are, carried_consecutive, carried_each, carried_few, AreConsecutive-more, contains_more, KeepsMoves-none, KeepsMoves-begun, KeepsMoves-push}
+use Rattle.q3_world.proofs.MoveLists.{last_time-append, TimesRise-append, runs_rise, carried_consecutive, carried_each, carried_few, AreConsecutive-more, contains_more, KeepsMoves-none, KeepsMoves-begun, KeepsMoves-push}
 
 -- ---- presence
 
@@ -77,10 +80,10 @@ no_area : IsArea []
 no_area = record { bytes = All-nil (λ (byte : ℕ). byte < 256); short = omega arith }
 
 -- of a client that just joined
-pub KeepsSlot-new : (profile : Profile) (challenge qport : ℕ) (address : Address) → EndsSend → IsHeld profile zero_player
-    → KeepsSlot profile (new_slot challenge qport address) qport address.host [] []
+pub KeepsSlot-new : StaysOutgoing → (profile : Profile) (challenge qport : ℕ) (address : Address) → EndsSend → IsHeld profile zero_player
+    → KeepsSlot profile (new_slot challenge qport address) qport address.host [] [] []
 unfolding last_time
-KeepsSlot-new profile challenge qport address chan first =
+KeepsSlot-new stays profile challenge qport address chan first =
     record {
       qport = refl;
       host = refl;
@@ -92,12 +95,14 @@ KeepsSlot-new profile challenge qport address chan first =
       from = refl;
       last = refl;
       rise = tt;
+      window = stays.opens;
+      texts = All-nil IsText;
     }
 
-module _ (profile : Profile) (slot : SlotState) (qport host : ℕ) (built : List Built) (run : List Move) where
+module _ (profile : Profile) (slot : SlotState) (qport host : ℕ) (built : List Built) (run : List Move) (commands : List (List ℕ)) where
   -- another player and other area bytes
-  pub KeepsSlot-given : (player : PlayerState) (area : ArrayVec ℕ) → IsHeld profile player → IsArea area.items → KeepsSlot profile slot qport host built run
-      → KeepsSlot profile (record slot { player = player; area = area }) qport host built run
+  pub KeepsSlot-given : (player : PlayerState) (area : ArrayVec ℕ) → IsHeld profile player → IsArea area.items → KeepsSlot profile slot qport host built run commands
+      → KeepsSlot profile (record slot { player = player; area = area }) qport host built run commands
   KeepsSlot-given player area held is keeps =
       record {
         qport = keeps.qport;
@@ -110,11 +115,13 @@ module _ (profile : Profile) (slot : SlotState) (qport host : ℕ) (built : List
         from = keeps.from;
         last = keeps.last;
         rise = keeps.rise;
+        window = keeps.window;
+        texts = keeps.texts;
       }
 
   -- a datagram came from its client's host
-  pub KeepsSlot-came : (address : Address) (g : Gathering) → address.host ≡ host → g.side ≡ slot.gathering.side → KeepsSlot profile slot qport host built run
-      → KeepsSlot profile (record slot { address = address; gathering = g }) qport host built run
+  pub KeepsSlot-came : (address : Address) (g : Gathering) → address.host ≡ host → g.side ≡ slot.gathering.side → KeepsSlot profile slot qport host built run commands
+      → KeepsSlot profile (record slot { address = address; gathering = g }) qport host built run commands
   KeepsSlot-came address g from side keeps =
       record {
         qport = keeps.qport;
@@ -127,12 +134,14 @@ module _ (profile : Profile) (slot : SlotState) (qport host : ℕ) (built : List
         from = side ∙ keeps.from;
         last = keeps.last;
         rise = keeps.rise;
+        window = keeps.window;
+        texts = keeps.texts;
       }
 
-  -- moves were run
-  pub KeepsSlot-ran : (moves : List Move) (delta : ℕ) → KeepsSlot profile slot qport host built run
-      → KeepsSlot profile (record slot { delta = delta; last_run = last_run_of slot.last_run moves }) qport host built (run ++ runs slot.last_run moves)
-  KeepsSlot-ran moves delta keeps =
+  -- an acknowledgement was taken, and commands and moves were run
+  pub KeepsSlot-ran : (issued : OutgoingState) (executed : IncomingState) (moves : List Move) (delta : ℕ) → IsOutgoing issued → KeepsSlot profile slot qport host built run commands
+      → KeepsSlot profile (record slot { issued = issued; executed = executed; delta = delta; last_run = last_run_of slot.last_run moves }) qport host built (run ++ runs slot.last_run moves) commands
+  KeepsSlot-ran issued executed moves delta window keeps =
       let behind = runs slot.last_run moves in
       record {
         qport = keeps.qport;
@@ -145,11 +154,32 @@ module _ (profile : Profile) (slot : SlotState) (qport host : ℕ) (built : List
         from = keeps.from;
         last = ap (λ (last : ℕ). last_time last behind) keeps.last ∙ sym (last_time-append 0 run behind);
         rise = TimesRise-append 0 run behind keeps.rise (subst (λ (last : ℕ). TimesRise last behind) keeps.last (runs_rise slot.last_run moves));
+        window = window;
+        texts = keeps.texts;
+      }
+
+  -- a command was issued
+  pub KeepsSlot-spoke : (issued : OutgoingState) (text : List ℕ) → IsOutgoing issued → IsText text → KeepsSlot profile slot qport host built run commands
+      → KeepsSlot profile (record slot { issued = issued }) qport host built run (commands ++ text ∷ [])
+  KeepsSlot-spoke issued text window is keeps =
+      record {
+        qport = keeps.qport;
+        host = keeps.host;
+        sending = keeps.sending;
+        player = keeps.player;
+        area = keeps.area;
+        built = keeps.built;
+        bases = keeps.bases;
+        from = keeps.from;
+        last = keeps.last;
+        rise = keeps.rise;
+        window = window;
+        texts = All-push IsText commands text keeps.texts is;
       }
 
   -- a piece was handed out
-  pub KeepsSlot-handed : EndsSend → KeepsSlot profile slot qport host built run
-      → KeepsSlot profile (record slot { sending = (next_of slot.sending).sending }) qport host built run
+  pub KeepsSlot-handed : EndsSend → KeepsSlot profile slot qport host built run commands
+      → KeepsSlot profile (record slot { sending = (next_of slot.sending).sending }) qport host built run commands
   KeepsSlot-handed chan keeps =
       record {
         qport = keeps.qport;
@@ -162,6 +192,8 @@ module _ (profile : Profile) (slot : SlotState) (qport host : ℕ) (built : List
         from = keeps.from;
         last = keeps.last;
         rise = keeps.rise;
+        window = keeps.window;
+        texts = keeps.texts;
       }
 
 -- the snapshot that goes to a slot next is one that may be built
@@ -192,18 +224,27 @@ next_base laws map frames c slot began begun are =
 abbrev pub slot_begun : Profile → SlotState → Built → SlotState
 slot_begun profile slot built = record slot { sending = started slot.sending (built_bytes profile built) }
 
-pub KeepsSlot-begun : ServerLaws → (profile : Profile) (map : MapState) (frames : FramesState) (c : ℕ) (slot : SlotState) (qport host : ℕ) (built : List Built) (run : List Move) → EndsSend
-    → map.time < 2 ^ 32 → AreHeld profile.entity map.entities → slot.sending.number + 1 < sequence_end → IsSendable (built_bytes profile (begun_next map frames c slot))
-    → AreOfBuilt frames c built → KeepsSlot profile slot qport host built run
-    → KeepsSlot profile (slot_begun profile slot (begun_next map frames c slot)) qport host (built ++ begun_next map frames c slot ∷ []) run
-KeepsSlot-begun laws profile map frames c slot qport host built run chan time entities fits sendable are keeps =
+-- what it tells besides its snapshot
+pub next_tells : (profile : Profile) (slot : SlotState) → IsOutgoing slot.issued → MayName slot.executed → is_unclear profile slot.executed.executed ≡ false
+    → IsTelling profile slot.challenge (slot.sending.number + 1) (telling_of slot)
+next_tells profile slot window names clear =
+    let carries = may_carry slot.issued window in
+    record { ack = names.number; text = names.text; few = carries.few; commands = carries.each; start = refl; clear = clear }
+
+pub KeepsSlot-begun : ServerLaws → (profile : Profile) (map : MapState) (frames : FramesState) (c : ℕ) (slot : SlotState) (qport host : ℕ) (built : List Built) (run : List Move) (commands : List (List ℕ)) → EndsSend
+    → map.time < 2 ^ 32 → AreHeld profile.entity map.entities → slot.sending.number + 1 < sequence_end → MayName slot.executed → is_unclear profile slot.executed.executed ≡ false
+    → IsSendable (built_bytes profile (begun_next map frames c slot)) → AreOfBuilt frames c built → KeepsSlot profile slot qport host built run commands
+    → KeepsSlot profile (slot_begun profile slot (begun_next map frames c slot)) qport host (built ++ begun_next map frames c slot ∷ []) run commands
+KeepsSlot-begun laws profile map frames c slot qport host built run commands chan time entities fits names clear sendable are keeps =
     let next = begun_next map frames c slot in
     let n = slot.sending.number + 1 in
     let begun = keeps.sending.begun in
     let base = next_base laws map frames c slot built begun are in
-    let is : IsBuilt profile n next = record {
+    let is : IsBuilt profile slot.challenge n next = record {
+      telling = telling_of slot;
       snapshot = next_snapshot map slot;
       is = refl;
+      tells = next_tells profile slot keeps.window names clear;
       number = refl;
       are = next_is_snapshot laws profile map slot time entities fits keeps.player keeps.area;
       base_is = if_some_then next.base (BaseIs n slot.delta built) (IsNear n) (λ b known. known.0) base;
@@ -220,7 +261,7 @@ KeepsSlot-begun laws profile map frames c slot qport host built run chan time en
           (omega (arith, longer)) fits (messages_stay profile built (next ∷ [])) last sendable keeps.sending;
       player = keeps.player;
       area = keeps.area;
-      built = each_more (λ (k : ℕ) (b : Built). IsBuilt profile (k + 1) b) built next keeps.built (subst (λ (k : ℕ). IsBuilt profile (k + 1) next) begun is);
+      built = each_more (λ (k : ℕ) (b : Built). IsBuilt profile slot.challenge (k + 1) b) built next keeps.built (subst (λ (k : ℕ). IsBuilt profile slot.challenge (k + 1) next) begun is);
       bases = All-push (λ (b : Built). IfSome b.base (WasBuilt more)) built next
           (All-weaker (λ (b : Built). IfSome b.base (WasBuilt built)) (λ (b : Built). IfSome b.base (WasBuilt more))
           (λ b. if_some_then b.base (WasBuilt built) (WasBuilt more) (was_built_more built (next ∷ []))) built keeps.bases)
@@ -228,14 +269,16 @@ KeepsSlot-begun laws profile map frames c slot qport host built run chan time en
       from = keeps.from;
       last = keeps.last;
       rise = keeps.rise;
+      window = keeps.window;
+      texts = keeps.texts;
     }
 
 -- ---- what a client keeps
 
 -- that just joined
-pub KeepsClient-new : (profile : Profile) (challenge qport dup : ℕ) → EndsSend → qport < 2 ^ 16 → KeepsClient profile (new_client profile challenge qport dup) qport [] []
+pub KeepsClient-new : StaysOutgoing → (profile : Profile) (challenge qport dup : ℕ) → EndsSend → qport < 2 ^ 16 → KeepsClient profile (new_client profile challenge qport dup) qport [] [] []
 unfolding last_time
-KeepsClient-new profile challenge qport dup chan fits =
+KeepsClient-new stays profile challenge qport dup chan fits =
     record {
       by = refl;
       ring = refl;
@@ -247,20 +290,23 @@ KeepsClient-new profile challenge qport dup chan fits =
       rise = tt;
       moves = KeepsMoves-none;
       carried = λ k d lt. absurd (omega (arith, lt));
+      window = stays.opens;
+      texts = All-nil IsText;
     }
 
 -- the message that a client begins next is one that it may send
-next_is_message : (client : ClientState) (begun : ℕ) (issued : List Move) → client.gathering.taken < 2 ^ 32
-    → KeepsMoves client.moves begun issued → IsMessage (next_said client)
-next_is_message client begun issued taken keeps =
+pub next_is_message : (client : ClientState) (begun : ℕ) (issued : List Move) → client.gathering.taken < 2 ^ 32 → MayName client.state.executed → IsOutgoing client.issued
+    → KeepsMoves client.moves begun issued → IsMessage (next_message client)
+next_is_message client begun issued taken names window keeps =
     let number = client.sending.number + 1 in
     let moves = carried number client.dup client.moves in
+    let carries = may_carry client.issued window in
     record {
       id = omega arith;
       acknowledged = taken;
-      command = omega arith;
-      few = omega arith;
-      commands = All-nil IsCommand;
+      command = names.number;
+      few = carries.few;
+      commands = carries.each;
       few_moves = carried_few number client.dup begun client.moves issued keeps;
       moves = carried_each number client.dup begun client.moves issued keeps;
       whole = λ none. none_asked moves none;
@@ -274,12 +320,12 @@ next_is_message client begun issued taken keeps =
 abbrev pub client_begun : Profile → ClientState → ClientState
 client_begun profile client = record client { sending = started client.sending (said_bytes profile (next_said client)) }
 
-module _ (profile : Profile) (client : ClientState) (qport : ℕ) (said : List Said) (issued : List Move) where
+module _ (profile : Profile) (client : ClientState) (qport : ℕ) (said : List Said) (issued : List Move) (commands : List (List ℕ)) where
   -- a datagram came, and with it a message, if one did
-  pub KeepsClient-took : (g : Gathering) (state : AppliedState) (delta : Bool) → g.side ≡ client.gathering.side → state.profile ≡ client.state.profile
-      → state.held.ring ≡ client.state.held.ring → KeepsClient profile client qport said issued
-      → KeepsClient profile (record client { gathering = g; state = state; delta = delta }) qport said issued
-  KeepsClient-took g state delta side by ring keeps =
+  pub KeepsClient-took : (g : Gathering) (state : AppliedState) (window : OutgoingState) (delta : Bool) → IsOutgoing window → g.side ≡ client.gathering.side → state.profile ≡ client.state.profile
+      → state.held.ring ≡ client.state.held.ring → KeepsClient profile client qport said issued commands
+      → KeepsClient profile (record client { gathering = g; state = state; issued = window; delta = delta }) qport said issued commands
+  KeepsClient-took g state window delta is side by ring keeps =
       record {
         by = by ∙ keeps.by;
         ring = ring ∙ keeps.ring;
@@ -291,11 +337,13 @@ module _ (profile : Profile) (client : ClientState) (qport : ℕ) (said : List S
         rise = keeps.rise;
         moves = keeps.moves;
         carried = keeps.carried;
+        window = is;
+        texts = keeps.texts;
       }
 
   -- a piece was handed out
-  pub KeepsClient-handed : EndsSend → KeepsClient profile client qport said issued
-      → KeepsClient profile (record client { sending = (next_of client.sending).sending }) qport said issued
+  pub KeepsClient-handed : EndsSend → KeepsClient profile client qport said issued commands
+      → KeepsClient profile (record client { sending = (next_of client.sending).sending }) qport said issued commands
   KeepsClient-handed chan keeps =
       record {
         by = keeps.by;
@@ -308,11 +356,13 @@ module _ (profile : Profile) (client : ClientState) (qport : ℕ) (said : List S
         rise = keeps.rise;
         moves = keeps.moves;
         carried = keeps.carried;
+        window = keeps.window;
+        texts = keeps.texts;
       }
 
   -- a move was issued
-  pub KeepsClient-issued : (one : Move) → IsMove one → client.last_time < one.time → KeepsClient profile client qport said issued
-      → KeepsClient profile (issue client one) qport said (issued ++ one ∷ [])
+  pub KeepsClient-issued : (one : Move) → IsMove one → client.last_time < one.time → KeepsClient profile client qport said issued commands
+      → KeepsClient profile (issue client one) qport said (issued ++ one ∷ []) commands
   unfolding last_time
   KeepsClient-issued one is later keeps =
       let last = keeps.last in
@@ -327,19 +377,41 @@ module _ (profile : Profile) (client : ClientState) (qport : ℕ) (said : List S
         rise = TimesRise-append 0 issued (one ∷ []) keeps.rise (omega (arith, later, last), tt);
         moves = subst (λ (begun : ℕ). KeepsMoves (keep_last most_moves (client.moves ++ record { begun = begun; one = one } ∷ [])) (length said) (issued ++ one ∷ []))
             (sym keeps.sending.begun) (KeepsMoves-push client.moves (length said) issued one is keeps.moves);
-        carried = λ k d lt. AreConsecutive-more (get_or said k d).moves issued (one ∷ []) (keeps.carried k d lt);
+        carried = λ k d lt. AreConsecutive-more (get_or said k d).message.moves issued (one ∷ []) (keeps.carried k d lt);
+        window = keeps.window;
+        texts = keeps.texts;
+      }
+
+  -- a command was issued
+  pub KeepsClient-typed : (window : OutgoingState) (text : List ℕ) → IsOutgoing window → IsText text → KeepsClient profile client qport said issued commands
+      → KeepsClient profile (record client { issued = window }) qport said issued (commands ++ text ∷ [])
+  KeepsClient-typed window text is_window is keeps =
+      record {
+        by = keeps.by;
+        ring = keeps.ring;
+        from = keeps.from;
+        fits = keeps.fits;
+        sending = keeps.sending;
+        said = keeps.said;
+        last = keeps.last;
+        rise = keeps.rise;
+        moves = keeps.moves;
+        carried = keeps.carried;
+        window = is_window;
+        texts = All-push IsText commands text keeps.texts is;
       }
 
   -- a message was begun, and is under way
-  pub KeepsClient-begun : EndsSend → client.sending.number + 1 < sequence_end → client.gathering.taken < 2 ^ 32 → IsSendable (said_bytes profile (next_said client))
-      → KeepsClient profile client qport said issued → KeepsClient profile (client_begun profile client) qport (said ++ next_said client ∷ []) issued
-  KeepsClient-begun chan fits taken sendable keeps =
+  pub KeepsClient-begun : EndsSend → client.sending.number + 1 < sequence_end → client.gathering.taken < 2 ^ 32 → MayName client.state.executed
+      → is_said_unclear profile (next_message client) ≡ false → IsSendable (said_bytes profile (next_said client))
+      → KeepsClient profile client qport said issued commands → KeepsClient profile (client_begun profile client) qport (said ++ next_said client ∷ []) issued commands
+  KeepsClient-begun chan fits taken names clear sendable keeps =
       let next = next_said client in
       let begun = keeps.sending.begun in
       let longer = length_push said next in
       let last : messages_said profile (said ++ next ∷ []) (suc (length said)) ≡ said_bytes profile next =
       let place : length said ≡ suc (length said) - 1 = omega arith in
-      ap (said_bytes profile) (get_or_push said next empty_message (suc (length said) - 1) place) in
+      ap (said_bytes profile) (get_or_push said next no_said (suc (length said) - 1) place) in
       record {
         by = keeps.by;
         ring = keeps.ring;
@@ -347,12 +419,15 @@ module _ (profile : Profile) (client : ClientState) (qport : ℕ) (said : List S
         fits = keeps.fits;
         sending = BeginsMessages-started Client qport (messages_said profile said) (messages_said profile (said ++ next ∷ [])) (length said) (length (said ++ next ∷ [])) client.sending (said_bytes profile next) chan
             (omega (arith, longer)) fits (messages_said_stay profile said (next ∷ [])) last sendable keeps.sending;
-        said = each_more (λ (k : ℕ) (s : Said). IsMessage s) said next keeps.said (next_is_message client (length said) issued taken keeps.moves);
+        said = each_more (λ (k : ℕ) (s : Said). IsSaid profile client.challenge s) said next keeps.said
+            (record { message = next_is_message client (length said) issued taken names keeps.window keeps.moves; start = refl; text = names.text; clear = clear });
         last = keeps.last;
         rise = keeps.rise;
         moves = KeepsMoves-begun client.moves (length said) (length (said ++ next ∷ [])) issued (omega (arith, longer)) keeps.moves;
-        carried = each_more (λ (k : ℕ) (s : Said). AreConsecutive s.moves issued) said next keeps.carried
+        carried = each_more (λ (k : ℕ) (s : Said). AreConsecutive s.message.moves issued) said next keeps.carried
             (carried_consecutive (client.sending.number + 1) client.dup (length said) client.moves issued keeps.moves);
+        window = keeps.window;
+        texts = keeps.texts;
       }
 
 -- ---- a piece is handed out
@@ -443,14 +518,6 @@ pub TakesSaid-issued : (profile : Profile) (slot : SlotState) (said : List Said)
     → TakesSaid profile slot said issued run → TakesSaid profile slot said (issued ++ one ∷ []) run
 TakesSaid-issued profile slot said issued run one takes = record { gathers = takes.gathers; ran = contains_more run issued (one ∷ []) takes.ran }
 
--- moves that were issued were run
-pub TakesSaid-ran : (profile : Profile) (slot : SlotState) (said : List Said) (issued run moves : List Move) (g : Gathering) (address : Address) (before last delta : ℕ)
-    → Gathers (messages_said profile said) (length said) g → All (Contains issued) moves
-    → TakesSaid profile slot said issued run
-    → TakesSaid profile (record slot { address = address; gathering = g; delta = delta; last_run = last }) said issued (run ++ runs before moves)
-TakesSaid-ran profile slot said issued run moves g address before last delta gathers are takes =
-    record { gathers = gathers; ran = All-append (Contains issued) run (runs before moves) takes.ran (runs_are (Contains issued) before moves are) }
-
 -- ---- what a client accepts
 
 -- numbers rise where one above all comes behind them
@@ -509,11 +576,11 @@ TakesBuilt-gathered profile client built accepted g taken gathers takes =
     }
 
 -- a newer message came whole of which no snapshot is accepted
-pub TakesBuilt-passed : (profile : Profile) (client : ClientState) (built : List Built) (accepted : List Snapshot) (g : Gathering) (n : ℕ)
+pub TakesBuilt-passed : (profile : Profile) (client : ClientState) (built : List Built) (accepted : List Snapshot) (g : Gathering) (window : OutgoingState) (executed : IncomingState) (n : ℕ)
     → client.gathering.taken < g.taken → Gathers (messages_of profile built) (length built) g
     → TakesBuilt profile client built accepted
-    → TakesBuilt profile (record client { gathering = g; state = record client.state { number = n }; delta = false }) built accepted
-TakesBuilt-passed profile client built accepted g n newer gathers takes =
+    → TakesBuilt profile (record client { gathering = g; state = record client.state { number = n; executed = executed }; issued = window; delta = false }) built accepted
+TakesBuilt-passed profile client built accepted g window executed n newer gathers takes =
     let below = takes.below in
     record {
       accepted = takes.accepted;
@@ -528,11 +595,11 @@ TakesBuilt-passed profile client built accepted g n newer gathers takes =
     }
 
 -- a newer snapshot that was built came whole and is accepted
-pub TakesBuilt-accepted : RingLaws → (profile : Profile) (client : ClientState) (built : List Built) (accepted : List Snapshot) (g : Gathering) (n : ℕ) (snapshot : Snapshot)
+pub TakesBuilt-accepted : RingLaws → (profile : Profile) (client : ClientState) (built : List Built) (accepted : List Snapshot) (g : Gathering) (window : OutgoingState) (executed : IncomingState) (n : ℕ) (snapshot : Snapshot)
     → g.taken ≡ snapshot.head.number → Gathers (messages_of profile built) (length built) g → length snapshot.entities ≤ most_entities
     → WasBuilt built snapshot → client.gathering.taken < snapshot.head.number → TakesBuilt profile client built accepted
-    → TakesBuilt profile (record client { gathering = g; state = record client.state { number = n; held = accept_at client.state.held snapshot }; delta = true }) built (accepted ++ snapshot ∷ [])
-TakesBuilt-accepted laws profile client built accepted g n snapshot taken gathers few was newer takes =
+    → TakesBuilt profile (record client { gathering = g; state = record client.state { number = n; executed = executed; held = accept_at client.state.held snapshot }; issued = window; delta = true }) built (accepted ++ snapshot ∷ [])
+TakesBuilt-accepted laws profile client built accepted g window executed n snapshot taken gathers few was newer takes =
     let below = takes.below in
     let stands = takes.stands in
     let newest = stands.newest in
@@ -561,8 +628,8 @@ pub AreAsked-accepted : (slot : SlotState) (said : List Said) (built : List Buil
 AreAsked-accepted slot said built accepted snapshot asked =
     let more = accepted ++ snapshot ∷ [] in
     record {
-      asks = All-weaker (λ (s : Said). s.delta ≡ true → WasAccepted accepted s.acknowledged) (λ (s : Said). s.delta ≡ true → WasAccepted more s.acknowledged)
-          (λ s so asks. was_accepted_more accepted (snapshot ∷ []) s.acknowledged (so asks)) said asked.asks;
+      asks = All-weaker (λ (s : Said). s.message.delta ≡ true → WasAccepted accepted s.message.acknowledged) (λ (s : Said). s.message.delta ≡ true → WasAccepted more s.message.acknowledged)
+          (λ s so asks. was_accepted_more accepted (snapshot ∷ []) s.message.acknowledged (so asks)) said asked.asks;
       delta = elim asked.delta [ inl none ↦ inl none | inr was ↦ inr (was_accepted_more accepted (snapshot ∷ []) slot.delta was) ];
       bases = All-weaker (λ (b : Built). IfSome b.base (Contains accepted)) (λ (b : Built). IfSome b.base (Contains more))
           (λ b. if_some_then b.base (Contains accepted) (Contains more) (λ base. Contains-append_left accepted (snapshot ∷ []) base)) built asked.bases;
@@ -570,10 +637,10 @@ AreAsked-accepted slot said built accepted snapshot asked =
 
 -- a message more was said
 pub AreAsked-said : (slot : SlotState) (said : List Said) (built : List Built) (accepted : List Snapshot) (next : Said)
-    → (next.delta ≡ true → WasAccepted accepted next.acknowledged) → AreAsked slot said built accepted → AreAsked slot (said ++ next ∷ []) built accepted
+    → (next.message.delta ≡ true → WasAccepted accepted next.message.acknowledged) → AreAsked slot said built accepted → AreAsked slot (said ++ next ∷ []) built accepted
 AreAsked-said slot said built accepted next asks asked =
     record {
-      asks = All-push (λ (s : Said). s.delta ≡ true → WasAccepted accepted s.acknowledged) said next asked.asks asks;
+      asks = All-push (λ (s : Said). s.message.delta ≡ true → WasAccepted accepted s.message.acknowledged) said next asked.asks asks;
       delta = asked.delta;
       bases = asked.bases;
     }

@@ -1,5 +1,5 @@
 -- What holds between any two events holds after each event.
-use Rattle.std.proofs.Common.{◌≡◌, ℕ, zero, suc, ◌+◌, ◌-◌, ◌^◌, ◌<◌, ◌≤◌, List, [], ◌∷◌, ◌++◌, length, get_or, replicate, Bool, true, Option, Some, None, refl, sym, ap, subst, ◌∙◌, arith, lit<}
+use Rattle.std.proofs.Common.{◌≡◌, ℕ, zero, suc, ◌+◌, ◌-◌, ◌^◌, ◌<◌, ◌≤◌, List, [], ◌∷◌, ◌++◌, length, get_or, replicate, Bool, true, false, Option, Some, None, refl, sym, ap, subst, ◌∙◌, arith, lit<}
 use Rattle.std.specs.Prelude.{slice_set, position, All, Contains, ◌⊎◌}
 use Rattle.std.proofs.lemmas.List.{get_or-replicate, set-get_or}
 use Rattle.std.proofs.lemmas.List.Elements.{All-nil, All-append}
@@ -17,6 +17,10 @@ use Rattle.q3_chan.specs.Datagrams.{sequence_end}
 use Rattle.q3_chan.specs.Sending.{UnderWay, next_of}
 use Rattle.q3_chan.specs.Gathering.{Gathering}
 use Rattle.q3_chan.specs.Laws.{IsSendable, Gathers, EndsGather, EndsSend}
+use Rattle.q3_text.specs.declared.text.Command.{Command}
+use Rattle.q3_window.specs.Outgoing.{OutgoingState, IsOutgoing}
+use Rattle.q3_window.specs.Incoming.{IncomingState}
+use Rattle.q3_window.specs.Flow.{Flow}
 use Rattle.q3_clmsg.specs.declared.moves.Move.{Move}
 use Rattle.q3_clmsg.specs.Moves.{IsMove}
 use Rattle.q3_ring.specs.Snapshot.{Snapshot}
@@ -24,23 +28,24 @@ use Rattle.q3_ring.specs.Places.{no_places}
 use Rattle.q3_frames.specs.Frames.{Frame, FramesState}
 use Rattle.q3_clstate.specs.State.{AppliedState}
 use Rattle.q3_map.specs.Map.{AreHeld, MapState}
-use Rattle.q3_slot.specs.Built.{Built, IsHeld, IsArea, IsBuilt}
+use Rattle.q3_slot.specs.Built.{Built, IsHeld, IsArea, IsBuilt, is_unclear}
 use Rattle.q3_slot.specs.Slot.{SlotState, is_of, new_slot, with_player, with_area}
-use Rattle.q3_slot.specs.Emitting.{next_snapshot, next_frames, begun_next, built_bytes}
+use Rattle.q3_slot.specs.Emitting.{next_snapshot, next_frames, telling_of, begun_next, built_bytes}
 use Rattle.q3_server.specs.Server.{ServerState, places, slot_at, with_slot}
 use Rattle.q3_client.specs.Client.{ClientState, new_client}
 use Rattle.q3_client.specs.Moves.{issue, asks_delta}
-use Rattle.q3_client.specs.Sending.{said_bytes, next_message as next_said}
+use Rattle.q3_client.specs.Sending.{said_bytes, next_message, next_said, is_unclear as is_said_unclear}
 use Rattle.q3_world.specs.declared.made.Direction.TheVariants.{ToClient, ToServer}
-use Rattle.q3_world.specs.Layers.{ServerLaws, RingLaws}
+use Rattle.q3_world.specs.Layers.{ServerLaws, RingLaws, WindowLaws}
 use Rattle.q3_world.specs.Ends.{Ends, client_at, with_client, no_address, address_at}
-use Rattle.q3_world.specs.World.{Tag, History, Whole, no_history, no_message, history_at, with_history, built_at, with_built, with_accepted, with_said, with_run, named, opening}
-use Rattle.q3_world.specs.StandsFor.{IsChecked, messages_of, messages_said, KeepsSlot, AreEnds, IsClient, IsPiece, IsWay, IsSent, KeepsFrames, Facts, snapshot_in, WasBuilt, WasAccepted, TakesBuilt, AreJoined, IsJoined, AllJoined}
+use Rattle.q3_world.specs.World.{Tag, History, Whole, no_history, no_message, history_at, with_history, built_at, with_built, with_accepted, texts_of, with_heard, with_said, with_run, named, opening}
+use Rattle.q3_world.specs.StandsFor.{IsChecked, messages_of, messages_said, KeepsSlot, KeepsClient, AreEnds, IsClient, IsPiece, IsWay, IsSent, KeepsFrames, Facts, snapshot_in, WasBuilt, WasAccepted, TakesBuilt, carried_built, acks_built, carried_said, acks_said, AreCommanded, AreJoined, IsJoined, AllJoined}
 use Rattle.q3_world.proofs.OnePlace.{set_there, OnlyAt-set, OnlyAt-same, DifferAt, each_at}
-use Rattle.q3_world.proofs.Growth.{HistoryGrows, HistoryGrows-same, HistoryGrows-built, HistoryGrows-accepted, HistoryGrows-said, HistoryGrows-issued, HistoryGrows-run, HistoryGrows-joined, Grow-at, noted_same, AllSent, all_sent_grow, each_more}
+use Rattle.q3_world.proofs.Growth.{HistoryGrows, HistoryGrows-same, HistoryGrows-beside, HistoryGrows-built, HistoryGrows-said, HistoryGrows-joined, Grow-at, noted_same, AllSent, all_sent_grow, each_more}
 use Rattle.q3_world.proofs.Bases.{KeepsFrames-built, KeepsFrames-same, frames_begun, frames_too_long}
 use Rattle.q3_world.proofs.Found.{AllFound, found_changed, found_joined}
 use Rattle.q3_world.proofs.Clients.{no_client, a_client, a_slot, KeepsSlot-new, KeepsSlot-given, KeepsSlot-came, KeepsSlot-handed, KeepsClient-new, KeepsClient-took, KeepsClient-handed, KeepsClient-issued, KeepsClient-begun, client_begun, next_base, slot_begun, KeepsSlot-begun, TakesBuilt-new, TakesSaid-new, AreAsked-new, TakesBuilt-same, TakesSaid-same, TakesBuilt-more, TakesSaid-more, TakesSaid-issued, AreAsked-same, AreAsked-accepted, AreAsked-said, AreAsked-ran, AreAsked-built}
+use Rattle.q3_world.proofs.Commanded.{MayName, may_name, AreCommanded-built, AreCommanded-said}
 use Rattle.q3_world.proofs.Beginning.{handed_piece}
 
 -- what holds of a whole world
@@ -153,10 +158,10 @@ with_new whole c qport address slot client =
       histories = with_history whole.histories c (record (history_at whole.histories c) { qport = qport; host = address.host });
     }
 
-pub Holds-new : RingLaws → (profile : Profile) (whole : Whole) (c challenge qport dup : ℕ) (address : Address) → 512 ≤ profile.parse_ring → EndsSend → EndsGather → IsHeld profile zero_player → c < places
+pub Holds-new : RingLaws → WindowLaws → (profile : Profile) (whole : Whole) (c challenge qport dup : ℕ) (address : Address) → 512 ≤ profile.parse_ring → EndsSend → EndsGather → IsHeld profile zero_player → c < places
     → qport < 2 ^ 16 → slot_at whole.ends.server c ≡ None → position (is_of address.host qport) whole.ends.server.slots ≡ None → Holds profile whole
     → Holds profile (with_new whole c qport address (new_slot challenge qport address) (new_client profile challenge qport dup))
-Holds-new laws profile whole c challenge qport dup address ring sends gathers first lt fits none alone holds =
+Holds-new laws windows profile whole c challenge qport dup address ring sends gathers first lt fits none alone holds =
     let facts = holds.facts in
     let ends = whole.ends in
     let slots = ends.server.slots in
@@ -172,12 +177,18 @@ Holds-new laws profile whole c challenge qport dup address ring sends gathers fi
     let address_is = set_there ends.addresses c no_address address facts.addresses lt in
     let noted = set_there whole.histories c no_history there facts.histories lt in
     let keeps : AreEnds profile slot client address there = subst (λ (h : History). AreEnds profile slot client address (record h { qport = qport; host = address.host })) (sym history_is)
-    (record { of_slot = KeepsSlot-new profile challenge qport address sends first; of_client = KeepsClient-new profile challenge qport dup sends fits; host = refl }) in
+    (record {
+      of_slot = KeepsSlot-new windows.stays profile challenge qport address sends first;
+      of_client = KeepsClient-new windows.stays profile challenge qport dup sends fits;
+      challenge = refl;
+      host = refl;
+    }) in
     let joins : AreJoined profile slot client there = subst (λ (h : History). AreJoined profile slot client (record h { qport = qport; host = address.host })) (sym history_is)
     (record {
       of_client = TakesBuilt-new laws profile challenge qport dup gathers ring;
       of_slot = TakesSaid-new profile challenge qport address gathers;
       asked = AreAsked-new challenge qport address;
+      commanded = record { to_client = windows.flow.opens; to_server = windows.flow.opens };
     }) in
     Holds-at profile c whole (with_new whole c qport address slot client)
     (record {
@@ -377,14 +388,16 @@ Holds-given profile whole c slot player area lt found held is holds =
       qport = refl;
       grows = HistoryGrows-same history;
       keeps = record {
-        of_slot = KeepsSlot-given profile slot history.qport history.host history.built history.run player area (held keeps.of_slot.player) (is keeps.of_slot.area) keeps.of_slot;
+        of_slot = KeepsSlot-given profile slot history.qport history.host history.built history.run history.server_commands player area (held keeps.of_slot.player) (is keeps.of_slot.area) keeps.of_slot;
         of_client = keeps.of_client;
+        challenge = keeps.challenge;
         host = keeps.host;
       };
       joined = record {
         of_client = joined.of_client;
         of_slot = TakesSaid-same profile slot next history.said history.issued history.run refl joined.of_slot;
         asked = AreAsked-same slot next history.said history.built history.accepted refl joined.asked;
+        commanded = record { to_client = joined.commanded.to_client; to_server = joined.commanded.to_server };
       };
       sent = sent_grows profile whole c history lt (HistoryGrows-same history) holds;
       kept = frames_stay profile whole c history lt refl holds;
@@ -426,26 +439,41 @@ Holds-handed profile whole c slot left sends lt found way holds =
       host = refl;
       qport = refl;
       grows = grows;
-      keeps = record { of_slot = KeepsSlot-handed profile slot history.qport history.host history.built history.run sends keeps.of_slot; of_client = keeps.of_client; host = keeps.host };
+      keeps = record { of_slot = KeepsSlot-handed profile slot history.qport history.host history.built history.run history.server_commands sends keeps.of_slot; of_client = keeps.of_client; challenge = keeps.challenge; host = keeps.host };
       joined = record {
         of_client = joined.of_client;
         of_slot = TakesSaid-same profile slot next history.said history.issued history.run refl joined.of_slot;
         asked = AreAsked-same slot next history.said history.built history.accepted refl joined.asked;
+        commanded = record { to_client = joined.commanded.to_client; to_server = joined.commanded.to_server };
       };
       sent = sent_more profile whole c history (handed_tag c slot left) lt grows refl
           (handed_piece Server 0 (messages_of profile history.built) (length history.built) slot.sending left (handed_tag c slot left) sends keeps.of_slot.sending way refl refl refl) holds;
       kept = frames_stay profile whole c history lt refl holds;
     }) holds
 
+-- what the slot executed last is a command that a message can name
+pub executed_by_slot : (profile : Profile) (slot : SlotState) (client : ClientState) (history : History)
+    → KeepsClient profile client history.qport history.said history.issued history.client_commands → AreCommanded slot client history → MayName slot.executed
+executed_by_slot profile slot client history keeps commanded =
+    may_name client.issued slot.executed history.client_commands history.server_executed (carried_said history.said) (acks_built history.built) client.gathering.taken keeps.window keeps.texts
+    commanded.to_server
+
+-- and so is what the client executed last
+pub executed_by_client : (profile : Profile) (slot : SlotState) (client : ClientState) (history : History)
+    → KeepsSlot profile slot history.qport history.host history.built history.run history.server_commands → AreCommanded slot client history → MayName client.state.executed
+executed_by_client profile slot client history keeps commanded =
+    may_name slot.issued client.state.executed history.server_commands history.client_executed (carried_built history.built) (acks_said history.said) slot.gathering.taken keeps.window keeps.texts
+    commanded.to_client
+
 -- a message is begun, and its first piece is handed out
-pub Holds-begun : ServerLaws → (profile : Profile) (whole : Whole) (c : ℕ) (slot : SlotState) (left : UnderWay) → EndsSend → EndsGather → c < places
-    → slot_at whole.ends.server c ≡ Some slot → slot.sending.number + 1 < sequence_end
+pub Holds-begun : ServerLaws → WindowLaws → (profile : Profile) (whole : Whole) (c : ℕ) (slot : SlotState) (left : UnderWay) → EndsSend → EndsGather → c < places
+    → slot_at whole.ends.server c ≡ Some slot → slot.sending.number + 1 < sequence_end → is_unclear profile slot.executed.executed ≡ false
     → IsSendable (built_bytes profile (begun_next whole.ends.server.map whole.ends.server.frames c slot))
     → (slot_begun profile slot (begun_next whole.ends.server.map whole.ends.server.frames c slot)).sending.under_way ≡ Some left → Holds profile whole
     → Holds profile (with_server_of whole c (slot_handed (slot_begun profile slot (begun_next whole.ends.server.map whole.ends.server.frames c slot)))
     (next_frames whole.ends.server.map whole.ends.server.frames c slot) (with_built (history_at whole.histories c) (Some (begun_next whole.ends.server.map whole.ends.server.frames c slot)))
     (whole.sent ++ handed_tag c (slot_begun profile slot (begun_next whole.ends.server.map whole.ends.server.frames c slot)) left ∷ []))
-Holds-begun laws profile whole c slot left sends gathers lt found fits sendable way holds =
+Holds-begun laws windows profile whole c slot left sends gathers lt found fits clear sendable way holds =
     let history = history_at whole.histories c in
     let map = whole.ends.server.map in
     let frames = whole.ends.server.frames in
@@ -460,8 +488,11 @@ Holds-begun laws profile whole c slot left sends gathers lt found fits sendable 
     let facts = holds.facts in
     let begun = keeps.of_slot.sending.begun in
     let are = facts.frames.each c lt in
-    let kept = KeepsSlot-begun laws profile map frames c slot history.qport history.host history.built history.run sends facts.time facts.entities fits sendable are keeps.of_slot in
-    let grows = HistoryGrows-built history (Some built) in
+    let names = executed_by_slot profile slot had.0 history keeps.of_client joined.commanded in
+    let kept = KeepsSlot-begun laws profile map frames c slot history.qport history.host history.built history.run history.server_commands sends facts.time facts.entities fits names clear sendable are
+    keeps.of_slot in
+    let commanded = AreCommanded-built windows.flow slot had.0 history built refl refl joined.commanded in
+    let grows = HistoryGrows-built history built in
     let asked = AreAsked-built slot next history.said history.built history.accepted (slot.sending.number + 1) built refl joined.of_client.accepted
     (next_base laws map frames c slot history.built begun are) joined.asked in
     Holds-slot profile whole c slot next had.0 (next_frames map frames c slot) noted (whole.sent ++ handed_tag c starts left ∷ []) lt had.1
@@ -469,16 +500,17 @@ Holds-begun laws profile whole c slot left sends gathers lt found fits sendable 
       host = refl;
       qport = refl;
       grows = grows;
-      keeps = record { of_slot = KeepsSlot-handed profile starts history.qport history.host more history.run sends kept; of_client = keeps.of_client; host = keeps.host };
+      keeps = record { of_slot = KeepsSlot-handed profile starts history.qport history.host more history.run history.server_commands sends kept; of_client = keeps.of_client; challenge = keeps.challenge; host = keeps.host };
       joined = record {
         of_client = TakesBuilt-more profile had.0 history.built history.accepted built gathers joined.of_client;
         of_slot = TakesSaid-same profile slot next history.said history.issued history.run refl joined.of_slot;
         asked = asked;
+        commanded = record { to_client = commanded.to_client; to_server = commanded.to_server };
       };
       sent = sent_more profile whole c noted (handed_tag c starts left) lt grows refl
           (handed_piece Server 0 (messages_of profile more) (length more) starts.sending left (handed_tag c starts left) sends kept.sending way refl refl refl) holds;
       kept = KeepsFrames-built laws frames whole.histories c noted (next_snapshot map slot) lt facts.histories
-          (frames_begun laws frames c history.built built.base (next_snapshot map slot) (omega (arith, begun)) are) facts.frames;
+          (frames_begun laws frames c history.built (telling_of slot) built.base (next_snapshot map slot) (omega (arith, begun)) are) facts.frames;
     }) holds
 
 -- a message proves too long, and its frame stays
@@ -528,8 +560,8 @@ Holds-goes profile whole c client left sends lt found way holds =
       host = refl;
       qport = refl;
       grows = grows;
-      keeps = record { of_slot = keeps.of_slot; of_client = KeepsClient-handed profile client history.qport history.said history.issued sends keeps.of_client; host = keeps.host };
-      joined = record { of_client = TakesBuilt-same profile client (client_handed client) history.built history.accepted refl refl refl refl joined.of_client; of_slot = joined.of_slot; asked = joined.asked };
+      keeps = record { of_slot = keeps.of_slot; of_client = KeepsClient-handed profile client history.qport history.said history.issued history.client_commands sends keeps.of_client; challenge = keeps.challenge; host = keeps.host };
+      joined = record { of_client = TakesBuilt-same profile client (client_handed client) history.built history.accepted refl refl refl refl joined.of_client; of_slot = joined.of_slot; asked = joined.asked; commanded = record { to_client = joined.commanded.to_client; to_server = joined.commanded.to_server } };
       sent = sent_more profile whole c history tag lt grows refl (
         keeps.host,
         handed_piece Client history.qport (messages_said profile history.said) (length history.said) client.sending left tag sends keeps.of_client.sending way refl refl refl,
@@ -538,12 +570,12 @@ Holds-goes profile whole c client left sends lt found way holds =
     }) holds
 
 -- a client's message is begun, and its first piece goes out
-pub Holds-said : (profile : Profile) (whole : Whole) (c : ℕ) (client : ClientState) (left : UnderWay) → EndsSend → EndsGather → c < places
+pub Holds-said : WindowLaws → (profile : Profile) (whole : Whole) (c : ℕ) (client : ClientState) (left : UnderWay) → EndsSend → EndsGather → c < places
     → client_at whole.ends c ≡ Some client → (client_begun profile client).sending.under_way ≡ Some left → client.sending.number + 1 < sequence_end → client.gathering.taken < 2 ^ 32
-    → IsSendable (said_bytes profile (next_said client)) → Holds profile whole
+    → is_said_unclear profile (next_message client) ≡ false → IsSendable (said_bytes profile (next_said client)) → Holds profile whole
     → Holds profile (with_client_of whole c (client_handed (client_begun profile client)) (with_said (history_at whole.histories c) (Some (next_said client)))
     (whole.sent ++ said_tag c (address_at whole.ends c) (client_begun profile client) left ∷ []))
-Holds-said profile whole c client left sends gathers lt found way fits taken sendable holds =
+Holds-said windows profile whole c client left sends gathers lt found way fits taken clear sendable holds =
     let history = history_at whole.histories c in
     let from = address_at whole.ends c in
     let begun = client_begun profile client in
@@ -553,18 +585,21 @@ Holds-said profile whole c client left sends gathers lt found way fits taken sen
     let had = has_client profile whole c client lt found holds in
     let keeps = had.1.keeps in
     let joined = had.1.joined in
-    let starts = KeepsClient-begun profile client history.qport history.said history.issued sends fits taken sendable keeps.of_client in
-    let grows = HistoryGrows-said history (Some next) in
+    let names = executed_by_client profile had.0 client history keeps.of_slot joined.commanded in
+    let starts = KeepsClient-begun profile client history.qport history.said history.issued history.client_commands sends fits taken names clear sendable keeps.of_client in
+    let commanded = AreCommanded-said windows.flow had.0 client history next refl refl joined.commanded in
+    let grows = HistoryGrows-said history next in
     Holds-client profile whole c had.0 client (client_handed begun) (record history { said = more }) (whole.sent ++ tag ∷ []) lt had.1
     (record {
       host = refl;
       qport = refl;
       grows = grows;
-      keeps = record { of_slot = keeps.of_slot; of_client = KeepsClient-handed profile begun history.qport more history.issued sends starts; host = keeps.host };
+      keeps = record { of_slot = keeps.of_slot; of_client = KeepsClient-handed profile begun history.qport more history.issued history.client_commands sends starts; challenge = keeps.challenge; host = keeps.host };
       joined = record {
         of_client = TakesBuilt-same profile client (client_handed begun) history.built history.accepted refl refl refl refl joined.of_client;
         of_slot = TakesSaid-more profile had.0 history.said history.issued history.run next gathers joined.of_slot;
         asked = AreAsked-said had.0 history.said history.built history.accepted next (λ so. joined.of_client.asks.0 (asks_only client so)) joined.asked;
+        commanded = record { to_client = commanded.to_client; to_server = commanded.to_server };
       };
       sent = sent_more profile whole c (record history { said = more }) tag lt grows refl (
         keeps.host,
@@ -577,8 +612,8 @@ Holds-said profile whole c client left sends gathers lt found way fits taken sen
     asks_so delta [] so = absurd cc
     asks_so delta (one ∷ moves) so = so
 
-    asks_only : (client : ClientState) → (next_said client).delta ≡ true → client.delta ≡ true
-    asks_only client so = asks_so client.delta (next_said client).moves so
+    asks_only : (client : ClientState) → (next_message client).delta ≡ true → client.delta ≡ true
+    asks_only client so = asks_so client.delta (next_message client).moves so
 
 -- ---- a client issues a move
 
@@ -592,17 +627,18 @@ Holds-issued profile whole c client one lt found is later holds =
     let had = has_client profile whole c client lt found holds in
     let keeps = had.1.keeps in
     let joined = had.1.joined in
-    let grows = HistoryGrows-issued history one in
+    let grows = HistoryGrows-beside history noted refl refl refl refl in
     Holds-client profile whole c had.0 client next noted whole.sent lt had.1
     (record {
       host = refl;
       qport = refl;
       grows = grows;
-      keeps = record { of_slot = keeps.of_slot; of_client = KeepsClient-issued profile client history.qport history.said history.issued one is later keeps.of_client; host = keeps.host };
+      keeps = record { of_slot = keeps.of_slot; of_client = KeepsClient-issued profile client history.qport history.said history.issued history.client_commands one is later keeps.of_client; challenge = keeps.challenge; host = keeps.host };
       joined = record {
         of_client = TakesBuilt-same profile client next history.built history.accepted refl refl refl refl joined.of_client;
         of_slot = TakesSaid-issued profile had.0 history.said history.issued history.run one joined.of_slot;
         asked = joined.asked;
+        commanded = record { to_client = joined.commanded.to_client; to_server = joined.commanded.to_server };
       };
       sent = sent_grows profile whole c noted lt grows holds;
       kept = frames_stay profile whole c noted lt refl holds;
@@ -611,48 +647,65 @@ Holds-issued profile whole c client one lt found is later holds =
 -- ---- a datagram arrives at a client
 
 -- the client behind it
-abbrev pub client_took : ClientState → Gathering → AppliedState → Bool → ClientState
-client_took client g state delta = record client { gathering = g; state = state; delta = delta }
+abbrev pub client_took : ClientState → Gathering → AppliedState → OutgoingState → Bool → ClientState
+client_took client g state window delta = record client { gathering = g; state = state; issued = window; delta = delta }
 
-pub Holds-taken : (profile : Profile) (whole : Whole) (c : ℕ) (client : ClientState) (g : Gathering) (state : AppliedState) (delta : Bool) (heard : Option Snapshot) → c < places
-    → client_at whole.ends c ≡ Some client → g.side ≡ client.gathering.side → state.profile ≡ client.state.profile → state.held.ring ≡ client.state.held.ring
-    → (TakesBuilt profile client (history_at whole.histories c).built (history_at whole.histories c).accepted
-    → TakesBuilt profile (client_took client g state delta) (history_at whole.histories c).built (with_accepted (history_at whole.histories c) heard).accepted)
+-- what a client's window and its commands are behind it
+pub record TakesSo (slot : SlotState) (history : History) (g : Gathering) (state : AppliedState) (window : OutgoingState) (commands : List Command) : Type 0 where
+  pub is : IsOutgoing window
+  pub to_client : Flow slot.issued state.executed history.server_commands (history.client_executed ++ texts_of commands) (carried_built history.built) (acks_said history.said)
+      slot.gathering.taken
+  pub to_server : Flow window slot.executed history.client_commands history.server_executed (carried_said history.said) (acks_built history.built) g.taken
+
+pub Holds-taken : (profile : Profile) (whole : Whole) (c : ℕ) (slot : SlotState) (client : ClientState) (g : Gathering) (state : AppliedState) (window : OutgoingState) (delta : Bool) (heard : Option Snapshot) (commands : List Command) → c < places
+    → Has profile whole c slot client → g.side ≡ client.gathering.side → state.profile ≡ client.state.profile → state.held.ring ≡ client.state.held.ring
+    → TakesSo slot (history_at whole.histories c) g state window commands
+    → TakesBuilt profile (client_took client g state window delta) (history_at whole.histories c).built (with_accepted (history_at whole.histories c) heard).accepted
     → Holds profile whole
-    → Holds profile (with_client_of whole c (client_took client g state delta) (with_accepted (history_at whole.histories c) heard) whole.sent)
-Holds-taken profile whole c client g state delta None lt found side by ring takes holds =
+    → Holds profile (with_client_of whole c (client_took client g state window delta) (with_heard (history_at whole.histories c) heard commands) whole.sent)
+Holds-taken profile whole c slot client g state window delta None commands lt had side by ring so takes holds =
     let history = history_at whole.histories c in
-    let had = has_client profile whole c client lt found holds in
-    let keeps = had.1.keeps in
-    let joined = had.1.joined in
-    let grows = HistoryGrows-accepted history None in
-    Holds-client profile whole c had.0 client (client_took client g state delta) history whole.sent lt had.1
+    let noted = with_heard history None commands in
+    let keeps = had.keeps in
+    let joined = had.joined in
+    let grows = HistoryGrows-beside history noted refl refl refl refl in
+    Holds-client profile whole c slot client (client_took client g state window delta) noted whole.sent lt had
     (record {
       host = refl;
       qport = refl;
       grows = grows;
-      keeps = record { of_slot = keeps.of_slot; of_client = KeepsClient-took profile client history.qport history.said history.issued g state delta side by ring keeps.of_client; host = keeps.host };
-      joined = record { of_client = takes joined.of_client; of_slot = joined.of_slot; asked = joined.asked };
-      sent = sent_grows profile whole c history lt grows holds;
-      kept = frames_stay profile whole c history lt refl holds;
+      keeps = record {
+        of_slot = keeps.of_slot;
+        of_client = KeepsClient-took profile client history.qport history.said history.issued history.client_commands g state window delta so.is side by ring keeps.of_client;
+        challenge = keeps.challenge;
+        host = keeps.host;
+      };
+      joined = record { of_client = takes; of_slot = joined.of_slot; asked = joined.asked; commanded = record { to_client = so.to_client; to_server = so.to_server } };
+      sent = sent_grows profile whole c noted lt grows holds;
+      kept = frames_stay profile whole c noted lt refl holds;
     }) holds
-Holds-taken profile whole c client g state delta (Some snapshot) lt found side by ring takes holds =
+Holds-taken profile whole c slot client g state window delta (Some snapshot) commands lt had side by ring so takes holds =
     let history = history_at whole.histories c in
-    let noted = record history { accepted = history.accepted ++ snapshot ∷ [] } in
-    let had = has_client profile whole c client lt found holds in
-    let keeps = had.1.keeps in
-    let joined = had.1.joined in
-    let grows = HistoryGrows-accepted history (Some snapshot) in
-    Holds-client profile whole c had.0 client (client_took client g state delta) noted whole.sent lt had.1
+    let noted = with_heard history (Some snapshot) commands in
+    let keeps = had.keeps in
+    let joined = had.joined in
+    let grows = HistoryGrows-beside history noted refl refl refl refl in
+    Holds-client profile whole c slot client (client_took client g state window delta) noted whole.sent lt had
     (record {
       host = refl;
       qport = refl;
       grows = grows;
-      keeps = record { of_slot = keeps.of_slot; of_client = KeepsClient-took profile client history.qport history.said history.issued g state delta side by ring keeps.of_client; host = keeps.host };
+      keeps = record {
+        of_slot = keeps.of_slot;
+        of_client = KeepsClient-took profile client history.qport history.said history.issued history.client_commands g state window delta so.is side by ring keeps.of_client;
+        challenge = keeps.challenge;
+        host = keeps.host;
+      };
       joined = record {
-        of_client = takes joined.of_client;
+        of_client = takes;
         of_slot = joined.of_slot;
-        asked = AreAsked-accepted had.0 history.said history.built history.accepted snapshot joined.asked;
+        asked = AreAsked-accepted slot history.said history.built history.accepted snapshot joined.asked;
+        commanded = record { to_client = so.to_client; to_server = so.to_server };
       };
       sent = sent_grows profile whole c noted lt grows holds;
       kept = frames_stay profile whole c noted lt refl holds;
@@ -661,40 +714,50 @@ Holds-taken profile whole c client g state delta (Some snapshot) lt found side b
 -- ---- a client's datagram arrives at its slot
 
 -- the slot behind it
-abbrev pub slot_heard : SlotState → Address → Gathering → ℕ → ℕ → SlotState
-slot_heard slot from g delta last = record slot { address = from; gathering = g; delta = delta; last_run = last }
+abbrev pub slot_heard : SlotState → Address → Gathering → OutgoingState → IncomingState → ℕ → ℕ → SlotState
+slot_heard slot from g window executed delta last =
+    record slot { address = from; gathering = g; issued = window; executed = executed; delta = delta; last_run = last }
 
--- moves were run, the last at a time, and each of them was issued; and a snapshot may be asked for that was accepted
-pub Holds-heard : (profile : Profile) (whole : Whole) (c : ℕ) (slot : SlotState) (from : Address) (g : Gathering) (delta last : ℕ) (ran : List Move) → c < places
-    → slot_at whole.ends.server c ≡ Some slot → from.host ≡ slot.address.host → g.side ≡ slot.gathering.side
+-- what a slot's window and its commands are behind it
+pub record HearsSo (client : ClientState) (history : History) (g : Gathering) (window : OutgoingState) (executed : IncomingState) (commands : List Command) : Type 0 where
+  pub to_client : Flow window client.state.executed history.server_commands history.client_executed (carried_built history.built) (acks_said history.said) g.taken
+  pub to_server : Flow client.issued executed history.client_commands (history.server_executed ++ texts_of commands) (carried_said history.said) (acks_built history.built)
+      client.gathering.taken
+
+-- an acknowledgement was taken, commands were executed, and moves were run, the last at a time, each of which was issued; and a
+-- snapshot may be asked for that was accepted
+pub Holds-heard : (profile : Profile) (whole : Whole) (c : ℕ) (slot : SlotState) (client : ClientState) (from : Address) (g : Gathering) (window : OutgoingState) (executed : IncomingState) (delta last : ℕ) (commands : List Command) (ran : List Move) → c < places
+    → Has profile whole c slot client → from.host ≡ slot.address.host → g.side ≡ slot.gathering.side
     → Gathers (messages_said profile (history_at whole.histories c).said) (length (history_at whole.histories c).said) g
-    → (KeepsSlot profile slot (history_at whole.histories c).qport (history_at whole.histories c).host (history_at whole.histories c).built (history_at whole.histories c).run
-    → KeepsSlot profile (record slot { delta = delta; last_run = last }) (history_at whole.histories c).qport (history_at whole.histories c).host (history_at whole.histories c).built ((history_at whole.histories c).run ++ ran))
+    → KeepsSlot profile (record slot { issued = window; executed = executed; delta = delta; last_run = last }) (history_at whole.histories c).qport (history_at whole.histories c).host
+    (history_at whole.histories c).built ((history_at whole.histories c).run ++ ran) (history_at whole.histories c).server_commands
+    → HearsSo client (history_at whole.histories c) g window executed commands
     → All (Contains (history_at whole.histories c).issued) ran → (delta ≡ 0) ⊎ WasAccepted (history_at whole.histories c).accepted delta → Holds profile whole
-    → Holds profile (with_server_of whole c (slot_heard slot from g delta last) whole.ends.server.frames (with_run (history_at whole.histories c) ran) whole.sent)
-Holds-heard profile whole c slot from g delta last ran lt found host side gathers runs_so were asks holds =
+    → Holds profile (with_server_of whole c (slot_heard slot from g window executed delta last) whole.ends.server.frames (with_run (history_at whole.histories c) commands ran) whole.sent)
+Holds-heard profile whole c slot client from g window executed delta last commands ran lt had host side gathers ran_so so were asks holds =
     let history = history_at whole.histories c in
-    let next = slot_heard slot from g delta last in
-    let noted = with_run history ran in
-    let had = has_slot profile whole c slot lt found holds in
-    let keeps = had.1.keeps in
-    let joined = had.1.joined in
-    let grows = HistoryGrows-run history ran in
-    let ran_so = runs_so keeps.of_slot in
-    Holds-slot profile whole c slot next had.0 whole.ends.server.frames noted whole.sent lt had.1
+    let next = slot_heard slot from g window executed delta last in
+    let noted = with_run history commands ran in
+    let keeps = had.keeps in
+    let joined = had.joined in
+    let grows = HistoryGrows-beside history noted refl refl refl refl in
+    Holds-slot profile whole c slot next client whole.ends.server.frames noted whole.sent lt had
     (record {
       host = host;
       qport = refl;
       grows = grows;
       keeps = record {
-        of_slot = KeepsSlot-came profile (record slot { delta = delta; last_run = last }) history.qport history.host history.built (history.run ++ ran) from g (host ∙ keeps.of_slot.host) side ran_so;
+        of_slot = KeepsSlot-came profile (record slot { issued = window; executed = executed; delta = delta; last_run = last }) history.qport history.host history.built (history.run ++ ran)
+            history.server_commands from g (host ∙ keeps.of_slot.host) side ran_so;
         of_client = keeps.of_client;
+        challenge = keeps.challenge;
         host = keeps.host;
       };
       joined = record {
         of_client = joined.of_client;
         of_slot = record { gathers = gathers; ran = All-append (Contains history.issued) history.run ran joined.of_slot.ran were };
         asked = AreAsked-ran slot next history.said history.built history.accepted asks joined.asked;
+        commanded = record { to_client = so.to_client; to_server = so.to_server };
       };
       sent = sent_grows profile whole c noted lt grows holds;
       kept = frames_stay profile whole c noted lt refl holds;
@@ -703,22 +766,21 @@ Holds-heard profile whole c slot from g delta last ran lt found host side gather
 -- ---- what a tag names
 
 -- the message that a server's tag names was built
-pub tag_was_built : (profile : Profile) (whole : Whole) (tag : Tag) (client : ClientState) → tag.client < places
+pub tag_was_built : (profile : Profile) (whole : Whole) (tag : Tag) (slot : SlotState) (client : ClientState)
     → IsPiece Server 0 (messages_of profile (history_at whole.histories tag.client).built) (length (history_at whole.histories tag.client).built) tag
-    → client_at whole.ends tag.client ≡ Some client → Holds profile whole
-    → IsBuilt profile tag.number (named whole.histories tag)
-tag_was_built profile whole tag client lt is found holds =
-    let had = has_client profile whole tag.client client lt found holds in
+    → Has profile whole tag.client slot client → IsBuilt profile client.challenge tag.number (named whole.histories tag)
+tag_was_built profile whole tag slot client is had =
     let some = is.some in
     let begun = is.begun in
     let place : tag.number - 1 + 1 ≡ tag.number = omega arith in
-    subst (λ (n : ℕ). IsBuilt profile n (named whole.histories tag)) place (had.1.keeps.of_slot.built (tag.number - 1) no_message (omega arith))
+    subst (λ (challenge : ℕ). IsBuilt profile challenge tag.number (named whole.histories tag)) had.keeps.challenge
+    (subst (λ (n : ℕ). IsBuilt profile slot.challenge n (named whole.histories tag)) place (had.keeps.of_slot.built (tag.number - 1) no_message (omega arith)))
 
 -- and so the snapshot that it names is one that was built
 pub names_built : (profile : Profile) (whole : Whole) (tag : Tag)
     → IsPiece Server 0 (messages_of profile (history_at whole.histories tag.client).built) (length (history_at whole.histories tag.client).built) tag
-    → (built : IsBuilt profile tag.number (named whole.histories tag)) → WasBuilt (history_at whole.histories tag.client).built built.snapshot
-names_built profile whole tag is built =
+    → (challenge : ℕ) (built : IsBuilt profile challenge tag.number (named whole.histories tag)) → WasBuilt (history_at whole.histories tag.client).built built.snapshot
+names_built profile whole tag is challenge built =
     let number = built.number in
     let some = is.some in
     let begun = is.begun in (

@@ -17,7 +17,8 @@ use Rattle.q3_ring.specs.Snapshot.{Snapshot}
 use Rattle.q3_rings.specs.Rings.{held_snapshot, view_at}
 use Rattle.q3_rings.specs.declared.rings.NoBase.TheVariants.{EntitiesGone}
 use Rattle.q3_rings.specs.Accepted.{held_among}
-use Rattle.q3_clstate.specs.State.{AppliedState, Application, passes, accepts, apply_message}
+use Rattle.q3_window.specs.Incoming.{fresh_of}
+use Rattle.q3_clstate.specs.State.{AppliedState, Application, apply_message}
 use Rattle.q3_clstate.specs.declared.applied.Applied.{Applied as AppliedSo}
 use Rattle.q3_chan.specs.declared.gatherer.Gathered.{Gathered}
 use Rattle.q3_chan.specs.declared.gatherer.Gathered.TheVariants as gathered
@@ -32,23 +33,22 @@ use Rattle.q3_svmsg.specs.declared.error.Illegible.{Illegible}
 use Rattle.q3_client.specs.declared.client.ClientTook.{ClientTook}
 use Rattle.q3_slot.specs.declared.taking.ServerTook.{ServerTook}
 use Rattle.q3_slot.specs.declared.taking.ServerTook.TheVariants.{Stranger}
-use Rattle.q3_clmsg.specs.declared.moves.Move.{Move}
 use Rattle.q3_io.specs.declared.address.Address.{Address}
 use Rattle.q3_world.specs.declared.answer.Answer.TheVariants as variants
 use Rattle.q3_world.specs.declared.answer.Answer.TheVariants.{Unknown, Deliver}
 use Rattle.q3_world.specs.declared.made.Direction.{Direction}
 use Rattle.q3_world.specs.declared.made.Direction.TheVariants.{ToClient, ToServer}
 use Rattle.q3_world.specs.Layers.{Layers}
-use Rattle.q3_slot.specs.Built.{Built, number_of, message_of, IsNear}
+use Rattle.q3_slot.specs.Built.{Built, number_of, IsNear}
 use Rattle.q3_slot.specs.Slot.{SlotState}
 use Rattle.q3_slot.specs.Emitting.{built_bytes}
 use Rattle.q3_server.specs.Server.{places, slot_at}
-use Rattle.q3_client.specs.Client.{ClientState, Taken, take_answer, take_gathered}
-use Rattle.q3_world.specs.Ends.{Ends, Answered, unknown, delivered, ran, client_at, address_at, with_client, newest}
+use Rattle.q3_client.specs.Client.{ClientState, Taken, Reception, receive_message, take_answer, take_gathered}
+use Rattle.q3_world.specs.Ends.{Ends, Answered, delivered, client_at, address_at, with_client, newest}
 use Rattle.q3_world.specs.Kept.{SentBytes, Kept, KeptStep, opening_kept, kept_step, kept_after, kept_answers}
 use Rattle.q3_world.specs.World.{Tag, Step, Whole, History, history_at, built_at, opening, step, after, answers, deliver, arrive, to_client, to_server, named}
 use Rattle.q3_world.specs.StandsFor.{IsChecked, IsSent, IsClient, WasBuilt, Rise, IsJoined, StandsFor, bytes_of}
-use Rattle.q3_world.specs.Schedules.{StepFollows, kept_then, whole_then, BytesFollowTags, AcceptedWereBuilt, ShownWasBuilt, ShownIsNewest, AsksForAccepted, outcome_of, applied_of, Shows, AppliedWasBuilt, NewerIsAccepted, BasesWereAccepted, HeldIsAccepted, ViewsWereBuilt}
+use Rattle.q3_world.specs.Schedules.{StepFollows, kept_then, whole_then, BytesFollowTags, AcceptedWereBuilt, ShownWasBuilt, ShownIsNewest, AsksForAccepted, outcome_of, applied_of, heard_of, Shows, AppliedWasBuilt, NewerIsAccepted, BasesWereAccepted, HeldIsAccepted, ViewsWereBuilt}
 use Rattle.q3_world.specs.Layers.{RingLaws}
 use Rattle.q3_world.proofs.Events.{Holds, Holds-opening, Has, has_client}
 use Rattle.q3_world.proofs.Agree.{Cited, seen}
@@ -56,7 +56,7 @@ use Rattle.q3_world.proofs.Arriving.{IsFor, Named, names, is_sent, is_for, tag_i
 use Rattle.q3_world.proofs.Agreement.{stands_of, stands_next, kept_is}
 use Rattle.q3_world.proofs.Bases.{if_some_then}
 use Rattle.q3_world.proofs.Knowing.{KnownBase, three_some, view_was_built}
-use Rattle.q3_world.proofs.Applying.{applies_built}
+use Rattle.q3_world.proofs.Applying.{applies_message}
 use Rattle.q3_world.proofs.OnePlace.{set_there}
 
 -- what is cited of the layers below, of a profile that passed its check
@@ -83,6 +83,8 @@ cited_of below profile checked =
       bytes = below.bytes;
       server = below.server;
       rings = below.rings;
+      windows = below.windows;
+      scrambles = below.scrambles;
     }
 
 -- ---- bytes and tags
@@ -244,23 +246,28 @@ came_whole does_so profile whole tag client n count e =
     whole_is : {count' number' : ℕ} → CameWhole n count ≡ CameWhole number' count' → n ≡ number'
     whole_is same = cc
 
+-- what a client's delivery answers
+abbrev pub delivered_so : ℕ → ℕ → Taken → Answered
+delivered_so number c taken = delivered number c taken.answer taken.heard
+
 pub answers_tag : (profile : Profile) (whole : Whole) (number : ℕ) (tag : Tag) (client : ClientState) → slice_get whole.sent (number - 1) ≡ Some tag
     → tag.direction ≡ ToClient → client_at whole.ends tag.client ≡ Some client
     → (step profile whole (events.Deliver number)).answer
-    ≡ delivered number tag.client (take_gathered client (tagged client.gathering tag.number (built_bytes profile (named whole.histories tag)) tag.index)
-    (λ n. Ok (apply_message client.state n (named whole.histories tag).message))).answer
+    ≡ delivered_so number tag.client (take_gathered client (tagged client.gathering tag.number (built_bytes profile (named whole.histories tag)) tag.index)
+    (λ n. Ok (receive_message client n (named whole.histories tag).message)))
 unfolding step
 answers_tag profile whole number tag client at way found = rw (at, way, found) refl
 
 -- what a message that was built does at its client, and what is answered of it
 pub record Outcome (profile : Profile) (whole : Whole) (c n : ℕ) (client : ClientState) (built : Built) : Type 0 where
   pub answer : (apply_message client.state n built.message).answer ≡ applied_of profile.parse_ring (history_at whole.histories c).accepted n built
+  pub executed : client.state.executed.executed ≡ length (history_at whole.histories c).client_executed
   pub shows : (base : ℕ) → (apply_message client.state n built.message).answer.snap ≡ Accepted base
       → (snapshot : Snapshot) × (view_at (apply_message client.state n built.message).state.held (apply_message client.state n built.message).state.held.newest ≡ Some snapshot)
       × (snapshot.head.number ≡ n) × WasBuilt (history_at whole.histories c).built snapshot
 
 pub outcome : (profile : Profile) (whole : Whole) (c n : ℕ) (slot : SlotState) (client : ClientState) (built : Built) → Cited profile → Has profile whole c slot client
-    → client.gathering.taken < n → Named profile whole c n built → Outcome profile whole c n client built
+    → client.gathering.taken < n → Named profile whole c n slot client built → Outcome profile whole c n client built
 outcome profile whole c n slot client built cited had newer named_is =
     let history = history_at whole.histories c in
     let state = client.state in
@@ -270,30 +277,28 @@ outcome profile whole c n slot client built cited had newer named_is =
     let below = takes.below in
     let above : state.held.newest < n = omega (arith, newer, below) in
     let ring = had.keeps.of_client.ring in
-    let message_is : built.message ≡ message_of built.base snapshot = ap (λ (b : Built). b.message) is.is in
+    let counted = had.joined.commanded.to_client.runs.executed in
     let known = if_some_then built.base (KnownBase n history.built history.accepted) (λ base. IsNear n base × Contains history.accepted base) (λ base known. (known.0, known.2)) named_is.base in
     let number_is = is.number in
     let of_ring : (snap : SnapOutcome) → outcome_of state.held.ring history.accepted built.base ≡ snap → outcome_of profile.parse_ring history.accepted built.base ≡ snap =
     λ snap so. ap (λ (r : ℕ). outcome_of r history.accepted built.base) (sym ring) ∙ so in
-    elim (applies_built cited.rings state history.accepted n built.base snapshot takes.stands above known) [
-      | inl accepted ↦
-          let applied : apply_message state n built.message ≡ accepts state n (number_of built.base) snapshot = ap (λ m. apply_message state n m) message_is ∙ accepted.1 in
-          record {
-            answer = ap (λ (a : Application). a.answer) applied ∙ ap (λ (snap : SnapOutcome). answer_with n snap) (sym (of_ring (Accepted (number_of built.base)) accepted.0));
-            shows = λ base so. (
-              snapshot,
-              ap (λ (a : Application). view_at a.state.held a.state.held.newest) applied
-                  ∙ ap (λ r. result_ok r) (cited.rings.there state.held snapshot takes.stands.held (omega (arith, above, number_is)) is.are.few),
-              number_is,
-              named_is.was,
-            );
-          }
-      | inr skipped ↦
-          let applied : apply_message state n built.message ≡ passes state n (Skipped (number_of built.base) (EntitiesGone skipped.0)) = ap (λ m. apply_message state n m) message_is ∙ skipped.2 in
-          record {
-            answer = ap (λ (a : Application). a.answer) applied ∙ ap (λ (snap : SnapOutcome). answer_with n snap) (sym (of_ring (Skipped (number_of built.base) (EntitiesGone skipped.0)) skipped.1));
-            shows = λ base so. absurd (skipped_not_accepted (number_of built.base) skipped.0 base (sym (ap (λ (a : Application). a.answer.snap) applied) ∙ so));
-          }
+    elim (applies_message cited.rings state history.accepted n built is.telling snapshot is.is takes.stands above known) [
+      | inl accepted ↦ record {
+        answer = ap (λ (a : Application). a.answer) accepted.1 ∙ ap (λ (snap : SnapOutcome). answer_with n snap) (sym (of_ring (Accepted (number_of built.base)) accepted.0));
+        executed = counted;
+        shows = λ base so. (
+          snapshot,
+          ap (λ (a : Application). view_at a.state.held a.state.held.newest) accepted.1
+              ∙ ap (λ r. result_ok r) (cited.rings.there state.held snapshot takes.stands.held (omega (arith, above, number_is)) is.are.few),
+          number_is,
+          named_is.was,
+        );
+      }
+      | inr skipped ↦ record {
+        answer = ap (λ (a : Application). a.answer) skipped.2 ∙ ap (λ (snap : SnapOutcome). answer_with n snap) (sym (of_ring (Skipped (number_of built.base) (EntitiesGone skipped.0)) skipped.1));
+        executed = counted;
+        shows = λ base so. absurd (skipped_not_accepted (number_of built.base) skipped.0 base (sym (ap (λ (a : Application). a.answer.snap) skipped.2) ∙ so));
+      }
     ]
   where
     answer_with : ℕ → SnapOutcome → AppliedSo
@@ -301,6 +306,17 @@ outcome profile whole c n slot client built cited had newer named_is =
 
     skipped_not_accepted : (base age other : ℕ) → Skipped base (EntitiesGone age) ≡ Accepted other → ⊥
     skipped_not_accepted base age other e = absurd cc
+
+-- what is answered of a message that came whole
+pub whole_answer : (profile : Profile) (whole : Whole) (number c n : ℕ) (client now : ClientState) → Outcome profile whole c n client (built_at (history_at whole.histories c).built n)
+    → (count : ℕ)
+    → delivered_so number c (take_answer now (CameWhole n count) (λ k. Ok (receive_message client k (built_at (history_at whole.histories c).built n).message)))
+    ≡ delivered number c (Applied (applied_of profile.parse_ring (history_at whole.histories c).accepted n (built_at (history_at whole.histories c).built n))) (heard_of (history_at whole.histories c) n)
+whole_answer profile whole number c n client now out count =
+    let history = history_at whole.histories c in
+    let commands = (built_at history.built n).message.commands in
+    ap (λ (a : AppliedSo). delivered number c (Applied a) (fresh_of client.state.executed.executed commands)) out.answer
+    ∙ ap (λ (k : ℕ). delivered number c (Applied (applied_of profile.parse_ring history.accepted n (built_at history.built n))) (fresh_of k commands)) out.executed
 
 pub newer_is_accepted : BytesFollowTags → Layers → NewerIsAccepted
 newer_is_accepted law below profile all number n count sent client is are at way found came =
@@ -318,38 +334,34 @@ newer_is_accepted law below profile all number n count sent client is are at way
     let had = has_client profile whole tag.0.client client sent_is.0 client_is holds in
     let built = named whole.histories tag.0 in
     let took = tagged client.gathering tag.0.number (built_bytes profile built) tag.0.index in
+    let now = record client { gathering = took.gathering } in
     let answer : took.answer ≡ CameWhole n count =
     ap (λ (t : Took). t.answer) (sym (tag_is profile whole tag.0 client cited sent_is client_is holds))
     ∙ (ap (λ (s : SentBytes). (gathered_of client.gathering s.bytes).answer) tag.2 ∙ came) in
     let whole_is = came_whole below.does profile whole tag.0 client n count answer in
-    let out = outcome profile whole tag.0.client tag.0.number had.0 client built cited had.1 whole_is.1 (names profile whole tag.0 client sent_is client_is holds) in
+    let out = outcome profile whole tag.0.client tag.0.number had.0 client built cited had.1 whole_is.1 (names profile whole tag.0 had.0 client cited sent_is had.1) in
     let by_bytes = ap (λ (k : Kept). (kept_step k (events.Deliver number)).answer) (kept_is profile kept whole stands)
     ∙ ap (λ (s : KeptStep). s.answer) (delivers_agree profile whole number cited holds).same in
+    let told : ℕ → ℕ → Answered = λ c k.
+    delivered number c (Applied (applied_of profile.parse_ring (history_at whole.histories c).accepted k (built_at (history_at whole.histories c).built k))) (heard_of (history_at whole.histories c) k) in
     by_bytes
     ∙ (answers_tag profile whole number tag.0 client tag.1 goes client_is
-    ∙ (ap (λ (a : Gathered). delivered number tag.0.client (take_answer (record client { gathering = took.gathering }) a (λ k. Ok (apply_message client.state k built.message))).answer) answer
-    ∙ (ap (λ (k : ℕ). delivered number tag.0.client (Applied (apply_message client.state k built.message).answer)) whole_is.0
-    ∙ (ap (λ (a : AppliedSo). delivered number tag.0.client (Applied a)) out.answer
-    ∙ (ap (λ (k : ℕ). delivered number tag.0.client (Applied (applied_of profile.parse_ring (history_at whole.histories tag.0.client).accepted k (built_at (history_at whole.histories tag.0.client).built k)))) (sym whole_is.0)
-    ∙ ap (λ (s : SentBytes). delivered number s.client (Applied (applied_of profile.parse_ring (history_at whole.histories s.client).accepted n (built_at (history_at whole.histories s.client).built n)))) tag.2)))))
+    ∙ (ap (λ (a : Gathered). delivered_so number tag.0.client (take_answer now a (λ k. Ok (receive_message client k built.message)))) answer
+    ∙ (ap (λ (k : ℕ). delivered_so number tag.0.client (take_answer now (CameWhole k count) (λ j. Ok (receive_message client j built.message)))) whole_is.0
+    ∙ (whole_answer profile whole number tag.0.client tag.0.number client now out count
+    ∙ (ap (λ (k : ℕ). told tag.0.client k) (sym whole_is.0) ∙ ap (λ (s : SentBytes). told s.client n) tag.2)))))
 
 -- ---- what is applied
 
 -- two answers of a delivery
-same_delivered : (number c c' : ℕ) (took took' : ClientTook) → delivered number c took ≡ delivered number c' took' → (c ≡ c') × (took ≡ took')
-same_delivered number c c' took took' e =
-    let same : Deliver number c took ≡ Deliver number c' took' = ap (λ (a : Answered). a.answer) e in
-    (cc, cc)
+same_delivered : (number c c' : ℕ) (took took' : ClientTook) → Deliver number c took ≡ Deliver number c' took' → (c ≡ c') × (took ≡ took')
+same_delivered number c c' took took' e = (cc, cc)
 
-not_to_server : (datagram : ℕ) (took : ServerTook) (moves : List Move) (number c : ℕ) (took' : ClientTook) → ran datagram took moves ≡ delivered number c took' → ⊥
-not_to_server datagram took moves number c took' e =
-    let same : variants.ToServer datagram took ≡ Deliver number c took' = ap (λ (a : Answered). a.answer) e in
-    absurd cc
+not_to_server : (datagram : ℕ) (took : ServerTook) (number c : ℕ) (took' : ClientTook) → variants.ToServer datagram took ≡ Deliver number c took' → ⊥
+not_to_server datagram took number c took' e = absurd cc
 
-not_delivered : (number c : ℕ) (took : ClientTook) → unknown number ≡ delivered number c took → ⊥
-not_delivered number c took e =
-    let same : Unknown number ≡ Deliver number c took = ap (λ (a : Answered). a.answer) e in
-    absurd cc
+not_delivered : (number c : ℕ) (took : ClientTook) → Unknown number ≡ Deliver number c took → ⊥
+not_delivered number c took e = absurd cc
 
 -- what a delivery answers as applied
 abbrev Applies : Profile → List Tag → ℕ → Ends → Ends → ℕ → AppliedSo → History → Type 0
@@ -360,7 +372,7 @@ Applies profile sent number before now c applied history =
     × ((base : ℕ) → applied.snap ≡ Accepted base → Shows now c applied.number history.built)
 
 -- where nothing came whole, nothing is answered as applied
-quiet_applies : (client : ClientState) (answer : Gathered) (apply : ℕ → Result Application Illegible) (applied : AppliedSo) → IsQuiet answer
+quiet_applies : (client : ClientState) (answer : Gathered) (apply : ℕ → Result Reception Illegible) (applied : AppliedSo) → IsQuiet answer
     → (take_answer client answer apply).answer ≡ Applied applied → ⊥
 quiet_applies client (CameWhole number count) apply applied is e = is
 quiet_applies client gathered.Partial apply applied is e = absurd cc
@@ -376,7 +388,7 @@ applied_whole : (profile : Profile) (whole : Whole) (number c : ℕ) (applied : 
     → client_at whole.ends tag.client ≡ Some client → client.gathering.taken < tag.number
     → next.state ≡ (apply_message client.state tag.number (named whole.histories tag).message).state
     → Outcome profile whole tag.client tag.number client (named whole.histories tag)
-    → delivered number tag.client (Applied (apply_message client.state tag.number (named whole.histories tag).message).answer) ≡ delivered number c (Applied applied)
+    → Deliver number tag.client (Applied (apply_message client.state tag.number (named whole.histories tag).message).answer) ≡ Deliver number c (Applied applied)
     → Applies profile whole.sent number whole.ends (with_client whole.ends tag.client next) c applied (history_at whole.histories c)
 applied_whole profile whole number c applied tag client next count lt at way found newer state_is out e =
     let history = history_at whole.histories tag.client in
@@ -405,7 +417,7 @@ applied_whole profile whole number c applied tag client next count lt at way fou
 
 abbrev AppliesSo : Profile → Whole → ℕ → ℕ → AppliedSo → Step → Type 0
 AppliesSo profile whole number c applied next =
-    next.answer ≡ delivered number c (Applied applied) → Applies profile whole.sent number whole.ends next.whole.ends c applied (history_at whole.histories c)
+    next.answer.answer ≡ Deliver number c (Applied applied) → Applies profile whole.sent number whole.ends next.whole.ends c applied (history_at whole.histories c)
 
 applied_arrive : (profile : Profile) (whole : Whole) (number c : ℕ) (applied : AppliedSo) (tag : Tag) (found : Option ClientState) → Cited profile → slice_get whole.sent (number - 1) ≡ Some tag → tag.direction ≡ ToClient
     → client_at whole.ends tag.client ≡ found → IsFor profile whole tag → Holds profile whole → AppliesSo profile whole number c applied (to_client profile whole number tag found)
@@ -415,25 +427,25 @@ applied_arrive profile whole number c applied tag (Some client) cited sent_at wa
     let took = tagged client.gathering tag.number (built_bytes profile built) tag.index in
     let does = cited.does client.gathering tag.number (built_bytes profile built) tag.index in
     let now = record client { gathering = took.gathering } in
-    let apply : ℕ → Result Application Illegible = λ k. Ok (apply_message client.state k built.message) in
+    let apply : ℕ → Result Reception Illegible = λ k. Ok (receive_message client k built.message) in
     let had = has_client profile whole tag.client client is.0 at holds in
     elim does.either [
       | inl waits ↦ λ e. absurd (quiet_applies now took.answer apply applied waits.quiet
           (same_delivered number tag.client c (take_answer now took.answer apply).answer (Applied applied) e).1)
       | inr came ↦
-          let out = outcome profile whole tag.client tag.number had.0 client built cited had.1 came.newer (names profile whole tag client is at holds) in
+          let out = outcome profile whole tag.client tag.number had.0 client built cited had.1 came.newer (names profile whole tag had.0 client cited is had.1) in
           let taken = take_answer now (CameWhole tag.number (length (built_bytes profile built))) apply in
           let does_so : take_answer now took.answer apply ≡ taken = ap (λ (a : Gathered). take_answer now a apply) came.answer in
           λ e. subst (λ (t : Taken). Applies profile whole.sent number whole.ends (with_client whole.ends tag.client t.client) c applied (history_at whole.histories c)) (sym does_so)
           (applied_whole profile whole number c applied tag client taken.client holds.facts.clients is.0 sent_at way at came.newer refl out
-          (ap (λ (t : Taken). delivered number tag.client t.answer) (sym does_so) ∙ e))
+          (ap (λ (t : Taken). Deliver number tag.client t.answer) (sym does_so) ∙ e))
     ]
 
 -- where the server takes a datagram, nothing is answered as applied
 not_applied : (profile : Profile) (whole : Whole) (number c : ℕ) (applied : AppliedSo) (tag : Tag) (from : Address) (found : Option SlotState)
     → AppliesSo profile whole number c applied (to_server profile whole number tag from found)
-not_applied profile whole number c applied tag from None e = absurd (not_to_server number Stranger [] number c (Applied applied) e)
-not_applied profile whole number c applied tag from (Some slot) e = absurd (not_to_server number _ _ number c (Applied applied) e)
+not_applied profile whole number c applied tag from None e = absurd (not_to_server number Stranger number c (Applied applied) e)
+not_applied profile whole number c applied tag from (Some slot) e = absurd (not_to_server number _ number c (Applied applied) e)
 
 applied_go : (profile : Profile) (whole : Whole) (number c : ℕ) (applied : AppliedSo) (tag : Tag) (direction : Direction) → Cited profile → slice_get whole.sent (number - 1) ≡ Some tag → tag.direction ≡ direction
     → IsSent profile whole.histories tag → Holds profile whole → AppliesSo profile whole number c applied (arrive profile whole number tag direction)
@@ -466,4 +478,4 @@ applied_was_built law below profile all number c applied is are e =
     ap (λ (k : Kept). kept_step k (events.Deliver number)) (kept_is profile kept whole stands) ∙ (delivers_agree profile whole number cited holds).same in
     subst (λ (before : Ends). Applies profile whole.sent number before (kept_step kept (events.Deliver number)).kept.ends c applied history) (sym stands.ends)
     (subst (λ (s : KeptStep). Applies profile whole.sent number whole.ends s.kept.ends c applied history) (sym same)
-    (applied_step profile whole number c applied cited holds (sym (ap (λ (s : KeptStep). s.answer) same) ∙ e)))
+    (applied_step profile whole number c applied cited holds (sym (ap (λ (s : KeptStep). s.answer.answer) same) ∙ e)))

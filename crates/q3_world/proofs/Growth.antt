@@ -1,13 +1,11 @@
 -- What was begun only grows.
-use Rattle.std.proofs.Common.{◌≡◌, ℕ, zero, suc, ◌-◌, ◌<◌, ◌≤◌, List, [], ◌∷◌, ◌++◌, length, get_or, Option, Some, None, refl, sym, ap, subst, ◌∙◌, inl, inr, arith}
+use Rattle.std.proofs.Common.{◌≡◌, ℕ, zero, suc, ◌-◌, ◌<◌, ◌≤◌, List, [], ◌∷◌, ◌++◌, length, get_or, Some, refl, sym, ap, subst, ◌∙◌, inl, inr, arith}
 use Rattle.std.proofs.lemmas.List.{append-nil, length-append, length_push, get_or_append_left, get_or_push, set-get_or}
 use Rattle.std.proofs.lemmas.Bool.{cases_eq, cases_lt}
 use Rattle.q3_profile.specs.declared.profile.Profile.{Profile}
 use Rattle.q3_chan.specs.declared.side.Side.{Side}
 use Rattle.q3_chan.specs.declared.side.Side.TheVariants.{Server, Client}
 use Rattle.q3_chan.specs.Datagrams.{piece_count, datagram}
-use Rattle.q3_clmsg.specs.declared.moves.Move.{Move}
-use Rattle.q3_clmsg.specs.Values.{empty_message}
 use Rattle.q3_ring.specs.Snapshot.{Snapshot}
 use Rattle.q3_slot.specs.Built.{Built}
 use Rattle.q3_slot.specs.Emitting.{built_bytes}
@@ -15,7 +13,7 @@ use Rattle.q3_server.specs.Server.{places}
 use Rattle.q3_client.specs.Sending.{said_bytes, Said}
 use Rattle.q3_world.specs.declared.made.Direction.{Direction}
 use Rattle.q3_world.specs.declared.made.Direction.TheVariants.{ToClient, ToServer}
-use Rattle.q3_world.specs.World.{Tag, History, no_history, no_message, history_at, with_history, built_at, with_built, with_accepted, with_said, with_run}
+use Rattle.q3_world.specs.World.{Tag, History, no_history, no_message, no_said, history_at, with_history, built_at, with_built, with_said}
 use Rattle.q3_world.specs.StandsFor.{IsPiece, IsWay, IsSent, snapshot_in, WasBuilt, messages_of, messages_said}
 use Rattle.q3_world.proofs.OnePlace.{set_there, OnlyAt-set}
 
@@ -41,7 +39,7 @@ messages_stay profile built more (suc number) few = ap (built_bytes profile) (bu
 pub messages_said_stay : (profile : Profile) (said more : List Said) (number : ℕ) → number ≤ length said
     → messages_said profile (said ++ more) number ≡ messages_said profile said number
 messages_said_stay profile said more zero few = refl
-messages_said_stay profile said more (suc number) few = ap (said_bytes profile) (get_or_append_left said more empty_message (suc number - 1) (omega (arith, few)))
+messages_said_stay profile said more (suc number) few = ap (said_bytes profile) (get_or_append_left said more no_said (suc number - 1) (omega (arith, few)))
 
 -- ---- histories
 
@@ -55,23 +53,16 @@ pub record HistoryGrows (old new : History) : Type 0 where
 pub HistoryGrows-same : (history : History) → HistoryGrows history history
 HistoryGrows-same history = record { qport = λ some. refl; host = λ some. refl; built = ([], sym (append-nil history.built)); said = ([], sym (append-nil history.said)) }
 
-pub HistoryGrows-built : (history : History) (began : Option Built) → HistoryGrows history (with_built history began)
-HistoryGrows-built history None = HistoryGrows-same history
-HistoryGrows-built history (Some built) = record { qport = λ some. refl; host = λ some. refl; built = (built ∷ [], refl); said = ([], sym (append-nil history.said)) }
+-- where nothing of these changes
+pub HistoryGrows-beside : (old new : History) → new.qport ≡ old.qport → new.host ≡ old.host → new.built ≡ old.built → new.said ≡ old.said → HistoryGrows old new
+HistoryGrows-beside old new qport host built said =
+    record { qport = λ some. qport; host = λ some. host; built = ([], built ∙ sym (append-nil old.built)); said = ([], said ∙ sym (append-nil old.said)) }
 
-pub HistoryGrows-accepted : (history : History) (heard : Option Snapshot) → HistoryGrows history (with_accepted history heard)
-HistoryGrows-accepted history None = HistoryGrows-same history
-HistoryGrows-accepted history (Some snapshot) = record { qport = λ some. refl; host = λ some. refl; built = ([], sym (append-nil history.built)); said = ([], sym (append-nil history.said)) }
+pub HistoryGrows-built : (history : History) (built : Built) → HistoryGrows history (with_built history (Some built))
+HistoryGrows-built history built = record { qport = λ some. refl; host = λ some. refl; built = (built ∷ [], refl); said = ([], sym (append-nil history.said)) }
 
-pub HistoryGrows-said : (history : History) (began : Option Said) → HistoryGrows history (with_said history began)
-HistoryGrows-said history None = HistoryGrows-same history
-HistoryGrows-said history (Some said) = record { qport = λ some. refl; host = λ some. refl; built = ([], sym (append-nil history.built)); said = (said ∷ [], refl) }
-
-pub HistoryGrows-issued : (history : History) (one : Move) → HistoryGrows history (record history { issued = history.issued ++ one ∷ [] })
-HistoryGrows-issued history one = record { qport = λ some. refl; host = λ some. refl; built = ([], sym (append-nil history.built)); said = ([], sym (append-nil history.said)) }
-
-pub HistoryGrows-run : (history : History) (moves : List Move) → HistoryGrows history (with_run history moves)
-HistoryGrows-run history moves = record { qport = λ some. refl; host = λ some. refl; built = ([], sym (append-nil history.built)); said = ([], sym (append-nil history.said)) }
+pub HistoryGrows-said : (history : History) (said : Said) → HistoryGrows history (with_said history (Some said))
+HistoryGrows-said history said = record { qport = λ some. refl; host = λ some. refl; built = ([], sym (append-nil history.built)); said = (said ∷ [], refl) }
 
 -- a client that joins said nothing before
 pub HistoryGrows-joined : (history new : History) → history ≡ no_history → HistoryGrows history new

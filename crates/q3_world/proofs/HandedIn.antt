@@ -1,5 +1,5 @@
 -- What the game hands in keeps what holds.
-use Rattle.std.proofs.Common.{◌≡◌, ℕ, ◌^◌, ◌<◌, ◌≤◌, false, length, refl, sym, subst, inl, inr, arith}
+use Rattle.std.proofs.Common.{◌≡◌, ℕ, ◌^◌, ◌<◌, ◌≤◌, false, List, length, Some, refl, sym, subst, inl, inr, arith}
 use Rattle.std.specs.Prelude.{nat_le, position}
 use Rattle.std.proofs.lemmas.Bool.{cases_Bool, leb-false, lt-leb}
 use Rattle.q3_profile.specs.declared.profile.Profile.{Profile}
@@ -11,17 +11,20 @@ use Rattle.arrayvec.specs.ArrayVec.{ArrayVec}
 use Rattle.q3_fields.specs.States.{AreWords}
 use Rattle.q3_entity.specs.declared.state.EntityState.{EntityState}
 use Rattle.q3_entity.specs.Entities.{normal_entity}
+use Rattle.q3_text.specs.Texts.{IsText}
+use Rattle.q3_window.specs.Outgoing.{fits as has_room}
 use Rattle.q3_clmsg.specs.declared.moves.Move.{Move}
 use Rattle.q3_client.specs.Moves.{is_issuable}
 use Rattle.q3_map.specs.Map.{with_entity, without_entity}
 use Rattle.q3_slot.specs.Built.{IsHeld, IsArea}
-use Rattle.q3_slot.specs.Slot.{is_of, with_player}
-use Rattle.q3_server.specs.Server.{places, slot_at}
-use Rattle.q3_world.specs.Ends.{EndsStep, client_at, join, set_entity, remove_entity, set_player, set_area, add_move}
+use Rattle.q3_slot.specs.Slot.{SlotState, is_of, with_player}
+use Rattle.q3_server.specs.Server.{ServerState, places, slot_at, with_slot}
+use Rattle.q3_world.specs.Ends.{EndsStep, client_at, join, set_entity, remove_entity, set_player, set_area, say_command, type_command, add_move}
 use Rattle.q3_world.specs.Kept.{kept_ends}
-use Rattle.q3_world.specs.World.{Whole, history_at, with_joined, with_issued, with_ends, with_noted}
+use Rattle.q3_world.specs.World.{Whole, history_at, with_history, with_joined, with_spoken, with_typed, with_issued, with_ends, with_noted}
 use Rattle.q3_world.proofs.MoveLists.{is_move}
-use Rattle.q3_world.proofs.Events.{Holds, with_new_slot, Holds-new, Holds-player, Holds-area, Holds-map, Holds-issued}
+use Rattle.q3_world.proofs.Events.{Holds, with_new_slot, Holds-new, Holds-player, Holds-area, Holds-map, Holds-issued, same_server}
+use Rattle.q3_world.proofs.Issuing.{Holds-spoken, Holds-typed}
 use Rattle.q3_world.proofs.Agree.{Cited, kept_of, Agree, found_or, unnoted, left_alone}
 
 -- ---- what the game hands in, or reads
@@ -38,7 +41,7 @@ holds_join profile whole c challenge qport dup address cited lt fits holds =
     let within : nat_le (length slots) c ≡ false = lt-leb (length slots) c (omega (arith, lt, holds.facts.slots)) in
     rw within (elim (found_or (slot_at whole.ends.server c)) [
       | inl none ↦ rw none (elim (found_or (position (is_of address.host qport) slots)) [
-        | inl alone ↦ rw alone (Holds-new cited.rings profile whole c challenge qport dup address cited.ring cited.sends cited.gathers cited.zero lt fits none alone holds)
+        | inl alone ↦ rw alone (Holds-new cited.rings cited.windows profile whole c challenge qport dup address cited.ring cited.sends cited.gathers cited.zero lt fits none alone holds)
         | inr twin ↦ rw twin.1 (unnoted profile whole c holds)
       ])
       | inr found ↦ rw found.1 (unnoted profile whole c holds)
@@ -101,5 +104,42 @@ holds_move profile whole c one held lt holds =
               | inl may ↦ rw may (Holds-issued profile whole c client one lt found.1 (is_move one held may) (leb-false one.time client.last_time later) holds)
               | inr bad ↦ rw bad (left_alone profile whole c client whole.sent found.1 refl holds)
             ])
+          ])
+    ]
+
+-- ---- commands
+
+-- the server issues one for a client
+pub holds_say : (profile : Profile) (whole : Whole) (c : ℕ) (text : List ℕ) → Cited profile → IsText text → c < places → Holds profile whole
+    → Holds profile (with_noted whole c (say_command whole.ends c text) (with_spoken (history_at whole.histories c) text)).whole
+holds_say profile whole c text cited is lt holds =
+    elim (found_or (slot_at whole.ends.server c)) [
+      | inl none ↦ rw none (unnoted profile whole c holds)
+      | inr found ↦
+          let slot = found.0 in
+          rw found.1 (elim (cases_Bool (has_room slot.issued 1 (length text))) [
+            | inl room ↦ rw room (Holds-spoken cited.windows profile whole c slot text lt found.1 room is holds)
+            | inr full ↦ rw full (slot_alone profile whole c slot found.1 holds)
+          ])
+    ]
+  where
+    -- a slot left as it was, of whose client nothing new is noted
+    slot_alone : (profile : Profile) (whole : Whole) (c : ℕ) (slot : SlotState) → slot_at whole.ends.server c ≡ Some slot → Holds profile whole
+        → Holds profile (record whole { ends = record whole.ends { server = with_slot whole.ends.server c slot }; histories = with_history whole.histories c (history_at whole.histories c) })
+    slot_alone profile whole c slot at holds =
+        subst (λ (server : ServerState). Holds profile (record whole { ends = record whole.ends { server = server }; histories = with_history whole.histories c (history_at whole.histories c) }))
+        (sym (same_server whole.ends.server c slot at)) (unnoted profile whole c holds)
+
+-- and a client issues one
+pub holds_type : (profile : Profile) (whole : Whole) (c : ℕ) (text : List ℕ) → Cited profile → IsText text → c < places → Holds profile whole
+    → Holds profile (with_noted whole c (type_command whole.ends c text) (with_typed (history_at whole.histories c) text)).whole
+holds_type profile whole c text cited is lt holds =
+    elim (found_or (client_at whole.ends c)) [
+      | inl none ↦ rw none (unnoted profile whole c holds)
+      | inr found ↦
+          let client = found.0 in
+          rw found.1 (elim (cases_Bool (has_room client.issued 1 (length text))) [
+            | inl room ↦ rw room (Holds-typed cited.windows profile whole c client text lt found.1 room is holds)
+            | inr full ↦ rw full (left_alone profile whole c client whole.sent found.1 refl holds)
           ])
     ]

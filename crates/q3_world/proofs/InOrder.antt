@@ -1,14 +1,17 @@
 -- The pieces of a message that to_client in order.
-use Rattle.std.proofs.Common.{◌≡◌, ℕ, suc, ◌+◌, ◌-◌, ◌<◌, ◌≤◌, List, [], ◌∷◌, ◌++◌, length, Option, Some, None, Result, Ok, refl, sym, ap, subst, ◌∙◌, inl, inr, arith}
+use Rattle.std.proofs.Common.{◌≡◌, ℕ, suc, ◌+◌, ◌-◌, ◌<◌, ◌≤◌, List, [], ◌∷◌, ◌++◌, length, Option, Some, None, Ok, refl, sym, ap, subst, ◌∙◌, inl, inr, arith}
 use Rattle.std.specs.Prelude.{◌⊎◌, slice_get}
 use Rattle.std.specs.List.{AllByRecursion}
 use Rattle.std.proofs.Math.ListN.{length-set}
+use Rattle.std.proofs.lemmas.List.{append-nil}
 use Rattle.q3_profile.specs.declared.profile.Profile.{Profile}
 use Rattle.q3_script.specs.declared.event.Event.{Event}
 use Rattle.q3_script.specs.declared.event.Event.TheVariants as events
 use Rattle.q3_script.specs.Grammar.{IsReplayEvent}
 use Rattle.q3_ring.specs.Snapshot.{Snapshot}
-use Rattle.q3_clstate.specs.State.{Application, apply_message}
+use Rattle.q3_text.specs.declared.text.Command.{Command}
+use Rattle.q3_window.specs.Incoming.{fresh_of}
+use Rattle.q3_clstate.specs.State.{apply_message}
 use Rattle.q3_clstate.specs.declared.applied.Applied.{Applied as AppliedSo}
 use Rattle.q3_chan.specs.declared.gatherer.Gathered.{Gathered}
 use Rattle.q3_chan.specs.declared.gatherer.Gathered.TheVariants as gathered
@@ -16,32 +19,30 @@ use Rattle.q3_chan.specs.declared.gatherer.Gathered.TheVariants.{Whole as CameWh
 use Rattle.q3_chan.specs.Datagrams.{last_index}
 use Rattle.q3_chan.specs.Gathering.{Gathering, Took}
 use Rattle.q3_chan.specs.Tags.{tagged, tagged_all}
-use Rattle.q3_chan.specs.Tags.{IsQuiet}
 use Rattle.q3_chan.specs.Laws.{PiecesAreTagged, TaggedDoes}
-use Rattle.q3_svmsg.specs.declared.error.Illegible.{Illegible}
 use Rattle.q3_client.specs.declared.client.ClientTook.TheVariants.{Applied}
 use Rattle.q3_slot.specs.Built.{Built}
 use Rattle.q3_slot.specs.Emitting.{built_bytes}
 use Rattle.q3_server.specs.Server.{places}
-use Rattle.q3_client.specs.Client.{ClientState, Taken, take_answer, take_gathered}
+use Rattle.q3_client.specs.Client.{ClientState, Taken, Reception, receive_message, take_answer, take_gathered}
 use Rattle.q3_world.specs.declared.made.Direction.TheVariants.{ToClient}
 use Rattle.q3_world.specs.Ends.{client_at, with_client, delivered}
 use Rattle.q3_world.specs.Kept.{Kept, KeptStep, kept_step}
-use Rattle.q3_world.specs.World.{Tag, Whole, History, no_history, history_at, with_history, with_accepted, built_at, named, client_took, step, after, opening}
+use Rattle.q3_world.specs.World.{Tag, Whole, History, no_history, history_at, with_history, with_heard, built_at, named, client_took, step, after, opening}
 use Rattle.q3_world.specs.StandsFor.{StandsFor, messages_of}
 use Rattle.q3_world.specs.Layers.{Layers}
-use Rattle.q3_world.specs.Schedules.{kept_then, whole_then, BytesFollowTags, applied_of, ArePieces, deliveries, InOrderIsAccepted}
+use Rattle.q3_world.specs.Schedules.{kept_then, whole_then, BytesFollowTags, applied_of, heard_of, ArePieces, deliveries, InOrderIsAccepted}
 use Rattle.q3_world.proofs.Clients.{at_number}
 use Rattle.q3_world.proofs.Events.{Holds, has_client}
-use Rattle.q3_world.proofs.Arriving.{Named, names, is_sent, is_for, delivers_agree}
+use Rattle.q3_world.proofs.Arriving.{quiet_client, Named, names, is_sent, is_for, delivers_agree}
 use Rattle.q3_world.proofs.Agreement.{kept_is}
-use Rattle.q3_world.proofs.EverySchedule.{cited_of, outcome, answers_tag}
+use Rattle.q3_world.proofs.EverySchedule.{cited_of, outcome, delivered_so, answers_tag}
 use Rattle.q3_world.proofs.OnePlace.{set_there}
 
 -- ---- one piece
 
 -- what a message does leaves what is gathered
-answer_gathers : (client : ClientState) (answer : Gathered) (apply : ℕ → Application) → (take_answer client answer (λ n. Ok (apply n))).client.gathering ≡ client.gathering
+answer_gathers : (client : ClientState) (answer : Gathered) (apply : ℕ → Reception) → (take_answer client answer (λ n. Ok (apply n))).client.gathering ≡ client.gathering
 answer_gathers client (CameWhole number count) apply = refl
 answer_gathers client gathered.Partial apply = refl
 answer_gathers client gathered.Old apply = refl
@@ -51,9 +52,16 @@ answer_gathers client gathered.Runt apply = refl
 answer_gathers client gathered.Connectionless apply = refl
 
 -- and what was built
-heard_built : (history : History) (heard : Option Snapshot) → (with_accepted history heard).built ≡ history.built
-heard_built history None = refl
-heard_built history (Some snapshot) = refl
+heard_built : (history : History) (heard : Option Snapshot) (commands : List Command) → (with_heard history heard commands).built ≡ history.built
+heard_built history None commands = refl
+heard_built history (Some snapshot) commands = refl
+
+-- nothing was accepted or executed
+abbrev IsAsBefore : History → History → Type 0
+IsAsBefore before now = (now.accepted ≡ before.accepted) × (now.client_executed ≡ before.client_executed)
+
+nothing_heard : (history : History) → IsAsBefore history (with_heard history None [])
+nothing_heard history = (refl, append-nil history.client_executed)
 
 -- a world in which of one message so many first pieces arrived since another
 pub record Reached (profile : Profile) (start now : Whole) (c n count : ℕ) (g : Gathering) : Type 0 where
@@ -64,7 +72,7 @@ pub record Reached (profile : Profile) (start now : Whole) (c n count : ℕ) (g 
   pub client : ClientState
   pub found : client_at now.ends c ≡ Some client
   pub gathers : client.gathering ≡ tagged_all g n (built_bytes profile (built_at (history_at start.histories c).built n)) count
-  pub accepted : (n ≤ client.gathering.taken) ⊎ ((history_at now.histories c).accepted ≡ (history_at start.histories c).accepted)
+  pub accepted : (n ≤ client.gathering.taken) ⊎ IsAsBefore (history_at start.histories c) (history_at now.histories c)
 
 -- in the beginning none did
 pub reached_none : (profile : Profile) (start : Whole) (c n : ℕ) (client : ClientState) → Holds profile start → client_at start.ends c ≡ Some client
@@ -78,27 +86,20 @@ reached_none profile start c n client holds found = record {
   client = client;
   found = found;
   gathers = refl;
-  accepted = inr refl;
+  accepted = inr (refl, refl);
 }
 
 -- the piece of a tag arrives
 abbrev arrived : Profile → Whole → ℕ → Tag → ClientState → Taken
 arrived profile whole number tag client =
     take_gathered client (tagged client.gathering tag.number (built_bytes profile (named whole.histories tag)) tag.index)
-    (λ n. Ok (apply_message client.state n (named whole.histories tag).message))
+    (λ n. Ok (receive_message client n (named whole.histories tag).message))
 
 abbrev arrives_at : Profile → Whole → ℕ → Tag → ClientState → Whole
 arrives_at profile whole number tag client = (client_took whole number tag.client (arrived profile whole number tag client)).whole
 
--- what is accepted of a piece: nothing, or its message came whole
-quiet_heard : (client : ClientState) (answer : Gathered) (apply : ℕ → Result Application Illegible) → IsQuiet answer → (take_answer client answer apply).heard ≡ None
-quiet_heard client (CameWhole number count) apply is = absurd is
-quiet_heard client gathered.Partial apply is = refl
-quiet_heard client gathered.Old apply is = refl
-quiet_heard client gathered.OutOfOrder apply is = refl
-quiet_heard client gathered.BadFragment apply is = absurd is
-quiet_heard client gathered.Runt apply is = absurd is
-quiet_heard client gathered.Connectionless apply is = absurd is
+as_before : (start middle now : History) → IsAsBefore start middle → IsAsBefore middle now → IsAsBefore start now
+as_before start middle now first second = (second.0 ∙ first.0, second.1 ∙ first.1)
 
 reached_more : TaggedDoes → (profile : Profile) (start now : Whole) (c n count number : ℕ) (g : Gathering) (tag : Tag) → c < places → tag.client ≡ c → tag.number ≡ n → tag.index ≡ count
     → (reached : Reached profile start now c n count g) → Reached profile start (arrives_at profile now number tag reached.client) c n (count + 1) g
@@ -118,19 +119,23 @@ reached_more does_so profile start now c n count number g tag lt is_c is_n is_in
     ∙ (ap (λ (b : Built). tagged (tagged_all g n message count) n (built_bytes profile b) tag.index) built_is
     ∙ ap (λ (k : ℕ). tagged (tagged_all g n message count) n message k) is_index)) in
     let one : suc count ≡ count + 1 = omega arith in
-    let noted = with_accepted (history_at now.histories tag.client) taken.heard in
+    let noted = with_heard (history_at now.histories tag.client) taken.accepted taken.heard in
     let there = set_there now.histories tag.client no_history noted reached.histories (subst (λ (k : ℕ). k < places) (sym is_c) lt) in
     let does = does_so client.gathering tag.number (built_bytes profile built) tag.index in
-    let apply : ℕ → Application = λ k. apply_message client.state k built.message in
+    let apply : ℕ → Reception = λ k. receive_message client k built.message in
     let here = record client { gathering = took.gathering } in
     let gathers = answer_gathers here took.answer apply in
+    let noted_is : taken.accepted ≡ None → taken.heard ≡ [] → history_at (with_history now.histories tag.client noted) c ≡ with_heard (history_at now.histories c) None [] =
+    λ accepted heard. ap (λ (k : ℕ). history_at (with_history now.histories tag.client noted) k) (sym is_c)
+    ∙ (there ∙ (ap (λ (s : Option Snapshot). with_heard (history_at now.histories tag.client) s taken.heard) accepted
+    ∙ (ap (λ (l : List Command). with_heard (history_at now.histories tag.client) None l) heard ∙ ap (λ (k : ℕ). with_heard (history_at now.histories k) None []) is_c))) in
     let taken_is : taken.client.gathering.taken ≡ took.gathering.taken = ap (λ (x : Gathering). x.taken) gathers in
     record {
       sent = reached.sent;
       clients = length-set now.ends.clients tag.client (Some taken.client) ∙ reached.clients;
       histories = length-set now.histories tag.client noted ∙ reached.histories;
       built = ap (λ (k : ℕ). (history_at (with_history now.histories tag.client noted) k).built) (sym is_c)
-          ∙ (ap (λ (h : History). h.built) there ∙ (heard_built (history_at now.histories tag.client) taken.heard
+          ∙ (ap (λ (h : History). h.built) there ∙ (heard_built (history_at now.histories tag.client) taken.accepted taken.heard
           ∙ (ap (λ (k : ℕ). (history_at now.histories k).built) is_c ∙ reached.built)));
       client = taken.client;
       found = ap (λ (k : ℕ). client_at (with_client now.ends tag.client taken.client) k) (sym is_c)
@@ -138,13 +143,11 @@ reached_more does_so profile start now c n count number g tag lt is_c is_n is_in
       gathers = gathers ∙ (ap (λ (t : Took). t.gathering) next_is ∙ ap (λ (k : ℕ). tagged_all g n message k) one);
       accepted = elim does.either [
         | inl waits ↦
-            let none : taken.heard ≡ None = quiet_heard here took.answer (λ k. Ok (apply k)) waits.quiet in
+            let same = quiet_client here took.answer (λ k. Ok (apply k)) waits.quiet in
             elim reached.accepted [
               | inl past ↦ inl (omega (arith, past, taken_is, waits.taken))
-              | inr same ↦ inr (
-                  ap (λ (k : ℕ). (history_at (with_history now.histories tag.client noted) k).accepted) (sym is_c)
-                  ∙ (ap (λ (h : History). h.accepted) there ∙ (ap (λ (heard : Option Snapshot). (with_accepted (history_at now.histories tag.client) heard).accepted) none
-                  ∙ (ap (λ (k : ℕ). (history_at now.histories k).accepted) is_c ∙ same))))
+              | inr before ↦ inr (subst (λ (h : History). IsAsBefore (history_at start.histories c) h) (sym (noted_is same.1 same.2))
+                  (as_before (history_at start.histories c) (history_at now.histories c) (with_heard (history_at now.histories c) None []) before (nothing_heard (history_at now.histories c))))
             ]
         | inr came ↦ inl (omega (arith, taken_is, came.taken, is_n))
       ];
@@ -191,17 +194,19 @@ both_are [] others first second = second
 both_are (event ∷ some) others first second = (first.0, both_are some others first.1 second)
 
 -- what the last piece answers, by its tag
-last_answer : (profile : Profile) (whole : Whole) (c n last : ℕ) (tag : Tag) (client : ClientState) (applied : AppliedSo) → slice_get whole.sent (last - 1) ≡ Some tag → tag.direction ≡ ToClient → tag.client ≡ c
-    → client_at whole.ends tag.client ≡ Some client
+last_answer : (profile : Profile) (whole : Whole) (c n last : ℕ) (tag : Tag) (client : ClientState) (applied : AppliedSo) (heard : List Command) → slice_get whole.sent (last - 1) ≡ Some tag
+    → tag.direction ≡ ToClient → tag.client ≡ c → client_at whole.ends tag.client ≡ Some client
     → (tagged client.gathering tag.number (built_bytes profile (named whole.histories tag)) tag.index).answer ≡ CameWhole n (length (built_bytes profile (named whole.histories tag)))
     → (apply_message client.state n (named whole.histories tag).message).answer ≡ applied
-    → (step profile whole (events.Deliver last)).answer ≡ delivered last c (Applied applied)
-last_answer profile whole c n last tag client applied at way is_c found came is =
+    → fresh_of client.state.executed.executed (named whole.histories tag).message.commands ≡ heard
+    → (step profile whole (events.Deliver last)).answer ≡ delivered last c (Applied applied) heard
+last_answer profile whole c n last tag client applied heard at way is_c found came is heard_is =
     let built = named whole.histories tag in
     let took = tagged client.gathering tag.number (built_bytes profile built) tag.index in
     answers_tag profile whole last tag client at way found
-    ∙ (ap (λ (a : Gathered). delivered last tag.client (take_answer (record client { gathering = took.gathering }) a (λ k. Ok (apply_message client.state k built.message))).answer) came
-    ∙ (ap (λ (a : AppliedSo). delivered last tag.client (Applied a)) is ∙ ap (λ (k : ℕ). delivered last k (Applied applied)) is_c))
+    ∙ (ap (λ (a : Gathered). delivered_so last tag.client (take_answer (record client { gathering = took.gathering }) a (λ k. Ok (receive_message client k built.message)))) came
+    ∙ (ap (λ (a : AppliedSo). delivered last tag.client (Applied a) (fresh_of client.state.executed.executed built.message.commands)) is
+    ∙ (ap (λ (l : List Command). delivered last tag.client (Applied applied) l) heard_is ∙ ap (λ (k : ℕ). delivered last k (Applied applied) heard) is_c)))
 
 pub in_order_is_accepted : BytesFollowTags → Layers → PiecesAreTagged → InOrderIsAccepted
 unfolding tagged_all
@@ -252,9 +257,15 @@ in_order_is_accepted law below pieces profile all c n last numbers client is are
     let had_now = has_client profile now tag.client reached.client tag_sent.0 tag_found holds in
     let still : reached.client.gathering.taken < n = ap_lt (sym (ap (λ (x : Gathering). x.taken) reached.gathers)) came_newer in
     let out = outcome profile now tag.client n had_now.0 reached.client (named now.histories tag) cited had_now.1 still
-    (subst (λ (k : ℕ). Named profile now tag.client k (named now.histories tag)) tail.4 (names profile now tag reached.client tag_sent tag_found holds)) in
-    let accepted_is : (history_at now.histories c).accepted ≡ (history_at start.histories c).accepted =
+    (subst (λ (k : ℕ). Named profile now tag.client k had_now.0 reached.client (named now.histories tag)) tail.4 (names profile now tag had_now.0 reached.client cited tag_sent had_now.1)) in
+    let as_then : IsAsBefore (history_at start.histories c) (history_at now.histories c) =
     elim reached.accepted [ inl past ↦ absurd (omega (arith, past, still)) | inr same ↦ same ] in
+    let accepted_is = as_then.0 in
+    let heard_is : fresh_of reached.client.state.executed.executed (named now.histories tag).message.commands ≡ heard_of (history_at start.histories c) n =
+    ap (λ (k : ℕ). fresh_of k (named now.histories tag).message.commands) out.executed
+    ∙ (ap (λ (k : ℕ). fresh_of (length (history_at now.histories k).client_executed) (named now.histories tag).message.commands) tail.3
+    ∙ (ap (λ (l : List (List ℕ)). fresh_of (length l) (named now.histories tag).message.commands) as_then.1
+    ∙ ap (λ (b : Built). fresh_of (length (history_at start.histories c).client_executed) b.message.commands) named_is)) in
     let applied_is : applied_of profile.parse_ring (history_at now.histories tag.client).accepted n (named now.histories tag)
     ≡ applied_of profile.parse_ring (history_at start.histories c).accepted n (built_at built n) =
     ap (λ (k : ℕ). applied_of profile.parse_ring (history_at now.histories k).accepted n (named now.histories tag)) tail.3
@@ -262,7 +273,8 @@ in_order_is_accepted law below pieces profile all c n last numbers client is are
     ∙ ap (λ (b : Built). applied_of profile.parse_ring (history_at start.histories c).accepted n b) named_is) in
     ap (λ (k : Kept). (kept_step k (events.Deliver last)).answer) (kept_is profile (kept_then profile all') now stands)
     ∙ (ap (λ (s : KeptStep). s.answer) (delivers_agree profile now last cited holds).same
-    ∙ last_answer profile now c n last tag reached.client (applied_of profile.parse_ring (history_at start.histories c).accepted n (built_at built n)) at tail.2 tail.3 tag_found answer (out.answer ∙ applied_is))
+    ∙ last_answer profile now c n last tag reached.client (applied_of profile.parse_ring (history_at start.histories c).accepted n (built_at built n)) (heard_of (history_at start.histories c) n) at tail.2 tail.3 tag_found answer
+    (out.answer ∙ applied_is) heard_is)
   where
     ap_lt : {x y z : ℕ} → x ≡ y → x < z → y < z
     ap_lt {x = x} {y = y} {z = z} same lt = omega (arith, same, lt)

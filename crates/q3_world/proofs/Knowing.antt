@@ -18,12 +18,12 @@ use Rattle.q3_world.specs.StandsFor.{snapshot_in, WasBuilt, KeepsSlot, AreAsked}
 use Rattle.q3_world.proofs.Bases.{some_one, was_built_one}
 
 -- the messages that were begun are so
-abbrev pub AreMessages : Profile → List Built → Type 0
-AreMessages profile began = (k : ℕ) (d : Built) → k < length began → IsBuilt profile (k + 1) (get_or began k d)
+abbrev pub AreMessages : Profile → ℕ → List Built → Type 0
+AreMessages profile challenge began = (k : ℕ) (d : Built) → k < length began → IsBuilt profile challenge (k + 1) (get_or began k d)
 
 -- a snapshot that was built is one that may be
-pub was_built_is : (profile : Profile) (began : List Built) (snapshot : Snapshot) → AreMessages profile began → WasBuilt began snapshot → IsSnapshot profile snapshot
-was_built_is profile began snapshot are was =
+pub was_built_is : (profile : Profile) (challenge : ℕ) (began : List Built) (snapshot : Snapshot) → AreMessages profile challenge began → WasBuilt began snapshot → IsSnapshot profile snapshot
+was_built_is profile challenge began snapshot are was =
     let some = was.0 in
     let few = was.1 in
     let is = are (snapshot.head.number - 1) no_message (omega (arith, some, few)) in
@@ -47,10 +47,10 @@ view_was_built laws held began took number snapshot stands were viewed =
     (was.1, All-contains (WasBuilt began) took snapshot were was.0)
 
 -- so each that is held may have been built
-pub held_are_built : RingLaws → (profile : Profile) (held : HeldSnapshots) (began : List Built) (took : List Snapshot) → AreMessages profile began → SnapshotsStandFor took held
+pub held_are_built : RingLaws → (profile : Profile) (challenge : ℕ) (held : HeldSnapshots) (began : List Built) (took : List Snapshot) → AreMessages profile challenge began → SnapshotsStandFor took held
     → All (WasBuilt began) took → AreBuilt profile held
-held_are_built laws profile held began took are stands were number snapshot viewed =
-    was_built_is profile began snapshot are (view_was_built laws held began took number snapshot stands were viewed).1
+held_are_built laws profile challenge held began took are stands were number snapshot viewed =
+    was_built_is profile challenge began snapshot are (view_was_built laws held began took number snapshot stands were viewed).1
 
 -- and under the number of one that was built there is no other
 pub holds_this : RingLaws → (held : HeldSnapshots) (began : List Built) (took : List Snapshot) (base : Snapshot) → SnapshotsStandFor took held → All (WasBuilt began) took → WasBuilt began base
@@ -70,7 +70,7 @@ abbrev pub KnownBase : ℕ → List Built → List Snapshot → Snapshot → Typ
 KnownBase n began took base = IsNear n base × WasBuilt began base × Contains took base
 
 pub known_base : (profile : Profile) (slot : SlotState) (client : ClientState) (history : History) (n : ℕ) → 1 ≤ n → n ≤ length history.built
-    → IsBuilt profile n (built_at history.built n) → KeepsSlot profile slot history.qport history.host history.built history.run → AreAsked slot history.said history.built history.accepted
+    → IsBuilt profile slot.challenge n (built_at history.built n) → KeepsSlot profile slot history.qport history.host history.built history.run history.server_commands → AreAsked slot history.said history.built history.accepted
     → IfSome (built_at history.built n).base (KnownBase n history.built history.accepted)
 known_base profile slot client history n some few is keeps asked =
     let lt : n - 1 < length history.built = omega (arith, some, few) in

@@ -9,7 +9,10 @@ use Rattle.q3_io.specs.declared.address.Address.{Address}
 use Rattle.q3_script.specs.declared.event.Event.{Event}
 use Rattle.q3_script.specs.declared.event.Event.TheVariants as events
 use Rattle.q3_script.specs.Grammar.{IsReplayEvent}
+use Rattle.q3_window.specs.declared.outgoing.WindowFull.{WindowFull}
+use Rattle.q3_window.specs.Incoming.{gap_in}
 use Rattle.q3_clmsg.specs.declared.moves.Move.{Move}
+use Rattle.q3_clmsg.specs.Values.{Message}
 use Rattle.q3_svmsg.specs.declared.error.Illegible.{Illegible}
 use Rattle.q3_clstate.specs.State.{apply_message}
 use Rattle.q3_clstate.specs.declared.applied.Applied.{Applied}
@@ -19,7 +22,6 @@ use Rattle.q3_chan.specs.declared.gatherer.Gathered.TheVariants.{Whole as CameWh
 use Rattle.q3_chan.specs.Datagrams.{sequence_end, longest_message}
 use Rattle.q3_chan.specs.Sending.{UnderWay}
 use Rattle.q3_chan.specs.Tags.{tagged, IsQuiet}
-use Rattle.q3_chan.specs.Laws.{TaggedDoes}
 use Rattle.q3_server.specs.declared.server.SlotError.{SlotError}
 use Rattle.q3_slot.specs.Built.{Built}
 use Rattle.q3_slot.specs.Slot.{SlotState}
@@ -30,21 +32,22 @@ use Rattle.q3_rings.specs.Rings.{is_young}
 use Rattle.q3_rings.specs.Accepted.{age_of}
 use Rattle.q3_slot.specs.Taking as by_slot
 use Rattle.q3_client.specs.declared.client.MoveError.{MoveError}
-use Rattle.q3_client.specs.Client.{ClientState, new_client, take_answer}
+use Rattle.q3_client.specs.Client.{ClientState, new_client, type_at, receive_message, take_answer}
 use Rattle.q3_client.specs.Moves.{add_move_at}
 use Rattle.q3_client.specs.Sending as speaks
-use Rattle.q3_client.specs.Sending.{Said, said_bits, said_bytes, next_message as next_said}
+use Rattle.q3_client.specs.Sending.{said_bits, said_bytes, next_message, next_said, is_unclear}
 use Rattle.q3_world.specs.declared.made.Direction.{Direction}
 use Rattle.q3_world.specs.declared.made.Direction.TheVariants.{ToClient, ToServer}
-use Rattle.q3_world.specs.Ends.{Ends, Answered, delivered, ran, sent, joined, moved, add_move_to, client_at}
+use Rattle.q3_world.specs.declared.answer.Answer.TheVariants as answers
+use Rattle.q3_world.specs.Ends.{Ends, Answered, sent, joined, typed, type_to, moved, add_move_to, client_at}
 use Rattle.q3_world.specs.Kept.{Kept, opening_kept, kept_step, kept_answers}
 use Rattle.q3_world.specs.World.{Tag, Whole, history_at, opening, step, send, named, to_client, said_under, to_server, arrive, deliver}
 use Rattle.q3_world.specs.StandsFor.{IsSent, StandsFor}
 use Rattle.q3_world.specs.Layers.{Layers}
 use Rattle.q3_world.specs.Schedules.{StepFollows, MayBecome, outcome_of, IsLegible, AlwaysLegible}
-use Rattle.q3_world.proofs.Events.{Holds, has_client}
+use Rattle.q3_world.proofs.Events.{Holds, has_slot, has_client}
 use Rattle.q3_world.proofs.Agree.{Cited}
-use Rattle.q3_world.proofs.Arriving.{IsFor, IsOf, names, is_sent, is_for, is_of_client, slot_of_tag}
+use Rattle.q3_world.proofs.Arriving.{IsFor, IsOf, names, is_sent, is_for, is_of_client, slot_of_tag, said_hears}
 use Rattle.q3_world.proofs.EverySchedule.{cited_of, outcome, stands_opening}
 
 -- ---- what the game hands in
@@ -61,6 +64,14 @@ legible_move : (ends : Ends) (c : ℕ) (one : Move) (found : Option ClientState)
 legible_move ends c one None = tt
 legible_move ends c one (Some client) = legible_moved c (add_move_at client one).answer
 
+legible_typed : (c : ℕ) (given : Result ℕ WindowFull) → IsLegible (typed c given)
+legible_typed c (Ok number) = tt
+legible_typed c (Err e) = tt
+
+legible_type : (ends : Ends) (c : ℕ) (text : List ℕ) (found : Option ClientState) → IsLegible (type_to ends c text found).answer
+legible_type ends c text None = tt
+legible_type ends c text (Some client) = legible_typed c (type_at client text).answer
+
 -- ---- what a client sends
 
 legible_left : (c n : ℕ) (client : ClientState) (left : Option UnderWay) → IsLegible (sent c (Ok (speaks.emit_left client left).answer) n).answer
@@ -70,10 +81,13 @@ legible_left c n client None =
     let bits = said_bits client.state.profile next in
     elim (cases_Bool (nat_le sequence_end (client.sending.number + 1))) [
       | inl ended ↦ rw ended tt
-      | inr goes ↦ rw goes (elim (cases_Bool (nat_lt longest_message (message_length (length bits)))) [
-        | inl long ↦ rw long tt
-        | inr short ↦ rw short tt
-      ])
+      | inr goes ↦ elim (cases_Bool (is_unclear client.state.profile (next_message client))) [
+        | inl hidden ↦ rw (goes, hidden) tt
+        | inr clear ↦ rw (goes, clear) (elim (cases_Bool (nat_lt longest_message (message_length (length bits)))) [
+          | inl long ↦ rw long tt
+          | inr short ↦ rw short tt
+        ])
+      ]
     ]
 
 legible_send : (profile : Profile) (whole : Whole) (c : ℕ) (found : Option ClientState) → ((client : ClientState) → found ≡ Some client → client.dropped ≡ None)
@@ -98,10 +112,10 @@ may_become ring accepted (Some base) =
 -- what a client makes of a piece: nothing came whole, or its message did, and was applied
 legible_took : (datagram c n : ℕ) (client now : ClientState) (answer : Gathered) (built : Built)
     → IsQuiet answer ⊎ ((count : ℕ) × (answer ≡ CameWhole n count) × MayBecome (apply_message client.state n built.message).answer.snap)
-    → IsLegible (delivered datagram c (take_answer now answer (λ k. Ok (apply_message client.state k built.message))).answer).answer
+    → IsLegible (answers.Deliver datagram c (take_answer now answer (λ k. Ok (receive_message client k built.message))).answer)
 legible_took datagram c n client now answer built (inl quiet) = waits answer quiet
   where
-    waits : (answer : Gathered) → IsQuiet answer → IsLegible (delivered datagram c (take_answer now answer (λ k. Ok (apply_message client.state k built.message))).answer).answer
+    waits : (answer : Gathered) → IsQuiet answer → IsLegible (answers.Deliver datagram c (take_answer now answer (λ k. Ok (receive_message client k built.message))).answer)
     waits (CameWhole number count) is = absurd is
     waits gathered.Partial is = tt
     waits gathered.Old is = tt
@@ -123,7 +137,7 @@ legible_to_client profile whole number tag (Some client) cited is at holds =
     (elim does.either [
       | inl waits ↦ inl waits.quiet
       | inr came ↦
-          let out = outcome profile whole tag.client tag.number had.0 client built cited had.1 came.newer (names profile whole tag client is at holds) in
+          let out = outcome profile whole tag.client tag.number had.0 client built cited had.1 came.newer (names profile whole tag had.0 client cited is had.1) in
           inr (
             length (built_bytes profile built),
             came.answer,
@@ -134,11 +148,12 @@ legible_to_client profile whole number tag (Some client) cited is at holds =
 -- ---- what the server takes
 
 -- what a slot makes of a piece: nothing came whole, or its message did, and was run
-legible_heard : (datagram c n : ℕ) (slot : SlotState) (answer : Gathered) (said : Said) (moves : List Move) → IsQuiet answer ⊎ ((count : ℕ) × (answer ≡ CameWhole n count))
-    → IsLegible (ran datagram (by_slot.take_answer slot c answer (λ k. Ok said)).answer moves).answer
-legible_heard datagram c n slot answer said moves (inl quiet) = waits answer quiet
+legible_heard : (datagram c n : ℕ) (slot : SlotState) (answer : Gathered) (message : Message)
+    → IsQuiet answer ⊎ ((count : ℕ) × (answer ≡ CameWhole n count) × (gap_in slot.executed.executed message.commands ≡ None))
+    → IsLegible (answers.ToServer datagram (by_slot.take_answer slot c answer (λ k. Ok message)).answer)
+legible_heard datagram c n slot answer message (inl quiet) = waits answer quiet
   where
-    waits : (answer : Gathered) → IsQuiet answer → IsLegible (ran datagram (by_slot.take_answer slot c answer (λ k. Ok said)).answer moves).answer
+    waits : (answer : Gathered) → IsQuiet answer → IsLegible (answers.ToServer datagram (by_slot.take_answer slot c answer (λ k. Ok message)).answer)
     waits (CameWhole number count) is = absurd is
     waits gathered.Partial is = tt
     waits gathered.Old is = tt
@@ -146,20 +161,24 @@ legible_heard datagram c n slot answer said moves (inl quiet) = waits answer qui
     waits gathered.BadFragment is = absurd is
     waits gathered.Runt is = absurd is
     waits gathered.Connectionless is = absurd is
-legible_heard datagram c n slot answer said moves (inr came) = rw came.1 tt
+legible_heard datagram c n slot answer message (inr came) = rw (came.1, came.2) tt
 
-legible_to_server : TaggedDoes → (profile : Profile) (whole : Whole) (number : ℕ) (tag : Tag) (from : Address) → IsOf profile whole tag from → Holds profile whole
+legible_to_server : (profile : Profile) (whole : Whole) (number : ℕ) (tag : Tag) (from : Address) → Cited profile → IsOf profile whole tag from → Holds profile whole
     → IsLegible (to_server profile whole number tag from (slot_at whole.ends.server tag.client)).answer.answer
-legible_to_server does_so profile whole number tag from is holds =
+legible_to_server profile whole number tag from cited is holds =
     let found = slot_of_tag profile whole tag from is holds in
     let slot = found.0 in
+    let had = has_slot profile whole tag.client slot is.0 found.1 holds in
     let said = said_under whole.histories tag in
-    let message = said_bytes profile said in
-    let took = tagged slot.gathering tag.number message tag.index in
-    let does = does_so slot.gathering tag.number message tag.index in
+    let bytes = said_bytes profile said in
+    let took = tagged slot.gathering tag.number bytes tag.index in
+    let does = cited.does slot.gathering tag.number bytes tag.index in
     let next = record slot { address = from; gathering = took.gathering } in
-    rw found.1 (legible_heard number tag.client tag.number next took.answer said (by_slot.take_answer next tag.client took.answer (λ k. Ok said)).moves
-    (elim does.either [ inl waits ↦ inl waits.quiet | inr came ↦ inr (length message, came.answer) ]))
+    rw found.1 (legible_heard number tag.client tag.number next took.answer said.message
+    (elim does.either [
+      | inl waits ↦ inl waits.quiet
+      | inr came ↦ inr (length bytes, came.answer, (said_hears profile whole tag from slot had.0 cited is had.1 came.newer).gap)
+    ]))
 
 -- ---- every event
 
@@ -168,7 +187,7 @@ legible_arrive : (profile : Profile) (whole : Whole) (number : ℕ) (tag : Tag) 
 legible_arrive profile whole number tag ToClient cited way is holds =
     legible_to_client profile whole number tag (client_at whole.ends tag.client) cited (is_for profile whole tag way is) refl holds
 legible_arrive profile whole number tag (ToServer from) cited way is holds =
-    legible_to_server cited.does profile whole number tag from (is_of_client profile whole tag from way is) holds
+    legible_to_server profile whole number tag from cited (is_of_client profile whole tag from way is) holds
 
 legible_deliver : (profile : Profile) (whole : Whole) (number : ℕ) (found : Option Tag) → Cited profile → slice_get whole.sent (number - 1) ≡ found → Holds profile whole
     → IsLegible (deliver profile whole number found).answer.answer
@@ -187,6 +206,8 @@ legible_step profile whole (events.Remove number) cited is holds = tt
 legible_step profile whole (events.Player c player) cited is holds = tt
 legible_step profile whole (events.Area c area) cited is holds = tt
 legible_step profile whole (events.Time time) cited is holds = tt
+legible_step profile whole (events.Say c text) cited is holds = tt
+legible_step profile whole (events.TypeText c text) cited is holds = legible_type whole.ends c text (client_at whole.ends c)
 legible_step profile whole (events.Move c one) cited is holds = legible_move whole.ends c one (client_at whole.ends c)
 legible_step profile whole (events.Serve c) cited is holds = tt
 legible_step profile whole (events.Send c) cited is holds =

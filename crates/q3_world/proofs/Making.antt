@@ -1,6 +1,6 @@
 -- Both ends make datagrams by bytes as by tags.
-use Rattle.std.proofs.Common.{◌≡◌, ℕ, ◌+◌, ◌^◌, ◌<◌, Bool, false, List, length, Option, Some, None, refl, sym, subst, inl, inr, arith}
-use Rattle.std.specs.Prelude.{nat_le, nat_lt}
+use Rattle.std.proofs.Common.{◌≡◌, ℕ, ◌+◌, ◌^◌, ◌<◌, Bool, false, List, length, Option, Some, None, refl, sym, subst, ◌∙◌, inl, inr, arith}
+use Rattle.std.specs.Prelude.{nat_le, nat_lt, ◌%◌, ◌≤◌, bit_xor}
 use Rattle.std.proofs.lemmas.List.{length-map, map_push}
 use Rattle.std.proofs.lemmas.Bool.{cases_Bool, leb-false, ltb-false}
 use Rattle.q3_bits.specs.Bits.{message_bytes, message_length}
@@ -10,22 +10,26 @@ use Rattle.q3_svmsg.specs.declared.error.Illegible.{Illegible}
 use Rattle.q3_chan.specs.Datagrams.{sequence_end, longest_message}
 use Rattle.q3_chan.specs.Sending.{UnderWay}
 use Rattle.q3_chan.specs.Laws.{IsSendable}
+use Rattle.q3_chan.specs.Scrambling.{scrambled}
+use Rattle.q3_text.specs.Texts.{IsText}
 use Rattle.q3_slot.specs.declared.answer.Emitted.{Emitted}
 use Rattle.q3_slot.specs.declared.answer.Emitted.TheVariants as emitted
 use Rattle.q3_client.specs.declared.client.Sent.{Sent}
 use Rattle.q3_client.specs.declared.client.Sent.TheVariants as answered_sent
 use Rattle.q3_client.specs.Client.{ClientState}
 use Rattle.q3_client.specs.Sending as speaks
-use Rattle.q3_client.specs.Sending.{said_bits, next_message as next_said}
+use Rattle.q3_client.specs.Sending.{said_bits, said_bytes, next_message, next_said, is_unclear as is_said_unclear}
+use Rattle.q3_slot.specs.Built.{is_unclear}
 use Rattle.q3_slot.specs.Slot.{SlotState}
-use Rattle.q3_slot.specs.Emitting.{next_frames, begun_next, built_bits, emit_built, most_placed, emit_new, emit_slot}
+use Rattle.q3_slot.specs.Emitting.{next_frames, begun_next, built_bits, built_bytes, emit_built, most_placed, emit_new, emit_slot}
 use Rattle.q3_server.specs.Server.{ServerState, Emission, places, slot_at, with_slot, emission_at, emit_from}
 use Rattle.q3_world.specs.Ends.{client_at, address_at}
 use Rattle.q3_world.specs.Kept.{kept_serve, kept_said, kept_send}
-use Rattle.q3_world.specs.World.{Whole, serve, say, send}
+use Rattle.q3_world.specs.World.{Whole, history_at, serve, say, send}
+use Rattle.q3_world.specs.Layers.{ScramblingLaws}
 use Rattle.q3_world.specs.StandsFor.{bytes_of}
 use Rattle.q3_world.proofs.Clients.{slot_begun, client_begun}
-use Rattle.q3_world.proofs.Events.{Holds, Holds-handed, Holds-begun, Holds-too_long, handed_tag, Holds-goes, Holds-said, said_tag, has_client, same_server}
+use Rattle.q3_world.proofs.Events.{Holds, Holds-handed, Holds-begun, Holds-too_long, handed_tag, Holds-goes, Holds-said, said_tag, has_slot, has_client, executed_by_slot, executed_by_client, same_server}
 use Rattle.q3_world.proofs.Agree.{Cited, kept_of, Agree, found_or, unnoted, left_alone}
 
 -- ---- serving
@@ -43,22 +47,35 @@ quiet profile whole c server answer same_as holds =
     (record { same = rw count refl; holds = unnoted profile whole c holds })
 
 -- a message of a length that fits is one that may be sent
-pub sendable : (bits : List Bool) → MessageIsBytes → nat_lt longest_message (message_length (length bits)) ≡ false → IsSendable (message_bytes bits)
-sendable bits law fits =
+pub sendable : ScramblingLaws → (bits : List Bool) (from start : ℕ) (text : List ℕ) → MessageIsBytes → start < 2 ^ 8 → IsText text
+    → nat_lt longest_message (message_length (length bits)) ≡ false → IsSendable (scrambled from start text (message_bytes bits))
+sendable laws bits from start text law begins is fits =
     let bytes = law bits in
     let short = ltb-false longest_message (message_length (length bits)) fits in
-    record { some = rw bytes.0 (omega arith); most = rw bytes.0 short; bytes = bytes.1 }
+    let many = (laws.front from start text (message_bytes bits)).0 ∙ bytes.0 in
+    record {
+      some = subst (λ (k : ℕ). 1 ≤ k) (sym many) (omega arith);
+      most = subst (λ (k : ℕ). k ≤ longest_message) (sym many) short;
+      bytes = laws.bytes from start text (message_bytes bits) begins is bytes.1;
+    }
+
+-- keys start from a byte
+low_byte : (number : ℕ) → number % 256 < 2 ^ 8
+low_byte number = omega arith
 
 -- a message is begun, unless it is too long
 pub served_built : (profile : Profile) (whole : Whole) (c : ℕ) (slot : SlotState) → Cited profile → c < places → slot_at whole.ends.server c ≡ Some slot
-    → slot.sending.number + 1 < sequence_end → Holds profile whole
+    → slot.sending.number + 1 < sequence_end → is_unclear profile slot.executed.executed ≡ false → Holds profile whole
     → Served profile whole c (emission_at whole.ends.server c (emit_built profile slot (next_frames whole.ends.server.map whole.ends.server.frames c slot)
     (begun_next whole.ends.server.map whole.ends.server.frames c slot)))
-served_built profile whole c slot cited lt is fits holds =
+served_built profile whole c slot cited lt is fits clear holds =
     let server = whole.ends.server in
     let next = begun_next server.map server.frames c slot in
     let bits = built_bits profile next in
-    let first : UnderWay = record { message = message_bytes bits; next = 0 } in
+    let first : UnderWay = record { message = built_bytes profile next; next = 0 } in
+    let had = has_slot profile whole c slot lt is holds in
+    let names = executed_by_slot profile slot had.0 (history_at whole.histories c) had.1.keeps.of_client had.1.joined.commanded in
+    let may = sendable cited.scrambles bits 4 next.start next.text cited.bytes (low_byte (bit_xor slot.challenge (slot.sending.number + 1))) names.text in
     let count = length-map whole.sent bytes_of in
     elim (cases_Bool (nat_lt longest_message (message_length (length bits)))) [
       | inl long ↦ rw long (record { same = rw count refl; holds = Holds-too_long cited.server profile whole c slot lt is holds })
@@ -66,11 +83,11 @@ served_built profile whole c slot cited lt is fits holds =
           let pushed = map_push bytes_of whole.sent (handed_tag c (slot_begun profile slot next) first) in
           rw short (record {
             same = rw (count, pushed) refl;
-            holds = Holds-begun cited.server profile whole c slot first cited.sends cited.gathers lt is fits (sendable bits cited.bytes short) refl holds;
+            holds = Holds-begun cited.server cited.windows profile whole c slot first cited.sends cited.gathers lt is fits clear (may short) refl holds;
           })
     ]
 
--- the next message, unless message numbers have ended or too many entities were placed
+-- the next message, unless message numbers have ended or too many entities were placed, or its leading long would be hidden
 pub served_new : (profile : Profile) (whole : Whole) (c : ℕ) (slot : SlotState) → Cited profile → c < places → slot_at whole.ends.server c ≡ Some slot → Holds profile whole
     → Served profile whole c (emission_at whole.ends.server c (emit_new profile whole.ends.server.map whole.ends.server.frames c slot))
 served_new profile whole c slot cited lt is holds =
@@ -79,7 +96,10 @@ served_new profile whole c slot cited lt is holds =
       | inl ended ↦ rw ended (quiet profile whole c (with_slot server c slot) emitted.SequenceEnd (same_server server c slot is) holds)
       | inr goes ↦ elim (cases_Bool (nat_lt most_placed server.frames.placed)) [
         | inl full ↦ rw (goes, full) (quiet profile whole c (with_slot server c slot) emitted.SequenceEnd (same_server server c slot is) holds)
-        | inr room ↦ rw (goes, room) (served_built profile whole c slot cited lt is (leb-false sequence_end (slot.sending.number + 1) goes) holds)
+        | inr room ↦ elim (cases_Bool (is_unclear profile slot.executed.executed)) [
+          | inl hidden ↦ rw (goes, room, hidden) (quiet profile whole c (with_slot server c slot) emitted.Unclear (same_server server c slot is) holds)
+          | inr clear ↦ rw (goes, room, clear) (served_built profile whole c slot cited lt is (leb-false sequence_end (slot.sending.number + 1) goes) clear holds)
+        ]
       ]
     ]
 
@@ -125,12 +145,15 @@ taken_fits profile whole c client lt found holds =
 
 -- a message is begun, unless it is too long
 pub said_text : (profile : Profile) (whole : Whole) (c : ℕ) (client : ClientState) → Cited profile → c < places → client_at whole.ends c ≡ Some client
-    → client.sending.number + 1 < sequence_end → Holds profile whole
+    → client.sending.number + 1 < sequence_end → is_said_unclear profile (next_message client) ≡ false → Holds profile whole
     → SaidSo profile whole c (speaks.emit_bits client (next_said client) (said_bits profile (next_said client)))
-said_text profile whole c client cited lt found fits holds =
+said_text profile whole c client cited lt found fits clear holds =
     let next = next_said client in
     let bits = said_bits profile next in
-    let first : UnderWay = record { message = message_bytes bits; next = 0 } in
+    let first : UnderWay = record { message = said_bytes profile next; next = 0 } in
+    let had = has_client profile whole c client lt found holds in
+    let names = executed_by_client profile had.0 client (history_at whole.histories c) had.1.keeps.of_slot had.1.joined.commanded in
+    let may = sendable cited.scrambles bits 12 next.start next.text cited.bytes (low_byte (bit_xor (bit_xor client.challenge 0) client.gathering.taken)) names.text in
     elim (cases_Bool (nat_lt longest_message (message_length (length bits)))) [
       | inl long ↦ rw long (silent profile whole c client answered_sent.Overlong found holds)
       | inr short ↦
@@ -138,20 +161,26 @@ said_text profile whole c client cited lt found fits holds =
           let pushed = map_push bytes_of whole.sent (said_tag c (address_at whole.ends c) (client_begun profile client) first) in
           rw short (record {
             same = rw (count, pushed) refl;
-            holds = Holds-said profile whole c client first cited.sends cited.gathers lt found refl fits (taken_fits profile whole c client lt found holds) (sendable bits cited.bytes short) holds;
+            holds = Holds-said cited.windows profile whole c client first cited.sends cited.gathers lt found refl fits (taken_fits profile whole c client lt found holds) clear (may short) holds;
           })
     ]
 
--- the next message, unless message numbers have ended
+-- the next message, unless message numbers have ended, or its leading longs would be hidden
 pub said_new : (profile : Profile) (whole : Whole) (c : ℕ) (client : ClientState) → Cited profile → c < places → client_at whole.ends c ≡ Some client → Holds profile whole
     → SaidSo profile whole c (speaks.emit_new client)
 said_new profile whole c client cited lt found holds =
     let had = has_client profile whole c client lt found holds in
     elim (cases_Bool (nat_le sequence_end (client.sending.number + 1))) [
       | inl ended ↦ rw ended (silent profile whole c client answered_sent.SequenceEnd found holds)
-      | inr goes ↦ rw goes
-          (subst (λ (p : Profile). SaidSo profile whole c (speaks.emit_bits client (next_said client) (said_bits p (next_said client)))) (sym had.1.keeps.of_client.by)
-          (said_text profile whole c client cited lt found (leb-false sequence_end (client.sending.number + 1) goes) holds))
+      | inr goes ↦ elim (cases_Bool (is_said_unclear client.state.profile (next_message client))) [
+        | inl hidden ↦ rw (goes, hidden) (silent profile whole c client answered_sent.Unclear found holds)
+        | inr clear ↦
+            let by = had.1.keeps.of_client.by in
+            let clear_so : is_said_unclear profile (next_message client) ≡ false = subst (λ (p : Profile). is_said_unclear p (next_message client) ≡ false) by clear in
+            rw (goes, clear)
+            (subst (λ (p : Profile). SaidSo profile whole c (speaks.emit_bits client (next_said client) (said_bits p (next_said client)))) (sym by)
+            (said_text profile whole c client cited lt found (leb-false sequence_end (client.sending.number + 1) goes) clear_so holds))
+      ]
     ]
 
 -- what is left of a message goes first

@@ -1,5 +1,5 @@
 -- What the server runs of a client.
-use Rattle.std.proofs.Common.{◌≡◌, ℕ, ◌-◌, ◌<◌, List, Option, Some, None, refl, sym, ap, subst, ◌∙◌, inl, inr, Ok}
+use Rattle.std.proofs.Common.{◌≡◌, ℕ, ◌-◌, ◌<◌, List, length, Option, Some, None, refl, sym, ap, subst, ◌∙◌, inl, inr, Ok}
 use Rattle.std.specs.Prelude.{slice_get}
 use Rattle.std.proofs.lemmas.Option.{slice_get-map}
 use Rattle.q3_profile.specs.declared.profile.Profile.{Profile}
@@ -10,6 +10,7 @@ use Rattle.q3_chan.specs.declared.gatherer.Gathered.TheVariants.{Whole as CameWh
 use Rattle.q3_chan.specs.Gathering.{Took, gathered as gathered_of}
 use Rattle.q3_chan.specs.Tags.{tagged, IsQuiet}
 use Rattle.q3_chan.specs.Laws.{TaggedDoes}
+use Rattle.q3_window.specs.Incoming.{fresh_of}
 use Rattle.q3_slot.specs.declared.taking.ServerTook.TheVariants as answer
 use Rattle.q3_slot.specs.Slot.{SlotState}
 use Rattle.q3_slot.specs.Taking.{delta_behind, runs}
@@ -26,8 +27,8 @@ use Rattle.q3_world.specs.Moves.{TimesRise, StandAmong}
 use Rattle.q3_world.specs.Layers.{Layers}
 use Rattle.q3_world.specs.Schedules.{kept_then, whole_then, history_then, BytesFollowTags, NewerIsRun, MovesWereIssued}
 use Rattle.q3_world.proofs.MoveLists.{stand_among}
-use Rattle.q3_world.proofs.Events.{Holds}
-use Rattle.q3_world.proofs.Arriving.{is_sent, is_of_client, said_tag_is, delivers_agree}
+use Rattle.q3_world.proofs.Events.{Holds, has_slot}
+use Rattle.q3_world.proofs.Arriving.{is_sent, is_of_client, said_tag_is, runs_whole, said_hears, delivers_agree}
 use Rattle.q3_world.proofs.OnePlace.{set_there}
 use Rattle.q3_world.proofs.Agree.{seen}
 use Rattle.q3_world.proofs.Agreement.{kept_is}
@@ -57,14 +58,14 @@ moves_were_issued law profile all c is are within =
 -- ---- newer messages
 
 abbrev ran_so : ℕ → by_slot.SlotTaken → Answered
-ran_so number taken = ran number taken.answer taken.moves
+ran_so number taken = ran number taken.answer taken.commands taken.moves
 
 -- what a delivery to the server answers, by its tag
 answers_said : (profile : Profile) (whole : Whole) (number : ℕ) (tag : Tag) (from : Address) (slot : SlotState) → slice_get whole.sent (number - 1) ≡ Some tag
     → tag.direction ≡ direction.ToServer from → slot_at whole.ends.server tag.client ≡ Some slot
     → (step profile whole (events.Deliver number)).answer
     ≡ ran_so number (by_slot.take_gathered (record slot { address = from }) tag.client
-    (tagged slot.gathering tag.number (said_bytes profile (said_under whole.histories tag)) tag.index) (λ n. Ok (said_under whole.histories tag)))
+    (tagged slot.gathering tag.number (said_bytes profile (said_under whole.histories tag)) tag.index) (λ n. Ok (said_under whole.histories tag).message))
 unfolding step
 answers_said profile whole number tag from slot at way found = rw (at, way, found) refl
 
@@ -73,7 +74,7 @@ server_said : (profile : Profile) (whole : Whole) (number : ℕ) (tag : Tag) (fr
     → tag.direction ≡ direction.ToServer from → slot_at whole.ends.server tag.client ≡ Some slot
     → (step profile whole (events.Deliver number)).whole.ends.server
     ≡ with_slot whole.ends.server tag.client (by_slot.take_gathered (record slot { address = from }) tag.client
-    (tagged slot.gathering tag.number (said_bytes profile (said_under whole.histories tag)) tag.index) (λ n. Ok (said_under whole.histories tag))).slot
+    (tagged slot.gathering tag.number (said_bytes profile (said_under whole.histories tag)) tag.index) (λ n. Ok (said_under whole.histories tag).message)).slot
 unfolding step
 server_said profile whole number tag from slot at way found = rw (at, way, found) refl
 
@@ -109,26 +110,35 @@ newer_is_run law below profile all number n count sent from slot is are at way f
     let whole_is : took.answer ≡ CameWhole n count =
     ap (λ (t : Took). t.answer) (sym (said_tag_is profile whole tag.0 from slot cited sent_is slot_is holds))
     ∙ (ap (λ (s : SentBytes). (gathered_of slot.gathering s.bytes).answer) tag.2 ∙ came) in
-    let number_is = (heard_whole below.does profile whole tag.0 slot n count whole_is).0 in
+    let brings = heard_whole below.does profile whole tag.0 slot n count whole_is in
+    let number_is = brings.0 in
+    let had = has_slot profile whole tag.0.client slot sent_is.0 slot_is holds in
+    let counted = had.1.joined.commanded.to_server.runs.executed in
     let said_is : said ≡ said_at (history_then profile all sent.client).said n =
     ap (λ (s : SentBytes). said_at (history_at whole.histories s.client).said tag.0.number) tag.2 ∙ ap (λ (k : ℕ). said_at (history_at whole.histories sent.client).said k) (sym number_is) in
     let by_bytes : kept_step kept (events.Deliver number) ≡ seen profile (step profile whole (events.Deliver number)) =
     ap (λ (k : Kept). kept_step k (events.Deliver number)) (kept_is profile kept whole stands) ∙ (delivers_agree profile whole number cited holds).same in
-    let heard = by_slot.take_gathered (record slot { address = from }) tag.0.client took (λ k. Ok said) in
-    let taken_is : heard ≡ by_slot.take_answer (record slot { address = from; gathering = took.gathering }) tag.0.client (CameWhole n count) (λ k. Ok said) =
-    ap (λ (a : Gathered). by_slot.take_answer (record slot { address = from; gathering = took.gathering }) tag.0.client a (λ k. Ok said)) whole_is in
+    let now = record slot { address = from; gathering = took.gathering } in
+    let message = said.message in
+    let heard = by_slot.take_gathered (record slot { address = from }) tag.0.client took (λ k. Ok message) in
+    let gap = (said_hears profile whole tag.0 from slot had.0 cited sent_is had.1 brings.1).gap in
+    let taken_is : heard ≡ by_slot.run_unless now tag.0.client n message None =
+    ap (λ (a : Gathered). by_slot.take_answer now tag.0.client a (λ k. Ok message)) whole_is ∙ runs_whole now tag.0.client n message gap in
     let client_is : tag.0.client ≡ sent.client = ap (λ (s : SentBytes). s.client) tag.2 in
+    let runs_now = runs slot.last_run message.moves in
     let there = set_there whole.ends.server.slots tag.0.client None (Some heard.slot) holds.facts.slots sent_is.0 in (
       ap (λ (s : KeptStep). s.answer) by_bytes
           ∙ (answers_said profile whole number tag.0 from slot tag.1 goes slot_is
           ∙ (ap (λ (t : by_slot.SlotTaken). ran_so number t) taken_is
-          ∙ (ap (λ (s : SentBytes). ran number (answer.Ran s.client n) (runs slot.last_run said.moves)) tag.2
-          ∙ ap (λ (s : Said). ran number (answer.Ran sent.client n) (runs slot.last_run s.moves)) said_is))),
+          ∙ (ap (λ (k : ℕ). ran number (answer.Ran tag.0.client n) (fresh_of k message.commands) runs_now) counted
+          ∙ (ap (λ (s : SentBytes). ran number (answer.Ran s.client n) (fresh_of (length (history_at whole.histories s.client).server_executed) message.commands) runs_now) tag.2
+          ∙ ap (λ (s : Said). ran number (answer.Ran sent.client n) (fresh_of (length (history_at whole.histories sent.client).server_executed) s.message.commands)
+          (runs slot.last_run s.message.moves)) said_is)))),
       (
         heard.slot,
         ap (λ (s : KeptStep). slot_at s.kept.ends.server sent.client) by_bytes
             ∙ (ap (λ (server : ServerState). slot_at server sent.client) (server_said profile whole number tag.0 from slot tag.1 goes slot_is)
             ∙ (ap (λ (k : ℕ). slot_at (with_slot whole.ends.server tag.0.client heard.slot) k) (sym client_is) ∙ there)),
-        ap (λ (t : by_slot.SlotTaken). t.slot.delta) taken_is ∙ ap (λ (s : Said). delta_behind slot.delta s) said_is,
+        ap (λ (t : by_slot.SlotTaken). t.slot.delta) taken_is ∙ ap (λ (s : Said). delta_behind slot.delta s.message) said_is,
       ),
     )

@@ -1,44 +1,105 @@
 -- What a client said is read back by the server.
-use Rattle.std.proofs.Common.{◌≡◌, ℕ, ◌*◌, ◌-◌, ◌^◌, ◌<◌, Bool, false, List, [], ◌++◌, length, replicate, Result, Ok, refl, sym, ap, subst, ◌∙◌}
-use Rattle.std.specs.Int.Bits.{bit_xor, xor_zero_r, xor_zero_l}
-use Rattle.q3_bits.specs.Bits.{message_length}
+use Rattle.std.proofs.Common.{◌≡◌, ℕ, ◌*◌, ◌-◌, ◌^◌, ◌<◌, ◌≤◌, Bool, false, List, [], ◌∷◌, ◌++◌, length, drop, replicate, Result, Ok, refl, sym, ap, ◌∙◌, append_assoc, arith}
+use Rattle.std.proofs.lemmas.Bool.{ltb-false}
+use Rattle.q3_bits.specs.Bits.{bits_of, message_bytes, message_length}
 use Rattle.q3_bits.specs.ResultBind.{◌>>=◌}
-use Rattle.q3_bits.specs.Laws.{MessageHoldsBits}
-use Rattle.q3_text.specs.Keys.{key_of, weighted}
+use Rattle.q3_bits.specs.Words.{IsCode, row_bits}
+use Rattle.q3_bits.specs.Laws.{PutIsRead, MessageHoldsBits}
+use Rattle.q3_bits.specs.declared.reader.ReadError.{ReadError}
+use Rattle.q3_strings.specs.Commands.{commands_bits}
+use Rattle.q3_strings.specs.Rows.{row-first, row-last}
+use Rattle.q3_window.specs.declared.outgoing.BadAck.{BadAck}
+use Rattle.q3_window.specs.Outgoing.{acknowledge_at, text_at}
+use Rattle.q3_chan.specs.Scrambling.{scrambled}
+use Rattle.q3_chan.specs.Laws.{TwiceIsNone, FrontStays}
+use Rattle.q3_profile.specs.declared.profile.Profile.{Profile}
 use Rattle.q3_clmsg.specs.declared.error.ClientIllegible.{ClientIllegible}
 use Rattle.q3_clmsg.specs.declared.heads.Heads.{Heads}
+use Rattle.q3_clmsg.specs.Moves.{message_key}
 use Rattle.q3_clmsg.specs.Values.{Message}
-use Rattle.q3_clmsg.specs.Reading.{bits_read, heads_at, client_at}
-use Rattle.q3_clmsg.specs.Laws.{HeadsAreRead, WrittenIsRead}
-use Rattle.q3_slot.specs.Taking as by_slot
-use Rattle.q3_slot.specs.Taking.{said_by}
-use Rattle.q3_client.specs.Sending.{said_bits}
+use Rattle.q3_clmsg.specs.Texts.{section_bits, client_text}
+use Rattle.q3_clmsg.specs.Reading.{bits_read, heads_after, heads_at, client_at}
+use Rattle.q3_clmsg.specs.Laws.{WrittenIsRead}
+use Rattle.q3_slot.specs.Slot.{SlotState}
+use Rattle.q3_slot.specs.Taking.{ack_taken, cleared, with_heads, said_under, said_by}
+use Rattle.q3_client.specs.Sending.{said_bits, said_bytes}
 use Rattle.q3_world.specs.MessageLaws.{SaidIsRead}
+use Rattle.q3_world.proofs.BitFronts.{begins_both}
+use Rattle.q3_world.proofs.MessageKeys.{message_key_fits}
 
--- the empty text gives no key
-no_key : key_of [] ≡ 0
-unfolding key_of weighted
-no_key = refl
+-- ---- the leading longs
 
--- the key of a message fits a long
-key_fits : (acknowledged : ℕ) → acknowledged < 2 ^ 32 → by_slot.key_of acknowledged < 2 ^ 32
-key_fits acknowledged fits =
-    let is : by_slot.key_of acknowledged ≡ acknowledged =
-    ap (λ (k : ℕ). bit_xor (bit_xor 0 acknowledged) k) no_key ∙ (xor_zero_r (bit_xor 0 acknowledged) ∙ xor_zero_l acknowledged) in
-    subst (λ (k : ℕ). k < 2 ^ 32) (sym is) fits
+abbrev longs : List (List Bool) → Message → List Bool
+longs words message = row_bits words ((message.id, 32) ∷ (message.acknowledged, 32) ∷ (message.command, 32) ∷ [])
 
--- with the heads that it has, a message is read by its own key
-read_with : (words : List (List Bool)) (bits : List Bool) → Result Heads ClientIllegible → Result Message ClientIllegible
-read_with words bits heads = heads >>= λ h. client_at words (by_slot.key_of h.acknowledged) bits
+-- a message's text begins with them, also with what follows it
+begins_with_longs : (words : List (List Bool)) (key : ℕ) (message : Message) (rest : List Bool)
+    → (left : List Bool) × (client_text words key message ++ rest ≡ longs words message ++ left)
+unfolding client_text
+begins_with_longs words key message rest =
+    ((commands_bits words 4 message.commands ++ section_bits words key message.delta message.moves ++ row_bits words ((5, 8) ∷ [])) ++ rest, simp append_assoc)
 
-pub said_is_read : MessageHoldsBits → HeadsAreRead → WrittenIsRead → SaidIsRead
-unfolding read_with
-said_is_read holds heads written profile is said message =
+-- they are read, whatever follows them
+longs_are_read : PutIsRead → (words : List (List Bool)) → IsCode words → (id acknowledged command : ℕ) (rest : List Bool) → id < 2 ^ 32 → acknowledged < 2 ^ 32 → command < 2 ^ 32
+    → (bits : ℕ) × (heads_at words (row_bits words ((id, 32) ∷ (acknowledged, 32) ∷ (command, 32) ∷ []) ++ rest)
+    ≡ Ok (record { id = id; acknowledged = acknowledged; command = command; bits = bits }))
+unfolding heads_after
+longs_are_read put words code id acknowledged command rest fits fits' fits'' = (
+  length (row_bits words ((id, 32) ∷ (acknowledged, 32) ∷ (command, 32) ∷ []) ++ rest) - length rest,
+  rw (
+    row-first words code put id 32 ((acknowledged, 32) ∷ (command, 32) ∷ []) rest fits,
+    row-first words code put acknowledged 32 ((command, 32) ∷ []) rest fits',
+    row-last words code put command 32 rest fits'',
+  ) refl,
+)
+
+-- ---- a message that was begun
+
+-- what is read behind what is read of the leading longs, behind the acknowledgement, and by a text
+abbrev by_heads : Profile → SlotState → List ℕ → Result Heads ReadError → Result Message ClientIllegible
+by_heads profile slot bytes found = bits_read found >>= λ heads.
+    ack_taken heads.command (acknowledge_at slot.issued heads.command).answer >>= λ taken.
+    said_under profile slot.challenge heads (text_at slot.issued heads.command) bytes
+
+abbrev by_ack : Profile → SlotState → List ℕ → Heads → Result (Unit {0}) BadAck → Result Message ClientIllegible
+by_ack profile slot bytes heads answer = ack_taken heads.command answer >>= λ taken.
+    said_under profile slot.challenge heads (text_at slot.issued heads.command) bytes
+
+-- with these heads, it is read where it is read by its text
+read_by : (profile : Profile) (slot : SlotState) (bytes text : List ℕ) (heads : Heads) (message : Message) → heads_at profile.code (bits_of bytes) ≡ Ok heads
+    → (acknowledge_at slot.issued heads.command).answer ≡ Ok tt → text_at slot.issued heads.command ≡ text
+    → said_under profile slot.challenge heads text bytes ≡ Ok message → said_by profile slot bytes ≡ Ok message
+read_by profile slot bytes text heads message found taken known is =
+    ap (by_heads profile slot bytes) found
+    ∙ (ap (by_ack profile slot bytes heads) taken
+    ∙ (ap (λ (t : List ℕ). said_under profile slot.challenge heads t bytes) known ∙ is))
+
+-- what is read of the bits that a message has once it is cleared
+abbrev by_bits : List (List Bool) → ℕ → Heads → List Bool → Result Message ClientIllegible
+by_bits words key heads bits = client_at words key bits >>= λ message. Ok (with_heads heads message)
+
+abbrev by_rest : Heads → Result (Message × List Bool) ClientIllegible → Result Message ClientIllegible
+by_rest heads read = (read >>= λ one. Ok one.0) >>= λ message. Ok (with_heads heads message)
+
+pub said_is_read : PutIsRead → MessageHoldsBits → TwiceIsNone → FrontStays → WrittenIsRead → SaidIsRead
+said_is_read put holds twice front written profile codec slot said is taken known =
     let words = profile.code in
-    let key = by_slot.key_of said.acknowledged in
+    let message = said.message in
+    let key = message_key 0 message.acknowledged said.text in
     let text = said_bits profile said in
+    let plain = message_bytes text in
+    let bytes = said_bytes profile said in
     let rest = replicate (8 * message_length (length text) - length text) false in
-    let head = heads words key said rest is.code message in
-    ap (λ (bits : List Bool). read_with words bits (bits_read (heads_at words bits))) (holds text)
-    ∙ (ap (λ r. read_with words (text ++ rest) (bits_read r)) head.1
-    ∙ ap (λ r. r >>= λ read. Ok read.0) (written words key said rest is.code (key_fits said.acknowledged message.acknowledged) message))
+    let row = longs words message in
+    let few : length row ≤ 96 = ltb-false 96 (length row) is.clear in
+    let begins = begins_with_longs words key message rest in
+    let left = begins_both 12 row begins.0 plain bytes (omega (arith, few)) ((front 12 said.start said.text plain).1 12 (omega arith)) (holds text ∙ begins.1) in
+    let found = longs_are_read put words codec.code message.id message.acknowledged message.command (drop (length row) (bits_of bytes)) is.message.id is.message.acknowledged is.message.command in
+    let heads : Heads = record { id = message.id; acknowledged = message.acknowledged; command = message.command; bits = found.0 } in
+    let clear : cleared slot.challenge heads said.text bytes ≡ plain =
+    ap (λ (start : ℕ). scrambled 12 start said.text bytes) (sym is.start) ∙ twice 12 said.start said.text plain in
+    let fits = message_key_fits message.acknowledged said.text is.message.acknowledged is.text in
+    read_by profile slot bytes said.text heads message (ap (heads_at words) left ∙ found.1) taken known
+    (ap (λ (l : List ℕ). by_bits words key heads (bits_of l)) clear
+    ∙ (ap (by_bits words key heads) (holds text)
+    ∙ ap (by_rest heads) (written words key message rest codec.code fits is.message)))

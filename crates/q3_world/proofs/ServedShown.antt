@@ -7,7 +7,7 @@ use Rattle.std.proofs.lemmas.List.{append-nil, length-append, length_push, map-a
 use Rattle.std.proofs.lemmas.List.FromFn.{length-range_with_len}
 use Rattle.std.proofs.lemmas.Option.{slice_get-get_or, slice_get_within, get_or_from_slice_get}
 use Rattle.std.proofs.lemmas.Bool.{lt-ltb, le-ltb, lt-leb}
-use Rattle.q3_bits.specs.Bits.{message_length}
+use Rattle.q3_bits.specs.Bits.{message_bytes, message_length}
 use Rattle.q3_bits.specs.Laws.{MessageIsBytes}
 use Rattle.q3_profile.specs.declared.profile.Profile.{Profile}
 use Rattle.q3_script.specs.declared.event.Event.{Event}
@@ -17,7 +17,7 @@ use Rattle.q3_ring.specs.Snapshot.{Snapshot}
 use Rattle.q3_frames.specs.Frames.{FramesState}
 use Rattle.q3_clstate.specs.declared.applied.Applied.{Applied as AppliedSo}
 use Rattle.q3_chan.specs.Datagrams.{sequence_end, longest_message, piece_count, last_index}
-use Rattle.q3_chan.specs.Laws.{TaggedDoes}
+use Rattle.q3_chan.specs.Laws.{TaggedDoes, FrontStays}
 use Rattle.q3_chan.specs.Sending.{Sending, UnderWay, left_of, next_of}
 use Rattle.q3_clstate.specs.declared.applied.SnapOutcome.TheVariants.{Accepted}
 use Rattle.q3_slot.specs.declared.answer.Emitted.TheVariants as emitted
@@ -26,7 +26,7 @@ use Rattle.q3_slot.specs.Slot.{SlotState}
 use Rattle.q3_slot.specs.Emitting.{SlotEmission, next_snapshot, next_frames, built_bits, built_bytes, most_placed, hand_out, emit_slot}
 use Rattle.q3_server.specs.Server.{ServerState, places, slot_at, emission_at, emit_at}
 use Rattle.q3_client.specs.Client.{ClientState}
-use Rattle.q3_world.specs.Ends.{client_at}
+use Rattle.q3_world.specs.Ends.{Answered, client_at}
 use Rattle.q3_world.specs.Kept.{Kept, opening_kept, kept_step, kept_after}
 use Rattle.q3_world.specs.World.{Tag, Whole, History, no_history, no_message, history_at, with_built, built_at, serve, step, after, opening}
 use Rattle.q3_world.specs.StandsFor.{IsChecked, snapshot_in, StandsFor}
@@ -135,22 +135,26 @@ make_rest profile c n index (suc count) message now lt all handed =
 
 -- ---- a whole message
 
+-- how many bytes a message has
+abbrev BytesAreMany : Type 0
+BytesAreMany = (profile : Profile) (built : Built) → length (built_bytes profile built) ≡ message_length (length (built_bits profile built))
+
 -- the first datagram of a message
-begins : (profile : Profile) (server : ServerState) (c : ℕ) (slot : SlotState) → MessageIsBytes → MayBegin profile server c slot
+begins : (profile : Profile) (server : ServerState) (c : ℕ) (slot : SlotState) → BytesAreMany → MayBegin profile server c slot
     → emit_slot profile server.map server.frames c slot slot.sending.under_way
     ≡ hand_out (slot_begun profile slot (built_next server c slot)) (next_frames server.map server.frames c slot) 0
     (emitted.Snapshot (slot.sending.number + 1) (number_of (built_next server c slot).base) (message_length (length (built_bits profile (built_next server c slot)))))
     (Some (built_next server c slot))
 begins profile server c slot bytes may =
     let bits = built_bits profile (built_next server c slot) in
-    let count = (bytes bits).0 in
+    let count = bytes profile (built_next server c slot) in
     let short = may.short in
     let goes : nat_le sequence_end (slot.sending.number + 1) ≡ false = lt-leb sequence_end (slot.sending.number + 1) may.fits in
     let room : nat_lt most_placed server.frames.placed ≡ false = le-ltb most_placed server.frames.placed may.placed in
     let few : nat_lt longest_message (message_length (length bits)) ≡ false = le-ltb longest_message (message_length (length bits)) (omega (arith, count, short)) in
-    rw (may.idle, goes, room, few) refl
+    rw (may.idle, goes, room, may.clear, few) refl
 
-serves_first : (profile : Profile) (whole : Whole) (c : ℕ) (slot : SlotState) → MessageIsBytes → whole.ends.server.profile ≡ profile → slot_at whole.ends.server c ≡ Some slot
+serves_first : (profile : Profile) (whole : Whole) (c : ℕ) (slot : SlotState) → BytesAreMany → whole.ends.server.profile ≡ profile → slot_at whole.ends.server c ≡ Some slot
     → MayBegin profile whole.ends.server c slot
     → (step profile whole (events.Serve c)).whole
     ≡ with_handed whole c (slot_begun profile slot (built_next whole.ends.server c slot)) (record { message = built_bytes profile (built_next whole.ends.server c slot); next = 0 })
@@ -169,7 +173,7 @@ record Made (c n count first : ℕ) (next : Built) (start now : Whole) : Type 0 
   accepted : (history_at now.histories c).accepted ≡ (history_at start.histories c).accepted
   pieces : ArePieces now.sent c n 0 (range_with_len first count)
 
-made : (profile : Profile) (start : Whole) (c count : ℕ) (slot : SlotState) → MessageIsBytes → c < places → Holds profile start
+made : (profile : Profile) (start : Whole) (c count : ℕ) (slot : SlotState) → BytesAreMany → c < places → Holds profile start
     → slot_at start.ends.server c ≡ Some slot → length (history_at start.histories c).built ≡ slot.sending.number → MayBegin profile start.ends.server c slot
     → 1 + count ≡ piece_count (length (built_bytes profile (built_next start.ends.server c slot)))
     → Made c (slot.sending.number + 1) (suc count) (length start.sent + 1) (built_next start.ends.server c slot) start
@@ -232,7 +236,7 @@ some_snapshot snapshot = Some snapshot
 one_snapshot : (x y : Snapshot) → Some x ≡ Some y → x ≡ y
 one_snapshot x y e = cc
 
-shown : BytesFollowTags → InOrderIsAccepted → AppliedWasBuilt → MessageIsBytes → TaggedDoes
+shown : BytesFollowTags → InOrderIsAccepted → AppliedWasBuilt → BytesAreMany → TaggedDoes
     → (profile : Profile) (all : List Event) (c t : ℕ) (slot : SlotState) (client : ClientState) → IsChecked profile → AllByRecursion IsReplayEvent all
     → AllByRecursion IsReplayEvent (serve_and_deliver c (length (whole_then profile all).sent + 1) (suc t))
     → slot_at (whole_then profile all).ends.server c ≡ Some slot → client_at (whole_then profile all).ends c ≡ Some client
@@ -288,7 +292,7 @@ shown law accepted applied bytes does profile all c t slot client is are made_so
     let accepts : applied_so.snap ≡ Accepted (number_of next.base) =
     ap (λ (a : List Snapshot). outcome_of profile.parse_ring a (built_at (history_then profile served c).built n).base) makes.accepted
     ∙ (ap (λ (b : Built). outcome_of profile.parse_ring (history_at start.histories c).accepted b.base) makes.built ∙ there_base) in
-    let shows_so = (applied profile arrived last c applied_so is arrived_are answer).3 (number_of next.base) accepts in
+    let shows_so = (applied profile arrived last c applied_so is arrived_are (ap (λ (a : Answered). a.answer) answer)).3 (number_of next.base) accepts in
     let snapshot = shows_so.0 in
     let same : snapshot ≡ next_snapshot map slot =
     one_snapshot snapshot (next_snapshot map slot) (sym shows_so.3.2
@@ -308,8 +312,8 @@ shown law accepted applied bytes does profile all c t slot client is are made_so
     some_one : {some other : SlotState} → Some some ≡ Some other → some ≡ other
     some_one same = cc
 
-pub served_is_shown : BytesFollowTags → InOrderIsAccepted → AppliedWasBuilt → MessageIsBytes → TaggedDoes → ServedIsShown
-served_is_shown law accepted applied bytes does profile all c slot client is are made_so found there may there_base =
+pub served_is_shown : BytesFollowTags → InOrderIsAccepted → AppliedWasBuilt → MessageIsBytes → FrontStays → TaggedDoes → ServedIsShown
+served_is_shown law accepted applied bytes front does profile all c slot client is are made_so found there may there_base =
     let server = (whole_then profile all).ends.server in
     let first = length (whole_then profile all).sent + 1 in
     let count = datagrams_of profile server c slot in
@@ -317,5 +321,5 @@ served_is_shown law accepted applied bytes does profile all c slot client is are
     let one : suc t ≡ count = omega arith in
     let more : 1 + t ≡ count = omega arith in
     subst (λ (k : ℕ). (kept_step (kept_then profile (all ++ serve_and_deliver c first k)) (events.Show c)).answer.snapshot ≡ Some (next_snapshot server.map slot)) one
-    (shown law accepted applied bytes does profile all c t slot client is are (subst (λ (k : ℕ). AllByRecursion IsReplayEvent (serve_and_deliver c first k)) (sym one) made_so)
+    (shown law accepted applied (λ p b. (front 4 b.start b.text (message_bytes (built_bits p b))).0 ∙ (bytes (built_bits p b)).0) does profile all c t slot client is are (subst (λ (k : ℕ). AllByRecursion IsReplayEvent (serve_and_deliver c first k)) (sym one) made_so)
     found there may there_base more)

@@ -72,7 +72,7 @@ usual_never_skips law below applied_so profile all number c applied is are room 
           let place : n - 1 + 1 ≡ n = omega (arith, newer) in
           if_some_then built.base (KnownBase n history.built history.accepted) (λ b. IsNear n b × Contains history.accepted b) (λ b one. (one.0, one.2))
           (known_base profile had.0 client history n (omega (arith, newer)) (omega (arith, newer, within))
-          (subst (λ (k : ℕ). IsBuilt profile k built) place (had.1.keeps.of_slot.built (n - 1) no_message within)) had.1.keeps.of_slot had.1.joined.asked)
+          (subst (λ (k : ℕ). IsBuilt profile had.0.challenge k built) place (had.1.keeps.of_slot.built (n - 1) no_message within)) had.1.keeps.of_slot had.1.joined.asked)
       | inr past ↦ let none : built ≡ no_message = get_or_past history.built (n - 1) no_message past in rw none tt
     ] in
     let outcome = usual_outcome below.rings profile.parse_ring history.accepted n built.base room takes.stands.accepted (omega (arith, newer, below_taken, newest)) known in

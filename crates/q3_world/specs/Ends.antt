@@ -4,6 +4,8 @@ use Rattle.q3_profile.specs.declared.profile.Profile.{Profile}
 use Rattle.q3_player.specs.declared.state.PlayerState.{PlayerState}
 use Rattle.arrayvec.specs.ArrayVec.{ArrayVec}
 use Rattle.q3_entity.specs.declared.state.EntityState.{EntityState}
+use Rattle.q3_text.specs.declared.text.Command.{Command}
+use Rattle.q3_window.specs.declared.outgoing.WindowFull.{WindowFull}
 use Rattle.q3_clmsg.specs.declared.moves.Move.{Move}
 use Rattle.q3_io.specs.declared.address.Address.{Address}
 use Rattle.q3_ring.specs.Snapshot.{Snapshot}
@@ -19,10 +21,11 @@ use Rattle.q3_world.specs.declared.answer.Answer.{Answer}
 use Rattle.q3_world.specs.declared.answer.Answer.TheVariants as answers
 use Rattle.q3_world.specs.declared.answer.Answer.TheVariants.{Client, Entity, Remove, Time, Player, Area, Serve, Send, Unknown, Deliver, ToServer, Show}
 use Rattle.q3_world.specs.declared.answer.MoveRefused.TheVariants as refused
+use Rattle.q3_world.specs.declared.answer.TypeRefused.TheVariants as untyped
 use Rattle.q3_world.specs.declared.answer.Shown.{Shown}
 use Rattle.q3_world.specs.declared.answer.Shown.TheVariants as shown
-use Rattle.q3_server.specs.Server.{ServerState, places, new_server, add_client_at, set_time_at, set_entity_at, remove_entity_at, set_player_at, set_area_at}
-use Rattle.q3_client.specs.Client.{ClientState, new_client}
+use Rattle.q3_server.specs.Server.{ServerState, places, new_server, add_client_at, set_time_at, set_entity_at, remove_entity_at, set_player_at, set_area_at, say_at}
+use Rattle.q3_client.specs.Client.{ClientState, new_client, type_at}
 use Rattle.q3_client.specs.Moves.{add_move_at}
 
 -- the server, and at its place each client and the address that its datagrams come from
@@ -51,10 +54,11 @@ address_at ends c = slice_index_or ends.addresses c no_address
 abbrev pub new_ends : Profile → Ends
 new_ends profile = record { server = new_server profile places; clients = replicate places None; addresses = replicate places no_address }
 
--- an answer, and what is printed with it: a snapshot, and the moves that were run
+-- an answer, and what is printed with it: a snapshot, and the commands and the moves that were executed and run
 pub record Answered : Type 0 where
   pub answer : Answer
   pub snapshot : Option Snapshot
+  pub commands : List Command
   pub moves : List Move
 
 -- the newest snapshot that a client accepted
@@ -72,11 +76,11 @@ lent ends other = None
 
 -- an answer, with the snapshot that these ends lend for it
 abbrev pub answered : Ends → Answer → Answered
-answered ends answer = record { answer = answer; snapshot = lent ends answer; moves = [] }
+answered ends answer = record { answer = answer; snapshot = lent ends answer; commands = []; moves = [] }
 
 -- an answer alone
 abbrev pub alone : Answer → Answered
-alone answer = record { answer = answer; snapshot = None; moves = [] }
+alone answer = record { answer = answer; snapshot = None; commands = []; moves = [] }
 
 -- the answers of a `serve` and of a `send`
 abbrev pub served : ℕ → Emitted → ℕ → Answered
@@ -85,12 +89,12 @@ served c emission datagram = alone (Serve c emission datagram)
 abbrev pub sent : ℕ → Result Sent NoClient → ℕ → Answered
 sent c emission datagram = alone (Send c emission datagram)
 
--- the answers of a `deliver`, to a client and to the server, which ran these moves
-abbrev pub delivered : ℕ → ℕ → ClientTook → Answered
-delivered datagram c took = alone (Deliver datagram c took)
+-- the answers of a `deliver`, to a client and to the server, which executed these commands and ran these moves
+abbrev pub delivered : ℕ → ℕ → ClientTook → List Command → Answered
+delivered datagram c took commands = record { answer = Deliver datagram c took; snapshot = None; commands = commands; moves = [] }
 
-abbrev pub ran : ℕ → ServerTook → List Move → Answered
-ran datagram took moves = record { answer = ToServer datagram took; snapshot = None; moves = moves }
+abbrev pub ran : ℕ → ServerTook → List Command → List Move → Answered
+ran datagram took commands moves = record { answer = ToServer datagram took; snapshot = None; commands = commands; moves = moves }
 
 -- no datagram of this number was made
 abbrev pub unknown : ℕ → Answered
@@ -132,6 +136,27 @@ abbrev pub set_area : Ends → ℕ → ArrayVec ℕ → EndsStep
 set_area ends c area =
     let given = set_area_at ends.server c area.items in
     record { ends = record ends { server = given.server }; answer = Area c given.answer }
+
+-- the server issues a command for a client
+abbrev pub say_command : Ends → ℕ → List ℕ → EndsStep
+say_command ends c text =
+    let said = say_at ends.server c text in
+    record { ends = record ends { server = said.server }; answer = answers.Say c said.answer }
+
+-- what is answered where a client's end was given a command
+abbrev pub typed : ℕ → Result ℕ WindowFull → Answer
+typed c (Ok number) = answers.TypeText c (Ok number)
+typed c (Err e) = answers.TypeText c (Err untyped.WindowFull)
+
+-- a client issues a command
+abbrev pub type_to : Ends → ℕ → List ℕ → Option ClientState → EndsStep
+type_to ends c text None = record { ends = ends; answer = answers.TypeText c (Err untyped.NoClient) }
+type_to ends c text (Some client) =
+    let issuing = type_at client text in
+    record { ends = with_client ends c issuing.client; answer = typed c issuing.answer }
+
+abbrev pub type_command : Ends → ℕ → List ℕ → EndsStep
+type_command ends c text = type_to ends c text (client_at ends c)
 
 -- what is answered where a client's end was given a move
 abbrev pub moved : ℕ → Result (Unit {0}) MoveError → Answer

@@ -10,7 +10,7 @@ use Rattle.q3_client.specs.Client.{ClientState, Taken, take_at}
 use Rattle.q3_client.specs.Sending as speaks
 use Rattle.q3_world.specs.declared.made.Direction.{Direction}
 use Rattle.q3_world.specs.declared.made.Direction.TheVariants.{ToClient, ToServer}
-use Rattle.q3_world.specs.Ends.{Ends, EndsStep, Answered, answered, client_at, with_client, address_at, new_ends, served, sent, unknown, delivered, ran, join, set_time, set_entity, remove_entity, set_player, set_area, add_move, show}
+use Rattle.q3_world.specs.Ends.{Ends, EndsStep, Answered, answered, client_at, with_client, address_at, new_ends, served, sent, unknown, delivered, ran, join, set_time, set_entity, remove_entity, set_player, set_area, say_command, type_command, add_move, show}
 
 -- a datagram that was made: the client that it is for or comes from, which of the two, and its bytes
 pub record SentBytes : Type 0 where
@@ -78,7 +78,7 @@ abbrev pub kept_client_took : Kept → ℕ → ℕ → Taken → KeptStep
 kept_client_took kept number c taken =
     record {
       kept = record kept { ends = with_client kept.ends c taken.client };
-      answer = delivered number c taken.answer;
+      answer = delivered number c taken.answer taken.heard;
     }
 
 -- the client that a datagram is for takes it
@@ -89,7 +89,7 @@ kept_to_client kept number sent (Some client) = kept_client_took kept number sen
 -- the server took a datagram
 abbrev pub kept_server_took : Kept → ℕ → hears.Taken → KeptStep
 kept_server_took kept number taken =
-    record { kept = record kept { ends = record kept.ends { server = taken.server } }; answer = ran number taken.answer taken.moves }
+    record { kept = record kept { ends = record kept.ends { server = taken.server } }; answer = ran number taken.answer taken.commands taken.moves }
 
 -- the end that a datagram goes to takes it
 abbrev pub kept_arrive : Kept → ℕ → SentBytes → Direction → KeptStep
@@ -109,6 +109,8 @@ kept_step kept (events.Remove number) = kept_ends kept (remove_entity kept.ends 
 kept_step kept (events.Player c player) = kept_ends kept (set_player kept.ends c player)
 kept_step kept (events.Area c area) = kept_ends kept (set_area kept.ends c area)
 kept_step kept (events.Time time) = kept_ends kept (set_time kept.ends time)
+kept_step kept (events.Say c text) = kept_ends kept (say_command kept.ends c text)
+kept_step kept (events.TypeText c text) = kept_ends kept (type_command kept.ends c text)
 kept_step kept (events.Move c one) = kept_ends kept (add_move kept.ends c one)
 kept_step kept (events.Serve c) = kept_serve kept c (emit_at kept.ends.server c)
 kept_step kept (events.Send c) = kept_send kept c (client_at kept.ends c)

@@ -3,9 +3,11 @@ use Rattle.q3_bits.specs.Laws.{MessageIsBytes}
 use Rattle.q3_player.specs.Laws.{NormalIsNormal, ZeroIsNormal}
 use Rattle.q3_entity.specs.Laws.{NormalIsNormal as EntityNormalIsNormal}
 use Rattle.q3_chan.specs.Senders.{QportIsTold}
-use Rattle.q3_chan.specs.Laws.{SentIsTagged, TaggedDoes, EndsGather, EndsSend}
+use Rattle.q3_chan.specs.Laws.{SentIsTagged, TaggedDoes, EndsGather, EndsSend, FrontStays, BytesStayBytes}
 use Rattle.q3_frames.specs.Laws.{HeldWasBuilt, BuildKeeps, BaseIsNear}
 use Rattle.q3_map.specs.Laws.{ListsStayHeld}
+use Rattle.q3_window.specs.Flow.{FlowLaws}
+use Rattle.q3_window.specs.Laws.{StaysOutgoing}
 use Rattle.q3_rings.specs.Laws.{AcceptedIsHeld, NothingStands, AcceptIsAdded, BaseIsOfList, HeldWasAccepted, NearIsHeldByAge, UsualRingHolds}
 use Rattle.q3_world.specs.MessageLaws.{BuiltIsRead, SaidIsRead}
 
@@ -26,8 +28,19 @@ pub record RingLaws : Type 0 where
   pub by_age : NearIsHeldByAge
   pub usual : UsualRingHolds
 
+-- scrambled bytes are as many, and bytes
+pub record ScramblingLaws : Type 0 where
+  pub front : FrontStays
+  pub bytes : BytesStayBytes
+
+-- what becomes of commands on their way, and what every window of those issued is
+pub record WindowLaws : Type 0 where
+  pub flow : FlowLaws
+  pub stays : StaysOutgoing
+
 -- what either end begins is read back, the normal form of a state is normal, what a datagram does and which qport it tells, how
--- both ends gather and send, how many bytes a message has, and what a server and a client hold
+-- both ends gather and send, how many bytes a message has, what a server and a client hold, what becomes
+-- of commands, and what scrambling leaves
 pub record Layers : Type 0 where
   pub reads : BuiltIsRead
   pub hears : SaidIsRead
@@ -42,3 +55,5 @@ pub record Layers : Type 0 where
   pub bytes : MessageIsBytes
   pub server : ServerLaws
   pub rings : RingLaws
+  pub windows : WindowLaws
+  pub scrambles : ScramblingLaws

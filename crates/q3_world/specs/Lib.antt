@@ -1,6 +1,7 @@
 pub mod MessageLaws
 pub mod Layers
 pub mod Ends
+pub mod Executed
 pub mod Kept
 pub mod Moves
 pub mod World

@@ -4,11 +4,14 @@ use Rattle.std.specs.List.{concat, flat_map}
 use Rattle.q3_profile.specs.declared.profile.Profile.{Profile}
 use Rattle.q3_script.specs.declared.event.Event.{Event}
 use Rattle.q3_ring.specs.Snapshot.{Snapshot}
+use Rattle.q3_text.specs.declared.text.Command.{Command}
 use Rattle.q3_clmsg.specs.declared.moves.Move.{Move}
-use Rattle.q3_server.specs.Report.{slot_error_text, no_client_text, serve_text, server_text}
-use Rattle.q3_client.specs.Report.{client_text, move_error_text, send_text}
+use Rattle.q3_server.specs.Report.{slot_error_text, no_client_text, say_error_text, serve_text, server_text}
+use Rattle.q3_client.specs.Report.{client_text, window_full_text, move_error_text, send_text}
 use Rattle.q3_world.specs.declared.answer.MoveRefused.{MoveRefused}
 use Rattle.q3_world.specs.declared.answer.MoveRefused.TheVariants as refused
+use Rattle.q3_world.specs.declared.answer.TypeRefused.{TypeRefused}
+use Rattle.q3_world.specs.declared.answer.TypeRefused.TheVariants as untyped
 use Rattle.q3_world.specs.declared.answer.Shown.{Shown}
 use Rattle.q3_world.specs.declared.answer.Shown.TheVariants as shown
 use Rattle.q3_world.specs.declared.answer.Answer.{Answer}
@@ -26,6 +29,16 @@ use Rattle.q3_world.specs.World.{opening, answers}
 abbrev pub handed_in_text : {E : Type 0} → (E → List ℕ) → Result (Unit {0}) E → List ℕ
 handed_in_text error_text (Ok x) = codes " ok\n"
 handed_in_text error_text (Err e) = concat (codes " refused " ∷ error_text e ∷ codes "\n" ∷ [])
+
+-- what stands behind a command that was issued, its number, or the text of the error
+abbrev pub issued_text : {E : Type 0} → (E → List ℕ) → Result ℕ E → List ℕ
+issued_text error_text (Ok number) = concat (codes " ok " ∷ decimal number ∷ codes "\n" ∷ [])
+issued_text error_text (Err e) = concat (codes " refused " ∷ error_text e ∷ codes "\n" ∷ [])
+
+-- why a client doesn't issue a command
+abbrev pub type_refused_text : TypeRefused → List ℕ
+type_refused_text untyped.NoClient = codes "noclient"
+type_refused_text untyped.WindowFull = window_full_text (record {})
 
 -- why a client doesn't issue a move
 abbrev pub move_refused_text : MoveRefused → List ℕ
@@ -62,26 +75,28 @@ shown_text shown.NoClient lent = codes " noclient\n"
 shown_text shown.Newest (Some snapshot) = snapshot_text snapshot
 shown_text other lent = codes " none\n"
 
--- the lines of an answer, with what is lent to be printed: a snapshot, and the moves that were run
-unfoldable pub lines_of : Answer → Option Snapshot → List Move → List ℕ
-lines_of (Client c outcome) lent moves = concat (codes "client " ∷ decimal c ∷ handed_in_text slot_error_text outcome ∷ [])
-lines_of (Entity number) lent moves = concat (codes "entity " ∷ decimal number ∷ codes " ok\n" ∷ [])
-lines_of (Remove number) lent moves = concat (codes "remove " ∷ decimal number ∷ codes " ok\n" ∷ [])
-lines_of Time lent moves = codes "time ok\n"
-lines_of (Player c outcome) lent moves = concat (codes "player " ∷ decimal c ∷ handed_in_text no_client_text outcome ∷ [])
-lines_of (Area c outcome) lent moves = concat (codes "area " ∷ decimal c ∷ handed_in_text no_client_text outcome ∷ [])
-lines_of (answers.Move c outcome) lent moves = concat (codes "move " ∷ decimal c ∷ handed_in_text move_refused_text outcome ∷ [])
-lines_of (Serve c emission datagram) lent moves = serve_text c emission datagram
-lines_of (Send c (Ok sent) datagram) lent moves = send_text c sent datagram
-lines_of (Send c (Err e) datagram) lent moves = concat (codes "send " ∷ decimal c ∷ codes " noclient\n" ∷ [])
-lines_of (Unknown datagram) lent moves = concat (codes "deliver " ∷ decimal datagram ∷ codes " unknown\n" ∷ [])
-lines_of (Deliver datagram c took) lent moves = concat (codes "deliver " ∷ decimal datagram ∷ client_text c took ∷ [])
-lines_of (ToServer datagram took) lent moves = concat (codes "deliver " ∷ decimal datagram ∷ server_text took moves ∷ [])
-lines_of (Show c what) lent moves = concat (codes "show " ∷ decimal c ∷ shown_text what lent ∷ [])
+-- the lines of an answer, with what is lent to be printed: a snapshot, and the commands and the moves that were executed and run
+unfoldable pub lines_of : Answer → Option Snapshot → List Command → List Move → List ℕ
+lines_of (Client c outcome) lent commands moves = concat (codes "client " ∷ decimal c ∷ handed_in_text slot_error_text outcome ∷ [])
+lines_of (Entity number) lent commands moves = concat (codes "entity " ∷ decimal number ∷ codes " ok\n" ∷ [])
+lines_of (Remove number) lent commands moves = concat (codes "remove " ∷ decimal number ∷ codes " ok\n" ∷ [])
+lines_of Time lent commands moves = codes "time ok\n"
+lines_of (Player c outcome) lent commands moves = concat (codes "player " ∷ decimal c ∷ handed_in_text no_client_text outcome ∷ [])
+lines_of (Area c outcome) lent commands moves = concat (codes "area " ∷ decimal c ∷ handed_in_text no_client_text outcome ∷ [])
+lines_of (answers.Say c outcome) lent commands moves = concat (codes "say " ∷ decimal c ∷ issued_text say_error_text outcome ∷ [])
+lines_of (answers.TypeText c outcome) lent commands moves = concat (codes "type " ∷ decimal c ∷ issued_text type_refused_text outcome ∷ [])
+lines_of (answers.Move c outcome) lent commands moves = concat (codes "move " ∷ decimal c ∷ handed_in_text move_refused_text outcome ∷ [])
+lines_of (Serve c emission datagram) lent commands moves = serve_text c emission datagram
+lines_of (Send c (Ok sent) datagram) lent commands moves = send_text c sent datagram
+lines_of (Send c (Err e) datagram) lent commands moves = concat (codes "send " ∷ decimal c ∷ codes " noclient\n" ∷ [])
+lines_of (Unknown datagram) lent commands moves = concat (codes "deliver " ∷ decimal datagram ∷ codes " unknown\n" ∷ [])
+lines_of (Deliver datagram c took) lent commands moves = concat (codes "deliver " ∷ decimal datagram ∷ client_text c took commands ∷ [])
+lines_of (ToServer datagram took) lent commands moves = concat (codes "deliver " ∷ decimal datagram ∷ server_text took commands moves ∷ [])
+lines_of (Show c what) lent commands moves = concat (codes "show " ∷ decimal c ∷ shown_text what lent ∷ [])
 
 -- the lines of an answer, with what is printed with it
 abbrev pub answer_text : Answered → List ℕ
-answer_text given = lines_of given.answer given.snapshot given.moves
+answer_text given = lines_of given.answer given.snapshot given.commands given.moves
 
 -- the report of a replay of these events, from the opening world
 unfoldable pub report : Profile → List Event → List ℕ

@@ -1,5 +1,5 @@
 -- Laws over every list of events.
-use Rattle.std.specs.Prelude.{◌≡◌, ◌↔◌, ℕ, ◌+◌, ◌-◌, ◌<◌, if◌then◌else◌, true, false, List, [], ◌∷◌, ◌++◌, length, map, replicate, ◌≤◌, All, Contains, Option, Some, None, IfSome, Ok, slice_get, slice_index_or}
+use Rattle.std.specs.Prelude.{◌≡◌, ◌↔◌, ℕ, ◌+◌, ◌-◌, ◌<◌, if◌then◌else◌, true, false, List, [], ◌∷◌, ◌++◌, length, map, take, replicate, ◌≤◌, All, Contains, Option, Some, None, IfSome, Ok, slice_get, slice_index_or}
 use Rattle.std.specs.List.{AllByRecursion, last_or, range_with_len}
 use Rattle.q3_profile.specs.declared.profile.Profile.{Profile}
 use Rattle.q3_script.specs.declared.event.Event.{Event}
@@ -23,7 +23,7 @@ use Rattle.q3_chan.specs.Gathering.{gathered}
 use Rattle.q3_world.specs.declared.answer.Answer.{Answer}
 use Rattle.q3_world.specs.declared.answer.Answer.TheVariants.{Send, Deliver, ToServer}
 use Rattle.q3_world.specs.declared.made.Direction.TheVariants as direction
-use Rattle.q3_slot.specs.Built.{Built, number_of, IsNear}
+use Rattle.q3_slot.specs.Built.{Built, number_of, IsNear, is_unclear}
 use Rattle.q3_slot.specs.Slot.{SlotState}
 use Rattle.q3_slot.specs.Emitting.{next_snapshot, begun_next, built_bytes, most_placed}
 use Rattle.q3_slot.specs.Taking.{delta_behind, runs}
@@ -32,7 +32,11 @@ use Rattle.q3_client.specs.Client.{ClientState}
 use Rattle.q3_world.specs.Moves.{TimesRise, StandAmong}
 use Rattle.q3_world.specs.Ends.{Ends, client_at, newest, unknown, delivered, ran}
 use Rattle.q3_world.specs.Kept.{SentBytes, Kept, opening_kept, kept_step, kept_after, kept_answers}
-use Rattle.q3_world.specs.World.{Tag, Whole, History, history_at, built_at, said_at, opening, step, after, answers}
+use Rattle.q3_world.specs.declared.made.Direction.{Direction}
+use Rattle.q3_text.specs.declared.text.Command.{Command}
+use Rattle.q3_text.specs.Commands.{numbered}
+use Rattle.q3_window.specs.Incoming.{fresh_of}
+use Rattle.q3_world.specs.World.{Tag, Whole, History, history_at, built_at, said_at, texts_of, opening, step, after, answers}
 use Rattle.q3_world.specs.StandsFor.{IsChecked, StandsFor, WasBuilt, Rise, WasAccepted}
 
 -- a step by bytes of what stands for a whole world gives what stands for its step by tags, and answers the same
@@ -80,10 +84,20 @@ IsLegible (ToServer datagram took.Connectionless) = ⊥
 IsLegible (ToServer datagram took.Stranger) = ⊥
 IsLegible (ToServer datagram (took.BadFragment slot)) = ⊥
 IsLegible (ToServer datagram (took.Illegible slot cause)) = ⊥
+IsLegible (ToServer datagram (took.Gap slot number)) = ⊥
 IsLegible other = Unit {0}
 
--- in a replay no end ever gets what it can't read, the server finds each datagram's client, no client is dropped, no snapshot is
--- stale, and none is skipped but for the entities of its base
+-- commands that were executed, by which end, and what is noted of it before and after
+abbrev pub GoesOn : List Command → History → History → Direction → Type 0
+GoesOn commands before after direction.ToClient =
+    (commands ≡ numbered (length before.client_executed + 1) (texts_of commands)) × (after.client_executed ≡ before.client_executed ++ texts_of commands)
+    × (after.server_executed ≡ before.server_executed)
+GoesOn commands before after (direction.ToServer from) =
+    (commands ≡ numbered (length before.server_executed + 1) (texts_of commands)) × (after.server_executed ≡ before.server_executed ++ texts_of commands)
+    × (after.client_executed ≡ before.client_executed)
+
+-- in a replay no end ever gets what it can't read, no acknowledgement is refused, no command leaves a gap, the server finds each
+-- datagram's client, no client is dropped, no snapshot is stale, and none is skipped but for the entities of its base
 abbrev pub AlwaysLegible : Type 0
 AlwaysLegible = (profile : Profile) (all : List Event) → IsChecked profile → AllByRecursion IsReplayEvent all
     → AllByRecursion (λ given. IsLegible given.answer) (kept_answers (opening_kept profile) all)
@@ -93,6 +107,25 @@ abbrev pub UnknownWasNotMade : Type 0
 UnknownWasNotMade = (profile : Profile) (all : List Event) (number : ℕ) → IsChecked profile → AllByRecursion IsReplayEvent all
     → ((kept_step (kept_then profile all) (events.Deliver number)).answer ≡ unknown number)
     ↔ (slice_get (kept_then profile all).datagrams (number - 1) ≡ None)
+
+-- each end has executed a front of the commands that the other issued, each once and in order; and its window counts them
+abbrev pub CommandsArePrefixes : Type 0
+CommandsArePrefixes = (profile : Profile) (all : List Event) (c : ℕ) (slot : SlotState) (client : ClientState) → IsChecked profile
+    → AllByRecursion IsReplayEvent all → c < places
+    → slot_at (kept_then profile all).ends.server c ≡ Some slot → client_at (kept_then profile all).ends c ≡ Some client
+    → (history_then profile all c).client_executed
+    ≡ take client.state.executed.executed (history_then profile all c).server_commands
+    × ((history_then profile all c).server_executed ≡ take slot.executed.executed (history_then profile all c).client_commands)
+    × (client.state.executed.executed ≡ length (history_then profile all c).client_executed)
+    × (slot.executed.executed ≡ length (history_then profile all c).server_executed)
+
+-- what an event prints as executed, at a client or at the server, goes on where that end stood: its numbers follow on the count of
+-- all executed before, and its texts are noted behind them
+abbrev pub ExecutedGoesOn : Type 0
+ExecutedGoesOn = (profile : Profile) (all : List Event) (number : ℕ) (tag : Tag) → IsChecked profile → AllByRecursion IsReplayEvent all
+    → IsReplayEvent (events.Deliver number) → slice_get (whole_then profile all).sent (number - 1) ≡ Some tag
+    → GoesOn (kept_step (kept_then profile all) (events.Deliver number)).answer.commands
+    (history_then profile all tag.client) (history_then profile (all ++ events.Deliver number ∷ []) tag.client) tag.direction
 
 -- each snapshot that a client accepted is the one that the server built for it under that number, and the numbers rise
 abbrev pub AcceptedWereBuilt : Type 0
@@ -150,6 +183,14 @@ outcome_of ring accepted (Some base) =
 abbrev pub applied_of : ℕ → List Snapshot → ℕ → Built → AppliedSo
 applied_of ring accepted n built = record { number = n; game = false; snap = outcome_of ring accepted built.base }
 
+-- the commands that a client executes of the message under a number: those above all that it executed before
+abbrev pub heard_of : History → ℕ → List Command
+heard_of history n = fresh_of (length history.client_executed) (built_at history.built n).message.commands
+
+-- and those that the server executes of a client's message
+abbrev pub run_of : History → ℕ → List Command
+run_of history n = fresh_of (length history.server_executed) (said_at history.said n).message.commands
+
 -- the client shows the snapshot that was built under a number
 abbrev pub Shows : Ends → ℕ → ℕ → List Built → Type 0
 Shows ends c n built = (snapshot : Snapshot) × (newest (client_at ends c) ≡ Some snapshot) × (snapshot.head.number ≡ n) × WasBuilt built snapshot
@@ -159,7 +200,7 @@ Shows ends c n built = (snapshot : Snapshot) × (newest (client_at ends c) ≡ S
 -- and where it accepts the snapshot, its newest is the one that the server built for it under that number
 abbrev pub AppliedWasBuilt : Type 0
 AppliedWasBuilt = (profile : Profile) (all : List Event) (number c : ℕ) (applied : AppliedSo) → IsChecked profile → AllByRecursion IsReplayEvent all
-    → (kept_step (kept_then profile all) (events.Deliver number)).answer ≡ delivered number c (Applied applied)
+    → (kept_step (kept_then profile all) (events.Deliver number)).answer.answer ≡ Deliver number c (Applied applied)
     → ((client : ClientState) × (client_at (kept_then profile all).ends c ≡ Some client) × (client.gathering.taken < applied.number))
     × (applied ≡ applied_of profile.parse_ring (history_then profile all c).accepted applied.number (built_at (history_then profile all c).built applied.number))
     × ((tag : Tag) × (slice_get (whole_then profile all).sent (number - 1) ≡ Some tag) × (tag.direction ≡ direction.ToClient) × (tag.client ≡ c) × (tag.number ≡ applied.number))
@@ -176,12 +217,12 @@ NewerIsAccepted = (profile : Profile) (all : List Event) (number n count : ℕ) 
     → (gathered client.gathering sent.bytes).answer ≡ CameWhole n count
     → (kept_step (kept_then profile all) (events.Deliver number)).answer
     ≡ delivered number sent.client (Applied (applied_of profile.parse_ring (history_then profile all sent.client).accepted n
-    (built_at (history_then profile all sent.client).built n)))
+    (built_at (history_then profile all sent.client).built n))) (heard_of (history_then profile all sent.client) n)
 
 -- with a ring that has the usual room for 8,192 entities, or more, no snapshot is skipped
 abbrev pub UsualNeverSkips : Type 0
 UsualNeverSkips = (profile : Profile) (all : List Event) (number c : ℕ) (applied : AppliedSo) → IsChecked profile → AllByRecursion IsReplayEvent all
-    → 8192 ≤ profile.parse_ring → (kept_step (kept_then profile all) (events.Deliver number)).answer ≡ delivered number c (Applied applied)
+    → 8192 ≤ profile.parse_ring → (kept_step (kept_then profile all) (events.Deliver number)).answer.answer ≡ Deliver number c (Applied applied)
     → (base : ℕ) × (applied.snap ≡ Accepted base)
 
 -- where the bytes of a client's datagram bring a message whole to its slot, it is run: of its moves those that are later than
@@ -193,9 +234,10 @@ NewerIsRun = (profile : Profile) (all : List Event) (number n count : ℕ) (sent
     → slot_at (kept_then profile all).ends.server sent.client ≡ Some slot
     → (gathered slot.gathering sent.bytes).answer ≡ CameWhole n count
     → (kept_step (kept_then profile all) (events.Deliver number)).answer
-    ≡ ran number (took.Ran sent.client n) (runs slot.last_run (said_at (history_then profile all sent.client).said n).moves)
+    ≡ ran number (took.Ran sent.client n) (run_of (history_then profile all sent.client) n)
+    (runs slot.last_run (said_at (history_then profile all sent.client).said n).message.moves)
     × ((after : SlotState) × (slot_at (kept_step (kept_then profile all) (events.Deliver number)).kept.ends.server sent.client ≡ Some after)
-    × (after.delta ≡ delta_behind slot.delta (said_at (history_then profile all sent.client).said n)))
+    × (after.delta ≡ delta_behind slot.delta (said_at (history_then profile all sent.client).said n).message))
 
 -- the moves of a client that the server ran stand among those that the client issued, each once and in their order, and their
 -- times rise
@@ -224,6 +266,7 @@ InOrderIsAccepted = (profile : Profile) (all : List Event) (c n last : ℕ) (num
     → length numbers ≡ last_index (built_bytes profile (built_at (history_then profile all c).built n))
     → (kept_step (kept_then profile (all ++ deliveries numbers)) (events.Deliver last)).answer
     ≡ delivered last c (Applied (applied_of profile.parse_ring (history_then profile all c).accepted n (built_at (history_then profile all c).built n)))
+    (heard_of (history_then profile all c) n)
 
 -- so many datagrams of a message are made for a client, and delivered in the order in which they are made, from a number on
 abbrev pub serve_and_deliver : ℕ → ℕ → ℕ → List Event
@@ -242,6 +285,7 @@ pub record MayBegin (profile : Profile) (server : ServerState) (c : ℕ) (slot :
   pub idle : IsIdle slot.sending
   pub fits : slot.sending.number + 1 < sequence_end
   pub placed : server.frames.placed ≤ most_placed
+  pub clear : is_unclear profile slot.executed.executed ≡ false
   pub short : length (built_bytes profile (built_next server c slot)) ≤ longest_message
 
 -- whatever came before: where a message may be begun for a client, all of its datagrams are made and arrive in order, and the

@@ -10,9 +10,12 @@ use Rattle.q3_chan.specs.declared.side.Side.TheVariants.{Server, Client}
 use Rattle.q3_chan.specs.Datagrams.{sequence_end, piece_count, datagram}
 use Rattle.q3_chan.specs.Sending.{Sending}
 use Rattle.q3_chan.specs.Laws.{IsSendable, Gathers, Sends}
+use Rattle.q3_text.specs.declared.text.Command.{Command}
+use Rattle.q3_text.specs.Texts.{IsText}
+use Rattle.q3_window.specs.Outgoing.{IsOutgoing}
+use Rattle.q3_window.specs.Flow.{Flow}
 use Rattle.q3_clmsg.specs.declared.moves.Move.{Move}
 use Rattle.q3_clmsg.specs.Moves.{IsMove}
-use Rattle.q3_clmsg.specs.Laws.{IsMessage}
 use Rattle.q3_entity.specs.Baselines.{no_lines}
 use Rattle.q3_svmsg.specs.Values as told
 use Rattle.q3_svmsg.specs.Values.{Told}
@@ -30,7 +33,7 @@ use Rattle.q3_server.specs.Taking.{sender_of}
 use Rattle.q3_client.specs.declared.moves.Issued.{Issued}
 use Rattle.q3_client.specs.Client.{ClientState}
 use Rattle.q3_client.specs.Moves.{most_moves}
-use Rattle.q3_client.specs.Sending.{said_bytes, Said}
+use Rattle.q3_client.specs.Sending.{said_bytes, Said, IsSaid}
 use Rattle.q3_world.specs.declared.made.Direction.{Direction}
 use Rattle.q3_world.specs.declared.made.Direction.TheVariants.{ToClient, ToServer}
 use Rattle.q3_world.specs.Ends.{client_at, address_at}
@@ -82,18 +85,20 @@ AreOfBuilt frames c began = (number : ℕ) (snapshot : Snapshot) → held_frame 
     → (snapshot.head.number ≡ number) × WasBuilt began snapshot
 
 -- what the server keeps of a client that joined with this qport from this host, what it built for it, each against a base that
--- was built before, and the moves of it that it ran: their times rise, and it keeps the last
-pub record KeepsSlot (profile : Profile) (slot : SlotState) (of_qport of_host : ℕ) (began : List Built) (ran : List Move) : Type 0 where
+-- was built before, the moves of it that it ran: their times rise, and it keeps the last; and the commands that it issued for it
+pub record KeepsSlot (profile : Profile) (slot : SlotState) (of_qport of_host : ℕ) (began : List Built) (ran : List Move) (commands : List (List ℕ)) : Type 0 where
   pub qport : slot.qport ≡ of_qport
   pub host : slot.address.host ≡ of_host
   pub sending : BeginsMessages Server 0 (messages_of profile began) (length began) slot.sending
   pub player : IsHeld profile slot.player
   pub area : IsArea slot.area.items
-  pub built : (k : ℕ) (d : Built) → k < length began → IsBuilt profile (k + 1) (slice_index_or began k d)
+  pub built : (k : ℕ) (d : Built) → k < length began → IsBuilt profile slot.challenge (k + 1) (slice_index_or began k d)
   pub bases : All (λ (built : Built). IfSome built.base (WasBuilt began)) began
   pub from : slot.gathering.side ≡ Client
   pub last : slot.last_run ≡ last_time 0 ran
   pub rise : TimesRise 0 ran
+  pub window : IsOutgoing slot.issued
+  pub texts : All IsText commands
 
 -- of each move, how many messages were begun before it: that doesn't fall, and is at most as many as were begun
 abbrev pub MarksRise : ℕ → ℕ → List Issued → Type 0
@@ -108,24 +113,27 @@ pub record KeepsMoves (moves : List Issued) (begun : ℕ) (issued : List Move) :
   pub marks : MarksRise 0 begun moves
   pub each : All (λ (i : Issued). IsMove i.one) moves
 
--- what a client keeps that joined with this qport, what it said, and the moves that it issued: their times rise, and those of
--- each message were issued one directly after the other
-pub record KeepsClient (profile : Profile) (client : ClientState) (of_qport : ℕ) (began : List Said) (issued : List Move) : Type 0 where
+-- what a client keeps that joined with this qport, what it said, the moves that it issued: their times rise, and those of
+-- each message were issued one directly after the other; and the commands that it issued
+pub record KeepsClient (profile : Profile) (client : ClientState) (of_qport : ℕ) (began : List Said) (issued : List Move) (commands : List (List ℕ)) : Type 0 where
   pub by : client.state.profile ≡ profile
   pub ring : client.state.held.ring ≡ profile.parse_ring
   pub from : client.gathering.side ≡ Server
   pub fits : of_qport < 2 ^ 16
   pub sending : BeginsMessages Client of_qport (messages_said profile began) (length began) client.sending
-  pub said : (k : ℕ) (d : Said) → k < length began → IsMessage (slice_index_or began k d)
+  pub said : (k : ℕ) (d : Said) → k < length began → IsSaid profile client.challenge (slice_index_or began k d)
   pub last : client.last_time ≡ last_time 0 issued
   pub rise : TimesRise 0 issued
   pub moves : KeepsMoves client.moves (length began) issued
-  pub carried : (k : ℕ) (d : Said) → k < length began → AreConsecutive (slice_index_or began k d).moves issued
+  pub carried : (k : ℕ) (d : Said) → k < length began → AreConsecutive (slice_index_or began k d).message.moves issued
+  pub window : IsOutgoing client.issued
+  pub texts : All IsText commands
 
 -- what both ends of a client keep, and from which host it sends
 pub record AreEnds (profile : Profile) (slot : SlotState) (client : ClientState) (address : Address) (history : History) : Type 0 where
-  pub of_slot : KeepsSlot profile slot history.qport history.host history.built history.run
-  pub of_client : KeepsClient profile client history.qport history.said history.issued
+  pub of_slot : KeepsSlot profile slot history.qport history.host history.built history.run history.server_commands
+  pub of_client : KeepsClient profile client history.qport history.said history.issued history.client_commands
+  pub challenge : slot.challenge ≡ client.challenge
   pub host : address.host ≡ history.host
 
 -- a client is at both ends or at none
@@ -209,15 +217,37 @@ pub record TakesSaid (profile : Profile) (slot : SlotState) (said : List Said) (
 -- each snapshot against which a client asks to write others was accepted; the one against which its slot writes is none or was
 -- accepted; and so was each base against which a message was built
 pub record AreAsked (slot : SlotState) (said : List Said) (began : List Built) (accepted : List Snapshot) : Type 0 where
-  pub asks : All (λ (message : Said). message.delta ≡ true → WasAccepted accepted message.acknowledged) said
+  pub asks : All (λ (message : Said). message.message.delta ≡ true → WasAccepted accepted message.message.acknowledged) said
   pub delta : (slot.delta ≡ 0) ⊎ WasAccepted accepted slot.delta
   pub bases : All (λ (built : Built). IfSome built.base (Contains accepted)) began
+
+-- the commands that each message carries, and what it acknowledges: of those built, and of those said
+abbrev pub carried_built : List Built → List (List Command)
+carried_built began = map (λ (b : Built). b.message.commands) began
+
+abbrev pub acks_built : List Built → List Command
+acks_built began = map (λ (b : Built). record { number = b.message.ack; text = b.text }) began
+
+abbrev pub carried_said : List Said → List (List Command)
+carried_said began = map (λ (s : Said). s.message.commands) began
+
+abbrev pub acks_said : List Said → List Command
+acks_said began = map (λ (s : Said). record { number = s.message.command; text = s.text }) began
+
+-- the commands of the server on their way to a client, and those of the client on theirs to the server: each end executed a front
+-- of what the other issued, and each window has the texts by which the messages to come are scrambled
+pub record AreCommanded (slot : SlotState) (client : ClientState) (history : History) : Type 0 where
+  pub to_client : Flow slot.issued client.state.executed history.server_commands history.client_executed (carried_built history.built)
+      (acks_said history.said) slot.gathering.taken
+  pub to_server : Flow client.issued slot.executed history.client_commands history.server_executed (carried_said history.said)
+      (acks_built history.built) client.gathering.taken
 
 -- what joins the two ends of a client
 pub record AreJoined (profile : Profile) (slot : SlotState) (client : ClientState) (history : History) : Type 0 where
   pub of_client : TakesBuilt profile client history.built history.accepted
   pub of_slot : TakesSaid profile slot history.said history.issued history.run
   pub asked : AreAsked slot history.said history.built history.accepted
+  pub commanded : AreCommanded slot client history
 
 -- of a client that is at both ends
 abbrev pub IsJoined : Profile → Option SlotState → Option ClientState → History → Type 0

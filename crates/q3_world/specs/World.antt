@@ -1,6 +1,6 @@
 -- The whole world: both ends, and what nothing wipes. A step delivers a datagram by its tag:
 -- what arrives is the message that was begun under its number.
-use Rattle.std.specs.Prelude.{ℕ, ◌+◌, ◌-◌, List, [], ◌∷◌, ◌++◌, length, replicate, Option, Some, None, Ok, Err, slice_get, slice_set, slice_index_or}
+use Rattle.std.specs.Prelude.{ℕ, ◌+◌, ◌-◌, List, [], ◌∷◌, ◌++◌, length, map, replicate, Option, Some, None, Ok, Err, slice_get, slice_set, slice_index_or}
 use Rattle.q3_profile.specs.declared.profile.Profile.{Profile}
 use Rattle.q3_io.specs.declared.address.Address.{Address}
 use Rattle.q3_player.specs.Heads.{empty_head}
@@ -8,10 +8,11 @@ use Rattle.q3_script.specs.declared.event.Event.{Event}
 use Rattle.q3_script.specs.declared.event.Event.TheVariants as events
 use Rattle.q3_chan.specs.Tags.{tagged}
 use Rattle.q3_chan.specs.Sending.{Piece}
+use Rattle.q3_text.specs.declared.text.Command.{Command}
+use Rattle.q3_window.specs.Flow.{no_command}
 use Rattle.q3_clmsg.specs.declared.moves.Move.{Move}
 use Rattle.q3_clmsg.specs.Values.{empty_message}
 use Rattle.q3_ring.specs.Snapshot.{Snapshot}
-use Rattle.q3_clstate.specs.State.{apply_message}
 use Rattle.q3_slot.specs.declared.taking.ServerTook.TheVariants.{Stranger}
 use Rattle.q3_slot.specs.Built.{Built, built_of}
 use Rattle.q3_slot.specs.Slot.{SlotState}
@@ -19,14 +20,14 @@ use Rattle.q3_slot.specs.Emitting.{built_bytes}
 use Rattle.q3_server.specs.Server.{Emission, places, slot_at, emit_at}
 use Rattle.q3_slot.specs.Taking as by_slot
 use Rattle.q3_server.specs.Taking as hears
-use Rattle.q3_client.specs.Client.{ClientState, Taken, take_gathered}
+use Rattle.q3_client.specs.Client.{ClientState, Taken, receive_message, take_gathered}
 use Rattle.q3_client.specs.Sending as speaks
 use Rattle.q3_client.specs.Sending.{Said, said_bytes}
 use Rattle.q3_world.specs.declared.answer.Answer.{Answer}
 use Rattle.q3_world.specs.declared.answer.Answer.TheVariants as answer
 use Rattle.q3_world.specs.declared.made.Direction.{Direction}
 use Rattle.q3_world.specs.declared.made.Direction.TheVariants.{ToClient, ToServer}
-use Rattle.q3_world.specs.Ends.{Ends, EndsStep, Answered, answered, client_at, with_client, address_at, new_ends, served, sent, unknown, delivered, ran, join, set_time, set_entity, remove_entity, set_player, set_area, add_move, show}
+use Rattle.q3_world.specs.Ends.{Ends, EndsStep, Answered, answered, client_at, with_client, address_at, new_ends, served, sent, unknown, delivered, ran, join, set_time, set_entity, remove_entity, set_player, set_area, say_command, type_command, add_move, show}
 
 -- a datagram that was made: the client that it is for or comes from, which of the two, its message's number, which of its
 -- pieces it carries, and its bytes
@@ -38,7 +39,9 @@ pub record Tag : Type 0 where
   pub bytes : List ℕ
 
 -- of one client: the qport and the host that it joined with, the messages that the server began for it, the one under number
--- 1 first, the snapshots that it accepted, the messages that it began, the moves that it issued, and those that the server ran
+-- 1 first, the snapshots that it accepted, the messages that it began, the moves that it issued, and those that the server ran; the
+-- commands that the server issued for it, those of them that it executed, the commands that it issued, and those of them that the
+-- server executed
 pub record History : Type 0 where
   pub qport : ℕ
   pub host : ℕ
@@ -47,6 +50,10 @@ pub record History : Type 0 where
   pub said : List Said
   pub issued : List Move
   pub run : List Move
+  pub server_commands : List (List ℕ)
+  pub client_executed : List (List ℕ)
+  pub client_commands : List (List ℕ)
+  pub server_executed : List (List ℕ)
 
 -- both ends, each client's history at its place, and every datagram that was made
 pub record Whole : Type 0 where
@@ -61,7 +68,19 @@ pub record Step : Type 0 where
 
 -- of a client that never joined
 abbrev pub no_history : History
-no_history = record { qport = 0; host = 0; built = []; accepted = []; said = []; issued = []; run = [] }
+no_history = record {
+  qport = 0;
+  host = 0;
+  built = [];
+  accepted = [];
+  said = [];
+  issued = [];
+  run = [];
+  server_commands = [];
+  client_executed = [];
+  client_commands = [];
+  server_executed = [];
+}
 
 -- the history at a client's place
 abbrev pub history_at : List History → ℕ → History
@@ -73,14 +92,18 @@ with_history histories c history = slice_set histories c history
 
 -- what stands where no message was built
 abbrev pub no_message : Built
-no_message = built_of None (record { head = empty_head; entities = [] })
+no_message = built_of (record { ack = no_command; commands = []; start = 0 }) None (record { head = empty_head; entities = [] })
+
+-- and where none was said
+abbrev pub no_said : Said
+no_said = record { message = empty_message; start = 0; text = [] }
 
 -- the message that was built under a number, and the one that a client began under it
 abbrev pub built_at : List Built → ℕ → Built
 built_at built number = slice_index_or built (number - 1) no_message
 
 abbrev pub said_at : List Said → ℕ → Said
-said_at said number = slice_index_or said (number - 1) empty_message
+said_at said number = slice_index_or said (number - 1) no_said
 
 -- ---- what is noted of a client
 
@@ -99,6 +122,25 @@ abbrev pub with_accepted : History → Option Snapshot → History
 with_accepted history None = history
 with_accepted history (Some snapshot) = record history { accepted = history.accepted ++ snapshot ∷ [] }
 
+-- the texts of commands
+abbrev pub texts_of : List Command → List (List ℕ)
+texts_of commands = map (λ (c : Command). c.text) commands
+
+-- and the commands that it executed
+abbrev pub with_heard : History → Option Snapshot → List Command → History
+with_heard history snapshot commands =
+    record (with_accepted history snapshot) { client_executed = history.client_executed ++ texts_of commands }
+
+-- a command that the server issued for it, if it did
+abbrev pub with_spoken : History → List ℕ → Answer → History
+with_spoken history text (answer.Say c (Ok number)) = record history { server_commands = history.server_commands ++ text ∷ [] }
+with_spoken history text other = history
+
+-- a command that it issued, if it did
+abbrev pub with_typed : History → List ℕ → Answer → History
+with_typed history text (answer.TypeText c (Ok number)) = record history { client_commands = history.client_commands ++ text ∷ [] }
+with_typed history text other = history
+
 -- a message that it began, if it did
 abbrev pub with_said : History → Option Said → History
 with_said history None = history
@@ -109,9 +151,10 @@ abbrev pub with_issued : History → Move → Answer → History
 with_issued history one (answer.Move c (Ok x)) = record history { issued = history.issued ++ one ∷ [] }
 with_issued history one other = history
 
--- the moves that the server ran
-abbrev pub with_run : History → List Move → History
-with_run history moves = record history { run = history.run ++ moves }
+-- the commands that the server executed, and the moves that it ran
+abbrev pub with_run : History → List Command → List Move → History
+with_run history commands moves =
+    record history { run = history.run ++ moves; server_executed = history.server_executed ++ texts_of commands }
 
 -- ---- events
 
@@ -170,15 +213,15 @@ send whole c (Some from) = say whole c (speaks.emit_at from)
 abbrev pub named : List History → Tag → Built
 named histories tag = built_at (history_at histories tag.client).built tag.number
 
--- a client took a datagram, and what it accepted is noted
+-- a client took a datagram, and what it accepted and executed is noted
 abbrev pub client_took : Whole → ℕ → ℕ → Taken → Step
 client_took whole number c taken =
     record {
       whole = record whole {
         ends = with_client whole.ends c taken.client;
-        histories = with_history whole.histories c (with_accepted (history_at whole.histories c) taken.heard);
+        histories = with_history whole.histories c (with_heard (history_at whole.histories c) taken.accepted taken.heard);
       };
-      answer = delivered number c taken.answer;
+      answer = delivered number c taken.answer taken.heard;
     }
 
 -- a datagram arrives at its client, by its tag: the number and the piece decide what it does, and of a message that comes
@@ -188,7 +231,7 @@ to_client profile whole number tag None = record { whole = whole; answer = unkno
 to_client profile whole number tag (Some client) =
     client_took whole number tag.client
     (take_gathered client (tagged client.gathering tag.number (built_bytes profile (named whole.histories tag)) tag.index)
-    (λ n. Ok (apply_message client.state n (named whole.histories tag).message)))
+    (λ n. Ok (receive_message client n (named whole.histories tag).message)))
 
 -- the message that the tag of a client's datagram names
 abbrev pub said_under : List History → Tag → Said
@@ -200,9 +243,9 @@ server_took whole number c taken =
     record {
       whole = record whole {
         ends = record whole.ends { server = taken.server };
-        histories = with_history whole.histories c (with_run (history_at whole.histories c) taken.moves);
+        histories = with_history whole.histories c (with_run (history_at whole.histories c) taken.commands taken.moves);
       };
-      answer = ran number taken.answer taken.moves;
+      answer = ran number taken.answer taken.commands taken.moves;
     }
 
 -- a client's datagram comes to its slot, from an address, by its tag: of a message that comes whole the slot runs the value
@@ -214,7 +257,7 @@ to_server profile whole number tag from (Some slot) =
     (hears.taken_at whole.ends.server tag.client
     (by_slot.take_gathered (record slot { address = from }) tag.client
     (tagged slot.gathering tag.number (said_bytes profile (said_under whole.histories tag)) tag.index)
-    (λ n. Ok (said_under whole.histories tag))))
+    (λ n. Ok (said_under whole.histories tag).message)))
 
 -- a datagram arrives at the end that it goes to
 abbrev pub arrive : Profile → Whole → ℕ → Tag → Direction → Step
@@ -235,6 +278,8 @@ step profile whole (events.Remove number) = with_ends whole (remove_entity whole
 step profile whole (events.Player c player) = with_ends whole (set_player whole.ends c player)
 step profile whole (events.Area c area) = with_ends whole (set_area whole.ends c area)
 step profile whole (events.Time time) = with_ends whole (set_time whole.ends time)
+step profile whole (events.Say c text) = with_noted whole c (say_command whole.ends c text) (with_spoken (history_at whole.histories c) text)
+step profile whole (events.TypeText c text) = with_noted whole c (type_command whole.ends c text) (with_typed (history_at whole.histories c) text)
 step profile whole (events.Move c one) = with_noted whole c (add_move whole.ends c one) (with_issued (history_at whole.histories c) one)
 step profile whole (events.Serve c) = serve whole c (emit_at whole.ends.server c)
 step profile whole (events.Send c) = send whole c (client_at whole.ends c)

@@ -1,7 +1,7 @@
 //! What each event answered.
 
 use q3_client::{ClientTook, MoveError, Sent};
-use q3_server::{Emitted, NoClient, ServerTook, SlotError};
+use q3_server::{Emitted, NoClient, SayError, ServerTook, SlotError};
 
 /// What a client shows.
 #[derive(Clone, Copy, Debug, PartialEq, Eq)]
@@ -12,6 +12,15 @@ pub enum Shown {
     Nothing,
     /// The newest snapshot that it accepted, which is lent to be printed.
     Newest,
+}
+
+/// Why a client doesn't issue a command.
+#[derive(Clone, Copy, Debug, PartialEq, Eq)]
+pub enum TypeRefused {
+    /// No such client was added.
+    NoClient,
+    /// The client's window has no room for it.
+    WindowFull,
 }
 
 /// Why a client doesn't issue a move.
@@ -47,6 +56,16 @@ pub enum Answer {
         outcome: Result<(), NoClient>,
     },
     Time,
+    /// The number of the command is told where it was issued.
+    Say {
+        c: u8,
+        outcome: Result<u32, SayError>,
+    },
+    /// The number of the command is told where it was issued.
+    TypeText {
+        c: u8,
+        outcome: Result<u32, TypeRefused>,
+    },
     Move {
         c: u8,
         outcome: Result<(), MoveRefused>,
@@ -67,13 +86,13 @@ pub enum Answer {
     Unknown {
         datagram: u32,
     },
-    /// The client that the datagram is for took it.
+    /// The client that the datagram is for took it. The commands that it executed are lent to be printed.
     Deliver {
         datagram: u32,
         c: u8,
         took: ClientTook,
     },
-    /// The server took the datagram. The moves that it ran are lent to be printed.
+    /// The server took the datagram. The commands that it executed and the moves that it ran are lent to be printed.
     ToServer {
         datagram: u32,
         took: ServerTook,

@@ -2,7 +2,7 @@
 
 ghost use Rattle.q3_world.specs.MessageLaws.{BuiltIsRead, SaidIsRead};
 ghost use Rattle.q3_world.specs.Layers.{Layers};
-ghost use Rattle.q3_world.specs.Schedules.{StepFollows, BytesFollowTags, AlwaysLegible, UnknownWasNotMade, AcceptedWereBuilt, ShownWasBuilt, ShownIsNewest, AsksForAccepted, BasesWereAccepted, HeldIsAccepted, ViewsWereBuilt, AppliedWasBuilt, NewerIsAccepted, UsualNeverSkips, NewerIsRun, MovesWereIssued, InOrderIsAccepted, ServedIsShown};
+ghost use Rattle.q3_world.specs.Schedules.{StepFollows, BytesFollowTags, AlwaysLegible, UnknownWasNotMade, CommandsArePrefixes, ExecutedGoesOn, AcceptedWereBuilt, ShownWasBuilt, ShownIsNewest, AsksForAccepted, BasesWereAccepted, HeldIsAccepted, ViewsWereBuilt, AppliedWasBuilt, NewerIsAccepted, UsualNeverSkips, NewerIsRun, MovesWereIssued, InOrderIsAccepted, ServedIsShown};
 
 use q3_bits::laws as bits;
 use q3_chan::laws as chan;
@@ -13,12 +13,15 @@ use q3_map::laws as map;
 use q3_player::laws as player;
 use q3_rings::laws as rings;
 use q3_svmsg::laws as svmsg;
+use q3_window::laws as window;
 
 /// A message that was built is read back from its bytes, whole, or as skipped where its base isn't held.
 pub fn built_is_read()
     ensures { BuiltIsRead }
 {
+    bits::put_is_read();
     bits::message_holds_bits();
+    chan::scrambled_twice();
     svmsg::written_is_read();
     svmsg::read_is_skipped();
 }
@@ -27,8 +30,9 @@ pub fn built_is_read()
 pub fn said_is_read()
     ensures { SaidIsRead }
 {
+    bits::put_is_read();
     bits::message_holds_bits();
-    clmsg::heads_are_read();
+    chan::scrambled_twice();
     clmsg::written_is_read();
 }
 
@@ -46,6 +50,7 @@ fn layers()
     chan::tagged_does();
     chan::ends_gather();
     chan::ends_send();
+    chan::scrambled_twice();
     bits::message_holds_bits();
     map::lists_stay_held();
     frames::held_was_built();
@@ -58,6 +63,8 @@ fn layers()
     rings::held_was_accepted();
     rings::near_is_held_by_age();
     rings::usual_ring_holds();
+    window::commands_flow();
+    window::stays_outgoing();
 }
 
 /// A step of what stands for a whole world, where each datagram is taken by its bytes, is the whole world's step, where
@@ -76,8 +83,8 @@ pub fn bytes_follow_tags()
     step_follows();
 }
 
-/// In a replay no end ever gets what it can't read, the server finds each datagram's client, no client is dropped, no snapshot
-/// is stale, and none is skipped but for the entities of its base.
+/// In a replay no end ever gets what it can't read, no acknowledgement is refused, no command leaves a gap, the server finds each
+/// datagram's client, no client is dropped, no snapshot is stale, and none is skipped but for the entities of its base.
 pub fn always_legible()
     ensures { AlwaysLegible }
 {
@@ -88,6 +95,21 @@ pub fn always_legible()
 /// In a replay a delivery is unknown where no datagram of its number was made, and there alone.
 pub fn unknown_was_not_made()
     ensures { UnknownWasNotMade }
+{
+    bytes_follow_tags();
+    layers();
+}
+
+/// Each end has executed a front of the commands that the other issued, each once and in order.
+pub fn commands_are_prefixes()
+    ensures { CommandsArePrefixes }
+{
+    bytes_follow_tags();
+}
+
+/// What a delivery prints as executed goes on where its end stood, by numbers and texts.
+pub fn executed_goes_on()
+    ensures { ExecutedGoesOn }
 {
     bytes_follow_tags();
     layers();
@@ -209,5 +231,6 @@ pub fn served_is_shown()
     in_order_is_accepted();
     applied_was_built();
     bits::message_holds_bits();
+    chan::scrambled_twice();
     chan::tagged_does();
 }

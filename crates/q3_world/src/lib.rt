@@ -9,5 +9,5 @@ mod replay;
 mod report;
 pub mod world;
 
-pub use answer::{Answer, MoveRefused, Shown};
+pub use answer::{Answer, MoveRefused, Shown, TypeRefused};
 pub use world::{StepError, World};

@@ -1,16 +1,19 @@
 //! Both ends of every client and the datagrams that were made, and what an event does to them.
 
-ghost use Rattle.std.specs.Prelude.{◌≡◌, ◌+◌, ◌-◌, ◌<◌, ◌≤◌, [], length, slice_get, option_map, IfOk, OnOk, OnErr};
+ghost use Rattle.std.specs.Prelude.{◌≡◌, ◌+◌, ◌-◌, ◌<◌, ◌≤◌, length, slice_get, option_map, IfOk, OnOk, OnErr};
 ghost use Rattle.q3_profile.specs.Profile.{IsProfile, IsCodec};
 ghost use Rattle.q3_script.specs.Grammar.{IsReplayEvent};
 ghost use Rattle.q3_map.specs.Map.{most_numbers};
 ghost use Rattle.q3_server.specs.Server.{places, emit_at};
 ghost use Rattle.q3_rings.specs.Loans.{snapshot_of};
-ghost use Rattle.q3_world.specs.Ends.{answered, lent, newest_of, newest, client_at, shown_of, join, set_time, set_entity, remove_entity, set_player, set_area, add_move};
+ghost use Rattle.q3_clstate.specs.declared.applied.Log.{Log as LogValue};
+ghost use Rattle.q3_slot.specs.declared.taking.Heard.{Heard as HeardValue};
+ghost use Rattle.q3_world.specs.Ends.{lent, newest_of, newest, client_at, shown_of, join, set_time, set_entity, remove_entity, set_player, set_area, say_command, type_command, add_move};
+ghost use Rattle.q3_world.specs.Executed.{answered_with};
 ghost use Rattle.q3_world.specs.Kept.{most_datagrams, opening_kept, kept_step, kept_ends, kept_serve, kept_send, kept_deliver};
 ghost use Rattle.q3_world.specs.Outcome.{TakesMemory};
 
-use crate::answer::{Answer, MoveRefused, Shown};
+use crate::answer::{Answer, MoveRefused, Shown, TypeRefused};
 use crate::made::{Direction, Made, arrive, keep, room_for_one};
 use crate::places::{empty_places, no_addresses};
 use arrayvec::ArrayVec;
@@ -18,6 +21,7 @@ use q3_bits::NoMemory;
 use q3_chan::Datagram;
 use q3_client::Client;
 use q3_clmsg::Move;
+use q3_clstate::Log;
 use q3_entity::EntityState;
 use q3_io::Address;
 use q3_player::PlayerState;
@@ -25,6 +29,8 @@ use q3_profile::Profile;
 use q3_rings::SnapView;
 use q3_script::Event;
 use q3_server::{Heard, MOST_SLOTS, NoClient, Server};
+use q3_text::Text;
+use q3_window::WindowFull;
 use std::alloc::Global;
 use std::marker::Model;
 
@@ -73,17 +79,21 @@ impl Replay {
         })
     }
 
-    /// Does one event, and tells which moves were run. `Err` is want of memory, at `client`, `serve` and `send` alone, and
-    /// changes nothing.
+    /// Does one event. Where a datagram is taken, the list of the end that takes it tells what was executed and run; both lists
+    /// may hold anything before. `Err` is want of memory, at `client`, `serve` and `send` alone, and changes nothing.
     #[tactic(auto, unfolding(crate::specs::Kept::kept_step))]
-    pub fn apply(&mut self, event: &Event, heard: &mut Heard) -> Result<Answer, NoMemory>
+    pub fn apply(
+        &mut self,
+        event: &Event,
+        log: &mut Log,
+        heard: &mut Heard,
+    ) -> Result<Answer, NoMemory>
         requires event { IsReplayEvent event.now }
         requires few { length self.old.datagrams < most_datagrams }
         ensures ok { IfOk result (λ answer. kept_step self.old event.now
-            ≡ record { kept = self.new; answer = record { answer = answer; snapshot = lent self.new.ends answer; moves = heard.new.moves.items } }) }
+            ≡ record { kept = self.new; answer = answered_with self.new.ends answer log.new heard.new }) }
         ensures err { OnErr result (TakesMemory event.now × (self.new ≡ self.old)) }
     {
-        heard.moves.clear();
         match event {
             Event::Client {
                 c,
@@ -97,10 +107,12 @@ impl Replay {
             Event::Player { c, player } => Ok(self.set_player(*c, player)),
             Event::Area { c, area } => Ok(self.set_area(*c, area)),
             Event::Time { time } => Ok(self.set_time(*time)),
+            Event::Say { c, text } => Ok(self.say(*c, text)),
+            Event::TypeText { c, text } => Ok(self.type_command(*c, text)),
             Event::Move { c, one } => Ok(self.add_move(*c, one)),
             Event::Serve { c } => self.serve(*c),
             Event::Send { c } => self.send(*c),
-            Event::Deliver { datagram } => Ok(self.deliver(*datagram, heard)),
+            Event::Deliver { datagram } => Ok(self.deliver(*datagram, log, heard)),
             Event::Show { c } => Ok(self.show(*c)),
         }
     }
@@ -115,8 +127,8 @@ impl Replay {
         address: Address,
     ) -> Result<Answer, NoMemory>
         requires { c < places }
-        ensures ok { IfOk result (λ answer. kept_ends self.old (join self.old.profile self.old.ends c challenge qport dup address)
-            ≡ record { kept = self.new; answer = answered self.new.ends answer }) }
+        ensures ok { IfOk result (λ answer. (log : LogValue) (heard : HeardValue) → kept_ends self.old (join self.old.profile self.old.ends c challenge qport dup address)
+            ≡ record { kept = self.new; answer = answered_with self.new.ends answer log heard }) }
         ensures err { OnErr result (self.new ≡ self.old) }
     {
         let client = Client::new(self.alloc, &self.profile, challenge, qport, dup)?;
@@ -133,8 +145,8 @@ impl Replay {
 
     fn set_entity(&mut self, state: &EntityState) -> Answer
         requires { state.now.number < most_numbers }
-        ensures { kept_ends self.old (set_entity self.old.ends state.now)
-            ≡ record { kept = self.new; answer = answered self.new.ends result } }
+        ensures { (log : LogValue) (heard : HeardValue) → kept_ends self.old (set_entity self.old.ends state.now)
+            ≡ record { kept = self.new; answer = answered_with self.new.ends result log heard } }
     {
         self.server.set_entity(state);
         Answer::Entity {
@@ -143,8 +155,8 @@ impl Replay {
     }
 
     fn remove_entity(&mut self, number: u16) -> Answer
-        ensures { kept_ends self.old (remove_entity self.old.ends number)
-            ≡ record { kept = self.new; answer = answered self.new.ends result } }
+        ensures { (log : LogValue) (heard : HeardValue) → kept_ends self.old (remove_entity self.old.ends number)
+            ≡ record { kept = self.new; answer = answered_with self.new.ends result log heard } }
     {
         self.server.remove_entity(number);
         Answer::Remove { number }
@@ -152,8 +164,8 @@ impl Replay {
 
     fn set_player(&mut self, c: u8, player: &PlayerState) -> Answer
         requires { c < places }
-        ensures { kept_ends self.old (set_player self.old.ends c player.now)
-            ≡ record { kept = self.new; answer = answered self.new.ends result } }
+        ensures { (log : LogValue) (heard : HeardValue) → kept_ends self.old (set_player self.old.ends c player.now)
+            ≡ record { kept = self.new; answer = answered_with self.new.ends result log heard } }
     {
         Answer::Player {
             c,
@@ -163,8 +175,8 @@ impl Replay {
 
     fn set_area(&mut self, c: u8, area: &ArrayVec<u8, 32>) -> Answer
         requires { c < places }
-        ensures { kept_ends self.old (set_area self.old.ends c area.now)
-            ≡ record { kept = self.new; answer = answered self.new.ends result } }
+        ensures { (log : LogValue) (heard : HeardValue) → kept_ends self.old (set_area self.old.ends c area.now)
+            ≡ record { kept = self.new; answer = answered_with self.new.ends result log heard } }
     {
         Answer::Area {
             c,
@@ -173,18 +185,49 @@ impl Replay {
     }
 
     fn set_time(&mut self, time: u32) -> Answer
-        ensures { kept_ends self.old (set_time self.old.ends time)
-            ≡ record { kept = self.new; answer = answered self.new.ends result } }
+        ensures { (log : LogValue) (heard : HeardValue) → kept_ends self.old (set_time self.old.ends time)
+            ≡ record { kept = self.new; answer = answered_with self.new.ends result log heard } }
     {
         self.server.set_time(time);
         Answer::Time
     }
 
+    /// The server issues a command for a client.
+    fn say(&mut self, c: u8, text: &Text) -> Answer
+        requires { c < places }
+        ensures { (log : LogValue) (heard : HeardValue) → kept_ends self.old (say_command self.old.ends c text.now)
+            ≡ record { kept = self.new; answer = answered_with self.new.ends result log heard } }
+    {
+        Answer::Say {
+            c,
+            outcome: self.server.say(c, text),
+        }
+    }
+
+    /// A client issues a command.
+    fn type_command(&mut self, c: u8, text: &Text) -> Answer
+        requires { c < places }
+        ensures { (log : LogValue) (heard : HeardValue) → kept_ends self.old (type_command self.old.ends c text.now)
+            ≡ record { kept = self.new; answer = answered_with self.new.ends result log heard } }
+    {
+        let Some(client) = &mut self.clients[c as usize] else {
+            return Answer::TypeText {
+                c,
+                outcome: Err(TypeRefused::NoClient),
+            };
+        };
+        let outcome = match client.type_command(text) {
+            Ok(number) => Ok(number),
+            Err(WindowFull) => Err(TypeRefused::WindowFull),
+        };
+        Answer::TypeText { c, outcome }
+    }
+
     /// A client issues a move.
     fn add_move(&mut self, c: u8, one: &Move) -> Answer
         requires { c < places }
-        ensures { kept_ends self.old (add_move self.old.ends c one.now)
-            ≡ record { kept = self.new; answer = answered self.new.ends result } }
+        ensures { (log : LogValue) (heard : HeardValue) → kept_ends self.old (add_move self.old.ends c one.now)
+            ≡ record { kept = self.new; answer = answered_with self.new.ends result log heard } }
     {
         let Some(client) = &mut self.clients[c as usize] else {
             return Answer::Move {
@@ -211,8 +254,8 @@ impl Replay {
     fn serve(&mut self, c: u8) -> Result<Answer, NoMemory>
         requires place { c < places }
         requires few { length self.old.datagrams < most_datagrams }
-        ensures ok { IfOk result (λ answer. kept_serve self.old c (emit_at self.old.ends.server c)
-            ≡ record { kept = self.new; answer = answered self.new.ends answer }) }
+        ensures ok { IfOk result (λ answer. (log : LogValue) (heard : HeardValue) → kept_serve self.old c (emit_at self.old.ends.server c)
+            ≡ record { kept = self.new; answer = answered_with self.new.ends answer log heard }) }
         ensures err { OnErr result (self.new ≡ self.old) }
     {
         let bytes = room_for_one(self.alloc, &mut self.datagrams)?;
@@ -231,8 +274,8 @@ impl Replay {
     fn send(&mut self, c: u8) -> Result<Answer, NoMemory>
         requires place { c < places }
         requires few { length self.old.datagrams < most_datagrams }
-        ensures ok { IfOk result (λ answer. kept_send self.old c (client_at self.old.ends c)
-            ≡ record { kept = self.new; answer = answered self.new.ends answer }) }
+        ensures ok { IfOk result (λ answer. (log : LogValue) (heard : HeardValue) → kept_send self.old c (client_at self.old.ends c)
+            ≡ record { kept = self.new; answer = answered_with self.new.ends answer log heard }) }
         ensures err { OnErr result (self.new ≡ self.old) }
     {
         let bytes = room_for_one(self.alloc, &mut self.datagrams)?;
@@ -262,16 +305,22 @@ impl Replay {
     }
 
     /// A datagram arrives: the end that it goes to takes the stored bytes.
-    fn deliver(&mut self, number: u32, heard: &mut Heard) -> Answer
-        requires number { 1 ≤ number }
-        requires heard { heard.old.moves.items ≡ [] }
+    fn deliver(&mut self, number: u32, log: &mut Log, heard: &mut Heard) -> Answer
+        requires { 1 ≤ number }
         ensures { kept_deliver self.old number (slice_get self.old.datagrams (number - 1))
-            ≡ record { kept = self.new; answer = record { answer = result; snapshot = lent self.new.ends result; moves = heard.new.moves.items } } }
+            ≡ record { kept = self.new; answer = answered_with self.new.ends result log.new heard.new } }
     {
         let Some(sent) = self.datagrams.get(number as usize - 1) else {
             return Answer::Unknown { datagram: number };
         };
-        arrive(&mut self.server, &mut self.clients, number, sent, heard)
+        arrive(
+            &mut self.server,
+            &mut self.clients,
+            number,
+            sent,
+            log,
+            heard,
+        )
     }
 
     fn show(&self, c: u8) -> Answer

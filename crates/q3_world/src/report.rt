@@ -4,34 +4,41 @@ ghost use Rattle.std.specs.Prelude.{◌≡◌, [], ◌∷◌, codes, decimal, op
 ghost use Rattle.std.specs.List.{concat, flat_map};
 ghost use Rattle.q3_io.specs.Faults.{HasCause};
 ghost use Rattle.q3_io.specs.Written.{Adds, NothingWaits};
-ghost use Rattle.q3_server.specs.Report.{slot_error_text, no_client_text, server_text};
+ghost use Rattle.q3_server.specs.Report.{slot_error_text, no_client_text, say_error_text, server_text};
 ghost use Rattle.q3_client.specs.Report.{client_text, move_error_text};
-ghost use Rattle.q3_world.specs.Report.{lines_of, handed_in_text, move_refused_text, area_text, start_text, entity_text, shown_text, head_text, snapshot_text};
+ghost use Rattle.q3_world.specs.Executed.{commands_with, moves_with};
+ghost use Rattle.q3_world.specs.Report.{lines_of, handed_in_text, issued_text, type_refused_text, move_refused_text, area_text, start_text, entity_text, shown_text, head_text, snapshot_text};
 ghost use Rattle.q3_rings.specs.Loans.{snapshot_of};
 ghost use Rattle.q3_entity.specs.Entities.{run_of};
 
-use crate::answer::{Answer, MoveRefused, Shown};
+use crate::answer::{Answer, MoveRefused, Shown, TypeRefused};
 use q3_client::{ClientTook, MoveError, print_move_error, print_sent, print_took};
+use q3_clstate::Log;
 use q3_entity::{EntityState, Run, print_fields};
 use q3_io::{Failed, Piece, Sink, laws, print_all, print_hex};
 use q3_player::print_words;
 use q3_rings::SnapView;
-use q3_server::{Heard, NoClient, ServerTook, SlotError, print_emitted, print_slot_error};
+use q3_server::{
+    Heard, NoClient, SayError, ServerTook, SlotError, print_emitted, print_say_error,
+    print_slot_error,
+};
 
-/// Prints the lines of an answer, with what is lent for it: a snapshot, and the moves that were run. It hands them on, or a
-/// front of them and answers `Failed`.
+/// Prints the lines of an answer, with what is lent for it: a snapshot, and what a client, or the server, executed and ran. It
+/// hands them on, or a front of them and answers `Failed`.
 pub(crate) fn print_answer<O: Sink>(
     answer: &Answer,
     lent: Option<SnapView>,
+    log: &Log,
     heard: &Heard,
     out: &mut O,
 ) -> Result<(), Failed>
-    ensures adds { Adds (O.written out.old) (O.written out.new) (lines_of answer.now (option_map snapshot_of lent.entry) heard.now.moves.items) result }
+    ensures adds { Adds (O.written out.old) (O.written out.new)
+        (lines_of answer.now (option_map snapshot_of lent.entry) (commands_with answer.now log.now heard.now) (moves_with answer.now heard.now)) result }
     ensures flushed { OnOk result (NothingWaits (O.written out.new)) }
     ensures cause { HasCause (O.faults out.old) (O.faults out.new) result }
 {
     laws::texts_follow();
-    print_lines(answer, lent, heard, out)?;
+    print_lines(answer, lent, log, heard, out)?;
     out.flush()
 }
 
@@ -40,10 +47,12 @@ pub(crate) fn print_answer<O: Sink>(
 fn print_lines<O: Sink>(
     answer: &Answer,
     lent: Option<SnapView>,
+    log: &Log,
     heard: &Heard,
     out: &mut O,
 ) -> Result<(), Failed>
-    ensures adds { Adds (O.written out.old) (O.written out.new) (lines_of answer.now (option_map snapshot_of lent.entry) heard.now.moves.items) result }
+    ensures adds { Adds (O.written out.old) (O.written out.new)
+        (lines_of answer.now (option_map snapshot_of lent.entry) (commands_with answer.now log.now heard.now) (moves_with answer.now heard.now)) result }
     ensures cause { HasCause (O.faults out.old) (O.faults out.new) result }
 {
     match answer {
@@ -55,6 +64,8 @@ fn print_lines<O: Sink>(
         }
         Answer::Area { c, outcome } => print_line(b"area ", u32::from(*c), given(*outcome), out),
         Answer::Time => print_all(&[Piece::Text(b"time ok\n")], out),
+        Answer::Say { c, outcome } => print_said(*c, *outcome, out),
+        Answer::TypeText { c, outcome } => print_typed(*c, *outcome, out),
         Answer::Move { c, outcome } => print_moved(*c, *outcome, out),
         Answer::Unknown { datagram } => print_line(b"deliver ", *datagram, b" unknown\n", out),
         Answer::Serve {
@@ -72,7 +83,7 @@ fn print_lines<O: Sink>(
             sent: Err(NoClient),
             ..
         } => print_line(b"send ", u32::from(*c), b" noclient\n", out),
-        Answer::Deliver { datagram, c, took } => print_delivered(*datagram, *c, took, out),
+        Answer::Deliver { datagram, c, took } => print_delivered(*datagram, *c, took, log, out),
         Answer::ToServer { datagram, took } => print_heard(*datagram, took, heard, out),
         Answer::Show { c, shown } => print_shown(*c, *shown, lent, out),
     }
@@ -129,6 +140,60 @@ fn print_refusal<O: Sink>(line: &[u8], c: u8, out: &mut O) -> Result<(), Failed>
     print_line(line, u32::from(c), b" refused ", out)
 }
 
+/// Prints the line of a command that the server issues.
+fn print_said<O: Sink>(c: u8, outcome: Result<u32, SayError>, out: &mut O) -> Result<(), Failed>
+    ensures adds { Adds (O.written out.old) (O.written out.new) (concat (codes "say " ∷ decimal c ∷ issued_text say_error_text outcome ∷ [])) result }
+    ensures cause { HasCause (O.faults out.old) (O.faults out.new) result }
+{
+    match outcome {
+        Ok(number) => print_issued(b"say ", c, number, out),
+        Err(error) => print_say_refused(c, error, out),
+    }
+}
+
+/// Prints the line of a command that was issued, with its number.
+fn print_issued<O: Sink>(line: &[u8], c: u8, number: u32, out: &mut O) -> Result<(), Failed>
+    ensures adds { Adds (O.written out.old) (O.written out.new)
+        (concat (line.now ∷ decimal c ∷ concat (codes " ok " ∷ decimal number ∷ codes "\n" ∷ []) ∷ [])) result }
+    ensures cause { HasCause (O.faults out.old) (O.faults out.new) result }
+{
+    print_all(
+        &[
+            Piece::Text(line),
+            Piece::Number(u64::from(c)),
+            Piece::Text(b" ok "),
+            Piece::Number(u64::from(number)),
+            Piece::Text(b"\n"),
+        ],
+        out,
+    )
+}
+
+/// Prints the line of a command that the server doesn't issue.
+fn print_say_refused<O: Sink>(c: u8, error: SayError, out: &mut O) -> Result<(), Failed>
+    ensures adds { Adds (O.written out.old) (O.written out.new)
+        (concat (codes "say " ∷ decimal c ∷ concat (codes " refused " ∷ say_error_text error ∷ codes "\n" ∷ []) ∷ [])) result }
+    ensures cause { HasCause (O.faults out.old) (O.faults out.new) result }
+{
+    laws::texts_follow();
+    print_refusal(b"say ", c, out)?;
+    print_say_error(error, out)?;
+    out.write_all(b"\n")
+}
+
+/// Prints the line of a command that a client issues.
+fn print_typed<O: Sink>(c: u8, outcome: Result<u32, TypeRefused>, out: &mut O) -> Result<(), Failed>
+    ensures adds { Adds (O.written out.old) (O.written out.new) (concat (codes "type " ∷ decimal c ∷ issued_text type_refused_text outcome ∷ [])) result }
+    ensures cause { HasCause (O.faults out.old) (O.faults out.new) result }
+{
+    let word: &[u8] = match outcome {
+        Ok(number) => return print_issued(b"type ", c, number, out),
+        Err(TypeRefused::NoClient) => b" refused noclient\n",
+        Err(TypeRefused::WindowFull) => b" refused windowfull\n",
+    };
+    print_line(b"type ", u32::from(c), word, out)
+}
+
 /// Prints the line of a move.
 fn print_moved<O: Sink>(c: u8, outcome: Result<(), MoveRefused>, out: &mut O) -> Result<(), Failed>
     ensures adds { Adds (O.written out.old) (O.written out.new) (concat (codes "move " ∷ decimal c ∷ handed_in_text move_refused_text outcome ∷ [])) result }
@@ -161,7 +226,7 @@ fn print_heard<O: Sink>(
     heard: &Heard,
     out: &mut O,
 ) -> Result<(), Failed>
-    ensures adds { Adds (O.written out.old) (O.written out.new) (concat (codes "deliver " ∷ decimal datagram ∷ server_text took.now heard.now.moves.items ∷ [])) result }
+    ensures adds { Adds (O.written out.old) (O.written out.new) (concat (codes "deliver " ∷ decimal datagram ∷ server_text took.now heard.now.commands.items heard.now.moves.items ∷ [])) result }
     ensures cause { HasCause (O.faults out.old) (O.faults out.new) result }
 {
     laws::texts_follow();
@@ -174,14 +239,15 @@ fn print_delivered<O: Sink>(
     datagram: u32,
     c: u8,
     took: &ClientTook,
+    log: &Log,
     out: &mut O,
 ) -> Result<(), Failed>
-    ensures adds { Adds (O.written out.old) (O.written out.new) (concat (codes "deliver " ∷ decimal datagram ∷ client_text c took.now ∷ [])) result }
+    ensures adds { Adds (O.written out.old) (O.written out.new) (concat (codes "deliver " ∷ decimal datagram ∷ client_text c took.now log.now.commands.items ∷ [])) result }
     ensures cause { HasCause (O.faults out.old) (O.faults out.new) result }
 {
     laws::texts_follow();
     print_deliver(datagram, out)?;
-    print_took(c, took, out)
+    print_took(c, took, log, out)
 }
 
 /// Prints what stands in front of the client.

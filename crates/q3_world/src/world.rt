@@ -14,7 +14,9 @@ ghost use Rattle.q3_world.specs.Outcome.{TakesMemory, Prints, HasStepCause};
 use crate::laws;
 use crate::replay::Replay;
 use crate::report::print_answer;
+use arrayvec::ArrayVec;
 use q3_bits::NoMemory;
+use q3_clstate::Log;
 use q3_io::{Failed, Files, Sink};
 use q3_profile::Profile;
 use q3_script::Event;
@@ -31,12 +33,13 @@ pub enum StepError {
     WriteFault,
 }
 
-/// A replay of a schedule: a copy of the profile, a server, a client for each added slot, every datagram that was made, and the
-/// moves that the server ran last.
+/// A replay of a schedule: a copy of the profile, a server, a client for each added slot, every datagram that was made, and
+/// what a client, and the server, executed and ran last. These two lists have room for 64 texts each, so they are boxed.
 #[derive(Drop)]
 pub struct World {
     replay: Replay,
-    heard: Heard,
+    log: Box<Log>,
+    heard: Box<Heard>,
 }
 
 impl Model for World {
@@ -55,7 +58,13 @@ impl World {
     {
         Ok(World {
             replay: Replay::new(alloc, profile)?,
-            heard: Heard::new(),
+            log: Box::new(
+                alloc,
+                Log {
+                    commands: ArrayVec::new(),
+                },
+            )?,
+            heard: Box::new(alloc, Heard::new())?,
         })
     }
 
@@ -87,10 +96,11 @@ impl World {
         let _ = files;
         // What the clauses on the whole world cite.
         laws::step_follows();
-        let Ok(answer) = self.replay.apply(event, &mut self.heard) else {
+        let Ok(answer) = self.replay.apply(event, &mut self.log, &mut self.heard) else {
             return Err(StepError::NoMemory);
         };
-        match print_answer(&answer, self.replay.lent(answer), &self.heard, out) {
+        let snapshot = self.replay.lent(answer);
+        match print_answer(&answer, snapshot, &self.log, &self.heard, out) {
             Ok(()) => Ok(()),
             Err(Failed) => Err(StepError::WriteFault),
         }

@@ -162,6 +162,7 @@ fn word(cause: LineCause) -> &'static [u8]
         LineCause::Count => b"count",
         LineCause::Number => b"number",
         LineCause::Fields => b"fields",
+        LineCause::Text => b"text",
         LineCause::Address => b"address",
     }
 }

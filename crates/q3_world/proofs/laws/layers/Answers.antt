@@ -19,6 +19,8 @@ returns c = record {
     keeps = c.build_keeps.ensures;
     near = c.base_is_near.ensures;
   };
+  windows = record { flow = c.commands_flow.ensures; stays = c.stays_outgoing.ensures };
+  scrambles = record { front = c.scrambled_twice.ensures.front; bytes = c.scrambled_twice.ensures.bytes };
   rings = record {
     none = c.nothing_stands.ensures;
     added = c.accept_is_added.ensures;

@@ -2,4 +2,6 @@ use Rattle.q3_world.proofs.SaidRead.{said_is_read}
 use Rattle.q3_world.proofs.laws.said_is_read.Goals as goal
 
 pub returns : goal.returns
-returns c = said_is_read c.message_holds_bits.ensures.holds c.heads_are_read.ensures c.written_is_read.ensures
+returns c =
+    said_is_read c.put_is_read.ensures c.message_holds_bits.ensures.holds c.scrambled_twice.ensures.twice c.scrambled_twice.ensures.front
+    c.written_is_read.ensures

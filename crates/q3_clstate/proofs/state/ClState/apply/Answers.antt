@@ -1,6 +1,6 @@
 use Rattle.std.proofs.Common.{rules, ◌≡◌, true}
 use Rattle.q3_svmsg.specs.declared.message.Section.TheVariants.{Snap}
-use Rattle.q3_clstate.specs.State.{is_stale}
+use Rattle.q3_clstate.specs.State.{is_stale, hearing}
 use Rattle.q3_clstate.specs.contracts.state.ClState.{the_view}
 use Rattle.q3_clstate.proofs.Accepting.{snap_state}
 use Rattle.q3_clstate.proofs.state.ClState.apply.Goals as goal
@@ -11,5 +11,7 @@ returns-in-Snap-default-true-clause-state c =
     let now = the_view c.self.inside in
     let base = c.in-Snap-default-true.base in
     let held : message.section ≡ Snap base true = search rules in
-    rw (← c.self.view_is, ← c.in_ok-read_server_message.ensures.reads, held, c.accept-snap.ensures.held, c.accept-snap.ensures.lines)
-    (snap_state now c.args.number base (record { head = message.head; entities = message.entities.value.items }) (is_stale now.held c.args.number))
+    let commands : c.deref-3.result.now ≡ message.commands.value.items = search rules in
+    let heard = hearing now message.commands.value.items in
+    rw (← c.self.view_is, ← c.in_ok-read_server_message.ensures.reads, held, c.accept-snap.ensures.held, c.accept-snap.ensures.lines, c.execute.ensures.window, commands)
+    (snap_state heard c.args.number base (record { head = message.head; entities = message.entities.value.items }) (is_stale now.held c.args.number))

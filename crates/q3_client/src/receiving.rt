@@ -1,0 +1,88 @@
+//! A message that came whole, as a client receives it. Keeps the rules "reliable command windows" and "scrambling", the engine's
+//! `CL_Netchan_Decode` (cl_net_chan.c) and `CL_ParseServerMessage` (cl_parse.c).
+
+ghost use Rattle.std.specs.Prelude.{◌≡◌, ◌≤◌, [], length, take, IfOk};
+ghost use Rattle.q3_chan.specs.Datagrams.{longest_message};
+ghost use Rattle.q3_chan.specs.Gathering.{gathered, Delivers};
+ghost use Rattle.q3_window.specs.Outgoing.{issued_of};
+ghost use Rattle.q3_client.specs.Client.{receive_by};
+ghost use Rattle.q3_client.specs.Receiving.{acknowledged_by, state_received, issued_received, answer_received, heard_received};
+
+use q3_bits::Code;
+use q3_chan::{Gathered, Gatherer, scramble, server_start};
+use q3_clstate::{Applied, ClState, Log};
+use q3_svmsg::{Illegible, read_ack};
+use q3_window::Outgoing;
+
+/// From which byte on a server's message is scrambled: behind its leading long.
+const SCRAMBLED_FROM: usize = 4;
+
+/// Takes a datagram. A message that it completes stands at the front of `whole`.
+pub(crate) fn gather(gatherer: &mut Gatherer, datagram: &[u8], whole: &mut Vec<u8>) -> Gathered
+    requires { length whole.old.items ≡ longest_message }
+    ensures gathering { gatherer.new ≡ (gathered gatherer.old datagram.now).gathering }
+    ensures answer { result ≡ (gathered gatherer.old datagram.now).answer }
+    ensures message { Delivers result whole.new.items (gathered gatherer.old datagram.now).message }
+    ensures room { length whole.new.items ≡ longest_message }
+{
+    gatherer.take(datagram, whole)
+}
+
+/// Receives the message of a number that stands in the first bytes of `whole`, so many.
+pub(crate) fn receive_front(
+    state: &mut ClState,
+    outgoing: &mut Outgoing,
+    challenge: u32,
+    number: u32,
+    whole: &mut Vec<u8>,
+    count: usize,
+    log: &mut Log,
+) -> Result<Applied, Illegible>
+    requires within { count ≤ length whole.old.items }
+    requires empty { log.old.commands.items ≡ [] }
+    ensures state { state.new ≡ state_received state.old (receive_by state.old outgoing.old challenge number (take count whole.old.items)) }
+    ensures issued { outgoing.new ≡ issued_received outgoing.old (receive_by state.old outgoing.old challenge number (take count whole.old.items)) }
+    ensures answer { result ≡ answer_received (receive_by state.old outgoing.old challenge number (take count whole.old.items)) }
+    ensures log { log.new.commands.items ≡ heard_received (receive_by state.old outgoing.old challenge number (take count whole.old.items)) }
+    ensures room { length whole.new.items ≡ length whole.old.items }
+{
+    receive(state, outgoing, challenge, number, &mut whole[..count], log)
+}
+
+/// Receives a message of a number, any bytes: its acknowledgement is read, the bytes are cleared by the text of the command
+/// that it acknowledges, what they say is applied, and only then the acknowledgement is taken. `Err` is why it isn't
+/// legible; nothing changes then but the bytes.
+fn receive(
+    state: &mut ClState,
+    outgoing: &mut Outgoing,
+    challenge: u32,
+    number: u32,
+    bytes: &mut [u8],
+    log: &mut Log,
+) -> Result<Applied, Illegible>
+    requires { log.old.commands.items ≡ [] }
+    ensures state { state.new ≡ state_received state.old (receive_by state.old outgoing.old challenge number bytes.old) }
+    ensures issued { outgoing.new ≡ issued_received outgoing.old (receive_by state.old outgoing.old challenge number bytes.old) }
+    ensures answer { result ≡ answer_received (receive_by state.old outgoing.old challenge number bytes.old) }
+    ensures log { log.new.commands.items ≡ heard_received (receive_by state.old outgoing.old challenge number bytes.old) }
+{
+    let ack = acknowledged_by(&state.profile().code, outgoing, bytes)?;
+    let start = server_start(challenge, number);
+    scramble(bytes, SCRAMBLED_FROM, start, outgoing.text(ack));
+    let applied = state.apply(number, bytes, log)?;
+    let _ = outgoing.acknowledge(ack);
+    Ok(applied)
+}
+
+/// The number of the command that a message acknowledges. `Err` where its bits don't read, or with `Ack` where the window
+/// doesn't take it.
+fn acknowledged_by(code: &Code, outgoing: &Outgoing, bytes: &[u8]) -> Result<u32, Illegible>
+    ensures number { result ≡ acknowledged_by code.now outgoing.now bytes.now }
+    ensures known { IfOk result (λ ack. (outgoing.now.acknowledged ≤ ack) × (ack ≤ issued_of outgoing.now)) }
+{
+    let (ack, _) = read_ack(code, bytes)?;
+    if ack < outgoing.acknowledged() || outgoing.issued() < ack {
+        return Err(Illegible::Ack(ack));
+    }
+    Ok(ack)
+}

@@ -1,0 +1,81 @@
+//! A message as a client says it. Keeps the rules "layout of a client message", "scrambling" and "unclear messages": the
+//! engine's `CL_WritePacket` (cl_input.c) and `CL_Netchan_Encode` (cl_net_chan.c). That an unclear message isn't sent is
+//! this project's own.
+
+ghost use Rattle.std.specs.Prelude.{◌≡◌, ◌≤◌, [], ◌∷◌, length, nat_lt};
+ghost use Rattle.q3_bits.specs.Words.{row_bits};
+ghost use Rattle.q3_chan.specs.Datagrams.{longest_message};
+ghost use Rattle.q3_chan.specs.Keys.{client_start};
+ghost use Rattle.q3_window.specs.Outgoing.{carried as waiting_of};
+ghost use Rattle.q3_clmsg.specs.Moves.{message_key};
+ghost use Rattle.q3_clmsg.specs.Texts.{client_text};
+ghost use Rattle.q3_clmsg.specs.Values.{parts_said};
+ghost use Rattle.q3_client.specs.Sending.{message_with};
+ghost use Rattle.q3_client.specs.Saying.{FillsScrambled};
+
+use q3_bits::Overflow;
+use q3_chan::{client_start, scramble};
+use q3_clmsg::{Move, SaidParts, message_key, write_said};
+use q3_clstate::ClState;
+use q3_window::Outgoing;
+
+/// From which byte on a client's message is scrambled: behind its three leading longs.
+const SCRAMBLED_FROM: usize = 12;
+
+/// How many bits the leading longs may take: as many as the bytes that aren't scrambled have.
+const CLEAR_BITS: usize = 96;
+
+/// Whether the leading longs of the message that goes to the server next take more bits than aren't scrambled.
+pub(crate) fn is_unclear(state: &ClState, acknowledged: u32) -> bool
+    ensures { result ≡ nat_lt 96 (length (row_bits state.now.profile.code ((0, 32) ∷ (acknowledged, 32) ∷ (state.now.executed.executed, 32) ∷ []))) }
+{
+    let longs = [(0, 32), (acknowledged, 32), (state.executed(), 32)];
+    state.profile().code.row_length(&longs) > CLEAR_BITS
+}
+
+/// Writes the message that goes to the server next, with these moves, to the front of a buffer, and answers how many bytes it
+/// has. `Overflow` comes exactly where the message is longer than 16,384 bytes.
+pub(crate) fn write_scrambled(
+    state: &ClState,
+    outgoing: &Outgoing,
+    challenge: u32,
+    acknowledged: u32,
+    delta: bool,
+    moves: &[Move],
+    into: &mut [u8],
+) -> Result<usize, Overflow>
+    requires room { length into.old ≡ longest_message }
+    requires few { length moves.now ≤ 32 }
+    ensures { FillsScrambled (client_start challenge 0 acknowledged) state.now.executed.last
+        (client_text state.now.profile.code (message_key 0 acknowledged state.now.executed.last)
+        (message_with acknowledged state.now.executed.executed (waiting_of outgoing.now) delta moves.now)) into.new result }
+{
+    let text = state.last_text();
+    let key = message_key(0, acknowledged, text);
+    let parts = parts_of(state, outgoing, acknowledged, delta, moves);
+    let bytes = write_said(&state.profile().code, parts, key, into)?;
+    let start = client_start(challenge, 0, acknowledged);
+    scramble(&mut into[..bytes], SCRAMBLED_FROM, start, text);
+    Ok(bytes)
+}
+
+/// The parts of the message that goes to the server next.
+fn parts_of<'a>(
+    state: &ClState,
+    outgoing: &'a Outgoing,
+    acknowledged: u32,
+    delta: bool,
+    moves: &'a [Move],
+) -> SaidParts<'a>
+    ensures moves { result.moves.now ≡ moves.now }
+    ensures parts { parts_said result ≡ message_with acknowledged state.now.executed.executed (waiting_of outgoing.now) delta moves.now }
+{
+    SaidParts {
+        id: 0,
+        acknowledged,
+        command: state.executed(),
+        commands: outgoing.waiting(),
+        delta: delta && !moves.is_empty(),
+        moves,
+    }
+}

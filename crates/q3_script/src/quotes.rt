@@ -1,0 +1,105 @@
+//! Texts in quotes. Their spelling is this project's own.
+
+ghost use Rattle.std.specs.Prelude.{◌≡◌, ◌<◌, length, option_map, IfSome};
+ghost use Rattle.q3_script.specs.Quotes.{hex_byte, coded_byte, coded_at, escaped_at, front_at, few_at, text_word};
+
+use crate::area::has_capital;
+use crate::cause::LineCause;
+use crate::words::{behind, is};
+use arrayvec::ArrayVec;
+use q3_text::Text;
+
+/// The most bytes of a text.
+const MOST_BYTES: usize = 1_023;
+
+/// The byte that two hex digits with small letters spell.
+fn hex_byte(high: u8, low: u8) -> Option<u8>
+    ensures { result ≡ hex_byte high low }
+{
+    if has_capital(&[high, low]) {
+        return None;
+    }
+    let mut byte = [0];
+    if hex::decode_to_slice([high, low], &mut byte).is_err() {
+        return None;
+    }
+    Some(byte[0])
+}
+
+/// The byte that two digits spell, if it is spelled in hex: it doesn't print, and is neither a newline nor 0.
+#[tactic(auto, unfolding(crate::specs::Quotes::coded_byte))]
+fn coded_byte(high: u8, low: u8) -> Option<u8>
+    ensures { result ≡ coded_byte high low }
+{
+    match hex_byte(high, low)? {
+        0 | b'\n' | 32..=126 => None,
+        byte => Some(byte),
+    }
+}
+
+/// The byte of two digits behind `\x`, and the text behind them.
+fn coded(text: &[u8]) -> Option<(u8, &[u8])>
+    ensures value { option_map (λ front. (front.0, front.1.now)) result ≡ coded_at text.now }
+    ensures shorter { IfSome result (λ front. length front.1.now < length text.now) }
+{
+    match text {
+        [high, low, rest @ ..] => Some((coded_byte(*high, *low)?, rest)),
+        _ => None,
+    }
+}
+
+/// The byte that is spelled by what stands behind a backslash, and the text behind it.
+fn escaped(text: &[u8]) -> Option<(u8, &[u8])>
+    ensures value { option_map (λ front. (front.0, front.1.now)) result ≡ escaped_at text.now }
+    ensures shorter { IfSome result (λ front. length front.1.now < length text.now) }
+{
+    let (letter, rest) = text.split_first()?;
+    match *letter {
+        b'"' => Some((b'"', rest)),
+        b'\\' => Some((b'\\', rest)),
+        b'n' => Some((b'\n', rest)),
+        b'x' => coded(rest),
+        _ => None,
+    }
+}
+
+/// The byte whose spelling a text begins with, and the text behind it.
+#[tactic(auto, unfolding(crate::specs::Quotes::front_at))]
+fn front(text: &[u8]) -> Option<(u8, &[u8])>
+    ensures value { option_map (λ front. (front.0, front.1.now)) result ≡ front_at text.now }
+    ensures shorter { IfSome result (λ front. length front.1.now < length text.now) }
+{
+    let (byte, rest) = text.split_first()?;
+    match *byte {
+        b'\\' => escaped(rest),
+        b'"' => None,
+        32..=126 => Some((*byte, rest)),
+        _ => None,
+    }
+}
+
+/// The bytes that a word in quotes spells, if a text may have so many.
+fn unquoted(word: &[u8]) -> Option<ArrayVec<u8, MOST_BYTES>>
+    ensures { option_map (λ bytes. bytes.items) result ≡ few_at word.now }
+{
+    let mut left = behind(b"\"", word)?;
+    let mut bytes = ArrayVec::new();
+    while !is(left, b"\"") {
+        let (byte, rest) = front(left)?;
+        if bytes.is_full() {
+            return None;
+        }
+        bytes.push(byte);
+        left = rest;
+    }
+    Some(bytes)
+}
+
+/// The text that a word in quotes spells, translated.
+#[tactic(auto, using(crate::proofs::Coming::text_steps))]
+pub fn text_word(word: &[u8]) -> Result<Text, LineCause>
+    ensures { result ≡ text_word word.now }
+{
+    let bytes = unquoted(word).ok_or(LineCause::Text)?;
+    Text::of(&bytes).ok().ok_or(LineCause::Text)
+}

@@ -1,0 +1,221 @@
+-- The text of a message that was built is read back, against all that a client holds.
+use Rattle.std.proofs.Common.{◌≡◌, ℕ, zero, suc, ◌+◌, ◌<◌, Bool, true, false, List, [], ◌∷◌, ◌++◌, map, get_or, replicate, Option, Some, None, Result, Ok, Err, refl, sym, ap, subst, ◌∙◌, inl, inr, arith}
+use Rattle.std.specs.Prelude.{◌==◌, ◌⊎◌, IfSome, is_ok, option_map, if◌then◌else◌}
+use Rattle.std.specs.Result.{result_ok}
+use Rattle.std.proofs.lemmas.List.{length-replicate}
+use Rattle.std.proofs.lemmas.List.Elements.{All-head, All-tail}
+use Rattle.std.proofs.lemmas.Bool.{cases_Bool, eq-eqb, cond-true, cond-false}
+use Rattle.q3_bits.specs.ResultBind.{◌>>=◌}
+use Rattle.q3_fields.specs.Kinds.{Layout}
+use Rattle.q3_fields.specs.States.{AreWords}
+use Rattle.q3_profile.specs.declared.profile.Profile.{Profile}
+use Rattle.q3_profile.specs.Profile.{IsCodec}
+use Rattle.q3_player.specs.declared.state.PlayerState.{PlayerState}
+use Rattle.q3_entity.specs.declared.state.EntityState.{EntityState}
+use Rattle.q3_entity.specs.Entities.{normal_entity, IsNormal, AreNormal}
+use Rattle.q3_entity.specs.Baselines.{most_lines, no_lines, set_at, AreLines}
+use Rattle.q3_svmsg.specs.declared.error.Illegible.{Illegible}
+use Rattle.q3_svmsg.specs.Values.{Base, base_from, IsNamed, Context, Message}
+use Rattle.q3_svmsg.specs.Texts.{message_text}
+use Rattle.q3_svmsg.specs.Reading.{held_base, message_after}
+use Rattle.q3_svmsg.specs.Laws.{IsBase, IsContext, IsMessage, WrittenIsRead, ReadIsSkipped}
+use Rattle.q3_ring.specs.Snapshot.{Snapshot}
+use Rattle.q3_rings.specs.declared.rings.NoBase.{NoBase}
+use Rattle.q3_rings.specs.Rings.{HeldSnapshots, held_snapshot, view_at}
+use Rattle.q3_clstate.specs.State.{context_of, has_base, received}
+use Rattle.q3_slot.specs.Built.{Telling, number_of, message_of, IsSnapshot, IsNear, IsTelling}
+use Rattle.q3_world.specs.MessageLaws.{AreBuilt, HoldsThis}
+use Rattle.q3_world.proofs.Applying.{has_base_is}
+
+-- no baseline is set
+none_at : {X : Type 0} (count number : ℕ) (no_line : Option X) → no_line ≡ None → get_or (replicate count no_line) number None ≡ None
+none_at zero number no_line is = refl
+none_at (suc count) zero no_line is = is
+none_at (suc count) (suc number) no_line is = none_at count number no_line is
+
+none_set : (number : ℕ) → set_at no_lines number ≡ None
+none_set number = none_at {X = EntityState} most_lines number None refl
+
+of_none : (P : EntityState → Type 0) (number : ℕ) → IfSome (set_at no_lines number) P
+of_none P number = subst (λ (o : Option EntityState). IfSome o P) (sym (none_set number)) tt
+
+no_lines_are : (table : Layout) → AreLines table no_lines
+no_lines_are table =
+    record {
+      places = length-replicate most_lines no_state;
+      numbers = λ number. of_none (λ state. state.number ≡ number) number;
+      states = λ number. of_none (λ state. AreWords 64 state.words) number;
+      normal = λ number. of_none (IsNormal table) number;
+    }
+  where
+    no_state : Option EntityState
+    no_state = None
+
+-- ---- contexts
+
+-- a reader's bases, with no baselines
+abbrev with_bases : (ℕ → Option Base) → Context
+with_bases bases = record { base = bases; lines = no_lines }
+
+some_base : (x y : Base) → Some x ≡ Some y → x ≡ y
+some_base x y e = cc
+
+abbrev no_base : Option Base
+no_base = None
+
+-- a snapshot that was built is a base
+snapshot_is_base : (profile : Profile) (snapshot : Snapshot) → IsSnapshot profile snapshot → IsBase profile (base_from snapshot)
+snapshot_is_base profile snapshot is =
+    record {
+      state = is.player.state;
+      normal = is.player.normal;
+      entities = record { list = record { rise = is.entities.rise; few = is.few }; states = is.entities.states };
+      normal_entities = is.entities.normal;
+    }
+
+viewed_is_base : (profile : Profile) (view : Option Snapshot) (base : Base) → ((snapshot : Snapshot) → view ≡ Some snapshot → IsSnapshot profile snapshot)
+    → option_map base_from view ≡ Some base → IsBase profile base
+viewed_is_base profile None base are found = absurd cc
+viewed_is_base profile (Some snapshot) base are found =
+    subst (IsBase profile) (some_base (base_from snapshot) base found) (snapshot_is_base profile snapshot (are snapshot refl))
+
+held_is_context : (profile : Profile) (held : HeldSnapshots) → AreBuilt profile held → IsContext profile (context_of held no_lines)
+held_is_context profile held are =
+    record { bases = λ number base found. viewed_is_base profile (view_at held number) base (are number) found; lines = no_lines_are profile.entity }
+
+-- the one snapshot under its number
+abbrev only : Snapshot → ℕ → Option Base
+only base number = if number == base.head.number then Some (base_from base) else None
+
+only_there : (base : Snapshot) → only base base.head.number ≡ Some (base_from base)
+only_there base = rw (eq-eqb base.head.number base.head.number refl) refl
+
+only_is_context : (profile : Profile) (base : Snapshot) → IsSnapshot profile base → IsContext profile (with_bases (only base))
+only_is_context profile base is = record { bases = λ number found at. one number found at; lines = no_lines_are profile.entity }
+  where
+    none_some : (found : Base) → no_base ≡ Some found → ⊥
+    none_some found e = absurd cc
+
+    one : (number : ℕ) (found : Base) → only base number ≡ Some found → IsBase profile found
+    one number found at =
+        elim (cases_Bool (number == base.head.number)) [
+          | inl same ↦ subst (IsBase profile) (some_base (base_from base) found (sym (cond-true (number == base.head.number) (Some (base_from base)) no_base same) ∙ at)) (snapshot_is_base profile base is)
+          | inr other ↦ absurd (none_some found (sym (cond-false (number == base.head.number) (Some (base_from base)) no_base other) ∙ at))
+        ]
+
+-- a number above 0 is looked up
+looked_up : (context : Context) (number : ℕ) → 0 < number → held_base context number ≡ context.base number
+looked_up context zero some = absurd (omega (arith, some))
+looked_up context (suc number) some = let same : number + 1 ≡ suc number = omega arith in ap (λ (k : ℕ). context.base k) same
+
+-- entities in normal form are their normal form
+all_normal : (table : Layout) (entities : List EntityState) → AreNormal table entities → map (normal_entity table) entities ≡ entities
+all_normal table [] normal = refl
+all_normal table (entity ∷ others) normal =
+    ap (λ (e : EntityState). e ∷ map (normal_entity table) others) (All-head (IsNormal table) entity others normal)
+    ∙ ap (λ (rest : List EntityState). entity ∷ rest) (all_normal table others (All-tail (IsNormal table) entity others normal))
+
+-- ---- a message that was built
+
+-- a base that is found for a message is named by it
+named_so : (context : Context) (n : ℕ) (base : Option Snapshot) → IfSome base (IsNear n) → held_base context (number_of base) ≡ option_map base_from base
+    → IsNamed (held_base context (number_of base)) n (number_of base)
+named_so context n None near found = refl
+named_so context n (Some base) near found =
+    let near_by = near.near in
+    subst (λ (o : Option Base). IsNamed o n base.head.number) (sym found) (near.some, near.below, omega (arith, near_by))
+
+-- it is a message as the program's type holds it
+built_is_message : (profile : Profile) (challenge : ℕ) (context : Context) (n : ℕ) (telling : Telling) (base : Option Snapshot) (snapshot : Snapshot)
+    → IsTelling profile challenge n telling → IsSnapshot profile snapshot → snapshot.head.number ≡ n
+    → IfSome base (IsNear n) → held_base context (number_of base) ≡ option_map base_from base → IsMessage profile context n (message_of telling base snapshot)
+built_is_message profile challenge context n telling base snapshot tells is number near found =
+    let fits = is.number in
+    let flags = is.flags in
+    record {
+      ack = tells.ack;
+      few = tells.few;
+      commands = tells.commands;
+      section = (
+        record {
+          number = omega (arith, fits);
+          time = is.time;
+          flags = omega (arith, flags);
+          area = is.area.bytes;
+          short = is.area.short;
+          player = is.player.state;
+        },
+        record { list = record { rise = is.entities.rise; few = is.few }; states = is.entities.states },
+        subst (λ (k : ℕ). IsNamed (held_base context (number_of base)) k (number_of base)) (sym number) (named_so context n base near found),
+      );
+      number_is = number;
+    }
+
+abbrev pub Read : Type 0
+Read = Result (Message × List Bool) Illegible
+
+abbrev done : Telling → Option Snapshot → List Bool → Snapshot → Read
+done telling base rest snapshot = Ok (message_of telling base snapshot, rest)
+
+abbrev pub value_of : Read → Result Message Illegible
+value_of read = read >>= λ one. Ok one.0
+
+-- the text of a message with a snapshot
+abbrev pub text : Profile → Telling → Option Snapshot → Snapshot → List Bool
+text profile telling base snapshot = message_text profile no_lines (option_map base_from base) (message_of telling base snapshot)
+
+module _ (profile : Profile) (challenge : ℕ) (law : WrittenIsRead) (codec : IsCodec profile) (n : ℕ) (telling : Telling) (tells : IsTelling profile challenge n telling) (base : Option Snapshot) (snapshot : Snapshot) (is : IsSnapshot profile snapshot) (number : snapshot.head.number ≡ n) (rest : List Bool) where
+  -- where its base is found, it is read back from its text, with whatever follows it
+  pub text_is_read : (bases : ℕ → Option Base) → IsContext profile (with_bases bases) → IfSome base (IsNear n)
+      → held_base (with_bases bases) (number_of base) ≡ option_map base_from base
+      → message_after profile (with_bases bases) n (text profile telling base snapshot ++ rest) ≡ done telling base rest snapshot
+  text_is_read bases context near found =
+      let head = snapshot.head in
+      let entities = snapshot.entities in
+      let message = message_of telling base snapshot in
+      ap (λ (o : Option Base). message_after profile (with_bases bases) n (message_text profile no_lines o message ++ rest)) (sym found)
+      ∙ (law profile (with_bases bases) n message rest codec context (built_is_message profile challenge (with_bases bases) n telling base snapshot tells is number near found)
+      ∙ (ap (λ (p : PlayerState). done telling base rest (record { head = record head { player = p }; entities = map (normal_entity profile.entity) entities })) is.player.normal
+      ∙ ap (λ (es : List EntityState). done telling base rest (record { head = head; entities = es })) (all_normal profile.entity entities is.entities.normal)))
+
+-- what is read against all that is held: the message, or a skipped snapshot
+abbrev pub read_so : HeldSnapshots → Message → List Bool → Read
+read_so held message rest = Ok (record message { section = received held message.section }, rest)
+
+held_or : (r : Result Snapshot NoBase) → ((snapshot : Snapshot) × (r ≡ Ok snapshot)) ⊎ ((cause : NoBase) × (r ≡ Err cause))
+held_or (Ok snapshot) = inl (snapshot, refl)
+held_or (Err cause) = inr (cause, refl)
+
+-- against all that is held, it is read so
+pub text_is_received : (profile : Profile) (challenge : ℕ) → WrittenIsRead → ReadIsSkipped → IsCodec profile → (held : HeldSnapshots) (n : ℕ) (telling : Telling) (base : Option Snapshot) (snapshot : Snapshot) (rest : List Bool)
+    → IsTelling profile challenge n telling → IsSnapshot profile snapshot → snapshot.head.number ≡ n → AreBuilt profile held → IfSome base (λ b. IsNear n b × IsSnapshot profile b × HoldsThis held b)
+    → message_after profile (context_of held no_lines) n (text profile telling base snapshot ++ rest) ≡ read_so held (message_of telling base snapshot) rest
+text_is_received profile challenge law skips codec held n telling None snapshot rest tells is number are known =
+    text_is_read profile challenge law codec n telling tells None snapshot is number rest (context_of held no_lines).base (held_is_context profile held are) tt refl
+text_is_received profile challenge law skips codec held n telling (Some base) snapshot rest tells is number are known =
+    let b = base.head.number in
+    let context = context_of held no_lines in
+    let near = known.0 in
+    let is_context = held_is_context profile held are in
+    let at = looked_up context b near.some in
+    let has = has_base_is held b near.some in
+    elim (held_or (held_snapshot held b)) [
+      | inl found ↦
+          let viewed : view_at held b ≡ Some found.0 = ap (λ (r : Result Snapshot NoBase). result_ok r) found.1 in
+          let this : found.0 ≡ base = known.2 found.0 viewed in
+          let there : held_base context b ≡ Some (base_from base) = at ∙ (ap (λ (o : Option Snapshot). option_map base_from o) viewed ∙ ap (λ (s : Snapshot). some_base_of s) this) in
+          let may : has_base held b ≡ true = has ∙ ap (λ (r : Result Snapshot NoBase). is_ok r) found.1 in
+          rw may (text_is_read profile challenge law codec n telling tells (Some base) snapshot is number rest context.base is_context near there)
+      | inr missing ↦
+          let viewed : view_at held b ≡ None = ap (λ (r : Result Snapshot NoBase). result_ok r) missing.1 in
+          let none : held_base context b ≡ None = at ∙ ap (λ (o : Option Snapshot). option_map base_from o) viewed in
+          let may : has_base held b ≡ false = has ∙ ap (λ (r : Result Snapshot NoBase). is_ok r) missing.1 in
+          let alone = with_bases (only base) in
+          let alone_is = only_is_context profile base known.1 in
+          let whole = text_is_read profile challenge law codec n telling tells (Some base) snapshot is number rest (only base) alone_is near (looked_up alone b near.some ∙ only_there base) in
+          rw may (skips profile alone context n b snapshot.head snapshot.entities (message_of telling (Some base) snapshot) (text profile telling (Some base) snapshot ++ rest) rest
+          codec alone_is is_context refl near.some none whole)
+    ]
+  where
+    some_base_of : Snapshot → Option Base
+    some_base_of s = Some (base_from s)

@@ -1,0 +1,173 @@
+-- What the ends executed of each other's commands.
+use Rattle.std.proofs.Common.{◌≡◌, ℕ, ◌+◌, ◌-◌, List, [], ◌∷◌, ◌++◌, length, take, Option, Some, None, Ok, refl, sym, ap, subst, ◌∙◌, inl, inr}
+use Rattle.std.specs.Prelude.{slice_get}
+use Rattle.q3_profile.specs.declared.profile.Profile.{Profile}
+use Rattle.q3_io.specs.declared.address.Address.{Address}
+use Rattle.q3_script.specs.declared.event.Event.{Event}
+use Rattle.q3_script.specs.declared.event.Event.TheVariants as events
+use Rattle.q3_text.specs.declared.text.Command.{Command}
+use Rattle.q3_text.specs.Commands.{numbered}
+use Rattle.q3_chan.specs.declared.gatherer.Gathered.{Gathered}
+use Rattle.q3_chan.specs.Tags.{tagged}
+use Rattle.q3_slot.specs.Slot.{SlotState}
+use Rattle.q3_slot.specs.Emitting.{built_bytes}
+use Rattle.q3_slot.specs.Taking as by_slot
+use Rattle.q3_server.specs.Server.{slot_at}
+use Rattle.q3_client.specs.Client.{ClientState, receive_message, take_answer, take_gathered}
+use Rattle.q3_client.specs.Sending.{said_bytes}
+use Rattle.q3_ring.specs.Snapshot.{Snapshot}
+use Rattle.q3_world.specs.declared.made.Direction.{Direction}
+use Rattle.q3_world.specs.declared.made.Direction.TheVariants.{ToClient, ToServer}
+use Rattle.q3_world.specs.Ends.{Ends, client_at}
+use Rattle.q3_world.specs.Kept.{Kept, KeptStep, kept_step}
+use Rattle.q3_world.specs.World.{Tag, Step, Whole, History, no_history, history_at, texts_of, with_heard, with_run, named, said_under, arrive, opening, step, after}
+use Rattle.q3_world.specs.StandsFor.{IsSent, AreCommanded, StandsFor}
+use Rattle.q3_world.specs.Layers.{Layers}
+use Rattle.q3_world.specs.Schedules.{kept_then, whole_then, BytesFollowTags, GoesOn, CommandsArePrefixes, ExecutedGoesOn}
+use Rattle.q3_world.proofs.Events.{Holds, Has, has_client, has_slot}
+use Rattle.q3_world.proofs.Agree.{Cited}
+use Rattle.q3_world.proofs.Arriving.{IsFor, IsOf, quiet_client, quiet_slot, client_of_tag, slot_of_tag, names, runs_whole, said_hears, is_sent, is_for, is_of_client, delivers_agree}
+use Rattle.q3_world.proofs.Agreement.{kept_is}
+use Rattle.q3_world.proofs.EverySchedule.{cited_of}
+use Rattle.q3_world.proofs.InOrder.{after_both}
+use Rattle.q3_world.proofs.OnePlace.{set_there}
+
+-- ---- fronts
+
+pub commands_are_prefixes : BytesFollowTags → CommandsArePrefixes
+commands_are_prefixes law profile all c slot client is are within slot_is client_is =
+    let stands : StandsFor profile (kept_then profile all) (whole_then profile all) = (law profile all is are).0 in
+    let whole = whole_then profile all in
+    let history = history_at whole.histories c in
+    let holds : Holds profile whole = record { facts = stands.facts; joined = stands.joined } in
+    let slot_found : slot_at whole.ends.server c ≡ Some slot = ap (λ (e : Ends). slot_at e.server c) (sym stands.ends) ∙ slot_is in
+    let client_found : client_at whole.ends c ≡ Some client = ap (λ (e : Ends). client_at e c) (sym stands.ends) ∙ client_is in
+    let had = has_client profile whole c client within client_found holds in
+    let commanded = subst (λ (s : SlotState). AreCommanded s client history) (one_slot (sym had.1.slot_is ∙ slot_found)) had.1.joined.commanded in
+    let by_client = commanded.to_client.runs.executed in
+    let by_slot = commanded.to_server.runs.executed in (
+      commanded.to_client.front ∙ ap (λ (k : ℕ). take k history.server_commands) (sym by_client),
+      commanded.to_server.front ∙ ap (λ (k : ℕ). take k history.client_commands) (sym by_slot),
+      by_client,
+      by_slot,
+    )
+  where
+    one_slot : {some other : SlotState} → Some some ≡ Some other → some ≡ other
+    one_slot same = cc
+
+-- ---- what a delivery executes
+
+-- it goes on behind a count
+abbrev GoOn : ℕ → List Command → Type 0
+GoOn count commands = commands ≡ numbered (count + 1) (texts_of commands)
+
+none_go_on : (count : ℕ) → GoOn count []
+unfolding numbered
+none_go_on count = refl
+
+-- at a client
+client_goes_on : (profile : Profile) (whole : Whole) (tag : Tag) (slot : SlotState) (client : ClientState) → Cited profile → IsFor profile whole tag → Has profile whole tag.client slot client
+    → GoOn (length (history_at whole.histories tag.client).client_executed)
+    (take_gathered client (tagged client.gathering tag.number (built_bytes profile (named whole.histories tag)) tag.index) (λ n. Ok (receive_message client n (named whole.histories tag).message))).heard
+client_goes_on profile whole tag slot client cited is had =
+    let built = named whole.histories tag in
+    let count = length (history_at whole.histories tag.client).client_executed in
+    let took = tagged client.gathering tag.number (built_bytes profile built) tag.index in
+    let does = cited.does client.gathering tag.number (built_bytes profile built) tag.index in
+    let now = record client { gathering = took.gathering } in
+    elim does.either [
+      | inl waits ↦ subst (GoOn count) (sym (quiet_client now took.answer (λ n. Ok (receive_message client n built.message)) waits.quiet).2) (none_go_on count)
+      | inr came ↦
+          let came_so = ap (λ (a : Gathered). (take_answer now a (λ n. Ok (receive_message client n built.message))).heard) came.answer in
+          subst (GoOn count) (sym came_so) ((names profile whole tag slot client cited is had).hears came.newer).numbers
+    ]
+
+-- and at the server
+slot_goes_on : (profile : Profile) (whole : Whole) (tag : Tag) (from : Address) (slot : SlotState) (client : ClientState) → Cited profile → IsOf profile whole tag from
+    → Has profile whole tag.client slot client
+    → GoOn (length (history_at whole.histories tag.client).server_executed)
+    (by_slot.take_gathered (record slot { address = from }) tag.client (tagged slot.gathering tag.number (said_bytes profile (said_under whole.histories tag)) tag.index)
+    (λ n. Ok (said_under whole.histories tag).message)).commands
+slot_goes_on profile whole tag from slot client cited is had =
+    let c = tag.client in
+    let said = said_under whole.histories tag in
+    let count = length (history_at whole.histories c).server_executed in
+    let took = tagged slot.gathering tag.number (said_bytes profile said) tag.index in
+    let does = cited.does slot.gathering tag.number (said_bytes profile said) tag.index in
+    let now = record slot { address = from; gathering = took.gathering } in
+    elim does.either [
+      | inl waits ↦ subst (GoOn count) (sym (quiet_slot now c took.answer (λ n. Ok said.message) waits.quiet).1) (none_go_on count)
+      | inr came ↦
+          let hears = said_hears profile whole tag from slot client cited is had came.newer in
+          let came_so = ap (λ (a : Gathered). by_slot.take_answer now c a (λ n. Ok said.message)) came.answer ∙ runs_whole now c tag.number said.message hears.gap in
+          subst (GoOn count) (sym (ap (λ (t : by_slot.SlotTaken). t.commands) came_so)) hears.numbers
+    ]
+
+-- ---- and is noted
+
+heard_noted : (history : History) (accepted : Option Snapshot) (commands : List Command) → GoOn (length history.client_executed) commands
+    → GoesOn commands history (with_heard history accepted commands) ToClient
+heard_noted history None commands goes = (goes, refl, refl)
+heard_noted history (Some snapshot) commands goes = (goes, refl, refl)
+
+-- by its tag
+arrived_goes_on : (profile : Profile) (whole : Whole) (number : ℕ) (tag : Tag) (direction : Direction) → Cited profile → tag.direction ≡ direction → IsSent profile whole.histories tag → Holds profile whole
+    → GoesOn (arrive profile whole number tag direction).answer.commands (history_at whole.histories tag.client)
+    (history_at (arrive profile whole number tag direction).whole.histories tag.client) direction
+arrived_goes_on profile whole number tag ToClient cited way is holds =
+    let c = tag.client in
+    let history = history_at whole.histories c in
+    let sent = is_for profile whole tag way is in
+    let found = client_of_tag profile whole tag sent holds in
+    let client = found.0 in
+    let had = has_client profile whole c client sent.0 found.1 holds in
+    let taken = take_gathered client (tagged client.gathering tag.number (built_bytes profile (named whole.histories tag)) tag.index) (λ n. Ok (receive_message client n (named whole.histories tag).message)) in
+    let noted = with_heard history taken.accepted taken.heard in
+    let there = set_there whole.histories c no_history noted holds.facts.histories sent.0 in
+    rw found.1 (subst (λ (h : History). GoesOn taken.heard history h ToClient) (sym there)
+    (heard_noted history taken.accepted taken.heard (client_goes_on profile whole tag had.0 client cited sent had.1)))
+arrived_goes_on profile whole number tag (ToServer from) cited way is holds =
+    let c = tag.client in
+    let history = history_at whole.histories c in
+    let sent = is_of_client profile whole tag from way is in
+    let found = slot_of_tag profile whole tag from sent holds in
+    let slot = found.0 in
+    let had = has_slot profile whole c slot sent.0 found.1 holds in
+    let taken = by_slot.take_gathered (record slot { address = from }) c (tagged slot.gathering tag.number (said_bytes profile (said_under whole.histories tag)) tag.index)
+    (λ n. Ok (said_under whole.histories tag).message) in
+    let noted = with_run history taken.commands taken.moves in
+    let there = set_there whole.histories c no_history noted holds.facts.histories sent.0 in
+    rw found.1 (subst (λ (h : History). GoesOn taken.commands history h (ToServer from)) (sym there)
+    (slot_goes_on profile whole tag from slot had.0 cited sent had.1, refl, refl))
+
+abbrev StepGoesOn : Whole → Tag → Step → Type 0
+StepGoesOn whole tag next = GoesOn next.answer.commands (history_at whole.histories tag.client) (history_at next.whole.histories tag.client) tag.direction
+
+delivered_goes_on : (profile : Profile) (whole : Whole) (number : ℕ) (tag : Tag) → Cited profile → slice_get whole.sent (number - 1) ≡ Some tag → Holds profile whole
+    → StepGoesOn whole tag (step profile whole (events.Deliver number))
+unfolding step
+delivered_goes_on profile whole number tag cited at holds =
+    rw at (arrived_goes_on profile whole number tag tag.direction cited refl (is_sent profile whole (number - 1) tag at holds) holds)
+
+after_one : (profile : Profile) (whole : Whole) (event : Event) → after profile whole (event ∷ []) ≡ (step profile whole event).whole
+unfolding after
+after_one profile whole event = refl
+
+-- and by bytes
+pub executed_goes_on : BytesFollowTags → Layers → ExecutedGoesOn
+executed_goes_on law below profile all number tag is are is_event at =
+    let stands : StandsFor profile (kept_then profile all) (whole_then profile all) = (law profile all is are).0 in
+    let kept = kept_then profile all in
+    let whole = whole_then profile all in
+    let event : Event = events.Deliver number in
+    let cited = cited_of below profile is in
+    let holds : Holds profile whole = record { facts = stands.facts; joined = stands.joined } in
+    let history = history_at whole.histories tag.client in
+    let by_tag = delivered_goes_on profile whole number tag cited at holds in
+    let answers : (kept_step kept event).answer.commands ≡ (step profile whole event).answer.commands =
+    ap (λ (k : Kept). (kept_step k event).answer.commands) (kept_is profile kept whole stands)
+    ∙ ap (λ (s : KeptStep). s.answer.commands) (delivers_agree profile whole number cited holds).same in
+    let then_is : whole_then profile (all ++ event ∷ []) ≡ (step profile whole event).whole =
+    after_both profile (opening profile) all (event ∷ []) ∙ after_one profile whole event in
+    subst (λ (commands : List Command). GoesOn commands history (history_at (whole_then profile (all ++ event ∷ [])).histories tag.client) tag.direction) (sym answers)
+    (subst (λ (w : Whole). GoesOn (step profile whole event).answer.commands history (history_at w.histories tag.client) tag.direction) (sym then_is) by_tag)
