@@ -13,8 +13,7 @@ use Rattle.q3_player.specs.State.{zero_player, normal_player}
 
 -- a client at the server: how it joined and from where, what is being sent to it, what was gathered of what it sends, the
 -- commands that were issued to it, those of its own that were executed, the number of the snapshot that it asks to write the next one
--- against, 0 for none, the time of its last move that was run, 0 for
--- none, its player in normal form, and its area bytes
+-- against, 0 for none, the time of its last move that was run, 0 for none, its player in normal form, and its area bytes
 pub record SlotState : Type 0 where
   pub challenge : ℕ
   pub address : Address
