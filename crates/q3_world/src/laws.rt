@@ -2,7 +2,7 @@
 
 ghost use Rattle.q3_world.specs.MessageLaws.{BuiltIsRead, SaidIsRead};
 ghost use Rattle.q3_world.specs.Layers.{Layers};
-ghost use Rattle.q3_world.specs.Schedules.{StepFollows, BytesFollowTags, AlwaysLegible, UnknownWasNotMade, CommandsArePrefixes, ExecutedGoesOn, AcceptedWereBuilt, ShownWasBuilt, ShownIsNewest, AsksForAccepted, BasesWereAccepted, HeldIsAccepted, ViewsWereBuilt, AppliedWasBuilt, NewerIsAccepted, UsualNeverSkips, NewerIsRun, MovesWereIssued, InOrderIsAccepted, ServedIsShown};
+ghost use Rattle.q3_world.specs.Schedules.{StepFollows, BytesFollowTags, AlwaysLegible, UnknownWasNotMade, CommandsArePrefixes, KeysAgree, ExecutedGoesOn, AcceptedWereBuilt, ShownWasBuilt, ShownIsNewest, AsksForAccepted, BasesWereAccepted, HeldIsAccepted, ViewsWereBuilt, AppliedWasBuilt, NewerIsAccepted, UsualNeverSkips, NewerIsRun, MovesWereIssued, InOrderIsAccepted, ServedIsShown};
 
 use q3_bits::laws as bits;
 use q3_chan::laws as chan;
@@ -105,6 +105,14 @@ pub fn commands_are_prefixes()
     ensures { CommandsArePrefixes }
 {
     bytes_follow_tags();
+}
+
+/// The text by which an end that takes a newer message clears it is the one by which the other end scrambled it.
+pub fn keys_agree()
+    ensures { KeysAgree }
+{
+    bytes_follow_tags();
+    layers();
 }
 
 /// What a delivery prints as executed goes on where its end stood, by numbers and texts.
