@@ -2,7 +2,6 @@
 use Rattle.std.proofs.Common.{◌≡◌, Some, sym, ap, subst, ◌∙◌}
 use Rattle.q3_slot.specs.Slot.{SlotState}
 use Rattle.q3_server.specs.Server.{slot_at}
-use Rattle.q3_client.specs.Client.{ClientState}
 use Rattle.q3_world.specs.Ends.{Ends, client_at}
 use Rattle.q3_world.specs.World.{history_at}
 use Rattle.q3_world.specs.StandsFor.{AreCommanded, StandsFor}
