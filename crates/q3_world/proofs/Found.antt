@@ -59,7 +59,7 @@ put_found test xs c x none lt passes =
     rw there (rw within refl)
 
 -- what is put and passes where what it replaces does changes no position
-put_alike : {X : Type 0} (test : X → Bool) (xs : List X) (c : ℕ) (x d : X) → test x ≡ test (get_or xs c d) → position test (set xs c x) ≡ position test xs
+pub put_alike : {X : Type 0} (test : X → Bool) (xs : List X) (c : ℕ) (x d : X) → test x ≡ test (get_or xs c d) → position test (set xs c x) ≡ position test xs
 put_alike test xs c x d same = rw (position_or_len-set test xs c x d same, length-set xs c x) refl
 
 -- ---- slots

@@ -1,16 +1,31 @@
 -- Laws of the messages that the ends begin.
-use Rattle.std.specs.Prelude.{◌≡◌, ℕ, Some, IfSome, Ok}
+use Rattle.std.specs.Prelude.{◌≡◌, ℕ, ◌^◌, ◌<◌, List, [], ◌∷◌, map, Some, None, IfSome, Ok}
+use Rattle.std.specs.List.{range_with_len}
 use Rattle.q3_profile.specs.declared.profile.Profile.{Profile}
 use Rattle.q3_profile.specs.Profile.{IsCodec}
+use Rattle.q3_io.specs.declared.address.Address.{Address}
 use Rattle.q3_entity.specs.Baselines.{no_lines}
+use Rattle.q3_chan.specs.declared.side.Side.{Side}
+use Rattle.q3_chan.specs.declared.side.Side.TheVariants.{Server, Client}
+use Rattle.q3_chan.specs.Datagrams.{sequence_end, last_index, datagram}
+use Rattle.q3_chan.specs.Gathering.{Gathering}
+use Rattle.q3_chan.specs.Laws.{IsSendable, HoldsFront}
+use Rattle.q3_svmsg.specs.Values as told
+use Rattle.q3_clmsg.specs.Values as client_told
 use Rattle.q3_ring.specs.Snapshot.{Snapshot}
 use Rattle.q3_rings.specs.Rings.{HeldSnapshots, view_at}
 use Rattle.q3_window.specs.Outgoing.{acknowledge_at, text_at}
+use Rattle.q3_slot.specs.declared.taking.ServerTook.TheVariants.{Partial as SlotPartial}
 use Rattle.q3_slot.specs.Built.{Built, IsSnapshot, IsBuilt}
 use Rattle.q3_slot.specs.Slot.{SlotState}
 use Rattle.q3_slot.specs.Emitting.{built_bytes}
-use Rattle.q3_slot.specs.Taking.{said_by}
-use Rattle.q3_client.specs.Client.{ClientState, receive_message, receive_bytes}
+use Rattle.q3_slot.specs.Taking.{said_by, run_message}
+use Rattle.q3_slot.specs.Taking as by_slot
+use Rattle.q3_server.specs.Server.{ServerState, slot_at}
+use Rattle.q3_server.specs.Taking.{sender_of, taken_at}
+use Rattle.q3_server.specs.Taking as hears
+use Rattle.q3_client.specs.declared.client.ClientTook.TheVariants.{Partial}
+use Rattle.q3_client.specs.Client.{ClientState, Taken, answers, receive_message, receive_bytes, applies, take_at}
 use Rattle.q3_client.specs.Sending.{said_bytes, Said, IsSaid}
 
 -- each snapshot that is held is one that a server may have built
@@ -37,3 +52,82 @@ abbrev pub SaidIsRead : Type 0
 SaidIsRead = (profile : Profile) → IsCodec profile → (slot : SlotState) (said : Said) → IsSaid profile slot.challenge said
     → (acknowledge_at slot.issued said.message.command).answer ≡ Ok tt → text_at slot.issued said.message.command ≡ said.text
     → said_by profile slot (said_bytes profile said) ≡ Ok said.message
+
+-- ---- a message survives the network
+
+-- so many first datagrams of a message, in order
+abbrev pub first_datagrams : Side → ℕ → ℕ → List ℕ → ℕ → List (List ℕ)
+first_datagrams side qport number message count = map (datagram side qport number message) (range_with_len 0 count)
+
+-- a message may come to an end that gathers: its number is above every number taken, nothing was gathered under it, it may be
+-- sent, and what was gathered is the front of one of some messages, of which it is the one under its number
+pub record MayCome (side : Side) (number : ℕ) (message : List ℕ) (g : Gathering) : Type 0 where
+  pub from : g.side ≡ side
+  pub newer : g.taken < number
+  pub none : g.number ≡ number → g.bytes ≡ []
+  pub fits : number < sequence_end
+  pub sendable : IsSendable message
+  pub messages : ℕ → List ℕ
+  pub front : HoldsFront messages g
+  pub is : messages number ≡ message
+
+-- a client after these datagrams, one after the other
+unfoldable pub client_after : ClientState → List (List ℕ) → ClientState
+client_after client [] = client
+client_after client (datagram ∷ others) = client_after (take_at client datagram).client others
+
+-- it took a piece that isn't the last: but for what it gathered it is as it was
+abbrev pub GathersMore : ClientState → Taken → Type 0
+GathersMore client taken = (g : Gathering) × (taken ≡ answers (record client { gathering = g }) Partial)
+
+-- it took the last, and applies the message: but for what it gathered all is as by the message's value, whose number is the newest
+-- taken
+abbrev pub AppliesIt : ClientState → ℕ → told.Message → Taken → Type 0
+AppliesIt client number message taken =
+    (g : Gathering) × (g.taken ≡ number) × (taken ≡ applies (record client { gathering = g }) (receive_message client number message))
+
+-- a message that was built survives the network: where its datagrams come to a client, one after the other, each but the last is
+-- partial, and with the last the client answers, accepts, executes and becomes what the message's value makes of it. The client wasn't
+-- dropped, the message may come to it, and it is received from its bytes as in BuiltIsRead
+abbrev pub BuiltSurvives : Type 0
+BuiltSurvives = (profile : Profile) → IsCodec profile → (client : ClientState) (number : ℕ) (built : Built) → client.dropped ≡ None
+    → MayCome Server number (built_bytes profile built) client.gathering → IsBuilt profile client.challenge number built
+    → client.state.profile ≡ profile → client.state.lines ≡ no_lines
+    → (acknowledge_at client.issued built.message.ack).answer ≡ Ok tt → text_at client.issued built.message.ack ≡ built.text
+    → AreBuilt profile client.state.held → IfSome built.base (λ base. IsSnapshot profile base × HoldsThis client.state.held base)
+    → ((index : ℕ) → index < last_index (built_bytes profile built)
+    → GathersMore client (take_at (client_after client (first_datagrams Server 0 number (built_bytes profile built) index)) (datagram Server 0 number (built_bytes profile built) index)))
+    × AppliesIt client number built.message
+    (take_at (client_after client (first_datagrams Server 0 number (built_bytes profile built) (last_index (built_bytes profile built))))
+    (datagram Server 0 number (built_bytes profile built) (last_index (built_bytes profile built))))
+
+-- a server after these datagrams from an address, one after the other
+unfoldable pub server_after : ServerState → Address → List (List ℕ) → ServerState
+server_after server from [] = server
+server_after server from (datagram ∷ others) = server_after (hears.take_at server from datagram).server from others
+
+-- the slot at a place took a piece that isn't the last: but for what it gathered, and the address, which it takes over, it is as it
+-- was, and so is the rest of the server
+abbrev pub SlotGathersMore : ServerState → ℕ → SlotState → Address → hears.Taken → Type 0
+SlotGathersMore server c slot from taken =
+    (g : Gathering) × (taken ≡ taken_at server c (by_slot.answers (record slot { address = from; gathering = g }) (SlotPartial c)))
+
+-- it took the last, and the message's value is run
+abbrev pub RunsIt : ServerState → ℕ → SlotState → Address → ℕ → client_told.Message → hears.Taken → Type 0
+RunsIt server c slot from number message taken =
+    (g : Gathering) × (g.taken ≡ number) × (taken ≡ taken_at server c (run_message (record slot { address = from; gathering = g }) c number message))
+
+-- a message that a client began survives the network: where its datagrams come to the server from the client's host, one after the
+-- other, each but the last is partial, and with the last the server runs the message's value. The slot is the one that the server finds by
+-- host and qport, the message may come to it, and it is read as in SaidIsRead
+abbrev pub SaidSurvives : Type 0
+SaidSurvives = (profile : Profile) → IsCodec profile → (server : ServerState) (from : Address) (qport c : ℕ) (slot : SlotState) (number : ℕ) (said : Said)
+    → server.profile ≡ profile → qport < 2 ^ 16 → sender_of server from.host qport ≡ Some c → slot_at server c ≡ Some slot
+    → MayCome Client number (said_bytes profile said) slot.gathering → IsSaid profile slot.challenge said
+    → (acknowledge_at slot.issued said.message.command).answer ≡ Ok tt → text_at slot.issued said.message.command ≡ said.text
+    → ((index : ℕ) → index < last_index (said_bytes profile said)
+    → SlotGathersMore server c slot from
+    (hears.take_at (server_after server from (first_datagrams Client qport number (said_bytes profile said) index)) from (datagram Client qport number (said_bytes profile said) index)))
+    × RunsIt server c slot from number said.message
+    (hears.take_at (server_after server from (first_datagrams Client qport number (said_bytes profile said) (last_index (said_bytes profile said)))) from
+    (datagram Client qport number (said_bytes profile said) (last_index (said_bytes profile said))))

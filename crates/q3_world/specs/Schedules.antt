@@ -36,6 +36,7 @@ use Rattle.q3_world.specs.declared.made.Direction.{Direction}
 use Rattle.q3_text.specs.declared.text.Command.{Command}
 use Rattle.q3_text.specs.Commands.{numbered}
 use Rattle.q3_window.specs.Incoming.{fresh_of}
+use Rattle.q3_window.specs.Outgoing.{text_at}
 use Rattle.q3_world.specs.World.{Tag, Whole, History, history_at, built_at, said_at, texts_of, opening, step, after, answers}
 use Rattle.q3_world.specs.StandsFor.{IsChecked, StandsFor, WasBuilt, Rise, WasAccepted}
 
@@ -118,6 +119,17 @@ CommandsArePrefixes = (profile : Profile) (all : List Event) (c : ℕ) (slot : S
     × ((history_then profile all c).server_executed ≡ take slot.executed.executed (history_then profile all c).client_commands)
     × (client.state.executed.executed ≡ length (history_then profile all c).client_executed)
     × (slot.executed.executed ≡ length (history_then profile all c).server_executed)
+
+-- the text by which an end that takes a newer message clears it is the one by which the other end scrambled it: under the number
+-- that the message acknowledges its window has the text that the other end had executed last when it began the message
+abbrev pub KeysAgree : Type 0
+KeysAgree = (profile : Profile) (all : List Event) (c : ℕ) (slot : SlotState) (client : ClientState) → IsChecked profile
+    → AllByRecursion IsReplayEvent all → c < places
+    → slot_at (kept_then profile all).ends.server c ≡ Some slot → client_at (kept_then profile all).ends c ≡ Some client
+    → ((n : ℕ) → client.gathering.taken < n → n ≤ length (history_then profile all c).built
+    → text_at client.issued (built_at (history_then profile all c).built n).message.ack ≡ (built_at (history_then profile all c).built n).text)
+    × ((n : ℕ) → slot.gathering.taken < n → n ≤ length (history_then profile all c).said
+    → text_at slot.issued (said_at (history_then profile all c).said n).message.command ≡ (said_at (history_then profile all c).said n).text)
 
 -- what an event prints as executed, at a client or at the server, goes on where that end stood: its numbers follow on the count of
 -- all executed before, and its texts are noted behind them

@@ -1,8 +1,8 @@
 //! Laws of what is built and of every schedule, each the contract of a call that does nothing but cite the laws below it.
 
-ghost use Rattle.q3_world.specs.MessageLaws.{BuiltIsRead, SaidIsRead};
+ghost use Rattle.q3_world.specs.MessageLaws.{BuiltIsRead, SaidIsRead, BuiltSurvives, SaidSurvives};
 ghost use Rattle.q3_world.specs.Layers.{Layers};
-ghost use Rattle.q3_world.specs.Schedules.{StepFollows, BytesFollowTags, AlwaysLegible, UnknownWasNotMade, CommandsArePrefixes, ExecutedGoesOn, AcceptedWereBuilt, ShownWasBuilt, ShownIsNewest, AsksForAccepted, BasesWereAccepted, HeldIsAccepted, ViewsWereBuilt, AppliedWasBuilt, NewerIsAccepted, UsualNeverSkips, NewerIsRun, MovesWereIssued, InOrderIsAccepted, ServedIsShown};
+ghost use Rattle.q3_world.specs.Schedules.{StepFollows, BytesFollowTags, AlwaysLegible, UnknownWasNotMade, CommandsArePrefixes, KeysAgree, ExecutedGoesOn, AcceptedWereBuilt, ShownWasBuilt, ShownIsNewest, AsksForAccepted, BasesWereAccepted, HeldIsAccepted, ViewsWereBuilt, AppliedWasBuilt, NewerIsAccepted, UsualNeverSkips, NewerIsRun, MovesWereIssued, InOrderIsAccepted, ServedIsShown};
 
 use q3_bits::laws as bits;
 use q3_chan::laws as chan;
@@ -34,6 +34,24 @@ pub fn said_is_read()
     bits::message_holds_bits();
     chan::scrambled_twice();
     clmsg::written_is_read();
+}
+
+/// A message that was built survives the network: where its datagrams come to a client, one after the other, each but the last is
+/// partial, and with the last the client becomes what the message's value makes of it.
+pub fn built_survives()
+    ensures { BuiltSurvives }
+{
+    built_is_read();
+    chan::pieces_come_whole();
+}
+
+/// A message that a client began survives the network: with the last of its datagrams the server runs its value.
+pub fn said_survives()
+    ensures { SaidSurvives }
+{
+    said_is_read();
+    chan::pieces_come_whole();
+    chan::qport_is_told();
 }
 
 /// What the laws over schedules use of the layers below.
@@ -105,6 +123,14 @@ pub fn commands_are_prefixes()
     ensures { CommandsArePrefixes }
 {
     bytes_follow_tags();
+}
+
+/// The text by which an end that takes a newer message clears it is the one by which the other end scrambled it.
+pub fn keys_agree()
+    ensures { KeysAgree }
+{
+    bytes_follow_tags();
+    layers();
 }
 
 /// What a delivery prints as executed goes on where its end stood, by numbers and texts.
