@@ -87,6 +87,14 @@ fn new_log() -> Log {
     }
 }
 
+/// One command that was executed.
+fn log_of(rt: &impl Abort, number: u32, text: &[u8]) -> Log {
+    let mut commands = ArrayVec::new();
+    let text = Text::of(text).expect(rt, "a text");
+    commands.push(Command { number, text });
+    Log { commands }
+}
+
 /// Takes a datagram, whatever it executes.
 fn take(client: &mut Client, datagram: &[u8]) -> ClientTook {
     client.take(datagram, &mut new_log())
@@ -435,11 +443,7 @@ fn takes_are_printed(rt: HostRuntime) {
 
 #[test]
 fn executed_commands_are_printed(rt: HostRuntime) {
-    let mut log = new_log();
-    log.commands.push(Command {
-        number: 1,
-        text: Text::of(b"cp \"hi\"").expect(&rt, "a text"),
-    });
+    let log = log_of(&rt, 1, b"cp \"hi\"");
     let accepted = applied(2, SnapOutcome::Accepted { base: 1 });
     let mut out = MemSink::new(rt.alloc(), 128, &[]).expect(&rt, "memory");
     assert_eq!(rt; print_took(0, &accepted, &log, &mut out), Ok(()));

@@ -89,6 +89,14 @@ fn new_log() -> Log {
     }
 }
 
+/// One command that was executed.
+fn log_of(rt: &impl Abort, number: u32, text: &[u8]) -> Log {
+    let mut commands = ArrayVec::new();
+    let text = Text::of(text).expect(rt, "a text");
+    commands.push(Command { number, text });
+    Log { commands }
+}
+
 /// Applies a message, whatever it executes.
 fn apply(state: &mut ClState, number: u32, message: &[u8]) -> Result<Applied, Illegible> {
     state.apply(number, message, &mut new_log())
@@ -273,11 +281,7 @@ fn skipped_prints(rt: &impl Abort, alloc: Global, cause: NoBase, text: &[u8]) {
 
 #[test]
 fn commands_are_printed(rt: HostRuntime) {
-    let mut log = new_log();
-    log.commands.push(Command {
-        number: 3,
-        text: Text::of(b"cp hi").expect(&rt, "a text"),
-    });
+    let log = log_of(&rt, 3, b"cp hi");
     let applied = Applied {
         number: 40,
         game: false,
