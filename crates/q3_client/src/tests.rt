@@ -237,7 +237,7 @@ fn last_of(client: &mut Client, moves: u32, messages: u32, more: u32) -> (Option
 
 /// A byte of a message of a client that executed no command, as it was before it was scrambled.
 fn plain_byte(client: &Client, out: &Datagram, place: usize) -> Option<u8> {
-    let key = (17 ^ client.state().number()) as u8;
+    let key = ((17 ^ client.state().number()) % 256) as u8;
     Some(out.get(place).copied()? ^ key)
 }
 
