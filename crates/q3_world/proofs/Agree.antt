@@ -26,7 +26,7 @@ use Rattle.q3_world.specs.Kept.{Kept, KeptStep}
 use Rattle.q3_world.specs.World.{Tag, Step, Whole, History, history_at, with_history}
 use Rattle.q3_world.specs.StandsFor.{bytes_of}
 use Rattle.q3_world.proofs.Growth.{noted_same}
-use Rattle.q3_world.proofs.Events.{Holds, with_client_of, same_clients}
+use Rattle.q3_world.proofs.Holding.{Holds, with_client_of, same_clients}
 
 -- ---- what is cited of the layers below
 

@@ -9,7 +9,8 @@ use Rattle.q3_world.specs.Ends.{Ends, set_entity, remove_entity, set_player, set
 use Rattle.q3_world.specs.Kept.{SentBytes, Kept, KeptStep, kept_step}
 use Rattle.q3_world.specs.World.{Whole, step}
 use Rattle.q3_world.specs.StandsFor.{StandsFor}
-use Rattle.q3_world.proofs.Events.{Holds, Holds-map}
+use Rattle.q3_world.proofs.Holding.{Holds}
+use Rattle.q3_world.proofs.Given.{Holds-map}
 use Rattle.q3_world.proofs.Agree.{Cited, kept_of, seen, Agree}
 use Rattle.q3_world.proofs.HandedIn.{handed, holds_join, holds_player, holds_area, holds_entity, holds_removed, holds_say, holds_type, holds_move}
 use Rattle.q3_world.proofs.Making.{served, sends_agree}

@@ -52,7 +52,8 @@ use Rattle.q3_world.proofs.Bases.{if_some_then}
 use Rattle.q3_world.proofs.Knowing.{KnownBase, known_base, was_built_is, held_are_built, holds_this}
 use Rattle.q3_world.proofs.Applying.{applies_message}
 use Rattle.q3_world.proofs.Commanded.{ClientHears, client_hears, SlotHears, slot_hears}
-use Rattle.q3_world.proofs.Events.{Holds, Has, TakesSo, Holds-taken, HearsSo, Holds-heard, has_slot, has_client, tag_was_built, names_built}
+use Rattle.q3_world.proofs.Holding.{Holds, Has, has_slot, has_client}
+use Rattle.q3_world.proofs.Came.{TakesSo, Holds-taken, HearsSo, Holds-heard, tag_was_built, names_built}
 use Rattle.q3_world.proofs.Agree.{Cited, kept_of, Agree, found_or}
 
 -- ---- what a datagram does

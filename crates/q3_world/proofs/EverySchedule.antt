@@ -50,7 +50,7 @@ use Rattle.q3_world.specs.World.{Tag, Step, Whole, History, history_at, built_at
 use Rattle.q3_world.specs.StandsFor.{IsChecked, IsSent, IsClient, WasBuilt, Rise, IsJoined, StandsFor, bytes_of}
 use Rattle.q3_world.specs.Schedules.{StepFollows, kept_then, whole_then, BytesFollowTags, AcceptedWereBuilt, ShownWasBuilt, ShownIsNewest, AsksForAccepted, outcome_of, applied_of, heard_of, Shows, AppliedWasBuilt, NewerIsAccepted, BasesWereAccepted, HeldIsAccepted, ViewsWereBuilt}
 use Rattle.q3_world.specs.Layers.{RingLaws}
-use Rattle.q3_world.proofs.Events.{Holds, Holds-opening, Has, has_client}
+use Rattle.q3_world.proofs.Holding.{Holds, Holds-opening, Has, has_client}
 use Rattle.q3_world.proofs.Agree.{Cited, seen}
 use Rattle.q3_world.proofs.Arriving.{IsFor, Named, names, is_sent, is_for, tag_is, delivers_agree}
 use Rattle.q3_world.proofs.Agreement.{stands_of, stands_next, kept_is}

@@ -23,7 +23,8 @@ use Rattle.q3_world.specs.Ends.{EndsStep, client_at, join, set_entity, remove_en
 use Rattle.q3_world.specs.Kept.{kept_ends}
 use Rattle.q3_world.specs.World.{Whole, history_at, with_history, with_joined, with_spoken, with_typed, with_issued, with_ends, with_noted}
 use Rattle.q3_world.proofs.MoveLists.{is_move}
-use Rattle.q3_world.proofs.Events.{Holds, with_new_slot, Holds-new, Holds-player, Holds-area, Holds-map, Holds-issued, same_server}
+use Rattle.q3_world.proofs.Holding.{Holds, Holds-new, same_server}
+use Rattle.q3_world.proofs.Given.{with_new_slot, Holds-player, Holds-area, Holds-map, Holds-issued}
 use Rattle.q3_world.proofs.Issuing.{Holds-spoken, Holds-typed}
 use Rattle.q3_world.proofs.Agree.{Cited, kept_of, Agree, found_or, unnoted, left_alone}
 

@@ -33,7 +33,7 @@ use Rattle.q3_world.specs.StandsFor.{StandsFor, messages_of}
 use Rattle.q3_world.specs.Layers.{Layers}
 use Rattle.q3_world.specs.Schedules.{kept_then, whole_then, BytesFollowTags, applied_of, heard_of, ArePieces, deliveries, InOrderIsAccepted}
 use Rattle.q3_world.proofs.Clients.{at_number}
-use Rattle.q3_world.proofs.Events.{Holds, has_client}
+use Rattle.q3_world.proofs.Holding.{Holds, has_client}
 use Rattle.q3_world.proofs.Arriving.{quiet_client, Named, names, is_sent, is_for, delivers_agree}
 use Rattle.q3_world.proofs.Agreement.{kept_is}
 use Rattle.q3_world.proofs.EverySchedule.{cited_of, outcome, delivered_so, answers_tag}

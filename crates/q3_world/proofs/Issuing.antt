@@ -15,7 +15,7 @@ use Rattle.q3_world.specs.World.{Whole, history_at}
 use Rattle.q3_world.specs.StandsFor.{carried_built, acks_built, carried_said, acks_said}
 use Rattle.q3_world.proofs.Growth.{HistoryGrows-beside}
 use Rattle.q3_world.proofs.Clients.{KeepsSlot-spoke, KeepsClient-typed, TakesBuilt-same, TakesSaid-same, AreAsked-same}
-use Rattle.q3_world.proofs.Events.{Holds, has_slot, has_client, with_server_of, Holds-slot, frames_stay, sent_grows, with_client_of, Holds-client}
+use Rattle.q3_world.proofs.Holding.{Holds, has_slot, has_client, with_server_of, Holds-slot, frames_stay, sent_grows, with_client_of, Holds-client}
 
 -- the window behind it
 abbrev pub with_text : OutgoingState → List ℕ → OutgoingState

@@ -45,7 +45,7 @@ use Rattle.q3_world.specs.World.{Tag, Whole, history_at, opening, step, send, na
 use Rattle.q3_world.specs.StandsFor.{IsSent, StandsFor}
 use Rattle.q3_world.specs.Layers.{Layers}
 use Rattle.q3_world.specs.Schedules.{StepFollows, MayBecome, outcome_of, IsLegible, AlwaysLegible}
-use Rattle.q3_world.proofs.Events.{Holds, has_slot, has_client}
+use Rattle.q3_world.proofs.Holding.{Holds, has_slot, has_client}
 use Rattle.q3_world.proofs.Agree.{Cited}
 use Rattle.q3_world.proofs.Arriving.{IsFor, IsOf, names, is_sent, is_for, is_of_client, slot_of_tag, said_hears}
 use Rattle.q3_world.proofs.EverySchedule.{cited_of, outcome, stands_opening}

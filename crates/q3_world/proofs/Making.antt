@@ -29,7 +29,8 @@ use Rattle.q3_world.specs.World.{Whole, history_at, serve, say, send}
 use Rattle.q3_world.specs.Layers.{ScramblingLaws}
 use Rattle.q3_world.specs.StandsFor.{bytes_of}
 use Rattle.q3_world.proofs.Clients.{slot_begun, client_begun}
-use Rattle.q3_world.proofs.Events.{Holds, Holds-handed, Holds-begun, Holds-too_long, handed_tag, Holds-goes, Holds-said, said_tag, has_slot, has_client, executed_by_slot, executed_by_client, same_server}
+use Rattle.q3_world.proofs.Holding.{Holds, has_slot, has_client, same_server}
+use Rattle.q3_world.proofs.Begun.{Holds-handed, Holds-begun, Holds-too_long, handed_tag, Holds-goes, Holds-said, said_tag, executed_by_slot, executed_by_client}
 use Rattle.q3_world.proofs.Agree.{Cited, kept_of, Agree, found_or, unnoted, left_alone}
 
 -- ---- serving

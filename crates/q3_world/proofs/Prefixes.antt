@@ -24,7 +24,7 @@ use Rattle.q3_world.specs.World.{Tag, Step, Whole, History, no_history, history_
 use Rattle.q3_world.specs.StandsFor.{IsSent, AreCommanded, StandsFor}
 use Rattle.q3_world.specs.Layers.{Layers}
 use Rattle.q3_world.specs.Schedules.{kept_then, whole_then, BytesFollowTags, GoesOn, CommandsArePrefixes, ExecutedGoesOn}
-use Rattle.q3_world.proofs.Events.{Holds, Has, has_client, has_slot}
+use Rattle.q3_world.proofs.Holding.{Holds, Has, has_client, has_slot}
 use Rattle.q3_world.proofs.Agree.{Cited}
 use Rattle.q3_world.proofs.Arriving.{IsFor, IsOf, quiet_client, quiet_slot, client_of_tag, slot_of_tag, names, runs_whole, said_hears, is_sent, is_for, is_of_client, delivers_agree}
 use Rattle.q3_world.proofs.Agreement.{kept_is}

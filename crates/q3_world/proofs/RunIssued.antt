@@ -27,7 +27,7 @@ use Rattle.q3_world.specs.Moves.{TimesRise, StandAmong}
 use Rattle.q3_world.specs.Layers.{Layers}
 use Rattle.q3_world.specs.Schedules.{kept_then, whole_then, history_then, BytesFollowTags, NewerIsRun, MovesWereIssued}
 use Rattle.q3_world.proofs.MoveLists.{stand_among}
-use Rattle.q3_world.proofs.Events.{Holds, has_slot}
+use Rattle.q3_world.proofs.Holding.{Holds, has_slot}
 use Rattle.q3_world.proofs.Arriving.{is_sent, is_of_client, said_tag_is, runs_whole, said_hears, delivers_agree}
 use Rattle.q3_world.proofs.OnePlace.{set_there}
 use Rattle.q3_world.proofs.Agree.{seen}

@@ -33,7 +33,8 @@ use Rattle.q3_world.specs.StandsFor.{IsChecked, snapshot_in, StandsFor}
 use Rattle.q3_world.specs.Schedules.{kept_then, whole_then, history_then, BytesFollowTags, ArePieces, deliveries, serve_and_deliver, built_next, datagrams_of, MayBegin, outcome_of, applied_of, InOrderIsAccepted, AppliedWasBuilt, ServedIsShown}
 use Rattle.q3_world.proofs.Growth.{noted_same}
 use Rattle.q3_world.proofs.Clients.{slot_begun}
-use Rattle.q3_world.proofs.Events.{Holds, with_server_of, slot_handed, handed_tag, has_client}
+use Rattle.q3_world.proofs.Holding.{Holds, with_server_of, has_client}
+use Rattle.q3_world.proofs.Begun.{slot_handed, handed_tag}
 use Rattle.q3_world.proofs.EverySchedule.{shows}
 use Rattle.q3_world.proofs.InOrder.{reached_none, reached_all, after_both, both_are}
 use Rattle.q3_world.proofs.OnePlace.{set_there}

@@ -18,7 +18,7 @@ use Rattle.q3_world.specs.World.{Tag, Whole, arrive, deliver, step}
 use Rattle.q3_world.specs.StandsFor.{IsSent, StandsFor, bytes_of}
 use Rattle.q3_world.specs.Layers.{Layers}
 use Rattle.q3_world.specs.Schedules.{kept_then, whole_then, BytesFollowTags, UnknownWasNotMade}
-use Rattle.q3_world.proofs.Events.{Holds}
+use Rattle.q3_world.proofs.Holding.{Holds}
 use Rattle.q3_world.proofs.Arriving.{is_sent, is_for, is_of_client, client_of_tag, slot_of_tag, delivers_agree}
 use Rattle.q3_world.proofs.Agreement.{kept_is}
 use Rattle.q3_world.proofs.EverySchedule.{cited_of}

@@ -20,7 +20,7 @@ use Rattle.q3_world.specs.Layers.{Layers, RingLaws}
 use Rattle.q3_world.specs.Schedules.{kept_then, whole_then, BytesFollowTags, AppliedWasBuilt, outcome_of, UsualNeverSkips}
 use Rattle.q3_world.proofs.Bases.{if_some_then}
 use Rattle.q3_world.proofs.Knowing.{KnownBase, known_base}
-use Rattle.q3_world.proofs.Events.{Holds, has_client}
+use Rattle.q3_world.proofs.Holding.{Holds, has_client}
 
 abbrev held_so : Snapshot → Result Snapshot NoBase
 held_so snapshot = Ok snapshot
