@@ -1,2 +1,4 @@
 mod Rising
 mod Held
+mod Strings
+mod Telling

@@ -1,9 +1,10 @@
 //! What the game hands in for all clients of a server.
 #![tactic(auto)]
 
-pub mod entities;
+mod entities;
 pub mod laws;
+pub mod map;
 #[cfg(test)]
 mod tests;
 
-pub use entities::Map;
+pub use map::{Late, Map, NotLater};

@@ -1,9 +1,9 @@
 -- Laws of the windows.
-use Rattle.std.specs.Prelude.{◌≡◌, ◌⊎◌, ℕ, ◌+◌, ◌≤◌, max, List, [], ◌∷◌, ◌++◌, length, take, drop, Ok, None}
+use Rattle.std.specs.Prelude.{◌≡◌, ◌⊎◌, ℕ, ◌+◌, ◌≤◌, max, true, List, [], ◌∷◌, ◌++◌, length, take, drop, All, Ok, None}
 use Rattle.q3_text.specs.declared.text.Command.{Command}
 use Rattle.q3_text.specs.Commands.{numbered}
 use Rattle.q3_text.specs.Texts.{IsText}
-use Rattle.q3_window.specs.Outgoing.{OutgoingState, IsOutgoing, new_outgoing, issued_of, issue_at, acknowledge_at, text_at, carried}
+use Rattle.q3_window.specs.Outgoing.{OutgoingState, IsOutgoing, new_outgoing, issued_of, total_of, fits, issue_at, with_texts, acknowledge_at, text_at, carried}
 use Rattle.q3_window.specs.Incoming.{IncomingState, new_incoming, fresh_of, gap_in, executes}
 use Rattle.q3_window.specs.Issued.{issued_text, OutgoingStandsFor, carried_of}
 use Rattle.q3_window.specs.Executed.{IncomingStandsFor, takes, takes_any, RiseAbove}
@@ -40,10 +40,12 @@ abbrev pub CarriedIsIssued : Type 0
 CarriedIsIssued = (window : OutgoingState) (issued : List (List ℕ)) → OutgoingStandsFor window issued
     → carried window ≡ carried_of issued window.acknowledged (length issued)
 
--- what every window is stays so where a command is issued, and where one is acknowledged
+-- what every window is stays so where a command is issued, where several are that fit together, and where one is acknowledged
 pub record StaysOutgoing : Type 0 where
   pub opens : IsOutgoing new_outgoing
   pub issues : (window : OutgoingState) (text : List ℕ) → IsOutgoing window → IsText text → IsOutgoing (issue_at window text).window
+  pub tells : (window : OutgoingState) (texts : List (List ℕ)) → IsOutgoing window → fits window (length texts) (total_of texts) ≡ true → All IsText texts
+      → IsOutgoing (with_texts window texts)
   pub acknowledges : (window : OutgoingState) (number : ℕ) → IsOutgoing window → IsOutgoing (acknowledge_at window number).window
 
 -- ---- of the commands that the other end executes

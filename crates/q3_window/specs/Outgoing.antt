@@ -54,6 +54,10 @@ issue_at window text =
     then record { window = record window { waiting = window.waiting ++ text ∷ [] }; answer = Ok (issued_of window + 1) }
     else record { window = window; answer = Err (record {}) }
 
+-- the window behind texts that are issued one after the other, all of which fit
+abbrev pub with_texts : OutgoingState → List (List ℕ) → OutgoingState
+with_texts window texts = record window { waiting = window.waiting ++ texts }
+
 -- the text of a command that is kept; that of the number 0 is empty
 abbrev pub text_at : OutgoingState → ℕ → List ℕ
 text_at window zero = []

@@ -51,20 +51,21 @@ pub fn executed_rise()
     ensures { ExecutedRise }
 {}
 
-/// What every window is stays so where a command is issued, and where one is acknowledged.
+/// What every window is stays so where a command is issued, where several are that fit together, and where one is
+/// acknowledged.
 #[tactic(auto, using(crate::proofs::Staying::stays_outgoing))]
 pub fn stays_outgoing()
     ensures { StaysOutgoing }
 {}
 
 /// Of the commands of one end on their way to the other: what holds of both windows, of what was issued and executed, and of what
-/// the messages of both ends say stays so, whatever message is begun or taken.
+/// the messages of both ends say stays so, whatever is issued and whatever message is begun or taken. Behind a newer message
+/// whose commands are executed, exactly those are executed that were issued when it was begun.
 #[tactic(auto, using(crate::proofs::Flowing::commands_flow))]
 pub fn commands_flow()
     ensures { FlowLaws }
 {
     none_stands();
-    issued_is_added();
     acknowledged_is_issued();
     last_is_count();
     kept_is_issued();

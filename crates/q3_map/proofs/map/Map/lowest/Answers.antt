@@ -3,7 +3,7 @@ use Rattle.q3_entity.specs.declared.state.EntityState.{EntityState}
 use Rattle.q3_entity.specs.Entities.{most_entities}
 use Rattle.q3_map.specs.Map.{AreListed}
 use Rattle.q3_map.proofs.Rising.{lowest_are}
-use Rattle.q3_map.proofs.entities.Map.lowest.Goals as goal
+use Rattle.q3_map.proofs.map.Map.lowest.Goals as goal
 
 pub returns-clause-listed : goal.returns-clause-listed
 returns-clause-listed c =
