@@ -1,5 +1,5 @@
 -- What the server does with a datagram: the slot of its client takes it.
-use Rattle.std.specs.Prelude.{ℕ, List, [], position, Option, Some, None, Result, Ok, Err}
+use Rattle.std.specs.Prelude.{ℕ, Bool, false, List, [], position, Option, Some, None, Result, Ok, Err}
 use Rattle.q3_io.specs.declared.address.Address.{Address}
 use Rattle.q3_chan.specs.declared.qport.NoQport.{NoQport}
 use Rattle.q3_chan.specs.declared.qport.NoQport.TheVariants as no
@@ -16,25 +16,35 @@ use Rattle.q3_server.specs.Server.{ServerState, slot_at, with_slot}
 abbrev pub sender_of : ServerState → ℕ → ℕ → Option ℕ
 sender_of server host qport = position (is_of host qport) server.slots
 
--- what a take gives: the server after it, its answer, and the commands and the moves that were run
+-- what a take gives: the server after it, its answer, the commands and the moves that were run, the time of the move with which the
+-- client entered the map, if it did, and whether a gamestate is owed
 pub record Taken : Type 0 where
   pub server : ServerState
   pub answer : ServerTook
   pub commands : List Command
   pub moves : List Move
+  pub entered : Option ℕ
+  pub owed : Bool
 
 -- a server that runs nothing
 abbrev pub unmoved : ServerState → ServerTook → Taken
-unmoved server answer = record { server = server; answer = answer; commands = []; moves = [] }
+unmoved server answer = record { server = server; answer = answer; commands = []; moves = []; entered = None; owed = false }
 
 -- what a slot took, at its place
 abbrev pub taken_at : ServerState → ℕ → SlotTaken → Taken
-taken_at server c taken = record { server = with_slot server c taken.slot; answer = taken.answer; commands = taken.commands; moves = taken.moves }
+taken_at server c taken = record {
+  server = with_slot server c taken.slot;
+  answer = taken.answer;
+  commands = taken.commands;
+  moves = taken.moves;
+  entered = taken.entered;
+  owed = taken.owed;
+}
 
 -- a datagram for the client in a slot
 abbrev pub take_by : ServerState → ℕ → Address → List ℕ → Option SlotState → Taken
 take_by server c from datagram None = unmoved server Stranger
-take_by server c from datagram (Some slot) = taken_at server c (take_slot server.profile c from datagram slot)
+take_by server c from datagram (Some slot) = taken_at server c (take_slot server.profile server.map c from datagram slot)
 
 -- a datagram from a client of the server, or from a stranger
 abbrev pub take_from : ServerState → Address → List ℕ → Option ℕ → Taken

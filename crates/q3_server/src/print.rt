@@ -6,15 +6,15 @@ ghost use Rattle.std.specs.List.{concat, flat_map};
 ghost use Rattle.q3_io.specs.Faults.{HasCause};
 ghost use Rattle.q3_io.specs.Written.{Adds};
 ghost use Rattle.q3_clmsg.specs.Report.{move_text, cause_word, cause_number};
-ghost use Rattle.q3_server.specs.Report.{serve_text, slot_error_text, say_error_text, slot_text, illegible_text, gap_text, ran_text, server_text};
+ghost use Rattle.q3_slot.specs.declared.answer.Emitted.TheVariants as emitted;
+ghost use Rattle.q3_server.specs.Report.{serve_text, slot_text, illegible_text, gap_text, ignored_text, owed_text, entered_text, ran_text, run_of, server_text};
 ghost use Rattle.q3_window.specs.Report.{commands_text};
 ghost use Rattle.q3_clmsg.specs.Report.{spaced};
 
-use crate::server::SlotError;
 use q3_clmsg::report::{cause_number, cause_word};
 use q3_clmsg::{ClientIllegible, Move};
 use q3_io::{Failed, Piece, Sink, laws, print_all};
-use q3_slot::{Emitted, Heard, SayError, ServerTook};
+use q3_slot::{Emitted, Heard, ServerTook};
 use q3_text::Command;
 use q3_window::print_commands;
 
@@ -34,38 +34,11 @@ pub fn print_emitted<O: Sink>(
             number,
             base,
             bytes,
-        } => {
-            return print_all(
-                &[
-                    Piece::Text(b"serve "),
-                    Piece::Number(u64::from(slot)),
-                    Piece::Text(b" snapshot "),
-                    Piece::Number(u64::from(*number)),
-                    Piece::Text(b" base "),
-                    Piece::Number(u64::from(*base)),
-                    Piece::Text(b" bytes "),
-                    Piece::Number(*bytes as u64),
-                    Piece::Text(b" datagram "),
-                    Piece::Number(u64::from(datagram)),
-                    Piece::Text(b"\n"),
-                ],
-                out,
-            );
+        } => return print_snapshot(slot, *number, *base, *bytes, datagram, out),
+        Emitted::Game { number, bytes } => {
+            return print_game(slot, *number, *bytes, datagram, out);
         }
-        Emitted::Fragment { number } => {
-            return print_all(
-                &[
-                    Piece::Text(b"serve "),
-                    Piece::Number(u64::from(slot)),
-                    Piece::Text(b" fragment "),
-                    Piece::Number(u64::from(*number)),
-                    Piece::Text(b" datagram "),
-                    Piece::Number(u64::from(datagram)),
-                    Piece::Text(b"\n"),
-                ],
-                out,
-            );
-        }
+        Emitted::Fragment { number } => return print_fragment(slot, *number, datagram, out),
         Emitted::NoClient => b" noclient\n",
         Emitted::SequenceEnd => b" sequenceend\n",
         Emitted::Unclear => b" unclear\n",
@@ -81,38 +54,88 @@ pub fn print_emitted<O: Sink>(
     )
 }
 
-/// Prints why a client can't join: a word, and the slot of its twin. `Failed` comes where the sink failed, behind a front
-/// of it.
-pub fn print_slot_error<O: Sink>(error: SlotError, out: &mut O) -> Result<(), Failed>
-    ensures adds { Adds (O.written out.old) (O.written out.new) (slot_error_text error) result }
+/// Prints the line of a snapshot that was begun.
+fn print_snapshot<O: Sink>(
+    slot: u8,
+    number: u32,
+    base: u32,
+    bytes: usize,
+    datagram: u32,
+    out: &mut O,
+) -> Result<(), Failed>
+    ensures adds { Adds (O.written out.old) (O.written out.new) (serve_text slot (emitted.Snapshot number base bytes) datagram) result }
     ensures cause { HasCause (O.faults out.old) (O.faults out.new) result }
 {
-    match error {
-        SlotError::Range => print_all(&[Piece::Text(b"range")], out),
-        SlotError::Taken => print_all(&[Piece::Text(b"taken")], out),
-        SlotError::Twin(slot) => print_all(
-            &[Piece::Text(b"twin "), Piece::Number(u64::from(slot))],
-            out,
-        ),
-    }
+    print_all(
+        &[
+            Piece::Text(b"serve "),
+            Piece::Number(u64::from(slot)),
+            Piece::Text(b" snapshot "),
+            Piece::Number(u64::from(number)),
+            Piece::Text(b" base "),
+            Piece::Number(u64::from(base)),
+            Piece::Text(b" bytes "),
+            Piece::Number(bytes as u64),
+            Piece::Text(b" datagram "),
+            Piece::Number(u64::from(datagram)),
+            Piece::Text(b"\n"),
+        ],
+        out,
+    )
 }
 
-/// Prints why the server can't issue a command: a word. `Failed` comes where the sink failed, behind a front of it.
-pub fn print_say_error<O: Sink>(error: SayError, out: &mut O) -> Result<(), Failed>
-    ensures adds { Adds (O.written out.old) (O.written out.new) (say_error_text error) result }
+/// Prints the line of a gamestate that was begun.
+fn print_game<O: Sink>(
+    slot: u8,
+    number: u32,
+    bytes: usize,
+    datagram: u32,
+    out: &mut O,
+) -> Result<(), Failed>
+    ensures adds { Adds (O.written out.old) (O.written out.new) (serve_text slot (emitted.Game number bytes) datagram) result }
     ensures cause { HasCause (O.faults out.old) (O.faults out.new) result }
 {
-    match error {
-        SayError::NoClient => out.write_all(b"noclient"),
-        SayError::WindowFull => out.write_all(b"windowfull"),
-    }
+    print_all(
+        &[
+            Piece::Text(b"serve "),
+            Piece::Number(u64::from(slot)),
+            Piece::Text(b" gamestate "),
+            Piece::Number(u64::from(number)),
+            Piece::Text(b" bytes "),
+            Piece::Number(bytes as u64),
+            Piece::Text(b" datagram "),
+            Piece::Number(u64::from(datagram)),
+            Piece::Text(b"\n"),
+        ],
+        out,
+    )
+}
+
+/// Prints the line of a further piece of a message.
+fn print_fragment<O: Sink>(slot: u8, number: u32, datagram: u32, out: &mut O) -> Result<(), Failed>
+    ensures adds { Adds (O.written out.old) (O.written out.new) (serve_text slot (emitted.Fragment number) datagram) result }
+    ensures cause { HasCause (O.faults out.old) (O.faults out.new) result }
+{
+    print_all(
+        &[
+            Piece::Text(b"serve "),
+            Piece::Number(u64::from(slot)),
+            Piece::Text(b" fragment "),
+            Piece::Number(u64::from(number)),
+            Piece::Text(b" datagram "),
+            Piece::Number(u64::from(datagram)),
+            Piece::Text(b"\n"),
+        ],
+        out,
+    )
 }
 
 /// Prints what stands behind `deliver D`, or `arrive`, where the server took a datagram: the rest of that line, and a line
-/// for each command and each move that it ran, which `heard` holds since that take. `Failed` comes where the sink failed,
-/// behind a front of it.
+/// for each command and each move that it ran, one between them where the client entered the map, and one under an ignored
+/// message where a gamestate is owed, all of which `heard` holds since that take. `Failed` comes where the sink failed, behind a
+/// front of it.
 pub fn print_took<O: Sink>(took: &ServerTook, heard: &Heard, out: &mut O) -> Result<(), Failed>
-    ensures adds { Adds (O.written out.old) (O.written out.new) (server_text took.now heard.now.commands.items heard.now.moves.items) result }
+    ensures adds { Adds (O.written out.old) (O.written out.new) (server_text took.now (run_of heard.now)) result }
     ensures cause { HasCause (O.faults out.old) (O.faults out.new) result }
 {
     match took {
@@ -124,10 +147,16 @@ pub fn print_took<O: Sink>(took: &ServerTook, heard: &Heard, out: &mut O) -> Res
         ServerTook::BadFragment(slot) => print_word(*slot, b"badfragment", out),
         ServerTook::Partial(slot) => print_word(*slot, b"partial", out),
         ServerTook::Illegible(slot, cause) => print_illegible(*slot, *cause, out),
+        ServerTook::Ignored { slot, id } => print_ignored(*slot, *id, heard.owed, out),
         ServerTook::Gap { slot, number } => print_gap(*slot, *number, out),
-        ServerTook::Ran { slot, number } => {
-            print_ran(*slot, *number, &heard.commands, &heard.moves, out)
-        }
+        ServerTook::Ran { slot, number } => print_ran(
+            *slot,
+            *number,
+            &heard.commands,
+            heard.entered,
+            &heard.moves,
+            out,
+        ),
     }
 }
 
@@ -196,21 +225,75 @@ fn print_gap<O: Sink>(slot: u8, number: u32, out: &mut O) -> Result<(), Failed>
     )
 }
 
-/// Prints the line of a message that was run, and a line for each command and each move.
+/// Prints the line of a message of another map, and one under it where a gamestate is owed.
+fn print_ignored<O: Sink>(slot: u8, id: u32, owed: bool, out: &mut O) -> Result<(), Failed>
+    ensures adds { Adds (O.written out.old) (O.written out.new) (ignored_text slot id ++ owed_text owed) result }
+    ensures cause { HasCause (O.faults out.old) (O.faults out.new) result }
+{
+    laws::texts_follow();
+    print_id(slot, id, out)?;
+    out.write_all(owed_line(owed))
+}
+
+/// Prints the line of a message of another map.
+fn print_id<O: Sink>(slot: u8, id: u32, out: &mut O) -> Result<(), Failed>
+    ensures adds { Adds (O.written out.old) (O.written out.new) (ignored_text slot id) result }
+    ensures cause { HasCause (O.faults out.old) (O.faults out.new) result }
+{
+    print_all(
+        &[
+            Piece::Text(b" server "),
+            Piece::Number(u64::from(slot)),
+            Piece::Text(b" ignored "),
+            Piece::Number(u64::from(id)),
+            Piece::Text(b"\n"),
+        ],
+        out,
+    )
+}
+
+/// The line under an ignored message where a gamestate is owed.
+fn owed_line(owed: bool) -> &'static [u8]
+    ensures { result.now ≡ owed_text owed }
+{
+    if owed { b"+ owed\n" } else { b"" }
+}
+
+/// Prints the line of a message that was run, and the lines under it.
 fn print_ran<O: Sink>(
     slot: u8,
     number: u32,
     commands: &[Command],
+    entered: Option<u32>,
     moves: &[Move],
     out: &mut O,
 ) -> Result<(), Failed>
     ensures adds { Adds (O.written out.old) (O.written out.new)
-        (ran_text slot number ++ commands_text commands.now ++ flat_map move_text moves.now) result }
+        (ran_text slot number ++ concat (commands_text commands.now ∷ entered_text entered ∷ flat_map move_text moves.now ∷ [])) result }
     ensures cause { HasCause (O.faults out.old) (O.faults out.new) result }
 {
     laws::texts_follow();
     print_front(slot, number, commands, out)?;
+    print_entered(entered, out)?;
     print_moves(moves, out)
+}
+
+/// Prints the line of the move with which a client entered the map, if it did.
+fn print_entered<O: Sink>(entered: Option<u32>, out: &mut O) -> Result<(), Failed>
+    ensures adds { Adds (O.written out.old) (O.written out.new) (entered_text entered) result }
+    ensures cause { HasCause (O.faults out.old) (O.faults out.new) result }
+{
+    match entered {
+        Some(time) => print_all(
+            &[
+                Piece::Text(b"+ entered "),
+                Piece::Number(u64::from(time)),
+                Piece::Text(b"\n"),
+            ],
+            out,
+        ),
+        None => print_all(&[], out),
+    }
 }
 
 /// Prints the line of a message that was run, and a line for each command.

@@ -1,23 +1,28 @@
 //! The server's end: pure state, one call an event.
-//! Keeps the rule "how a datagram finds its slot", the engine's `SV_PacketEvent` (sv_main.c). What is sent and what is done
-//! with a datagram is q3_slot's.
+//! Keeps the rules "how a datagram finds its slot" and "config changes as commands", the engine's `SV_PacketEvent` (sv_main.c) and
+//! `SV_SetConfigstring` (sv_init.c). That config string 1 can't be changed so, that a change is refused whose text a command can't
+//! carry, or for which a client has no room, is this project's own. What is sent and what is done with a datagram is q3_slot's,
+//! and what the game hands in for all clients is q3_map's.
 
-ghost use Rattle.std.specs.Prelude.{◌≡◌, ◌<◌, ◌≤◌, None, IfOk, IfSome, option_map, length, nat_lt, position, replicate};
+ghost use Rattle.std.specs.Prelude.{◌≡◌, ◌^◌, ◌<◌, ◌≤◌, None, IfOk, IfSome, option_map, length, nat_lt, position, replicate};
 ghost use Rattle.q3_chan.specs.Sending.{HandsOut};
 ghost use Rattle.q3_frames.specs.Frames.{no_frames};
 ghost use Rattle.q3_map.specs.Map.{most_numbers};
+ghost use Rattle.q3_entity.specs.Baselines.{most_lines};
 ghost use Rattle.q3_slot.specs.Slot.{is_of};
 ghost use Rattle.q3_slot.specs.Slots.{HoldLists};
-ghost use Rattle.q3_server.specs.Server.{places, new_server, add_client_at, set_time_at, set_entity_at, remove_entity_at, set_player_at, set_area_at, say_at, emit_at, slot_at};
+ghost use Rattle.q3_server.specs.Server.{places, new_server, add_client_at, new_map_at, set_time_at, set_entity_at, remove_entity_at, set_baseline_at, refused_for, set_config_at, set_player_at, set_area_at, say_at, emit_at, slot_at};
 ghost use Rattle.q3_server.specs.Taking.{take_at};
 
+use crate::slots::{begin_map, first_without_room, is_kept, tell_all};
 use q3_bits::NoMemory;
 use q3_chan::{Datagram, LONGEST_MESSAGE, NoQport, qport_of};
 use q3_clmsg::ClientMessage;
-use q3_entity::{Baselines, EntityState};
+use q3_config::{ConfigError, Configs};
+use q3_entity::EntityState;
 use q3_frames::Frames;
 use q3_io::Address;
-use q3_map::Map;
+use q3_map::{Late, Map, NotLater};
 use q3_player::{PlayerState, SnapHead};
 use q3_profile::Profile;
 use q3_slot::laws::nothing_is_listed;
@@ -40,6 +45,27 @@ pub enum SlotError {
     Twin(u8),
 }
 
+/// The config string that tells the map's id, the engine's `CS_SYSTEMINFO` (q_shared.h), which the server alone changes.
+const OWN_STRING: u32 = 1;
+
+/// Why a config string can't be changed: the first of these, in this order. An index above 1,023 isn't 1, so that the first
+/// two never come together.
+#[derive(Clone, Copy, Debug, PartialEq, Eq)]
+pub enum ConfigRefused {
+    /// The index is above 1,023.
+    Index,
+    /// The string is the server's own.
+    Own,
+    /// A byte that a config command can't carry, the first of the text: a quote, or one outside 32 to 126.
+    Chars(u8),
+    /// The text has more than 8,191 bytes.
+    Long,
+    /// The strings with this one would have a size above 16,000.
+    Full,
+    /// A client for which a gamestate was begun has no room for all commands of the change: the least slot of such a client.
+    WindowFull(u8),
+}
+
 /// The server: a copy of the profile, what the game handed in, a slot for each client, and the frames that were built for
 /// them; and places for the head of a snapshot, for a message that is written, and where one that came whole stands, is cleared,
 /// and is read into. After `new` no call takes memory.
@@ -49,7 +75,6 @@ pub struct Server {
     map: Map,
     slots: Vec<Slot>,
     frames: Frames,
-    baselines: Baselines,
     head: SnapHead,
     buffer: Vec<u8>,
     said: ClientMessage,
@@ -58,7 +83,6 @@ pub struct Server {
 
 impl Model for Server {
     ghost use Rattle.std.specs.Prelude.{◌≡◌, ◌≤◌, length};
-    ghost use Rattle.q3_entity.specs.Baselines.{no_lines};
     ghost use Rattle.q3_chan.specs.Datagrams.{longest_message};
     ghost use Rattle.q3_server.specs.Server.{ServerState, places};
     ghost use Rattle.q3_slot.specs.Slots.{HoldLists};
@@ -67,7 +91,7 @@ impl Model for Server {
 
     ghost view = { λ s. record { profile = s.profile; map = s.map; slots = s.slots.items; frames = s.frames } };
 
-    ghost invariant = { λ s. (length s.slots.items ≤ places) × (length s.frames.slots ≡ length s.slots.items) × HoldLists s.frames × (s.baselines ≡ no_lines)
+    ghost invariant = { λ s. (length s.slots.items ≤ places) × (length s.frames.slots ≡ length s.slots.items) × HoldLists s.frames
         × (length s.buffer.items ≡ longest_message) × (length s.whole.items ≡ longest_message) };
 }
 
@@ -86,7 +110,6 @@ impl Server {
             map: Map::new(alloc)?,
             slots: empty_slots(alloc, slots)?,
             frames: empty_frames(alloc, slots, profile.server_ring)?,
-            baselines: Baselines::new(alloc)?,
             head: SnapHead::new(),
             buffer: vec![in alloc; 0; LONGEST_MESSAGE]?,
             said: ClientMessage::new(alloc)?,
@@ -123,6 +146,59 @@ impl Server {
             return Err(SlotError::Twin(twin));
         }
         self.slots[slot as usize].join(challenge, qport, from);
+        Ok(())
+    }
+
+    /// A new map begins, with a checksum feed: each client is connected to it. Entities, baselines, players, areas and config strings
+    /// are none then, but for the config string that tells its id; the time stays, and so does the time of each client's last
+    /// move that was run. `NotLater` comes exactly where the id isn't above the last one, 0 where there was none, and nothing
+    /// changes then.
+    pub fn new_map(&mut self, id: u32, feed: u32) -> Result<(), NotLater>
+        requires { id < 2 ^ 31 }
+        ensures { new_map_at self.old id feed ≡ record { server = self.new; answer = result } }
+    {
+        self.map.new_map(id, feed)?;
+        begin_map(&mut self.slots);
+        Ok(())
+    }
+
+    /// Takes over the baseline of an entity, whose number is 1 to 1022. `Late` comes exactly where a gamestate of the map was begun,
+    /// and nothing changes then.
+    pub fn set_baseline(&mut self, state: &EntityState) -> Result<(), Late>
+        requires some { 1 ≤ state.now.number }
+        requires most { state.now.number < most_lines }
+        ensures { set_baseline_at self.old state.now ≡ record { server = self.new; answer = result } }
+    {
+        self.map.set_baseline(&self.profile.entity, state)
+    }
+
+    /// The config strings of the map.
+    pub fn configs(&self) -> &Configs
+        ensures { result.now ≡ self.now.map.strings }
+    {
+        self.map.configs()
+    }
+
+    /// Changes a config string, and tells each client of it for which a gamestate of the map was begun, by commands that go with
+    /// its next messages. A text that is there already changes nothing. `Err` is the first cause in the order of `ConfigRefused`,
+    /// and nothing changes then.
+    pub fn set_config(&mut self, index: u32, text: &[u8]) -> Result<(), ConfigRefused>
+        ensures { set_config_at self.old index text.now ≡ record { server = self.new; answer = result } }
+    {
+        if index == OWN_STRING {
+            return Err(ConfigRefused::Own);
+        }
+        if let Err(error) = self.map.configs().admit(index, text) {
+            return Err(refused_for(error));
+        }
+        if is_kept(self.map.configs().get(index), text) {
+            return Ok(());
+        }
+        if let Some(slot) = first_without_room(&self.slots, index, text) {
+            return Err(ConfigRefused::WindowFull(slot));
+        }
+        self.map.set_config(index, text);
+        tell_all(&mut self.slots, index, text);
         Ok(())
     }
 
@@ -170,8 +246,9 @@ impl Server {
     }
 
     /// Issues a command to a client, whose number is the answer: the messages that are begun for it next carry the command, until
-    /// the client acknowledges it. In this order, `NoClient` comes exactly where no client was added in the slot, and
-    /// `WindowFull` exactly where the command doesn't fit into the client's window; nothing changes then.
+    /// the client acknowledges it. In this order, `NoClient` comes exactly where no client was added in the slot, `Own` exactly
+    /// where the text would change config string 1, `NotPrimed` exactly where no gamestate of the map was begun for the client,
+    /// and `WindowFull` exactly where the command doesn't fit into the client's window; nothing changes then.
     pub fn say(&mut self, slot: u8, text: &Text) -> Result<u32, SayError>
         ensures { say_at self.old slot text.now ≡ record { server = self.new; answer = result } }
     {
@@ -197,18 +274,21 @@ impl Server {
     ///
     /// In this order: `Runt` and `Connectionless` where the datagram has no qport; `Stranger` exactly where no client has
     /// that host and qport; `Old`, `OutOfOrder`, `BadFragment` and `Partial` as the gathering of the client's slot answers;
-    /// `Illegible` where a message that came whole isn't legible, or acknowledges a command that the client's window doesn't
-    /// take; `Gap` where one of its commands leaves a gap; with both, only the newest number, the port and what was gathered
-    /// have changed; and else `Ran`.
+    /// `Illegible` where the leading longs of a message that came whole don't read, or acknowledge a command that the client's
+    /// window doesn't take; `Ignored` where it is of another map: the acknowledgement is taken, and a gamestate may be owed to the
+    /// client from then on; `Illegible` again where the rest isn't legible; `Gap` where one of its commands leaves a gap; with
+    /// `Illegible` and `Gap`, only the newest number, the port and what was gathered have changed; and else `Ran`: the first move of
+    /// a primed client enters the map.
     #[tactic(auto, unfolding(crate::specs::Taking::take_at))]
     pub fn take(&mut self, from: Address, datagram: &[u8], heard: &mut Heard) -> ServerTook
         ensures server { self.new ≡ (take_at self.old from datagram.now).server }
         ensures answer { result ≡ (take_at self.old from datagram.now).answer }
         ensures commands { heard.new.commands.items ≡ (take_at self.old from datagram.now).commands }
         ensures moves { heard.new.moves.items ≡ (take_at self.old from datagram.now).moves }
+        ensures entered { heard.new.entered ≡ (take_at self.old from datagram.now).entered }
+        ensures owed { heard.new.owed ≡ (take_at self.old from datagram.now).owed }
     {
-        heard.commands.clear();
-        heard.moves.clear();
+        heard.clear();
         let qport = match qport_of(datagram) {
             Ok(qport) => qport,
             Err(NoQport::Runt) => return ServerTook::Runt,
@@ -219,6 +299,7 @@ impl Server {
         };
         self.slots[slot as usize].take(
             &self.profile,
+            &self.map,
             slot,
             from,
             datagram,
@@ -231,8 +312,8 @@ impl Server {
     /// Makes the next datagram for a client: it is empty where nothing is handed out. In this order: `NoClient` exactly
     /// where no client was added in the slot; `Fragment` where pieces of a message are left; `SequenceEnd` where message
     /// numbers have ended or more than 2^62 entities were placed; `Unclear` where the next message's leading long takes more than
-    /// 32 bits; `Overlong` where the next message has more than 16,384 bytes: nothing changes then but the frames, which keep its
-    /// own; else `Snapshot`.
+    /// 32 bits; `Overlong` where the next message has more than 16,384 bytes: nothing changes then, but that the frames keep the one
+    /// of a snapshot; else `Game` where a gamestate is owed to the client, and `Snapshot` where none is.
     #[tactic(auto, unfolding(crate::specs::Server::emit_at))]
     pub fn emit(&mut self, slot: u8, out: &mut Datagram) -> Emitted
         ensures server { self.new ≡ (emit_at self.old slot).server }
@@ -246,13 +327,24 @@ impl Server {
         self.slots[slot as usize].emit(
             slot,
             &self.profile,
-            &self.map,
+            &mut self.map,
             &mut self.frames,
-            &self.baselines,
             &mut self.head,
             &mut self.buffer,
             out,
         )
+    }
+}
+
+/// Why a config string can't be changed, where a change of it may not go out.
+fn refused_for(error: ConfigError) -> ConfigRefused
+    ensures { result ≡ refused_for error }
+{
+    match error {
+        ConfigError::Index => ConfigRefused::Index,
+        ConfigError::Chars(byte) => ConfigRefused::Chars(byte),
+        ConfigError::Long => ConfigRefused::Long,
+        ConfigError::Full => ConfigRefused::Full,
     }
 }
 

@@ -10,6 +10,7 @@ use q3_entity::EntityState;
 use q3_fields::Table;
 use q3_io::Address;
 use q3_memory::MemSink;
+use q3_player::PlayerState;
 use q3_profile::Profile;
 use q3_text::{Command, Text};
 use std::alloc::Global;
@@ -78,13 +79,13 @@ fn put_operations(bytes: &mut [u8; 32], operations: &[u8], key: u8)
     }
 }
 
-/// The server takes a datagram: a message's number below 256, a qport, three longs that are 0, and operations under the
-/// challenge 7.
+/// The server takes a message that acknowledges no command, under the challenge 7: its number, its map's id and the number that it
+/// acknowledges are below 256.
 fn take(
     rt: &impl Abort,
     server: &mut Server,
     from: Address,
-    number: u8,
+    longs: (u8, u8, u8),
     qport: u16,
     operations: &[u8],
     heard: &mut Heard,
@@ -92,11 +93,116 @@ fn take(
     let mut bytes = [0; 32];
     assert!(rt; operations.len() <= 14);
     let end = 18 + operations.len();
-    bytes[0] = number;
+    bytes[0] = longs.0;
     bytes[4..6].copy_from_slice(&qport.to_le_bytes());
-    put_operations(&mut bytes, operations, 7);
+    bytes[6] = longs.1;
+    bytes[10] = longs.2;
+    put_operations(&mut bytes, operations, 7 ^ longs.1 ^ longs.2);
     server.take(from, &bytes[..end], heard)
 }
+
+/// The client at host 1 with the qport 5000 says a message, which gives this answer, and whether a gamestate is owed then.
+fn says(
+    rt: &impl Abort,
+    server: &mut Server,
+    longs: (u8, u8, u8),
+    operations: &[u8],
+    answer: ServerTook,
+    owed: bool,
+) {
+    let mut heard = Heard::new();
+    let from = Address {
+        host: 1,
+        port: 27960,
+    };
+    assert_eq!(rt;
+        take(rt, server, from, longs, 5000, operations, &mut heard),
+        answer
+    );
+    assert_eq!(rt; heard.owed, owed);
+}
+
+/// The client in slot 1 plays a message.
+fn plays(rt: &impl Abort, server: &mut Server, number: u8, acknowledged: u8, operations: &[u8]) {
+    let ran = ServerTook::Ran {
+        slot: 1,
+        number: u32::from(number),
+    };
+    says(
+        rt,
+        server,
+        (number, 1, acknowledged),
+        operations,
+        ran,
+        false,
+    );
+}
+
+/// The client in slot 1 says a message of another map.
+fn strays(rt: &impl Abort, server: &mut Server, longs: (u8, u8, u8), owed: bool) {
+    let ignored = ServerTook::Ignored {
+        slot: 1,
+        id: u32::from(longs.1),
+    };
+    says(rt, server, longs, NO_MOVE, ignored, owed);
+}
+
+/// Map 1 begins, and the client in slot 1 enters it: it says a message of another map, which makes a gamestate owed, gets that as
+/// message 1, and says a move at the time 4.
+fn enters(rt: &impl Abort, server: &mut Server, out: &mut Datagram) {
+    assert_eq!(rt; server.new_map(1, 0), Ok(()));
+    strays(rt, server, (1, 0, 0), true);
+    let game = Emitted::Game {
+        number: 1,
+        bytes: 38,
+    };
+    assert_eq!(rt; server.emit(1, out), game);
+    plays(rt, server, 2, 1, FIRST_MOVE);
+}
+
+/// The server begins a message of this number for the client in slot 1, against the snapshot of this number.
+fn emits(rt: &impl Abort, server: &mut Server, out: &mut Datagram, number: u32, base: u32) {
+    let Emitted::Snapshot {
+        number: begun,
+        base: against,
+        bytes: _,
+    } = server.emit(1, out)
+    else {
+        assert!(rt; false, "no snapshot {number}");
+        return;
+    };
+    assert_eq!(rt; (begun, against), (number, base));
+}
+
+/// The server begins a snapshot without a base for the client in slot 1, with so many bytes.
+fn emits_bytes(
+    rt: &impl Abort,
+    server: &mut Server,
+    out: &mut Datagram,
+    number: u32,
+    bytes: usize,
+) {
+    let snapshot = Emitted::Snapshot {
+        number,
+        base: 0,
+        bytes,
+    };
+    assert_eq!(rt; server.emit(1, out), snapshot);
+}
+
+/// The server begins a gamestate for the client in slot 1.
+fn emits_game(rt: &impl Abort, server: &mut Server, out: &mut Datagram, number: u32, bytes: usize) {
+    assert_eq!(rt; server.emit(1, out), Emitted::Game { number, bytes });
+}
+
+/// A move at the time 4; one at the time 5, that asks for deltas, and that asks for none; and no move.
+const FIRST_MOVE: &[u8] = &[0x03, 0x01, 0x09, 0x14, 0x00];
+
+const DELTA: &[u8] = &[0x02, 0x01, 0x0b, 0x14, 0x00];
+
+const NO_DELTA: &[u8] = &[0x03, 0x01, 0x0b, 0x14, 0x00];
+
+const NO_MOVE: &[u8] = &[0x05, 0x00];
 
 #[test]
 fn clients_are_found_by_host_and_qport(rt: HostRuntime) -> Result<(), Fail> {
@@ -107,35 +213,25 @@ fn clients_are_found_by_host_and_qport(rt: HostRuntime) -> Result<(), Fail> {
     )?;
     assert_eq!(rt; join(&mut server, 1, 5000, 1, 27960), Ok(()));
     let mut heard = Heard::new();
-    let nothing: &[u8] = &[0x05, 0x00];
-    let no_operation: &[u8] = &[0x09, 0x00];
-    let bad = ServerTook::Illegible(1, ClientIllegible::BadOp(9));
-    // a host, a port, a qport, a message's number and operations, the answer, and the client's port behind it
+    let ignored = ServerTook::Ignored { slot: 1, id: 0 };
+    // a host, a port, a qport, a message's number, the answer, and the client's port behind it
     let table = [
-        (2, 27960, 5000, 1, nothing, ServerTook::Stranger, 27960),
-        (1, 27960, 5001, 1, nothing, ServerTook::Stranger, 27960),
-        (
-            1,
-            30000,
-            5000,
-            1,
-            nothing,
-            ServerTook::Ran { slot: 1, number: 1 },
-            30000,
-        ),
-        (1, 30001, 5000, 1, nothing, ServerTook::Old(1), 30001),
-        (1, 30002, 5000, 2, no_operation, bad, 30002),
+        (2, 27960, 5000, 1, ServerTook::Stranger, 27960),
+        (1, 27960, 5001, 1, ServerTook::Stranger, 27960),
+        (1, 30000, 5000, 1, ignored, 30000),
+        (1, 30001, 5000, 1, ServerTook::Old(1), 30001),
+        (1, 30002, 5000, 2, ignored, 30002),
     ];
-    for (host, port, qport, number, operations, answer, behind) in table {
+    for (host, port, qport, number, answer, behind) in table {
         let from = Address { host, port };
         assert_eq!(rt;
             take(
                 &rt,
                 &mut server,
                 from,
-                number,
+                (number, 0, 0),
                 qport,
-                operations,
+                NO_MOVE,
                 &mut heard
             ),
             answer
@@ -153,42 +249,134 @@ fn clients_are_found_by_host_and_qport(rt: HostRuntime) -> Result<(), Fail> {
     Ok(())
 }
 
-#[test]
-fn a_move_is_shown_by_its_key(rt: HostRuntime) -> Result<(), Fail> {
-    let mut server = server(
-        rt.alloc(),
-        Table::of(&[0, 8, -16]).expect(&rt, "a table"),
-        Table::of(&[0, 16]).expect(&rt, "a table"),
-    )?;
-    assert_eq!(rt; join(&mut server, 0, 5000, 1, 27960), Ok(()));
-    let mut heard = Heard::new();
+/// The server takes a datagram of the client at host 1, which gives this answer, and the time of the move with which it enters.
+fn takes(
+    rt: &impl Abort,
+    server: &mut Server,
+    datagram: &[u8],
+    answer: ServerTook,
+    entered: Option<u32>,
+    heard: &mut Heard,
+) {
     let from = Address {
         host: 1,
         port: 27960,
     };
-    // the newest message is 1 and the time 500, so that the key's low byte is 0xf5; and with the challenge 7 each byte behind
-    // the longs is scrambled by 6
-    let datagram = [
-        0x01, 0x00, 0x00, 0x00, 0x88, 0x13, 0x00, 0x00, 0x00, 0x00, 0x01, 0x00, 0x00, 0x00, 0x00,
-        0x00, 0x00, 0x00, 0x05, 0x07, 0xee, 0x05, 0x06, 0x06, 0xe4, 0x39, 0x12, 0x06,
-    ];
-    let mut one = Move::none();
-    one.time = 500;
-    one.forward = 10;
-    assert_eq!(rt;
-        server.take(from, &datagram, &mut heard),
-        ServerTook::Ran { slot: 0, number: 1 }
-    );
-    assert_eq!(rt; heard.moves.as_slice(), [one].as_slice());
-    assert_eq!(rt;
-        server.take(from, &datagram[..5], &mut heard),
-        ServerTook::Runt
-    );
-    assert!(rt; heard.moves.is_empty());
-    assert_eq!(rt;
-        server.take(from, &[255, 255, 255, 255, 0x88, 0x13], &mut heard),
-        ServerTook::Connectionless
-    );
+    assert_eq!(rt; server.take(from, datagram, heard), answer);
+    assert_eq!(rt; heard.entered, entered);
+}
+
+/// The server makes a datagram for the client in slot 0.
+fn makes(
+    rt: &impl Abort,
+    server: &mut Server,
+    answer: Emitted,
+    datagram: &[u8],
+    out: &mut Datagram,
+) {
+    assert_eq!(rt; server.emit(0, out), answer);
+    assert_eq!(rt; out.as_slice(), datagram);
+}
+
+/// A snapshot that is begun.
+fn snapshot(number: u32, base: u32, bytes: usize) -> Emitted {
+    Emitted::Snapshot {
+        number,
+        base,
+        bytes,
+    }
+}
+
+/// Message 1 for the client: a snapshot of the time 1000 with the flags 6 and nothing else, each byte behind the first long
+/// scrambled by 17 xor 1.
+const NOT_ACTIVE: &[u8] = &[
+    0x01, 0x00, 0x00, 0x00, 0x00, 0x00, 0x00, 0x00, 0x17, 0xf8, 0x13, 0x10, 0x10, 0x10, 0x16, 0x10,
+    0x10, 0xee, 0x57, 0x10,
+];
+
+/// Its answer, of no map.
+const NO_MAP: &[u8] = &[
+    0x01, 0x00, 0x00, 0x00, 0x88, 0x13, 0x00, 0x00, 0x00, 0x00, 0x01, 0x00, 0x00, 0x00, 0x00, 0x00,
+    0x00, 0x00, 0x15, 0x10,
+];
+
+/// Message 2 for the client: the gamestate, with the feed 77, scrambled by 17 xor 2.
+const GAME: &[u8] = &[
+    0x02, 0x00, 0x00, 0x00, 0x00, 0x00, 0x00, 0x00, 0x11, 0x13, 0x13, 0x13, 0x13, 0x10, 0x12, 0x13,
+    0x4f, 0x60, 0x65, 0x4c, 0x60, 0x76, 0x61, 0x65, 0x76, 0x61, 0x7a, 0x77, 0x4f, 0x22, 0x13, 0x1b,
+    0x13, 0x13, 0x13, 0x13, 0x5e, 0x13, 0x13, 0x13, 0x1b, 0x13,
+];
+
+/// Its answer, of map 1: a move at the time 500, 10 forward. The move's key is 77 xor 2 xor 500, and the bytes behind the longs are
+/// scrambled by 17 xor 1 xor 2.
+const ENTERS: &[u8] = &[
+    0x02, 0x00, 0x00, 0x00, 0x88, 0x13, 0x01, 0x00, 0x00, 0x00, 0x02, 0x00, 0x00, 0x00, 0x00, 0x00,
+    0x00, 0x00, 0x11, 0x13, 0xfa, 0x11, 0x12, 0x12, 0x70, 0x3e, 0x06, 0x12,
+];
+
+/// Message 3 for the client: a snapshot with the flags 4 and entity 5, whose field 1 is 7, scrambled by 17 xor 3.
+const ACTIVE: &[u8] = &[
+    0x03, 0x00, 0x00, 0x00, 0x00, 0x00, 0x00, 0x00, 0x15, 0xfa, 0x11, 0x12, 0x12, 0x12, 0x16, 0x12,
+    0x12, 0x18, 0x42, 0xd2, 0x15, 0xed, 0x31, 0x12,
+];
+
+/// Its answer, which asks for deltas: the move of before, and one at the time 510, whose keys are 77 xor 3 xor the time. The bytes
+/// behind the longs are scrambled by 17 xor 1 xor 3.
+const PLAYS: &[u8] = &[
+    0x03, 0x00, 0x00, 0x00, 0x88, 0x13, 0x01, 0x00, 0x00, 0x00, 0x03, 0x00, 0x00, 0x00, 0x00, 0x00,
+    0x00, 0x00, 0x11, 0x11, 0xfb, 0x10, 0x13, 0x13, 0x31, 0x3f, 0x47, 0x2b, 0x25, 0xf3, 0x80, 0xac,
+    0x22, 0x8c, 0x2c, 0x16, 0x1e, 0xeb, 0x47, 0x13,
+];
+
+/// A move at the time 510 with other fields in each place.
+fn other_move() -> Move {
+    Move {
+        time: 510,
+        angles: [1, 65535, 0],
+        forward: -127,
+        right: 127,
+        up: -1,
+        buttons: 16,
+        weapon: 255,
+    }
+}
+
+/// The game hands in entity 5, whose field 1 is 7.
+fn hand_in_5(server: &mut Server) {
+    let mut words = [0; 64];
+    words[1] = 7;
+    server.set_entity(&EntityState { number: 5, words });
+}
+
+#[test]
+fn first_frame_over_one_client(rt: HostRuntime) -> Result<(), Fail> {
+    let alloc = rt.alloc();
+    let (entity, player) = (Table::of(&[0, 8, -16]), Table::of(&[0, 16]));
+    let entity = entity.expect(&rt, "a table");
+    let player = player.expect(&rt, "a table");
+    let mut server = with_client(&rt, alloc, entity, player);
+    let (mut heard, mut out) = (Heard::new(), Datagram::new());
+    let (server, heard, out) = (&mut server, &mut heard, &mut out);
+    assert_eq!(rt; server.new_map(1, 77), Ok(()));
+    server.set_time(1000);
+    hand_in_5(server);
+    makes(&rt, server, snapshot(1, 0, 16), NOT_ACTIVE, out);
+    let ignored = ServerTook::Ignored { slot: 0, id: 0 };
+    takes(&rt, server, NO_MAP, ignored, None, heard);
+    assert!(rt; heard.owed);
+    let game = Emitted::Game {
+        number: 2,
+        bytes: 38,
+    };
+    makes(&rt, server, game, GAME, out);
+    let ran = ServerTook::Ran { slot: 0, number: 2 };
+    takes(&rt, server, ENTERS, ran, Some(500), heard);
+    assert!(rt; heard.moves.is_empty() && !heard.owed);
+    makes(&rt, server, snapshot(3, 0, 20), ACTIVE, out);
+    let ran = ServerTook::Ran { slot: 0, number: 3 };
+    takes(&rt, server, PLAYS, ran, None, heard);
+    assert_eq!(rt; heard.moves.as_slice(), [other_move()].as_slice());
+    assert_eq!(rt; server.emit(0, out), snapshot(4, 3, 16));
     Ok(())
 }
 
@@ -209,15 +397,7 @@ fn answers_are_printed(rt: HostRuntime) {
     let text = Text::of(b"go").expect(&rt, "a text");
     heard.commands.push(Command { number: 1, text });
     heard.moves.push(one);
-    heard.moves.push(Move {
-        time: 510,
-        angles: [1, 65535, 0],
-        forward: -127,
-        right: 127,
-        up: -1,
-        buttons: 16,
-        weapon: 255,
-    });
+    heard.moves.push(other_move());
     let ran = ServerTook::Ran { slot: 0, number: 2 };
     let lines =
         b" server 0 ran 2\n+ command 1 \"go\"\n+ move 500 0 0 0 10 0 0 0 0\n+ move 510 1 65535 0 -127 127 -1 16 255\n";
@@ -240,49 +420,21 @@ fn answers_are_printed(rt: HostRuntime) {
     );
 }
 
-/// The client at host 1 says a message that acknowledges a snapshot, with these operations.
-fn says(rt: &impl Abort, server: &mut Server, number: u8, acknowledged: u8, operations: &[u8]) {
+#[test]
+fn stages_are_printed(rt: HostRuntime) {
+    let alloc = rt.alloc();
     let mut heard = Heard::new();
-    let mut bytes = [0; 32];
-    assert!(rt; operations.len() <= 14);
-    let end = 18 + operations.len();
-    bytes[0] = number;
-    bytes[4..6].copy_from_slice(&[0x88, 0x13]);
-    bytes[10] = acknowledged;
-    put_operations(&mut bytes, operations, 7 ^ acknowledged);
-    let from = Address {
-        host: 1,
-        port: 27960,
-    };
-    assert_eq!(rt;
-        server.take(from, &bytes[..end], &mut heard),
-        ServerTook::Ran {
-            slot: 1,
-            number: u32::from(number)
-        }
-    );
+    let ran = ServerTook::Ran { slot: 0, number: 2 };
+    let ignored = ServerTook::Ignored { slot: 3, id: 7 };
+    prints(&rt, alloc, ignored, &heard, b" server 3 ignored 7\n");
+    heard.owed = true;
+    let lines = b" server 3 ignored 7\n+ owed\n";
+    prints(&rt, alloc, ignored, &heard, lines);
+    // a client that plays while one is owed to it
+    heard.entered = Some(500);
+    let lines = b" server 0 ran 2\n+ entered 500\n";
+    prints(&rt, alloc, ran, &heard, lines);
 }
-
-/// The server begins a message of this number for the client in slot 1, against the snapshot of this number.
-fn emits(rt: &impl Abort, server: &mut Server, out: &mut Datagram, number: u32, base: u32) {
-    let Emitted::Snapshot {
-        number: begun,
-        base: against,
-        bytes: _,
-    } = server.emit(1, out)
-    else {
-        assert!(rt; false, "no snapshot {number}");
-        return;
-    };
-    assert_eq!(rt; (begun, against), (number, base));
-}
-
-/// A move at the time 5, that asks for deltas, and that asks for none; and no move.
-const DELTA: &[u8] = &[0x02, 0x01, 0x0b, 0x14, 0x00];
-
-const NO_DELTA: &[u8] = &[0x03, 0x01, 0x0b, 0x14, 0x00];
-
-const NO_MOVE: &[u8] = &[0x05, 0x00];
 
 #[test]
 fn base_is_the_one_that_a_move_names(rt: HostRuntime) -> Result<(), Fail> {
@@ -293,17 +445,18 @@ fn base_is_the_one_that_a_move_names(rt: HostRuntime) -> Result<(), Fail> {
     )?;
     assert_eq!(rt; join(&mut server, 1, 5000, 1, 27960), Ok(()));
     let mut out = Datagram::new();
-    emits(&rt, &mut server, &mut out, 1, 0);
-    says(&rt, &mut server, 1, 1, DELTA);
-    for number in 2..30 {
-        emits(&rt, &mut server, &mut out, number, 1);
+    enters(&rt, &mut server, &mut out);
+    emits(&rt, &mut server, &mut out, 2, 0);
+    plays(&rt, &mut server, 3, 2, DELTA);
+    for number in 3..31 {
+        emits(&rt, &mut server, &mut out, number, 2);
     }
-    emits(&rt, &mut server, &mut out, 30, 0);
-    says(&rt, &mut server, 2, 30, DELTA);
-    says(&rt, &mut server, 3, 29, NO_MOVE);
-    emits(&rt, &mut server, &mut out, 31, 30);
-    says(&rt, &mut server, 4, 31, NO_DELTA);
-    emits(&rt, &mut server, &mut out, 32, 0);
+    emits(&rt, &mut server, &mut out, 31, 0);
+    plays(&rt, &mut server, 4, 31, DELTA);
+    plays(&rt, &mut server, 5, 30, NO_MOVE);
+    emits(&rt, &mut server, &mut out, 32, 31);
+    plays(&rt, &mut server, 6, 32, NO_DELTA);
+    emits(&rt, &mut server, &mut out, 33, 0);
     Ok(())
 }
 
@@ -332,18 +485,19 @@ fn overlong_frame_counts(rt: HostRuntime) -> Result<(), Fail> {
     )?;
     assert_eq!(rt; join(&mut server, 1, 5000, 1, 27960), Ok(()));
     let mut out = Datagram::new();
+    enters(&rt, &mut server, &mut out);
     hand_in_200(&mut server, 0);
-    emits(&rt, &mut server, &mut out, 1, 0);
-    says(&rt, &mut server, 1, 1, DELTA);
+    emits(&rt, &mut server, &mut out, 2, 0);
+    plays(&rt, &mut server, 3, 2, DELTA);
     // 200 entities with 32 fields of 34 bits are more than 16,384 bytes
     hand_in_200(&mut server, 1);
     assert_eq!(rt; server.emit(1, &mut out), Emitted::Overlong);
     assert!(rt; out.is_empty());
     hand_in_200(&mut server, 0);
     // 0 + 512 isn't above 600, and then 400 + 512 is above 800
-    emits(&rt, &mut server, &mut out, 2, 0);
-    says(&rt, &mut server, 2, 2, DELTA);
-    emits(&rt, &mut server, &mut out, 3, 2);
+    emits(&rt, &mut server, &mut out, 3, 0);
+    plays(&rt, &mut server, 4, 3, DELTA);
+    emits(&rt, &mut server, &mut out, 4, 3);
     Ok(())
 }
 
@@ -356,20 +510,19 @@ fn removed_entity_is_gone_for_good(rt: HostRuntime) -> Result<(), Fail> {
     )?;
     assert_eq!(rt; join(&mut server, 1, 5000, 1, 27960), Ok(()));
     let mut out = Datagram::new();
+    enters(&rt, &mut server, &mut out);
     hand_in(&mut server, 5, 0);
-    emits(&rt, &mut server, &mut out, 1, 0);
-    // the entity's number, and two bits 0, scrambled by 7 xor 1
+    emits(&rt, &mut server, &mut out, 2, 0);
+    // the entity's number, and two bits 0, scrambled by 7 xor 2
     assert_eq!(rt;
         out.as_slice(),
         [
-            0x01, 0x00, 0x00, 0x00, 0x00, 0x00, 0x00, 0x00, 0x01, 0x06, 0x06, 0x06, 0x06, 0x06,
-            0x06, 0x06, 0x06, 0x0c, 0xe6, 0x79, 0x02
+            0x02, 0x00, 0x00, 0x00, 0x00, 0x00, 0x00, 0x00, 0x02, 0x05, 0x05, 0x05, 0x05, 0x05,
+            0x01, 0x05, 0x05, 0x0f, 0xe5, 0x7a, 0x01
         ]
         .as_slice()
     );
-    says(&rt, &mut server, 1, 1, NO_MOVE);
-    emits(&rt, &mut server, &mut out, 2, 0);
-    says(&rt, &mut server, 2, 2, DELTA);
+    plays(&rt, &mut server, 3, 2, DELTA);
     server.remove_entity(5);
     emits(&rt, &mut server, &mut out, 3, 2);
     // the entity's number, and a bit 1, scrambled by 7 xor 3
@@ -377,18 +530,18 @@ fn removed_entity_is_gone_for_good(rt: HostRuntime) -> Result<(), Fail> {
         out.as_slice(),
         [
             0x03, 0x00, 0x00, 0x00, 0x00, 0x00, 0x00, 0x00, 0x03, 0x04, 0x04, 0x04, 0x04, 0x05,
-            0x04, 0x04, 0x04, 0x0e, 0xfc, 0x3b, 0x06
+            0x00, 0x04, 0x04, 0x0e, 0xfc, 0x3b, 0x06
         ]
         .as_slice()
     );
-    says(&rt, &mut server, 3, 3, DELTA);
+    plays(&rt, &mut server, 4, 3, DELTA);
     emits(&rt, &mut server, &mut out, 4, 3);
     // no entity, scrambled by 7 xor 4
     assert_eq!(rt;
         out.as_slice(),
         [
             0x04, 0x00, 0x00, 0x00, 0x00, 0x00, 0x00, 0x00, 0x04, 0x03, 0x03, 0x03, 0x03, 0x02,
-            0x03, 0x03, 0x03, 0xfd, 0x44, 0x03
+            0x07, 0x03, 0x03, 0xfd, 0x44, 0x03
         ]
         .as_slice()
     );
@@ -406,22 +559,35 @@ fn with_client(rt: &impl Abort, alloc: Global, entity: Table, player: Table) -> 
     server
 }
 
-/// The client says a message whose datagram this is, and the server executes as many commands.
-fn takes(
-    rt: &impl Abort,
-    server: &mut Server,
-    datagram: &[u8],
-    answer: ServerTook,
-    executed: usize,
-    heard: &mut Heard,
-) {
-    let from = Address {
-        host: 1,
-        port: 27960,
-    };
-    assert_eq!(rt; server.take(from, datagram, heard), answer);
-    assert_eq!(rt; heard.commands.len(), executed);
-}
+/// Command 1 acknowledged, and none was issued, in message 1; message 2, of no map; message 3, of map 1, whose first command is
+/// numbered 2: behind the longs scrambled by 17, and by 17 xor 1.
+const ACK: &[u8] = &[
+    0x01, 0x00, 0x00, 0x00, 0x88, 0x13, 0x00, 0x00, 0x00, 0x00, 0x00, 0x00, 0x00, 0x00, 0x01, 0x00,
+    0x00, 0x00, 0x14, 0x11,
+];
+
+const OTHER: &[u8] = &[
+    0x02, 0x00, 0x00, 0x00, 0x88, 0x13, 0x00, 0x00, 0x00, 0x00, 0x00, 0x00, 0x00, 0x00, 0x00, 0x00,
+    0x00, 0x00, 0x14, 0x11,
+];
+
+const GAP: &[u8] = &[
+    0x03, 0x00, 0x00, 0x00, 0x88, 0x13, 0x01, 0x00, 0x00, 0x00, 0x00, 0x00, 0x00, 0x00, 0x00, 0x00,
+    0x00, 0x00, 0x14, 0x12, 0x10, 0x10, 0x10, 0x71, 0x10, 0x15, 0x10,
+];
+
+/// Message 4, behind snapshot 2 and command 1: what is behind the longs is scrambled by the text `hi`, from 17 xor 1 xor 2 on. It
+/// is command 1, `go`.
+const GO: &[u8] = &[
+    0x04, 0x00, 0x00, 0x00, 0x88, 0x13, 0x01, 0x00, 0x00, 0x00, 0x02, 0x00, 0x00, 0x00, 0x01, 0x00,
+    0x00, 0x00, 0x7e, 0xa9, 0xc0, 0x12, 0x7a, 0xcf, 0xaf, 0x12, 0x7f, 0xa8,
+];
+
+/// Message 3 for the client, a snapshot for one that isn't active, scrambled by the text `go`, from 17 xor 3 on.
+const BEHIND_GO: &[u8] = &[
+    0x03, 0x00, 0x00, 0x00, 0x01, 0x00, 0x00, 0x00, 0x72, 0x43, 0xcf, 0x12, 0x75, 0xab, 0xca, 0x12,
+    0x75, 0x55, 0x8b, 0x12,
+];
 
 #[test]
 fn commands_go_both_ways(rt: HostRuntime) -> Result<(), Fail> {
@@ -430,75 +596,265 @@ fn commands_go_both_ways(rt: HostRuntime) -> Result<(), Fail> {
     let entity = entity.expect(&rt, "a table");
     let player = player.expect(&rt, "a table");
     let mut server = with_client(&rt, alloc, entity, player);
-    let mut heard = Heard::new();
-    let mut out = Datagram::new();
-    // it acknowledges command 1, and none was issued
-    let ack = [
-        0x01, 0x00, 0x00, 0x00, 0x88, 0x13, 0x00, 0x00, 0x00, 0x00, 0x00, 0x00, 0x00, 0x00, 0x01,
-        0x00, 0x00, 0x00, 0x14, 0x11,
-    ];
+    let (mut heard, mut out) = (Heard::new(), Datagram::new());
+    let (server, heard, out) = (&mut server, &mut heard, &mut out);
+    assert_eq!(rt; server.new_map(1, 77), Ok(()));
+    server.set_time(1000);
+    // of another map too, a bad acknowledgement isn't legible
     let bad = ServerTook::Illegible(0, ClientIllegible::Ack(1));
-    takes(&rt, &mut server, &ack, bad, 0, &mut heard);
-    // the first command is numbered 2: each byte behind the longs is scrambled by 17
-    let gap = [
-        0x02, 0x00, 0x00, 0x00, 0x88, 0x13, 0x00, 0x00, 0x00, 0x00, 0x00, 0x00, 0x00, 0x00, 0x00,
-        0x00, 0x00, 0x00, 0x15, 0x13, 0x11, 0x11, 0x11, 0x70, 0x11, 0x14,
-    ];
+    takes(&rt, server, ACK, bad, None, heard);
+    assert!(rt; !heard.owed);
+    let ignored = ServerTook::Ignored { slot: 0, id: 0 };
+    takes(&rt, server, OTHER, ignored, None, heard);
+    let game = Emitted::Game {
+        number: 1,
+        bytes: 38,
+    };
+    assert_eq!(rt; server.emit(0, out), game);
     let left = ServerTook::Gap { slot: 0, number: 2 };
-    takes(&rt, &mut server, &gap, left, 0, &mut heard);
+    takes(&rt, server, GAP, left, None, heard);
     let hi = Text::of(b"hi").expect(&rt, "a text");
     assert_eq!(rt; server.say(0, &hi), Ok(1));
     assert_eq!(rt; server.say(1, &hi), Err(SayError::NoClient));
-    server.set_time(1000);
-    let first = Emitted::Snapshot {
-        number: 1,
-        base: 0,
-        bytes: 24,
-    };
-    assert_eq!(rt; server.emit(0, &mut out), first);
-    // snapshot 1 and command 1 came: what is behind the longs is scrambled by the text `hi`, from 17 xor 1 on; it is command
-    // 1, `go`
-    let go = [
-        0x03, 0x00, 0x00, 0x00, 0x88, 0x13, 0x00, 0x00, 0x00, 0x00, 0x01, 0x00, 0x00, 0x00, 0x01,
-        0x00, 0x00, 0x00, 0x7c, 0xab, 0xc2, 0x10, 0x78, 0xcd, 0xad, 0x10, 0x7d,
-    ];
-    let ran = ServerTook::Ran { slot: 0, number: 3 };
-    takes(&rt, &mut server, &go, ran, 1, &mut heard);
+    assert_eq!(rt; server.emit(0, out), snapshot(2, 0, 24));
+    let ran = ServerTook::Ran { slot: 0, number: 4 };
+    takes(&rt, server, GO, ran, None, heard);
     let text = Text::of(b"go").expect(&rt, "a text");
     assert_eq!(rt; heard.commands.last(), Some(&Command { number: 1, text }));
-    let second = Emitted::Snapshot {
-        number: 2,
-        base: 0,
-        bytes: 16,
-    };
-    assert_eq!(rt; server.emit(0, &mut out), second);
-    let third = Emitted::Snapshot {
-        number: 3,
-        base: 0,
-        bytes: 16,
-    };
-    assert_eq!(rt; server.emit(0, &mut out), third);
-    // scrambled by the text `go`, from 17 xor 3 on
-    assert_eq!(rt;
-        out.as_slice(),
-        [
-            0x03, 0x00, 0x00, 0x00, 0x01, 0x00, 0x00, 0x00, 0x72, 0x43, 0xcf, 0x12, 0x75, 0xab,
-            0xcc, 0x12, 0x75, 0x55, 0x8b, 0x12
-        ]
-        .as_slice()
-    );
+    makes(&rt, server, snapshot(3, 0, 16), BEHIND_GO, out);
     Ok(())
+}
+
+/// The game hands in an entity, and a player and area bytes for the client in slot 1.
+fn hand_in_all(rt: &impl Abort, server: &mut Server) {
+    hand_in(server, 5, 1);
+    let mut player = PlayerState::zero();
+    player.words[1] = 7;
+    assert_eq!(rt; server.set_player(1, &player), Ok(()));
+    assert_eq!(rt; server.set_area(1, &[9]), Ok(()));
+}
+
+/// A snapshot for a client that isn't active, with no flag but that, in message 2, scrambled by 7 xor 2.
+const ON_MAP_2: &[u8] = &[
+    0x02, 0x00, 0x00, 0x00, 0x00, 0x00, 0x00, 0x00, 0x02, 0x05, 0x05, 0x05, 0x05, 0x05, 0x07, 0x05,
+    0x05, 0xfb, 0x42, 0x05,
+];
+
+#[test]
+fn lost_gamestate_is_owed_again(rt: HostRuntime) -> Result<(), Fail> {
+    let mut server = server(
+        rt.alloc(),
+        Table::of(&[0, 8, -16]).expect(&rt, "a table"),
+        Table::of(&[0, 16]).expect(&rt, "a table"),
+    )?;
+    assert_eq!(rt; join(&mut server, 1, 5000, 1, 27960), Ok(()));
+    let mut out = Datagram::new();
+    let (server, out) = (&mut server, &mut out);
+    enters(&rt, server, out);
+    strays(&rt, server, (3, 0, 200), false);
+    assert_eq!(rt; server.new_map(1, 78), Err(NotLater { last: 1 }));
+    assert_eq!(rt; server.new_map(2, 78), Ok(()));
+    hand_in_all(&rt, server);
+    emits_bytes(&rt, server, out, 2, 16);
+    assert_eq!(rt; out.as_slice(), ON_MAP_2);
+    strays(&rt, server, (4, 1, 2), true);
+    emits_game(&rt, server, out, 3, 38);
+    emits_bytes(&rt, server, out, 4, 16);
+    // the gamestate may still come, until a later message came
+    strays(&rt, server, (5, 1, 3), false);
+    strays(&rt, server, (6, 1, 4), true);
+    // it enters the map all the same, and the gamestate makes it primed again
+    let ran = ServerTook::Ran { slot: 1, number: 7 };
+    says(&rt, server, (7, 2, 4), DELTA, ran, true);
+    emits_game(&rt, server, out, 5, 38);
+    strays(&rt, server, (8, 1, 6), true);
+    Ok(())
+}
+
+/// The game hands in a baseline, with 1 in each word.
+fn hand_in_line(server: &mut Server, number: u16) -> Result<(), Late>
+    requires some { 1 ≤ number }
+    requires most { number < 1023 }
+{
+    let words = [1; 64];
+    server.set_baseline(&EntityState { number, words })
+}
+
+/// The game hands in the baselines 1 to 120.
+fn hand_in_lines(rt: &impl Abort, server: &mut Server) {
+    for number in 1..121 {
+        assert_eq!(rt; hand_in_line(server, number), Ok(()));
+    }
+}
+
+#[test]
+fn overlong_gamestate_stays_owed(rt: HostRuntime) -> Result<(), Fail> {
+    let mut server = server(
+        rt.alloc(),
+        Table::of(&[32; 32]).expect(&rt, "a table"),
+        Table::of(&[0, 16]).expect(&rt, "a table"),
+    )?;
+    assert_eq!(rt; join(&mut server, 1, 5000, 1, 27960), Ok(()));
+    let mut out = Datagram::new();
+    let (server, out) = (&mut server, &mut out);
+    assert_eq!(rt; server.new_map(1, 0), Ok(()));
+    // 120 baselines of 1,116 bits are more than 16,384 bytes
+    hand_in_lines(&rt, server);
+    strays(&rt, server, (1, 0, 0), true);
+    assert_eq!(rt; server.emit(1, out), Emitted::Overlong);
+    assert!(rt; out.is_empty());
+    assert_eq!(rt; hand_in_line(server, 121), Ok(()));
+    assert_eq!(rt; server.emit(1, out), Emitted::Overlong);
+    // the client is connected to the next map, and nothing is owed to it
+    assert_eq!(rt; server.new_map(2, 0), Ok(()));
+    emits_bytes(&rt, server, out, 1, 16);
+    strays(&rt, server, (2, 1, 0), true);
+    emits_game(&rt, server, out, 2, 38);
+    assert_eq!(rt; hand_in_line(server, 1), Err(Late));
+    Ok(())
+}
+
+/// A text of so many bytes, of which the last is this one and the others are `a`.
+fn text_of(rt: &impl Abort, alloc: Global, count: usize, last: u8) -> Vec<u8> {
+    let mut text = vec![in alloc; b'a'; count].expect(rt, "memory");
+    if let Some(byte) = text.last_mut() {
+        *byte = last;
+    }
+    text
+}
+
+/// A config string is changed to such a text.
+fn change(
+    rt: &impl Abort,
+    alloc: Global,
+    server: &mut Server,
+    index: u32,
+    count: usize,
+    last: u8,
+) -> Result<(), ConfigRefused> {
+    server.set_config(index, &text_of(rt, alloc, count, last))
+}
+
+#[test]
+fn config_changes_are_told(rt: HostRuntime) -> Result<(), Fail> {
+    let alloc = rt.alloc();
+    let mut server = server(
+        alloc,
+        Table::of(&[0, 8, -16]).expect(&rt, "a table"),
+        Table::of(&[0, 16]).expect(&rt, "a table"),
+    )?;
+    assert_eq!(rt; join(&mut server, 1, 5000, 1, 27960), Ok(()));
+    assert_eq!(rt; join(&mut server, 2, 5001, 1, 27960), Ok(()));
+    let mut out = Datagram::new();
+    let (server, out) = (&mut server, &mut out);
+    assert_eq!(rt; server.new_map(1, 0), Ok(()));
+    assert_eq!(rt; change(&rt, alloc, server, 2, 1, b'a'), Ok(()));
+    strays(&rt, server, (1, 0, 0), true);
+    emits_game(&rt, server, out, 1, 43);
+    // it is primed: command 1, `cs 2 "b"` and a newline
+    assert_eq!(rt; change(&rt, alloc, server, 2, 1, b'b'), Ok(()));
+    emits_bytes(&rt, server, out, 2, 31);
+    plays(&rt, server, 2, 1, FIRST_MOVE);
+    // it is active, and what is there already isn't told
+    assert_eq!(rt; change(&rt, alloc, server, 2, 1, b'b'), Ok(()));
+    assert_eq!(rt; change(&rt, alloc, server, 2, 1, b'%'), Ok(()));
+    assert_eq!(rt; change(&rt, alloc, server, 2, 1, b'.'), Ok(()));
+    emits_bytes(&rt, server, out, 3, 46);
+    // in two pieces, of 1,009 and 11 bytes
+    assert_eq!(rt; change(&rt, alloc, server, 3, 1_000, b'a'), Ok(()));
+    emits_bytes(&rt, server, out, 4, 1_078);
+    // the one that is connected isn't told
+    assert_eq!(rt; server.emit(2, out), snapshot(1, 0, 16));
+    Ok(())
+}
+
+/// Changes that are refused, where there is no room: an index, how many bytes, and the last of them.
+fn refused() -> [(u32, usize, u8, ConfigRefused); 9] {
+    [
+        (1024, 8_192, b'"', ConfigRefused::Index),
+        (1, 8_192, b'"', ConfigRefused::Own),
+        (5, 8_192, b'"', ConfigRefused::Chars(34)),
+        (5, 1, 31, ConfigRefused::Chars(31)),
+        (5, 1, 127, ConfigRefused::Chars(127)),
+        (5, 8_192, b'a', ConfigRefused::Long),
+        (5, 8_191, b'a', ConfigRefused::Full),
+        (5, 1, b'a', ConfigRefused::WindowFull(1)),
+        (4, 8_000, b'b', ConfigRefused::WindowFull(1)),
+    ]
+}
+
+/// The game says commands until so many wait.
+fn fill_window(rt: &impl Abort, server: &mut Server, first: u32) {
+    let text = Text::of(b"a").expect(rt, "a text");
+    for number in first..64u32 {
+        assert_eq!(rt; server.say(1, &text), Ok(number));
+    }
+    assert_eq!(rt; server.say(1, &text), Err(SayError::WindowFull));
+}
+
+#[test]
+fn config_changes_are_refused(rt: HostRuntime) -> Result<(), Fail> {
+    let alloc = rt.alloc();
+    let mut server = server(
+        alloc,
+        Table::of(&[0, 8, -16]).expect(&rt, "a table"),
+        Table::of(&[0, 16]).expect(&rt, "a table"),
+    )?;
+    assert_eq!(rt; join(&mut server, 1, 5000, 1, 27960), Ok(()));
+    let mut out = Datagram::new();
+    enters(&rt, &mut server, &mut out);
+    // nine commands
+    assert_eq!(rt; change(&rt, alloc, &mut server, 4, 8_000, b'a'), Ok(()));
+    fill_window(&rt, &mut server, 10);
+    for (index, count, last, refusal) in refused() {
+        assert_eq!(rt;
+            change(&rt, alloc, &mut server, index, count, last),
+            Err(refusal)
+        );
+    }
+    // what is there already takes no room
+    assert_eq!(rt; change(&rt, alloc, &mut server, 4, 8_000, b'a'), Ok(()));
+    assert!(rt; server.configs().get(5).is_empty());
+    Ok(())
+}
+
+/// Prints why a config string can't be changed.
+fn refusal_prints(rt: &impl Abort, alloc: Global, refusal: ConfigRefused, text: &[u8]) {
+    let mut out = MemSink::new(alloc, 64, &[]).expect(rt, "memory");
+    assert_eq!(rt; print_config_refused(refusal, &mut out), Ok(()));
+    assert_eq!(rt; out.bytes(), text);
+}
+
+#[test]
+fn config_refusals_are_printed(rt: HostRuntime) {
+    let alloc = rt.alloc();
+    refusal_prints(&rt, alloc, ConfigRefused::Index, b"index");
+    refusal_prints(&rt, alloc, ConfigRefused::Own, b"own");
+    refusal_prints(&rt, alloc, ConfigRefused::Chars(34), b"chars 34");
+    refusal_prints(&rt, alloc, ConfigRefused::Long, b"long");
+    refusal_prints(&rt, alloc, ConfigRefused::Full, b"full");
+    let window = ConfigRefused::WindowFull(3);
+    refusal_prints(&rt, alloc, window, b"windowfull 3");
 }
 
 #[test]
 fn refusals_are_printed(rt: HostRuntime) -> Result<(), Fail> {
-    let mut out = MemSink::new(rt.alloc(), 64, &[])?;
+    let mut out = MemSink::new(rt.alloc(), 128, &[])?;
     assert_eq!(rt; print_emitted(3, &Emitted::Unclear, 0, &mut out), Ok(()));
+    let game = Emitted::Game {
+        number: 2,
+        bytes: 38,
+    };
+    assert_eq!(rt; print_emitted(3, &game, 7, &mut out), Ok(()));
     assert_eq!(rt; print_say_error(SayError::NoClient, &mut out), Ok(()));
+    assert_eq!(rt; print_say_error(SayError::Own, &mut out), Ok(()));
+    assert_eq!(rt; print_say_error(SayError::NotPrimed, &mut out), Ok(()));
     assert_eq!(rt; print_say_error(SayError::WindowFull, &mut out), Ok(()));
+    assert_eq!(rt; print_not_later(NotLater { last: 2 }, &mut out), Ok(()));
+    assert_eq!(rt; print_late(Late, &mut out), Ok(()));
     assert_eq!(rt;
         out.bytes(),
-        b"serve 3 unclear\nnoclientwindowfull".as_slice()
+        b"serve 3 unclear\nserve 3 gamestate 2 bytes 38 datagram 7\nnoclientownnotprimedwindowfullnotlater 2late".as_slice()
     );
     Ok(())
 }

@@ -1,3 +1,5 @@
+mod Begun
 mod Listed
 mod Runs
 mod Taken
+mod Told

@@ -1,5 +1,5 @@
--- What the server builds: messages with a snapshot, whole or against a base.
-use Rattle.std.specs.Prelude.{◌≡◌, ℕ, ◌+◌, ◌^◌, ◌<◌, ◌≤◌, Bool, false, nat_lt, List, [], ◌∷◌, length, All, Option, Some, None, IfSome}
+-- What the server builds: messages with a snapshot, whole or against a base, and messages with a gamestate.
+use Rattle.std.specs.Prelude.{◌≡◌, ℕ, ◌+◌, ◌^◌, ◌<◌, ◌≤◌, ◌⊎◌, Bool, false, nat_lt, List, [], ◌∷◌, length, All, Option, Some, None, IfSome}
 use Rattle.q3_bits.specs.Words.{row_bits}
 use Rattle.q3_text.specs.declared.text.Command.{Command}
 use Rattle.q3_text.specs.Texts.{IsText}
@@ -10,15 +10,22 @@ use Rattle.q3_player.specs.State.{IsState, IsNormal}
 use Rattle.q3_entity.specs.Entities.{most_entities}
 use Rattle.q3_chan.specs.Datagrams.{sequence_end}
 use Rattle.q3_chan.specs.Keys.{server_start}
-use Rattle.q3_svmsg.specs.Values.{Snap, Message}
+use Rattle.q3_entity.specs.Baselines.{Lines, AreLines}
+use Rattle.q3_gamestate.specs.Values.{Gamestate}
+use Rattle.q3_gamestate.specs.Laws.{IsGamestate}
+use Rattle.q3_svmsg.specs.Values.{Snap, Game, Message}
 use Rattle.q3_ring.specs.Snapshot.{Snapshot}
 use Rattle.q3_map.specs.Map.{AreHeld}
 
--- a message that was begun, the snapshot that it is written against, if it is, the number from which its keys start, and their
+-- a message that was begun, the number of the last command issued by then, that of the gamestate under which its client played, if it
+-- did, the snapshot that it is written against, if it is, the baselines of the map, the number from which its keys start, and their
 -- text: that of the last client command executed
 pub record Built : Type 0 where
   pub message : Message
+  pub last : ℕ
+  pub under : Option ℕ
   pub base : Option Snapshot
+  pub lines : Lines
   pub start : ℕ
   pub text : List ℕ
 
@@ -28,10 +35,13 @@ number_of None = 0
 number_of (Some base) = base.head.number
 
 -- what a message says besides its section, and by what it is scrambled: the last client command executed with its text, the
--- commands that aren't acknowledged, and the number from which its keys start
+-- commands that aren't acknowledged, the number of the last one issued, that of the gamestate under which the client plays, if it does,
+-- and the number from which its keys start
 pub record Telling : Type 0 where
   pub ack : Command
   pub commands : List Command
+  pub last : ℕ
+  pub under : Option ℕ
   pub start : ℕ
 
 -- the message that carries a snapshot against a base
@@ -39,9 +49,17 @@ abbrev pub message_of : Telling → Option Snapshot → Snapshot → Message
 message_of telling base snapshot =
     record { ack = telling.ack.number; commands = telling.commands; section = Snap (number_of base) snapshot.head snapshot.entities }
 
-abbrev pub built_of : Telling → Option Snapshot → Snapshot → Built
-built_of telling base snapshot =
-    record { message = message_of telling base snapshot; base = base; start = telling.start; text = telling.ack.text }
+abbrev pub built_of : Telling → Lines → Option Snapshot → Snapshot → Built
+built_of telling lines base snapshot =
+    record { message = message_of telling base snapshot; last = telling.last; under = telling.under; base = base; lines = lines; start = telling.start; text = telling.ack.text }
+
+-- the message that carries a gamestate
+abbrev pub game_message_of : Telling → Gamestate → Message
+game_message_of telling game = record { ack = telling.ack.number; commands = telling.commands; section = Game game }
+
+abbrev pub game_built_of : Telling → Lines → Gamestate → Built
+game_built_of telling lines game =
+    record { message = game_message_of telling game; last = telling.last; under = telling.under; base = None; lines = lines; start = telling.start; text = telling.ack.text }
 
 -- whether the leading long of a message takes more than its 32 bits, so that scrambled bytes would hide a part of it
 abbrev pub is_unclear : Profile → ℕ → Bool
@@ -61,7 +79,7 @@ pub record IsArea (area : List ℕ) : Type 0 where
 pub record IsSnapshot (profile : Profile) (snapshot : Snapshot) : Type 0 where
   pub number : snapshot.head.number < sequence_end
   pub time : snapshot.head.time < 2 ^ 32
-  pub flags : snapshot.head.flags ≡ 0
+  pub flags : snapshot.head.flags < 2 ^ 8
   pub area : IsArea snapshot.head.area.items
   pub player : IsHeld profile snapshot.head.player
   pub entities : AreHeld profile.entity snapshot.entities
@@ -82,12 +100,26 @@ pub record IsTelling (profile : Profile) (challenge n : ℕ) (telling : Telling)
   pub start : telling.start ≡ server_start challenge n
   pub clear : is_unclear profile telling.ack.number ≡ false
 
+-- a message with a snapshot as it is built under a number
+pub record BuildsSnapshot (profile : Profile) (telling : Telling) (n : ℕ) (built : Built) : Type 0 where
+  pub snapshot : Snapshot
+  pub is : built ≡ built_of telling built.lines built.base snapshot
+  pub number : snapshot.head.number ≡ n
+  pub are : IsSnapshot profile snapshot
+  pub waits : telling.under ≡ None → (snapshot.entities ≡ []) × (built.base ≡ None)
+  pub base_is : IfSome built.base (IsNear n)
+
+-- and one with a gamestate
+pub record BuildsGame (profile : Profile) (telling : Telling) (built : Built) : Type 0 where
+  pub game : Gamestate
+  pub is : built ≡ game_built_of telling built.lines game
+  pub last : game.command ≡ telling.last
+  pub lines : game.lines ≡ built.lines
+  pub are : IsGamestate profile game
+
 -- a message as it is built under a number, for a client that joined with a challenge
 pub record IsBuilt (profile : Profile) (challenge n : ℕ) (built : Built) : Type 0 where
   pub telling : Telling
-  pub snapshot : Snapshot
-  pub is : built ≡ built_of telling built.base snapshot
   pub tells : IsTelling profile challenge n telling
-  pub number : snapshot.head.number ≡ n
-  pub are : IsSnapshot profile snapshot
-  pub base_is : IfSome built.base (IsNear n)
+  pub lines : AreLines profile.entity built.lines
+  pub section : BuildsSnapshot profile telling n built ⊎ BuildsGame profile telling built

@@ -1,5 +1,5 @@
 -- A client's slot: what is kept of it, and what the game hands in for it alone.
-use Rattle.std.specs.Prelude.{ℕ, ◌==◌, ◌&&◌, Bool, false, List, [], Option, Some, None}
+use Rattle.std.specs.Prelude.{ℕ, ◌==◌, ◌&&◌, if◌then◌else◌, Bool, true, false, List, [], Option, Some, None}
 use Rattle.arrayvec.specs.ArrayVec.{ArrayVec}
 use Rattle.q3_io.specs.declared.address.Address.{Address}
 use Rattle.q3_chan.specs.declared.side.Side.TheVariants.{Server, Client}
@@ -10,14 +10,30 @@ use Rattle.q3_window.specs.Incoming.{IncomingState, new_incoming}
 use Rattle.q3_profile.specs.declared.profile.Profile.{Profile}
 use Rattle.q3_player.specs.declared.state.PlayerState.{PlayerState}
 use Rattle.q3_player.specs.State.{zero_player, normal_player}
+use Rattle.q3_slot.specs.declared.stage.ClientStage.{ClientStage}
+use Rattle.q3_slot.specs.declared.stage.ClientStage.TheVariants.{Connected, Primed, Active}
 
--- a client at the server: how it joined and from where, what is being sent to it, what was gathered of what it sends, the
--- commands that were issued to it, those of its own that were executed, the number of the snapshot that it asks to write the next one
--- against, 0 for none, the time of its last move that was run, 0 for none, its player in normal form, and its area bytes
+-- whether a client plays
+abbrev pub is_active : ClientStage → Bool
+is_active Active = true
+is_active other = false
+
+-- whether no gamestate of the map was begun for it
+abbrev pub is_connected : ClientStage → Bool
+is_connected Connected = true
+is_connected other = false
+
+-- a client at the server: how it joined and from where, how far it came on the map, the number of the last gamestate of the map
+-- that was begun for it, if one was, and whether one is owed; what is being sent to it, what was gathered of what it sends, the
+-- commands that were issued to it, and those of its own that were executed; the number of the snapshot that it asks to write the
+-- next one against, 0 for none, the time of its last move that was run, 0 for none, its player in normal form, and its area bytes
 pub record SlotState : Type 0 where
   pub challenge : ℕ
   pub address : Address
   pub qport : ℕ
+  pub stage : ClientStage
+  pub game : Option ℕ
+  pub owed : Bool
   pub sending : Sending
   pub gathering : Gathering
   pub issued : OutgoingState
@@ -33,6 +49,9 @@ new_slot challenge qport address = record {
   challenge = challenge;
   address = address;
   qport = qport;
+  stage = Connected;
+  game = None;
+  owed = false;
   sending = new_sending Server 0;
   gathering = new_gathering Client;
   issued = new_outgoing;
@@ -55,3 +74,26 @@ with_player profile slot player = record slot { player = normal_player profile.p
 -- the slot with other area bytes
 abbrev pub with_area : SlotState → List ℕ → SlotState
 with_area slot area = record slot { area = record { items = area } }
+
+-- the slot on a new map: its client is connected, and nothing of the last map stays but the time of its last move that was run
+abbrev pub on_new_map : SlotState → SlotState
+on_new_map slot = record slot {
+  stage = Connected;
+  game = None;
+  owed = false;
+  delta = 0;
+  player = zero_player;
+  area = record { items = [] };
+}
+
+-- the snapshot against which the next one may be written: the one that the client asks for, as long as it plays
+abbrev pub asked : SlotState → ℕ
+asked slot = if is_active slot.stage then slot.delta else 0
+
+-- the gamestate under which its client plays, if it does
+abbrev pub plays_under : ClientStage → Option ℕ → Option ℕ
+plays_under stage game = if is_active stage then game else None
+
+-- the slot where the gamestate of a number is begun
+abbrev pub primed : SlotState → ℕ → SlotState
+primed slot number = record slot { stage = Primed; game = Some number; owed = false }

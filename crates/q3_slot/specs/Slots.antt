@@ -1,5 +1,5 @@
 -- How a slot is kept, and what each call does to it, with a client or with none.
-use Rattle.std.specs.Prelude.{◌≡◌, ◌↔◌, ℕ, ◌<◌, List, [], length, take, Option, Some, None, option_map, Result, Ok, Err, IfOk, IsErr}
+use Rattle.std.specs.Prelude.{◌≡◌, ◌↔◌, ℕ, ◌<◌, ◌==◌, ◌&&◌, not, if◌then◌else◌, Bool, false, List, [], ◌++◌, length, take, Option, Some, None, option_map, Result, Ok, Err, IfOk, IsErr}
 use Rattle.q3_io.specs.declared.address.Address.{Address}
 use Rattle.q3_bits.specs.declared.writer.Overflow.{Overflow}
 use Rattle.q3_bits.specs.Bits.{bits_of, message_bytes, message_length}
@@ -11,11 +11,16 @@ use Rattle.q3_chan.specs.Keys.{server_start}
 use Rattle.q3_text.specs.declared.text.Command.{Command}
 use Rattle.q3_window.specs.declared.outgoing.WindowFull.{WindowFull}
 use Rattle.q3_window.specs.Flow.{acknowledgement_of}
-use Rattle.q3_window.specs.Outgoing.{OutgoingState, acknowledge_at, carried, issue_at, text_at}
+use Rattle.q3_window.specs.Outgoing.{OutgoingState, acknowledge_at, carried, fits, issue_at, issued_of, text_at, total_of, with_texts}
+use Rattle.q3_config.specs.Commands.{Change, change_in}
+use Rattle.q3_entity.specs.Baselines.{Lines}
 use Rattle.q3_clmsg.specs.declared.moves.Move.{Move}
 use Rattle.q3_clmsg.specs.declared.error.ClientIllegible.{ClientIllegible}
-use Rattle.q3_clmsg.specs.Reading.{bits_read, heads_at}
 use Rattle.q3_clmsg.specs.Values.{Message}
+use Rattle.q3_clmsg.specs.Reading.{bits_read, heads_at}
+use Rattle.q3_gamestate.specs.Values.{Gamestate}
+use Rattle.q3_svmsg.specs.Values as told
+use Rattle.q3_svmsg.specs.Values.{Game}
 use Rattle.q3_profile.specs.declared.profile.Profile.{Profile}
 use Rattle.q3_ring.specs.Snapshot.{Snapshot}
 use Rattle.q3_frames.specs.Frames.{FramesState, held_frame}
@@ -28,10 +33,12 @@ use Rattle.q3_slot.specs.declared.answer.SayError.{SayError}
 use Rattle.q3_slot.specs.declared.answer.SayError.TheVariants as refused
 use Rattle.q3_slot.specs.declared.taking.ServerTook.{ServerTook}
 use Rattle.q3_slot.specs.declared.taking.ServerTook.TheVariants as took
-use Rattle.q3_slot.specs.Built.{Telling, number_of, built_of}
-use Rattle.q3_slot.specs.Slot.{SlotState}
-use Rattle.q3_slot.specs.Emitting.{SlotEmission, built_bits, built_bytes, emit_slot}
-use Rattle.q3_slot.specs.Taking.{ack_taken, said_under, take_slot}
+use Rattle.q3_slot.specs.declared.taking.Origin.{Origin}
+use Rattle.q3_slot.specs.declared.taking.Origin.TheVariants as origins
+use Rattle.q3_slot.specs.Built.{Built, Telling, number_of, built_of}
+use Rattle.q3_slot.specs.Slot.{SlotState, is_active, is_connected, plays_under}
+use Rattle.q3_slot.specs.Emitting.{SlotEmission, built_bits, built_bytes, next_frames, begun_next, next_game_built, emit_built, emit_game, emit_slot}
+use Rattle.q3_slot.specs.Taking.{Came, OfMap, OfOther, Leading, Playing, ack_taken, came_under, goes_on, is_behind_game, leading_of, take_slot}
 
 -- what is being sent to a client, what was gathered of what it sends, which commands were issued to it, and what is kept of it
 -- beside that
@@ -40,6 +47,9 @@ slot_of sending gathering issued client = record {
   challenge = client.challenge;
   address = client.address;
   qport = client.qport;
+  stage = client.stage;
+  game = client.game;
+  owed = client.owed;
   sending = sending;
   gathering = gathering;
   issued = issued;
@@ -57,23 +67,56 @@ pub record HoldLists (frames : FramesState) : Type 0 where
 -- what the message of a number tells a client beside its snapshot
 abbrev pub told_under : OutgoingState → Joined → ℕ → Telling
 told_under issued client number =
-    record { ack = acknowledgement_of client.executed; commands = carried issued; start = server_start client.challenge number }
+    record { ack = acknowledgement_of client.executed; commands = carried issued; last = issued_of issued; under = plays_under client.stage client.game; start = server_start client.challenge number }
 
 -- what a buffer has behind a snapshot that is written against a base, and the base's number and the count of bytes that are
 -- answered
-pub record WritesAgainst (profile : Profile) (telling : Telling) (base : Option Snapshot) (snapshot : Snapshot) (new : List ℕ) (answer : Result (ℕ × ℕ) Overflow) : Type 0 where
+pub record WritesAgainst (profile : Profile) (telling : Telling) (lines : Lines) (base : Option Snapshot) (snapshot : Snapshot) (new : List ℕ) (answer : Result (ℕ × ℕ) Overflow) : Type 0 where
   pub named : IfOk answer (λ told. told.0 ≡ number_of base)
-  pub refused : IsErr answer ↔ (longest_message < message_length (length (built_bits profile (built_of telling base snapshot))))
-  pub count : IfOk answer (λ told. told.1 ≡ message_length (length (built_bits profile (built_of telling base snapshot))))
-  pub bytes : IfOk answer (λ told. take told.1 new ≡ message_bytes (built_bits profile (built_of telling base snapshot)))
+  pub refused : IsErr answer ↔ (longest_message < message_length (length (built_bits profile (built_of telling lines base snapshot))))
+  pub count : IfOk answer (λ told. told.1 ≡ message_length (length (built_bits profile (built_of telling lines base snapshot))))
+  pub bytes : IfOk answer (λ told. take told.1 new ≡ message_bytes (built_bits profile (built_of telling lines base snapshot)))
+  pub long : length new ≡ longest_message
+
+-- what a buffer has behind a message with a snapshot that was scrambled, and the base's number and the count of bytes that are
+-- answered
+pub record Scrambles (profile : Profile) (built : Built) (new : List ℕ) (answer : Result (ℕ × ℕ) Overflow) : Type 0 where
+  pub named : IfOk answer (λ told. told.0 ≡ number_of built.base)
+  pub refused : IsErr answer ↔ (longest_message < message_length (length (built_bits profile built)))
+  pub count : IfOk answer (λ told. told.1 ≡ message_length (length (built_bits profile built)))
+  pub bytes : IfOk answer (λ told. take told.1 new ≡ built_bytes profile built)
+  pub long : length new ≡ longest_message
+
+-- the snapshot against which the next one for a client may be written
+abbrev pub asked_by : Joined → ℕ
+asked_by client = if is_active client.stage then client.delta else 0
+
+-- the gamestate of a map for the client in a slot, by the commands that were issued to it
+abbrev pub game_under : OutgoingState → MapState → ℕ → Gamestate
+game_under issued map c = record {
+  command = issued_of issued;
+  strings = map.strings;
+  lines = map.lines;
+  slot = c;
+  feed = map.feed;
+}
+
+-- the message with it
+abbrev pub game_message : OutgoingState → Joined → MapState → ℕ → told.Message
+game_message issued client map c = record { ack = client.executed.executed; commands = carried issued; section = Game (game_under issued map c) }
+
+-- what a buffer has behind a message of these bits, and the count of bytes that is answered
+pub record WritesBits (bits : List Bool) (new : List ℕ) (answer : Result ℕ Overflow) : Type 0 where
+  pub refused : IsErr answer ↔ (longest_message < message_length (length bits))
+  pub count : IfOk answer (λ count. count ≡ message_length (length bits))
+  pub bytes : IfOk answer (λ count. take count new ≡ message_bytes bits)
   pub long : length new ≡ longest_message
 
 -- the same where the message is scrambled then
-pub record Scrambles (profile : Profile) (telling : Telling) (base : Option Snapshot) (snapshot : Snapshot) (new : List ℕ) (answer : Result (ℕ × ℕ) Overflow) : Type 0 where
-  pub named : IfOk answer (λ told. told.0 ≡ number_of base)
-  pub refused : IsErr answer ↔ (longest_message < message_length (length (built_bits profile (built_of telling base snapshot))))
-  pub count : IfOk answer (λ told. told.1 ≡ message_length (length (built_bits profile (built_of telling base snapshot))))
-  pub bytes : IfOk answer (λ told. take told.1 new ≡ built_bytes profile (built_of telling base snapshot))
+pub record ScramblesGame (profile : Profile) (built : Built) (new : List ℕ) (answer : Result ℕ Overflow) : Type 0 where
+  pub refused : IsErr answer ↔ (longest_message < message_length (length (built_bits profile built)))
+  pub count : IfOk answer (λ count. count ≡ message_length (length (built_bits profile built)))
+  pub bytes : IfOk answer (λ count. take count new ≡ built_bytes profile built)
   pub long : length new ≡ longest_message
 
 -- what is answered where something is handed in for the client of a slot
@@ -81,31 +124,83 @@ abbrev pub given : Option SlotState → Result (Unit {0}) NoClient
 given None = Err (record {})
 given (Some slot) = Ok tt
 
--- a client's slot behind a command that is issued, where it fits
-abbrev pub saying : List ℕ → SlotState → SlotState
-saying text slot = record slot { issued = (issue_at slot.issued text).window }
-
--- and a slot that may have no client
-abbrev pub slot_saying : List ℕ → Option SlotState → Option SlotState
-slot_saying text found = option_map (saying text) found
-
 -- a command is refused where the window has no room
 abbrev pub said_or : Result ℕ WindowFull → Result ℕ SayError
 said_or (Ok number) = Ok number
 said_or (Err e) = Err refused.WindowFull
 
+-- whether a change is one of the string at an index
+abbrev pub is_of_index : ℕ → Option Change → Bool
+is_of_index index None = false
+is_of_index index (Some change) = change.index == index
+
+-- whether a command's text would change string 1, the server's own
+abbrev pub changes_own : List ℕ → Bool
+changes_own text = is_of_index 1 (change_in text)
+
+-- a client's slot behind a command, and the command's number, or why it isn't issued
+pub record SlotSaying : Type 0 where
+  pub slot : SlotState
+  pub answer : Result ℕ SayError
+
+-- a command is issued, where it fits
+abbrev pub issues : SlotState → List ℕ → SlotSaying
+issues slot text =
+    let issuing = issue_at slot.issued text in
+    record { slot = record slot { issued = issuing.window }; answer = said_or issuing.answer }
+
+-- a command to a client for which a gamestate was begun
+abbrev pub say_slot : SlotState → List ℕ → SlotSaying
+say_slot slot text =
+    if changes_own text then record { slot = slot; answer = Err refused.Own }
+    else if is_connected slot.stage then record { slot = slot; answer = Err refused.NotPrimed }
+    else issues slot text
+
+-- a slot that may have no client, behind a command
+abbrev pub slot_saying : List ℕ → Option SlotState → Option SlotState
+slot_saying text found = option_map (λ slot. (say_slot slot text).slot) found
+
 -- its number, or why it isn't issued
 abbrev pub said_of_slot : List ℕ → Option SlotState → Result ℕ SayError
 said_of_slot text None = Err refused.NoClient
-said_of_slot text (Some slot) = said_or (issue_at slot.issued text).answer
+said_of_slot text (Some slot) = (say_slot slot text).answer
+
+-- ---- config changes
+
+-- whether a client that is told of config changes has no room for so many texts, with so many bytes together
+abbrev pub lacks_places : ℕ → ℕ → Option SlotState → Bool
+lacks_places count bytes None = false
+lacks_places count bytes (Some slot) = not (is_connected slot.stage) && not (fits slot.issued count bytes)
+
+-- whether one has no room for all texts of a change
+abbrev pub lacks_room : List (List ℕ) → Option SlotState → Bool
+lacks_room texts found = lacks_places (length texts) (total_of texts) found
+
+-- a client is told of a config change, unless no gamestate of the map was begun for it
+abbrev pub tells : List (List ℕ) → SlotState → SlotState
+tells texts slot = if is_connected slot.stage then slot else record slot { issued = with_texts slot.issued texts }
+
+-- ---- messages
 
 -- what an emit of the client in a slot gives
 abbrev pub emission_of : Profile → MapState → FramesState → ℕ → SlotState → SlotEmission
 emission_of profile map frames c slot = emit_slot profile map frames c slot slot.sending.under_way
 
--- the slot after an emit, the frames, the answer, and what is handed out
+-- where a gamestate is owed to it
+abbrev pub game_emission : Profile → MapState → FramesState → ℕ → SlotState → SlotEmission
+game_emission profile map frames c slot = emit_game profile slot map frames (next_game_built map c slot)
+
+-- and where none is
+abbrev pub snapshot_emission : Profile → MapState → FramesState → ℕ → SlotState → SlotEmission
+snapshot_emission profile map frames c slot = emit_built profile slot map (next_frames map frames c slot) (begun_next map frames c slot)
+
+-- the slot after an emit, the map and the frames, the answer, and what is handed out
 abbrev pub slot_after : Profile → MapState → FramesState → ℕ → Option SlotState → Option SlotState
 slot_after profile map frames c found = option_map (λ slot. (emission_of profile map frames c slot).slot) found
+
+abbrev pub map_after : Profile → MapState → FramesState → ℕ → Option SlotState → MapState
+map_after profile map frames c None = map
+map_after profile map frames c (Some slot) = (emission_of profile map frames c slot).map
 
 abbrev pub frames_after : Profile → MapState → FramesState → ℕ → Option SlotState → FramesState
 frames_after profile map frames c None = frames
@@ -119,25 +214,46 @@ abbrev pub piece_of : Profile → MapState → FramesState → ℕ → Option Sl
 piece_of profile map frames c None = None
 piece_of profile map frames c (Some slot) = (emission_of profile map frames c slot).piece
 
--- what bytes are as a message of the client that joined with a challenge, by the commands that were issued to it
-abbrev pub said_with : Profile → ℕ → OutgoingState → List ℕ → Result Message ClientIllegible
-said_with profile challenge issued bytes = do
+-- how a client goes on behind a message of the map
+abbrev pub goes_with : Sending → Gathering → OutgoingState → Joined → Message → Playing
+goes_with sending gathering issued client message = goes_on (slot_of sending gathering issued client) message message.moves
+
+-- and what is kept of it then
+abbrev pub played : Joined → Playing → Joined
+played client playing = record client { stage = playing.stage; delta = playing.delta; last_run = playing.last_run }
+
+-- whether a message of another map makes a gamestate owed to a client
+abbrev pub asks_by : MapState → Joined → Leading → Bool
+asks_by map client heads = not (map.id == 0) && not (is_active client.stage) && is_behind_game heads.acknowledged client.game
+
+-- what a message that was read comes as, by the map that it is of
+abbrev pub came_of : Message → Result Origin ClientIllegible → Result Came ClientIllegible
+came_of message (Ok origins.Map) = Ok (OfMap message)
+came_of message (Ok (origins.Other heads)) = Ok (OfOther (leading_of heads))
+came_of message (Err cause) = Err cause
+
+-- what bytes come as from the client that joined with a challenge, by the commands that were issued to it
+abbrev pub said_with : Profile → MapState → ℕ → OutgoingState → List ℕ → Result Came ClientIllegible
+said_with profile map challenge issued bytes = do
   heads ← bits_read (heads_at profile.code (bits_of bytes))
   taken ← ack_taken heads.command (acknowledge_at issued heads.command).answer
-  said_under profile challenge heads (text_at issued heads.command) bytes
+  came_under profile map challenge heads (text_at issued heads.command) bytes
 
--- the slot after a datagram, the answer, and the commands and the moves that were run
-abbrev pub slot_behind : Profile → ℕ → Address → List ℕ → Option SlotState → Option SlotState
-slot_behind profile c from datagram found = option_map (λ slot. (take_slot profile c from datagram slot).slot) found
+-- the slot after a datagram
+abbrev pub slot_behind : Profile → MapState → ℕ → Address → List ℕ → Option SlotState → Option SlotState
+slot_behind profile map c from datagram found = option_map (λ slot. (take_slot profile map c from datagram slot).slot) found
 
-abbrev pub took_of : Profile → ℕ → Address → List ℕ → Option SlotState → ServerTook
-took_of profile c from datagram None = took.Stranger
-took_of profile c from datagram (Some slot) = (take_slot profile c from datagram slot).answer
+-- what a take answers and runs
+pub record Run : Type 0 where
+  pub answer : ServerTook
+  pub commands : List Command
+  pub moves : List Move
+  pub entered : Option ℕ
+  pub owed : Bool
 
-abbrev pub commands_run : Profile → ℕ → Address → List ℕ → Option SlotState → List Command
-commands_run profile c from datagram None = []
-commands_run profile c from datagram (Some slot) = (take_slot profile c from datagram slot).commands
-
-abbrev pub moves_run : Profile → ℕ → Address → List ℕ → Option SlotState → List Move
-moves_run profile c from datagram None = []
-moves_run profile c from datagram (Some slot) = (take_slot profile c from datagram slot).moves
+-- a place with no client runs nothing
+abbrev pub taken_of : Profile → MapState → ℕ → Address → List ℕ → Option SlotState → Run
+taken_of profile map c from datagram None = record { answer = took.Stranger; commands = []; moves = []; entered = None; owed = false }
+taken_of profile map c from datagram (Some slot) =
+    let taken = take_slot profile map c from datagram slot in
+    record { answer = taken.answer; commands = taken.commands; moves = taken.moves; entered = taken.entered; owed = taken.owed }

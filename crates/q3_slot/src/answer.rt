@@ -9,6 +9,10 @@ pub struct NoClient;
 pub enum SayError {
     /// No such client was added.
     NoClient,
+    /// The command would change config string 1, the server's own.
+    Own,
+    /// No gamestate of the map was begun for the client.
+    NotPrimed,
     /// The command doesn't fit into the client's window.
     WindowFull,
 }
@@ -26,8 +30,14 @@ pub enum Emitted {
     SequenceEnd,
     /// The next message's leading long takes more than 32 bits, so that a part of it would be scrambled.
     Unclear,
-    /// The message has more than 16,384 bytes; its number is used again, and its frame stays.
+    /// The message has more than 16,384 bytes; its number is used again. The frame of a snapshot stays, and a gamestate stays
+    /// owed.
     Overlong,
+    /// A datagram with a gamestate, or its first piece: its message's number, and the message's length.
+    Game {
+        number: u32,
+        bytes: usize,
+    },
     /// A datagram with a snapshot, or its first piece: its message's number, the number of the base, 0 for none, and the
     /// message's length.
     Snapshot {

@@ -1,26 +1,31 @@
-//! Writes the message with a client's next snapshot. Keeps the rules "what the server sends", with q3_map, "choice of the delta
-//! base", by q3_frames, and "scrambling", by q3_chan: the engine's `SV_SendClientSnapshot` (sv_snapshot.c) and
-//! `SV_Netchan_Encode` (sv_net_chan.c). That no message is begun whose leading long would be scrambled is this project's own.
+//! Writes the message with a client's next snapshot, or with its gamestate. Keeps the rules "what the server sends", with q3_map,
+//! "choice of the delta base", by q3_frames, and "scrambling", by q3_chan: the engine's `SV_SendClientSnapshot` (sv_snapshot.c),
+//! `SV_SendClientGameState` (sv_client.c) and `SV_Netchan_Encode` (sv_net_chan.c). That no message is begun whose leading long
+//! would be scrambled is this project's own.
 
-ghost use Rattle.std.specs.Prelude.{◌≡◌, ◌<◌, ◌≤◌, ◌||◌, length, nat_le, nat_lt, option_map, take};
+ghost use Rattle.std.specs.Prelude.{◌≡◌, ◌+◌, ◌<◌, ◌≤◌, ◌||◌, length, nat_le, nat_lt, option_map, take, None};
 ghost use Rattle.q3_chan.specs.Datagrams.{longest_message, sequence_end};
+ghost use Rattle.q3_chan.specs.Gathering.{new_gathering};
 ghost use Rattle.q3_chan.specs.Scrambling.{scrambled};
-ghost use Rattle.q3_entity.specs.Baselines.{no_lines};
+ghost use Rattle.q3_chan.specs.declared.side.Side.TheVariants.{Client};
 ghost use Rattle.q3_frames.specs.Frames.{base_of, build_at};
 ghost use Rattle.q3_map.specs.Map.{AreListed};
 ghost use Rattle.q3_svmsg.specs.Values.{base_viewed, base_from, base_entities, IsNamed};
-ghost use Rattle.q3_slot.specs.Built.{is_unclear, number_of};
-ghost use Rattle.q3_slot.specs.Emitting.{most_placed};
-ghost use Rattle.q3_slot.specs.Slots.{HoldLists, Scrambles, WritesAgainst, told_under};
+ghost use Rattle.q3_svmsg.specs.Texts.{message_text};
+ghost use Rattle.q3_slot.specs.Built.{built_of, game_built_of, is_unclear, number_of};
+ghost use Rattle.q3_slot.specs.Emitting.{begun_next, most_placed, next_frames};
+ghost use Rattle.q3_slot.specs.Slots.{HoldLists, Scrambles, ScramblesGame, WritesAgainst, WritesBits, asked_by, game_message, game_under, slot_of, told_under};
 
 use crate::joined::Joined;
 use q3_bits::Overflow;
-use q3_chan::{SEQUENCE_END, scramble, server_start};
+use q3_chan::{SEQUENCE_END, Sender, scramble, server_start};
 use q3_entity::{Baselines, EntityState};
 use q3_frames::{Frames, laws};
+use q3_gamestate::Numbers;
+use q3_map::Map;
 use q3_player::SnapHead;
 use q3_profile::Profile;
-use q3_svmsg::{BaseView, SnapParts, write_parts};
+use q3_svmsg::{BaseView, GameParts, SnapParts, write_game_parts, write_parts};
 use q3_text::Text;
 use q3_window::Outgoing;
 
@@ -61,6 +66,39 @@ pub fn build(frames: &mut Frames, slot: u8, head: &SnapHead, entities: &[EntityS
     frames.build(slot, head, entities);
 }
 
+/// Builds a frame of the snapshot that this sender sends next to the client in a slot, and writes its message against the base
+/// that the client asks for, if that is there, and scrambles it. Answers the base's number, 0 for none, and the message's
+/// length. `Overflow` comes exactly where that is more than 16,384.
+pub fn write_next(
+    sender: &Sender,
+    issued: &Outgoing,
+    client: &Joined,
+    slot: u8,
+    profile: &Profile,
+    map: &Map,
+    frames: &mut Frames,
+    head: &mut SnapHead,
+    buffer: &mut [u8],
+) -> Result<(u32, usize), Overflow>
+    requires number { sender.now.number + 1 < sequence_end }
+    requires slot { slot < length frames.old.slots }
+    requires placed { frames.old.placed ≤ most_placed }
+    requires lists { HoldLists frames.old }
+    requires buffer { length buffer.old ≡ longest_message }
+    ensures written { Scrambles profile.now (begun_next map.now frames.old slot (slot_of sender.now (new_gathering Client) issued.now client.now)) buffer.new result }
+    ensures frames { frames.new ≡ next_frames map.now frames.old slot (slot_of sender.now (new_gathering Client) issued.now client.now) }
+    ensures slots { length frames.new.slots ≡ length frames.old.slots }
+    ensures lists { HoldLists frames.new }
+{
+    client.fill(sender, map, head);
+    let entities = client.seen(map);
+    build(frames, slot, head, entities);
+    let baselines = map.baselines();
+    write_scrambled(
+        frames, slot, client, issued, profile, head, entities, baselines, buffer,
+    )
+}
+
 /// Writes the message of a snapshot to a slot's client, as `write_against` does, and scrambles it.
 pub fn write_scrambled(
     frames: &Frames,
@@ -75,10 +113,9 @@ pub fn write_scrambled(
 ) -> Result<(u32, usize), Overflow>
     requires lists { HoldLists frames.now }
     requires listed { AreListed entities.now }
-    requires lines { baselines.now ≡ no_lines }
     requires buffer { length buffer.old ≡ longest_message }
-    ensures { Scrambles profile.now (told_under issued.now client.now head.now.number) (base_of frames.now slot head.now.number client.now.delta)
-        (record { head = head.now; entities = entities.now }) buffer.new result }
+    ensures { Scrambles profile.now (built_of (told_under issued.now client.now head.now.number) baselines.now (base_of frames.now slot head.now.number (asked_by client.now))
+        (record { head = head.now; entities = entities.now })) buffer.new result }
 {
     let (base, bytes) = write_against(
         frames, slot, client, issued, profile, head, entities, baselines, buffer,
@@ -112,12 +149,11 @@ fn write_against(
 ) -> Result<(u32, usize), Overflow>
     requires lists { HoldLists frames.now }
     requires listed { AreListed entities.now }
-    requires lines { baselines.now ≡ no_lines }
     requires buffer { length buffer.old ≡ longest_message }
-    ensures { WritesAgainst profile.now (told_under issued.now client.now head.now.number) (base_of frames.now slot head.now.number client.now.delta)
+    ensures { WritesAgainst profile.now (told_under issued.now client.now head.now.number) baselines.now (base_of frames.now slot head.now.number (asked_by client.now))
         (record { head = head.now; entities = entities.now }) buffer.new result }
 {
-    let (named, base) = base_in(frames, slot, head.number, client.delta);
+    let (named, base) = base_in(frames, slot, head.number, client.asked());
     let parts = SnapParts {
         ack: client.executed.executed(),
         commands: issued.waiting(),
@@ -150,4 +186,50 @@ fn base_in<'a>(frames: &'a Frames, slot: u8, number: u32, delta: u32) -> (u32, O
         }
         None => (0, None),
     }
+}
+
+/// Writes the message of a number with the gamestate for a slot's client, as `write_owed` does, and scrambles it.
+pub fn write_game_scrambled(
+    slot: u8,
+    number: u32,
+    client: &Joined,
+    issued: &Outgoing,
+    profile: &Profile,
+    map: &Map,
+    buffer: &mut [u8],
+) -> Result<usize, Overflow>
+    requires buffer { length buffer.old ≡ longest_message }
+    ensures { ScramblesGame profile.now (game_built_of (told_under issued.now client.now number) map.now.lines (game_under issued.now map.now slot)) buffer.new result }
+{
+    let bytes = write_owed(slot, client, issued, profile, map, buffer)?;
+    let start = server_start(client.challenge, number);
+    scramble_front(buffer, bytes, start, client.executed.last());
+    Ok(bytes)
+}
+
+/// Writes a message with the gamestate of the map for a slot's client, with the commands that wait for the client's
+/// acknowledgement. Answers the message's length. `Overflow` comes exactly where that is more than 16,384.
+fn write_owed(
+    slot: u8,
+    client: &Joined,
+    issued: &Outgoing,
+    profile: &Profile,
+    map: &Map,
+    buffer: &mut [u8],
+) -> Result<usize, Overflow>
+    requires buffer { length buffer.old ≡ longest_message }
+    ensures { WritesBits (message_text profile.now map.now.lines None (game_message issued.now client.now map.now slot)) buffer.new result }
+{
+    let parts = GameParts {
+        ack: client.executed.executed(),
+        commands: issued.waiting(),
+        numbers: Numbers {
+            command: issued.issued(),
+            slot: u32::from(slot),
+            feed: map.feed(),
+        },
+        configs: map.configs(),
+        baselines: map.baselines(),
+    };
+    write_game_parts(profile, parts, buffer)
 }

@@ -1,37 +1,54 @@
-//! A client that joined, and what is done for it alone.
+//! A client that joined, and what is done for it alone. Keeps the rules "new map", "snapshot flags", "snapshot for a client that
+//! is not active", "messages of another map; owed gamestates" and "client states: connected, primed, active", the engine's
+//! `SV_SpawnServer` (sv_init.c), `SV_BuildClientSnapshot` (sv_snapshot.c), `SV_ExecuteClientMessage` and `SV_ClientEnterWorld`
+//! (sv_client.c). That nothing else is in a snapshot for a client that isn't active, and that with a new map the last gamestate's
+//! number, the delta number and a debt go, is this project's own.
 
-ghost use Rattle.std.specs.Prelude.{◌≡◌, ◌+◌, ◌^◌, ◌<◌, ◌≤◌, [], length};
-ghost use Rattle.q3_bits.specs.Streams.{holding};
-ghost use Rattle.q3_chan.specs.declared.side.Side.TheVariants.{Client, Server};
+ghost use Rattle.std.specs.Prelude.{◌≡◌, ◌+◌, ◌^◌, ◌<◌, ◌≤◌, ◌||◌, [], false, length, None, Some};
+ghost use Rattle.q3_chan.specs.declared.side.Side.TheVariants.{Client};
 ghost use Rattle.q3_chan.specs.Gathering.{Gathering, new_gathering};
-ghost use Rattle.q3_chan.specs.Sending.{Sending, new_sending};
+ghost use Rattle.q3_chan.specs.Sending.{Sending};
 ghost use Rattle.q3_clmsg.specs.Values.{said_of};
-ghost use Rattle.q3_player.specs.State.{normal_player};
+ghost use Rattle.q3_map.specs.Map.{AreListed};
+ghost use Rattle.q3_player.specs.State.{normal_player, zero_player};
 ghost use Rattle.q3_window.specs.Incoming.{executes, fresh_of};
-ghost use Rattle.q3_window.specs.Outgoing.{acknowledge_at, new_outgoing};
-ghost use Rattle.q3_slot.specs.Emitting.{next_snapshot};
-ghost use Rattle.q3_slot.specs.Slots.{slot_of};
-ghost use Rattle.q3_slot.specs.Taking.{delta_behind, last_run_of, run_read, runs, said_by};
+ghost use Rattle.q3_window.specs.Outgoing.{OutgoingState, acknowledge_at, new_outgoing};
+ghost use Rattle.q3_slot.specs.declared.stage.ClientStage.TheVariants.{Connected, Primed, Active};
+ghost use Rattle.q3_slot.specs.Emitting.{next_snapshot, snapshot_flags};
+ghost use Rattle.q3_slot.specs.Slots.{slot_of, asked_by, asks_by, came_of, said_with, goes_with, played};
+ghost use Rattle.q3_slot.specs.Taking.{delta_behind, ignores, is_behind_game, last_run_of, leading_of, run_read, runs};
 
+use crate::stage::ClientStage;
 use crate::taking::{
-    Heard, ServerTook, delta_behind, execute_commands, gap_before, read_message, run_moves,
+    Heard, Origin, ServerTook, delta_behind, execute_commands, gap_before, read_message, run_moves,
 };
 use arrayvec::ArrayVec;
 use q3_chan::Sender;
-use q3_clmsg::{ClientIllegible, ClientMessage};
+use q3_clmsg::{ClientIllegible, ClientMessage, Heads, Move};
+use q3_entity::EntityState;
 use q3_io::Address;
 use q3_map::Map;
 use q3_player::{PlayerState, SnapHead};
 use q3_profile::Profile;
 use q3_window::{Incoming, Outgoing};
 
-/// How a client joined and from where, which of its commands were executed, the number of the snapshot that it asks to write
-/// the next one against, 0 for none, the time of its last move that was run, and what the game handed in for it alone.
+/// The flag of a snapshot for a client that isn't active, the engine's `SNAPFLAG_NOT_ACTIVE` (q_shared.h).
+const NOT_ACTIVE: u8 = 2;
+
+/// The flag that changes with each map, the engine's `SNAPFLAG_SERVERCOUNT` (q_shared.h).
+const SERVER_COUNT: u8 = 4;
+
+/// How a client joined and from where, how far it came on the map, the number of the last gamestate of the map that was begun
+/// for it, if one was, and whether one is owed; which of its commands were executed, the number of the snapshot that it asks to
+/// write the next one against, 0 for none, the time of its last move that was run, and what the game handed in for it alone.
 #[derive(Drop)]
 pub(crate) struct Joined {
     pub challenge: u32,
     pub address: Address,
     pub qport: u16,
+    pub stage: ClientStage,
+    pub game: Option<u32>,
+    pub owed: bool,
     pub executed: Incoming,
     pub delta: u32,
     pub last_run: u32,
@@ -55,6 +72,34 @@ impl Joined {
         copy_area(area, &mut self.area);
     }
 
+    /// A new map begins: the client is connected to it, and of the last one the time of the last move run alone stays.
+    pub fn begin_map(&mut self)
+        ensures { self.new ≡ record self.old {
+          stage = Connected;
+          game = None;
+          owed = false;
+          delta = 0;
+          player = zero_player;
+          area = record { items = [] };
+        } }
+    {
+        self.stage = ClientStage::Connected;
+        self.game = None;
+        self.owed = false;
+        self.delta = 0;
+        self.player = PlayerState::zero();
+        self.area.clear();
+    }
+
+    /// The gamestate that was owed is begun, under a number: the client is primed.
+    pub fn prime(&mut self, number: u32)
+        ensures { self.new ≡ record self.old { stage = Primed; game = Some number; owed = false } }
+    {
+        self.stage = ClientStage::Primed;
+        self.game = Some(number);
+        self.owed = false;
+    }
+
     /// Takes over the address.
     pub fn set_address(&mut self, address: Address)
         ensures { self.new ≡ record self.old { address = address } }
@@ -63,43 +108,55 @@ impl Joined {
     }
 
     /// Reads a message of the client, by the commands that were issued to it. The bytes are cleared in their place. After a
-    /// refusal `into` may hold anything.
+    /// refusal, and after a message of another map, `into` may hold anything.
     pub fn read(
         &self,
         profile: &Profile,
+        map: &Map,
         issued: &Outgoing,
         bytes: &mut [u8],
         into: &mut ClientMessage,
-    ) -> Result<(), ClientIllegible>
-        ensures { holding (said_of into.new) result
-            ≡ said_by profile.now (slot_of (new_sending Server 0) (new_gathering Client) issued.now self.now) bytes.old }
+    ) -> Result<Origin, ClientIllegible>
+        ensures { came_of (said_of into.new) result ≡ said_with profile.now map.now self.now.challenge issued.now bytes.old }
     {
-        read_message(profile, self.challenge, issued, bytes, into)
+        read_message(profile, map, self.challenge, issued, bytes, into)
     }
 
-    /// Runs what was read of a message of the client in a slot, under a number, unless one of its commands leaves a gap.
+    /// Runs what was read of a message of the client in a slot, under a number, unless it is of another map, or one of its
+    /// commands leaves a gap.
     pub fn run(
         &mut self,
         issued: &mut Outgoing,
+        map: &Map,
         slot: u8,
         number: u32,
-        read: Result<(), ClientIllegible>,
+        read: Result<Origin, ClientIllegible>,
         message: &ClientMessage,
         heard: &mut Heard,
     ) -> ServerTook
         requires no_commands { heard.old.commands.items ≡ [] }
         requires no_moves { heard.old.moves.items ≡ [] }
+        requires no_entered { heard.old.entered ≡ None }
+        requires owed { heard.old.owed ≡ self.old.owed }
         ensures slot { (sending : Sending) (gathering : Gathering) → slot_of sending gathering issued.new self.new
-            ≡ (run_read (slot_of sending gathering issued.old self.old) slot number (holding (said_of message.now) read)).slot }
+            ≡ (run_read map.now (slot_of sending gathering issued.old self.old) slot number (came_of (said_of message.now) read)).slot }
         ensures answer { (sending : Sending) (gathering : Gathering)
-            → result ≡ (run_read (slot_of sending gathering issued.old self.old) slot number (holding (said_of message.now) read)).answer }
+            → result ≡ (run_read map.now (slot_of sending gathering issued.old self.old) slot number (came_of (said_of message.now) read)).answer }
         ensures commands { (sending : Sending) (gathering : Gathering) → heard.new.commands.items
-            ≡ (run_read (slot_of sending gathering issued.old self.old) slot number (holding (said_of message.now) read)).commands }
+            ≡ (run_read map.now (slot_of sending gathering issued.old self.old) slot number (came_of (said_of message.now) read)).commands }
         ensures moves { (sending : Sending) (gathering : Gathering) → heard.new.moves.items
-            ≡ (run_read (slot_of sending gathering issued.old self.old) slot number (holding (said_of message.now) read)).moves }
+            ≡ (run_read map.now (slot_of sending gathering issued.old self.old) slot number (came_of (said_of message.now) read)).moves }
+        ensures entered { (sending : Sending) (gathering : Gathering) → heard.new.entered
+            ≡ (run_read map.now (slot_of sending gathering issued.old self.old) slot number (came_of (said_of message.now) read)).entered }
+        ensures owed { (sending : Sending) (gathering : Gathering) → heard.new.owed
+            ≡ (run_read map.now (slot_of sending gathering issued.old self.old) slot number (came_of (said_of message.now) read)).owed }
     {
-        if let Err(cause) = read {
-            return ServerTook::Illegible(slot, cause);
+        let origin = match read {
+            Ok(origin) => origin,
+            Err(cause) => return ServerTook::Illegible(slot, cause),
+        };
+        if let Origin::Other(heads) = origin {
+            return self.ignore(issued, map, slot, heads, heard);
         }
         if let Some(number) = gap_before(&self.executed, message) {
             return ServerTook::Gap { slot, number };
@@ -108,22 +165,125 @@ impl Joined {
         ServerTook::Ran { slot, number }
     }
 
-    /// Runs a message that leaves no gap: its acknowledgement is taken, its commands are executed, and its moves are run.
+    /// Takes the acknowledgement of a message of another map, by which a gamestate may be owed from then on.
+    fn ignore(
+        &mut self,
+        issued: &mut Outgoing,
+        map: &Map,
+        slot: u8,
+        heads: Heads,
+        heard: &mut Heard,
+    ) -> ServerTook
+        ensures slot { (sending : Sending) (gathering : Gathering) → slot_of sending gathering issued.new self.new
+            ≡ (ignores map.now (slot_of sending gathering issued.old self.old) slot (leading_of heads)).slot }
+        ensures answer { (sending : Sending) (gathering : Gathering) → result ≡ (ignores map.now (slot_of sending gathering issued.old self.old) slot (leading_of heads)).answer }
+        ensures owed { (sending : Sending) (gathering : Gathering) → heard.new.owed ≡ (ignores map.now (slot_of sending gathering issued.old self.old) slot (leading_of heads)).owed }
+        ensures commands { heard.new.commands.items ≡ heard.old.commands.items }
+        ensures moves { heard.new.moves.items ≡ heard.old.moves.items }
+        ensures entered { heard.new.entered ≡ heard.old.entered }
+    {
+        // it was within the window where the message was read
+        let _ = issued.acknowledge(heads.command);
+        self.owed = self.owes_behind(map, heads);
+        heard.owed = self.owed;
+        ServerTook::Ignored { slot, id: heads.id }
+    }
+
+    /// Whether a gamestate is owed behind a message of another map.
+    fn owes_behind(&self, map: &Map, heads: Heads) -> bool
+        ensures { result ≡ (self.now.owed || asks_by map.now self.now (leading_of heads)) }
+    {
+        self.owed || self.asks_game(map, heads)
+    }
+
+    /// Whether a message of another map makes a gamestate owed.
+    fn asks_game(&self, map: &Map, heads: Heads) -> bool
+        ensures { result ≡ asks_by map.now self.now (leading_of heads) }
+    {
+        map.has_map() && !self.stage.is_active() && self.is_behind_game(heads.acknowledged)
+    }
+
+    /// Whether a message number is above that of the last gamestate of the map, if one was begun.
+    fn is_behind_game(&self, number: u32) -> bool
+        ensures { result ≡ is_behind_game number self.now.game }
+    {
+        match self.game {
+            Some(game) => game < number,
+            None => true,
+        }
+    }
+
+    /// Runs a message that leaves no gap: its moves are run, its acknowledgement is taken, and its commands are executed.
     fn run_whole(&mut self, issued: &mut Outgoing, message: &ClientMessage, heard: &mut Heard)
         requires no_commands { heard.old.commands.items ≡ [] }
         requires no_moves { heard.old.moves.items ≡ [] }
-        ensures client { self.new ≡ record self.old {
-          executed = executes self.old.executed (said_of message.now).commands;
-          delta = delta_behind self.old.delta (said_of message.now);
-          last_run = last_run_of self.old.last_run (said_of message.now).moves;
-        } }
+        requires no_entered { heard.old.entered ≡ None }
+        ensures client { (sending : Sending) (gathering : Gathering) → self.new
+            ≡ record (played self.old (goes_with sending gathering issued.old self.old (said_of message.now))) { executed = executes self.old.executed (said_of message.now).commands } }
         ensures issued { issued.new ≡ (acknowledge_at issued.old (said_of message.now).command).window }
         ensures commands { heard.new.commands.items ≡ fresh_of self.old.executed.executed (said_of message.now).commands }
-        ensures moves { heard.new.moves.items ≡ runs self.old.last_run (said_of message.now).moves }
+        ensures moves { (sending : Sending) (gathering : Gathering) → heard.new.moves.items ≡ (goes_with sending gathering issued.old self.old (said_of message.now)).moves }
+        ensures entered { (sending : Sending) (gathering : Gathering) → heard.new.entered ≡ (goes_with sending gathering issued.old self.old (said_of message.now)).entered }
+        ensures owed { heard.new.owed ≡ heard.old.owed }
     {
+        self.play(message, heard);
         // it was within the window where the message was read
         let _ = issued.acknowledge(message.command);
         execute_commands(&mut self.executed, message, &mut heard.commands);
+    }
+
+    /// Runs the moves of a message, by how far the client came.
+    fn play(&mut self, message: &ClientMessage, heard: &mut Heard)
+        requires no_moves { heard.old.moves.items ≡ [] }
+        requires no_entered { heard.old.entered ≡ None }
+        ensures client { (sending : Sending) (gathering : Gathering) (issued : OutgoingState) → self.new
+            ≡ played self.old (goes_with sending gathering issued self.old (said_of message.now)) }
+        ensures executed { self.new.executed ≡ self.old.executed }
+        ensures moves { (sending : Sending) (gathering : Gathering) (issued : OutgoingState) → heard.new.moves.items
+            ≡ (goes_with sending gathering issued self.old (said_of message.now)).moves }
+        ensures entered { (sending : Sending) (gathering : Gathering) (issued : OutgoingState) → heard.new.entered
+            ≡ (goes_with sending gathering issued self.old (said_of message.now)).entered }
+        ensures commands { heard.new.commands.items ≡ heard.old.commands.items }
+        ensures owed { heard.new.owed ≡ heard.old.owed }
+    {
+        let Some((first, rest)) = message.moves.split_first() else {
+            return;
+        };
+        match self.stage {
+            ClientStage::Connected => self.delta = 0,
+            ClientStage::Primed => self.enter(first.time, rest, heard),
+            ClientStage::Active => self.go_on(message, heard),
+        }
+    }
+
+    /// Enters the map with a move of this time, which isn't run, and runs those behind it.
+    fn enter(&mut self, time: u32, rest: &[Move], heard: &mut Heard)
+        requires few { length rest.now ≤ 32 }
+        requires no_moves { heard.old.moves.items ≡ [] }
+        ensures client { self.new ≡ record self.old { stage = Active; delta = 0; last_run = last_run_of time rest.now } }
+        ensures moves { heard.new.moves.items ≡ runs time rest.now }
+        ensures entered { heard.new.entered ≡ Some time }
+        ensures commands { heard.new.commands.items ≡ heard.old.commands.items }
+        ensures owed { heard.new.owed ≡ heard.old.owed }
+    {
+        self.stage = ClientStage::Active;
+        self.delta = 0;
+        self.last_run = run_moves(time, rest, &mut heard.moves);
+        heard.entered = Some(time);
+    }
+
+    /// Runs the moves of a message of a client that plays.
+    fn go_on(&mut self, message: &ClientMessage, heard: &mut Heard)
+        requires no_moves { heard.old.moves.items ≡ [] }
+        ensures client { self.new ≡ record self.old {
+          delta = delta_behind self.old.delta (said_of message.now);
+          last_run = last_run_of self.old.last_run (said_of message.now).moves;
+        } }
+        ensures moves { heard.new.moves.items ≡ runs self.old.last_run (said_of message.now).moves }
+        ensures entered { heard.new.entered ≡ heard.old.entered }
+        ensures commands { heard.new.commands.items ≡ heard.old.commands.items }
+        ensures owed { heard.new.owed ≡ heard.old.owed }
+    {
         self.delta = delta_behind(self.delta, message);
         self.last_run = run_moves(self.last_run, &message.moves, &mut heard.moves);
     }
@@ -132,14 +292,53 @@ impl Joined {
     /// don't count.
     pub fn fill(&self, sender: &Sender, map: &Map, head: &mut SnapHead)
         requires { sender.now.number + 1 < 2 ^ 32 }
-        ensures { head.new ≡ (next_snapshot map.now (slot_of sender.now (new_gathering Client) new_outgoing self.now)).head }
+        ensures head { head.new ≡ (next_snapshot map.now (slot_of sender.now (new_gathering Client) new_outgoing self.now)).head }
+        ensures number { head.new.number ≡ sender.now.number + 1 }
     {
         head.number = sender.number() + 1;
         head.time = map.time();
-        head.flags = 0;
+        head.flags = flags_of(map.count(), self.stage);
+        if !self.stage.is_active() {
+            head.area.clear();
+            head.player = PlayerState::zero();
+            return;
+        }
         copy_area(&self.area, &mut head.area);
         head.player = self.player;
     }
+
+    /// The entities of the snapshot that the client gets next: none, as long as it doesn't play.
+    pub fn seen<'a>(&self, map: &'a Map) -> &'a [EntityState]
+        ensures seen { (sending : Sending) (gathering : Gathering) (issued : OutgoingState)
+            → result.now ≡ (next_snapshot map.now (slot_of sending gathering issued self.now)).entities }
+        ensures listed { AreListed result.now }
+    {
+        if self.stage.is_active() {
+            map.lowest()
+        } else {
+            &[]
+        }
+    }
+
+    /// The number of the snapshot against which the next one may be written, 0 for none: the one that the client asks for, as
+    /// long as it plays.
+    pub fn asked(&self) -> u32
+        ensures { result ≡ asked_by self.now }
+    {
+        if self.stage.is_active() {
+            self.delta
+        } else {
+            0
+        }
+    }
+}
+
+/// The flags of a client's snapshots.
+fn flags_of(count: bool, stage: ClientStage) -> u8
+    ensures { result ≡ snapshot_flags count stage }
+{
+    let waiting = if stage.is_active() { 0 } else { NOT_ACTIVE };
+    waiting + if count { SERVER_COUNT } else { 0 }
 }
 
 fn copy_area(from: &[u8], into: &mut ArrayVec<u8, 32>)

@@ -2,14 +2,17 @@
 #![tactic(auto)]
 
 pub mod answer;
+mod beginning;
 mod emitting;
 pub mod joined;
 pub mod laws;
 pub mod slot;
+pub mod stage;
 pub mod taking;
 #[cfg(test)]
 mod tests;
 
 pub use answer::{Emitted, NoClient, SayError};
 pub use slot::Slot;
+pub use stage::ClientStage;
 pub use taking::{Heard, ServerTook};

@@ -1,23 +1,30 @@
 //! A place for a client at the server.
-//! Keeps the rules "fragmentation" and "what a receiver answers", by q3_chan, "when a command may be issued", by q3_window, and
-//! "end of message numbers", which is this project's own.
+//! Keeps the rules "fragmentation" and "what a receiver answers", by q3_chan, "when a command may be issued", by q3_window,
+//! "config changes as commands", the engine's `SV_SendConfigstring` (sv_init.c), and "end of message numbers". The last is this
+//! project's own, and so is that a primed client is told of config changes at once.
 
-ghost use Rattle.std.specs.Prelude.{◌≡◌, ◌<◌, ◌≤◌, [], None, Some, IfOk, length, option_map, is_some};
-ghost use Rattle.q3_chan.specs.Datagrams.{longest_message};
-ghost use Rattle.q3_chan.specs.Sending.{HandsOut};
-ghost use Rattle.q3_entity.specs.Baselines.{no_lines};
-ghost use Rattle.q3_slot.specs.Slot.{is_of, new_slot, with_player, with_area};
-ghost use Rattle.q3_slot.specs.Slots.{HoldLists, given, slot_saying, said_of_slot, slot_after, frames_after, answer_of, piece_of, slot_behind, took_of, commands_run, moves_run};
+ghost use Rattle.std.specs.Prelude.{◌≡◌, ◌<◌, ◌≤◌, ◌+◌, [], false, true, None, Some, All, IfOk, IfSome, IsSome, IsTrue, length, option_map, is_some};
+ghost use Rattle.q3_chan.specs.Datagrams.{longest_message, sequence_end};
+ghost use Rattle.q3_chan.specs.Sending.{HandsOut, IsIdle};
+ghost use Rattle.q3_frames.specs.Frames.{FramesState};
+ghost use Rattle.q3_config.specs.Strings.{is_config_byte, places};
+ghost use Rattle.q3_config.specs.Laws.{piece_texts};
+ghost use Rattle.q3_window.specs.Outgoing.{fits, total_of};
+ghost use Rattle.q3_window.specs.Outgoing.{with_texts};
+ghost use Rattle.q3_slot.specs.Slot.{SlotState, is_of, new_slot, on_new_map, with_player, with_area};
+ghost use Rattle.q3_slot.specs.Slots.{HoldLists, game_emission, given, changes_own, slot_saying, said_of_slot, lacks_places, lacks_room, tells, slot_after, map_after, frames_after, answer_of, piece_of, slot_behind, taken_of};
 
 use crate::answer::{Emitted, NoClient, SayError};
-use crate::emitting::{build, has_ended, is_unclear, write_scrambled};
+use crate::beginning::{begin_game, begin_snapshot};
+use crate::emitting::{has_ended, is_unclear};
 use crate::joined::Joined;
+use crate::stage::ClientStage;
 use crate::taking::{Heard, ServerTook};
 use arrayvec::ArrayVec;
 use q3_bits::NoMemory;
 use q3_chan::{Datagram, Gathered, Gatherer, Sender, Side};
 use q3_clmsg::ClientMessage;
-use q3_entity::Baselines;
+use q3_config::{piece, pieces, shape};
 use q3_frames::Frames;
 use q3_io::Address;
 use q3_map::Map;
@@ -27,6 +34,9 @@ use q3_text::Text;
 use q3_window::{Incoming, Outgoing, WindowFull};
 use std::alloc::Global;
 use std::marker::Model;
+
+/// The config string that tells the map's id, which the server alone changes.
+const OWN_STRING: u32 = 1;
 
 /// A sender, a gatherer and the window of the commands that are issued, and the client at their other end, once one has
 /// joined. After `new` no call takes memory.
@@ -95,6 +105,9 @@ impl Slot {
             challenge,
             address,
             qport,
+            stage: ClientStage::Connected,
+            game: None,
+            owed: false,
             executed: Incoming::new(),
             delta: 0,
             last_run: 0,
@@ -135,14 +148,31 @@ impl Slot {
         Ok(())
     }
 
+    /// A new map begins: the client is connected to it, and of the last one the time of the last move run alone stays.
+    pub fn on_new_map(&mut self)
+        ensures { self.new ≡ option_map on_new_map self.old }
+    {
+        let Some(client) = &mut self.client else {
+            return;
+        };
+        client.begin_map();
+    }
+
     /// Issues a command to the client, whose number is the answer: the messages that are begun next carry it, until the
-    /// client acknowledges it. `WindowFull` comes exactly where it doesn't fit into the window; nothing changes then.
+    /// client acknowledges it. In this order, `Own` comes exactly where the text would change config string 1, `NotPrimed` exactly
+    /// where the client is connected, and `WindowFull` exactly where it doesn't fit into the window; nothing changes then.
     pub fn say(&mut self, text: &Text) -> Result<u32, SayError>
         ensures slot { self.new ≡ slot_saying text.now self.old }
         ensures answer { result ≡ said_of_slot text.now self.old }
     {
-        if self.client.is_none() {
+        let Some(client) = &self.client else {
             return Err(SayError::NoClient);
+        };
+        if changes_own(text) {
+            return Err(SayError::Own);
+        }
+        if client.stage.is_connected() {
+            return Err(SayError::NotPrimed);
         }
         match self.issued.issue(text) {
             Ok(number) => Ok(number),
@@ -150,11 +180,40 @@ impl Slot {
         }
     }
 
+    /// Whether there is a client that is told of config changes and has no room for so many commands, whose texts have so many
+    /// bytes together.
+    pub fn lacks_room(&self, count: u32, bytes: u32) -> bool
+        ensures { result ≡ lacks_places count bytes self.now }
+    {
+        let Some(client) = &self.client else {
+            return false;
+        };
+        !client.stage.is_connected() && !self.issued.fits(count, bytes)
+    }
+
+    /// Tells the client of a change of a config string, for whose commands there is room: they are issued one after the other,
+    /// unless the client is connected.
+    pub fn tell(&mut self, index: u32, text: &[u8])
+        requires index { index < places }
+        requires chars { All (λ byte. IsTrue (is_config_byte byte)) text.now }
+        requires room { lacks_room (piece_texts index text.now) self.old ≡ false }
+        ensures { self.new ≡ option_map (tells (piece_texts index text.now)) self.old }
+    {
+        let Some(client) = &self.client else {
+            return;
+        };
+        if !client.stage.is_connected() {
+            issue_pieces(&mut self.issued, index, text);
+        }
+    }
+
     /// Takes a datagram of the client in this slot, from an address, which it takes over. A message that came whole is
-    /// read and run; one that isn't legible, or one of whose commands leaves a gap, changes nothing else.
+    /// read and run; one that isn't legible, or one of whose commands leaves a gap, changes nothing else, and one of another map
+    /// nothing but what its acknowledgement says.
     pub fn take(
         &mut self,
         profile: &Profile,
+        map: &Map,
         slot: u8,
         from: Address,
         datagram: &[u8],
@@ -165,16 +224,21 @@ impl Slot {
         requires whole { length whole.old ≡ longest_message }
         requires no_commands { heard.old.commands.items ≡ [] }
         requires no_moves { heard.old.moves.items ≡ [] }
-        ensures slot { self.new ≡ slot_behind profile.now slot from datagram.now self.old }
-        ensures answer { result ≡ took_of profile.now slot from datagram.now self.old }
-        ensures commands { heard.new.commands.items ≡ commands_run profile.now slot from datagram.now self.old }
-        ensures moves { heard.new.moves.items ≡ moves_run profile.now slot from datagram.now self.old }
+        requires no_entered { heard.old.entered ≡ None }
+        requires not_owed { heard.old.owed ≡ false }
+        ensures slot { self.new ≡ slot_behind profile.now map.now slot from datagram.now self.old }
+        ensures answer { result ≡ (taken_of profile.now map.now slot from datagram.now self.old).answer }
+        ensures commands { heard.new.commands.items ≡ (taken_of profile.now map.now slot from datagram.now self.old).commands }
+        ensures moves { heard.new.moves.items ≡ (taken_of profile.now map.now slot from datagram.now self.old).moves }
+        ensures entered { heard.new.entered ≡ (taken_of profile.now map.now slot from datagram.now self.old).entered }
+        ensures owed { heard.new.owed ≡ (taken_of profile.now map.now slot from datagram.now self.old).owed }
         ensures whole { length whole.new ≡ longest_message }
     {
         let Some(client) = &mut self.client else {
             return ServerTook::Stranger;
         };
         client.set_address(from);
+        heard.owed = client.owed;
         let (number, length) = match self.gatherer.take(datagram, whole) {
             Gathered::Whole { number, length } => (number, length),
             Gathered::Partial => return ServerTook::Partial(slot),
@@ -184,19 +248,18 @@ impl Slot {
             Gathered::Runt => return ServerTook::Runt,
             Gathered::Connectionless => return ServerTook::Connectionless,
         };
-        let read = client.read(profile, &self.issued, &mut whole[..length], message);
-        client.run(&mut self.issued, slot, number, read, message, heard)
+        let read = client.read(profile, map, &self.issued, &mut whole[..length], message);
+        client.run(&mut self.issued, map, slot, number, read, message, heard)
     }
 
-    /// Hands out what is left of a message, or begins the next and hands out its first piece: its frame is built, and it is
-    /// written against the base that the client asks for, if that is there.
+    /// Hands out what is left of a message, or begins the next and hands out its first piece: the gamestate, where one is owed,
+    /// and else a snapshot, whose frame is built.
     pub fn emit(
         &mut self,
         slot: u8,
         profile: &Profile,
-        map: &Map,
+        map: &mut Map,
         frames: &mut Frames,
-        baselines: &Baselines,
         head: &mut SnapHead,
         buffer: &mut [u8],
         out: &mut Datagram,
@@ -204,14 +267,14 @@ impl Slot {
         requires out { out.old.items ≡ [] }
         requires slot { slot < length frames.old.slots }
         requires lists { HoldLists frames.old }
-        requires lines { baselines.now ≡ no_lines }
         requires buffer { length buffer.old ≡ longest_message }
-        ensures slot { self.new ≡ slot_after profile.now map.now frames.old slot self.old }
-        ensures frames { frames.new ≡ frames_after profile.now map.now frames.old slot self.old }
+        ensures slot { self.new ≡ slot_after profile.now map.old frames.old slot self.old }
+        ensures map { map.new ≡ map_after profile.now map.old frames.old slot self.old }
+        ensures frames { frames.new ≡ frames_after profile.now map.old frames.old slot self.old }
         ensures slots { length frames.new.slots ≡ length frames.old.slots }
         ensures lists { HoldLists frames.new }
-        ensures answer { result ≡ answer_of profile.now map.now frames.old slot self.old }
-        ensures piece { HandsOut (piece_of profile.now map.now frames.old slot self.old) out.new.items }
+        ensures answer { result ≡ answer_of profile.now map.old frames.old slot self.old }
+        ensures piece { HandsOut (piece_of profile.now map.old frames.old slot self.old) out.new.items }
         ensures buffer { length buffer.new ≡ longest_message }
     {
         let Some(client) = &self.client else {
@@ -223,36 +286,87 @@ impl Slot {
                 number: self.sender.number(),
             };
         }
-        let number = self.sender.number() + 1;
-        if has_ended(number, frames.placed()) {
+        if has_ended(self.sender.number() + 1, frames.placed()) {
             return Emitted::SequenceEnd;
         }
         if is_unclear(profile, client.executed.executed()) {
             return Emitted::Unclear;
         }
-        client.fill(&self.sender, map, head);
-        let entities = map.lowest();
-        build(frames, slot, head, entities);
-        let written = write_scrambled(
-            frames,
-            slot,
-            client,
-            &self.issued,
-            profile,
-            head,
-            entities,
-            baselines,
-            buffer,
-        );
-        let Ok((base, bytes)) = written else {
-            return Emitted::Overlong;
-        };
-        self.sender.start(&buffer[..bytes]);
-        self.sender.next(out);
-        Emitted::Snapshot {
-            number,
-            base,
-            bytes,
+        if client.owed {
+            return self.begin_owed(slot, profile, map, buffer, out);
         }
+        begin_snapshot(
+            &mut self.sender,
+            &self.issued,
+            client,
+            slot,
+            profile,
+            map,
+            frames,
+            head,
+            buffer,
+            out,
+        )
+    }
+
+    /// Begins the message with the gamestate that is owed to the client, and hands out its first piece.
+    fn begin_owed(
+        &mut self,
+        slot: u8,
+        profile: &Profile,
+        map: &mut Map,
+        buffer: &mut [u8],
+        out: &mut Datagram,
+    ) -> Emitted
+        requires client { IsSome self.old }
+        requires idle { IfSome self.old (λ slot. IsIdle slot.sending) }
+        requires number { IfSome self.old (λ slot. slot.sending.number + 1 < sequence_end) }
+        requires buffer { length buffer.old ≡ longest_message }
+        requires out { out.old.items ≡ [] }
+        ensures slot { (found : SlotState) (frames : FramesState) → self.old ≡ Some found
+            → self.new ≡ Some (game_emission profile.now map.old frames slot found).slot }
+        ensures map { (found : SlotState) (frames : FramesState) → self.old ≡ Some found
+            → map.new ≡ (game_emission profile.now map.old frames slot found).map }
+        ensures answer { (found : SlotState) (frames : FramesState) → self.old ≡ Some found
+            → result ≡ (game_emission profile.now map.old frames slot found).answer }
+        ensures piece { (found : SlotState) (frames : FramesState) → self.old ≡ Some found
+            → HandsOut (game_emission profile.now map.old frames slot found).piece out.new.items }
+        ensures buffer { length buffer.new ≡ longest_message }
+    {
+        let Some(client) = &mut self.client else {
+            unreachable!();
+        };
+        begin_game(
+            &mut self.sender,
+            &self.issued,
+            client,
+            slot,
+            profile,
+            map,
+            buffer,
+            out,
+        )
+    }
+}
+
+/// Whether a command's text would change config string 1, the server's own.
+fn changes_own(text: &Text) -> bool
+    ensures { result ≡ changes_own text.now }
+{
+    match shape(text) {
+        Some(index) => index == OWN_STRING,
+        None => false,
+    }
+}
+
+/// Issues the commands of a change of a config string, for which there is room.
+fn issue_pieces(issued: &mut Outgoing, index: u32, text: &[u8])
+    requires index { index < places }
+    requires chars { All (λ byte. IsTrue (is_config_byte byte)) text.now }
+    requires fits { fits issued.old (length (piece_texts index text.now)) (total_of (piece_texts index text.now)) ≡ true }
+    ensures { issued.new ≡ with_texts issued.old (piece_texts index text.now) }
+{
+    for k in 0..pieces(text.len()) {
+        let _ = issued.issue(&piece(index, text, k));
     }
 }

@@ -1,27 +1,26 @@
 //! What a client's message does to its slot. Keeps the rules "layout of a client message", "move section", "move key and
-//! text hash", "scrambling", "gaps in command numbers" and "which moves run", the engine's `SV_ExecuteClientMessage` and
-//! `SV_UserMove` (sv_client.c) and `SV_Netchan_Decode` (sv_net_chan.c). That a move runs exactly where its time is above that
-//! of the last one run is this project's own.
+//! text hash", "scrambling", "messages of another map; owed gamestates", "gaps in command numbers" and "which moves run", the engine's
+//! `SV_ExecuteClientMessage` and `SV_UserMove` (sv_client.c) and `SV_Netchan_Decode` (sv_net_chan.c). That a move runs exactly
+//! where its time is above that of the last one run, and that before the first map each id is another one, is this project's
+//! own.
 
-ghost use Rattle.std.specs.Prelude.{◌≡◌, ◌≤◌, [], length, IfOk};
+ghost use Rattle.std.specs.Prelude.{◌≡◌, ◌≤◌, [], false, length, None, IfOk};
 ghost use Rattle.q3_bits.specs.Streams.{holding};
 ghost use Rattle.q3_clmsg.specs.Values.{said_of};
 ghost use Rattle.q3_window.specs.Incoming.{executes, fresh_of, gap_in};
 ghost use Rattle.q3_window.specs.Outgoing.{acknowledge_at, issued_of};
-ghost use Rattle.q3_slot.specs.Slots.{said_with};
-ghost use Rattle.q3_slot.specs.Taking.{ack_taken, said_under, with_heads, delta_behind, runs, last_run_of};
+ghost use Rattle.q3_slot.specs.Slots.{came_of, said_with};
+ghost use Rattle.q3_slot.specs.Taking.{ack_taken, came_under, said_under, with_heads, delta_behind, runs, last_run_of};
 
 use arrayvec::ArrayVec;
 use q3_chan::{client_start, scramble};
 use q3_clmsg::{
     ClientIllegible, ClientMessage, Heads, Move, message_key, read_client_message, read_heads,
 };
+use q3_map::Map;
 use q3_profile::Profile;
 use q3_text::{Command, Text};
 use q3_window::{Incoming, Outgoing};
-
-/// The checksum feed of the key, while there are no maps.
-const NO_FEED: u32 = 0;
 
 /// A client's message is scrambled from this byte on, behind its three leading longs.
 const CLEAR: usize = 12;
@@ -45,6 +44,9 @@ pub enum ServerTook {
     Partial(u8),
     /// A message that came whole and isn't legible: its slot, and the first fault in reading order.
     Illegible(u8, ClientIllegible),
+    /// A message that came whole, of another map than the server's: its slot, and that map's id. Its acknowledgement was taken,
+    /// and nothing else of it was read.
+    Ignored { slot: u8, id: u32 },
     /// A message that came whole, one of whose commands leaves a gap: its slot, and the first such command's number. Nothing
     /// of the message was run.
     Gap { slot: u8, number: u32 },
@@ -52,11 +54,14 @@ pub enum ServerTook {
     Ran { slot: u8, number: u32 },
 }
 
-/// What a take ran of a client's message: the commands by rising number, and the moves by rising time.
+/// What a take ran of a client's message: the commands by rising number, and the moves by rising time; the time of the move
+/// with which the client entered the map, if it did, in milliseconds; and whether a gamestate is owed to the client.
 #[derive(Drop)]
 pub struct Heard {
     pub commands: ArrayVec<Command, 64>,
     pub moves: ArrayVec<Move, 32>,
+    pub entered: Option<u32>,
+    pub owed: bool,
 }
 
 impl Heard {
@@ -64,39 +69,58 @@ impl Heard {
     pub fn new() -> Heard
         ensures commands { result.commands.items ≡ [] }
         ensures moves { result.moves.items ≡ [] }
+        ensures entered { result.entered ≡ None }
+        ensures owed { result.owed ≡ false }
     {
         Heard {
             commands: ArrayVec::new(),
             moves: ArrayVec::new(),
+            entered: None,
+            owed: false,
         }
+    }
+
+    /// Nothing was run, as after `new`.
+    pub fn clear(&mut self)
+        ensures commands { self.new.commands.items ≡ [] }
+        ensures moves { self.new.moves.items ≡ [] }
+        ensures entered { self.new.entered ≡ None }
+        ensures owed { self.new.owed ≡ false }
+    {
+        self.commands.clear();
+        self.moves.clear();
+        self.entered = None;
+        self.owed = false;
     }
 }
 
+/// Which map a message is of: the server's, or another, with the leading longs, which alone were read then.
+#[derive(Clone, Copy)]
+pub(crate) enum Origin {
+    Map,
+    Other(Heads),
+}
+
 /// Reads a message of the client that joined with a challenge, by the commands that were issued to it: what its leading longs
-/// say counts, and by the text of the command that they acknowledge the bytes behind them are cleared in their place. After a
-/// refusal `into` may hold anything.
+/// say counts, and by the text of the command that they acknowledge the bytes behind them are cleared in their place. Of a
+/// message of another map no more is read. After a refusal, and after a message of another map, `into` may hold anything.
 ///
 /// `Err` is the first of: `Bits` where the leading longs don't read; `Ack` where the window doesn't take the acknowledgement;
 /// and what `read_client_message` refuses.
 pub(crate) fn read_message(
     profile: &Profile,
+    map: &Map,
     challenge: u32,
     issued: &Outgoing,
     bytes: &mut [u8],
     into: &mut ClientMessage,
-) -> Result<(), ClientIllegible>
-    ensures { holding (said_of into.new) result ≡ said_with profile.now challenge issued.now bytes.old }
+) -> Result<Origin, ClientIllegible>
+    ensures { came_of (said_of into.new) result ≡ said_with profile.now map.now challenge issued.now bytes.old }
 {
     let heads = read_heads(&profile.code, bytes)?;
     check_ack(issued, heads.command)?;
-    read_under(
-        profile,
-        challenge,
-        heads,
-        issued.text(heads.command),
-        bytes,
-        into,
-    )
+    let text = issued.text(heads.command);
+    read_behind(profile, map, challenge, heads, text, bytes, into)
 }
 
 /// Refuses the acknowledgement of a command that the window doesn't take.
@@ -110,20 +134,40 @@ fn check_ack(issued: &Outgoing, command: u32) -> Result<(), ClientIllegible>
     Ok(())
 }
 
-/// Reads a message with these leading longs, by the text of the command that they acknowledge.
+/// Reads what is behind these leading longs, by the text of the command that they acknowledge, where they are of the map.
+fn read_behind(
+    profile: &Profile,
+    map: &Map,
+    challenge: u32,
+    heads: Heads,
+    text: &Text,
+    bytes: &mut [u8],
+    into: &mut ClientMessage,
+) -> Result<Origin, ClientIllegible>
+    ensures { came_of (said_of into.new) result ≡ came_under profile.now map.now challenge heads text.now bytes.old }
+{
+    if map.is_other(heads.id) {
+        return Ok(Origin::Other(heads));
+    }
+    read_under(profile, map.feed(), challenge, heads, text, bytes, into)?;
+    Ok(Origin::Map)
+}
+
+/// Reads a message with these leading longs, by the map's checksum feed and the text of the command that they acknowledge.
 fn read_under(
     profile: &Profile,
+    feed: u32,
     challenge: u32,
     heads: Heads,
     text: &Text,
     bytes: &mut [u8],
     into: &mut ClientMessage,
 ) -> Result<(), ClientIllegible>
-    ensures { holding (said_of into.new) result ≡ said_under profile.now challenge heads text.now bytes.old }
+    ensures { holding (said_of into.new) result ≡ said_under profile.now feed challenge heads text.now bytes.old }
 {
     let start = client_start(challenge, heads.id, heads.acknowledged);
     scramble(bytes, CLEAR, start, text);
-    let key = message_key(NO_FEED, heads.acknowledged, text);
+    let key = message_key(feed, heads.acknowledged, text);
     read_client_message(&profile.code, bytes, key, into)?;
     put_heads(into, heads);
     Ok(())

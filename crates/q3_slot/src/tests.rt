@@ -1,12 +1,16 @@
 //! Datagrams of one client with bytes worked by hand, by the plain code.
 
-use crate::{Heard, ServerTook, Slot};
+ghost use Rattle.std.specs.Prelude.{◌≤◌, length};
+
+use crate::{Heard, NoClient, SayError, ServerTook, Slot};
 use q3_bits::{Code, NoMemory};
 use q3_chan::LONGEST_MESSAGE;
-use q3_clmsg::{ClientIllegible, ClientMessage, Move};
+use q3_clmsg::{ClientIllegible, ClientMessage};
 use q3_fields::Table;
 use q3_io::Address;
+use q3_map::Map;
 use q3_profile::Profile;
+use q3_text::Text;
 use std::alloc::{AllocError, Global};
 use std::process::Abort;
 use std::test::*;
@@ -24,12 +28,12 @@ fn profile(alloc: Global, entity: Table, player: Table) -> Result<Profile, NoMem
     })
 }
 
-/// Slot 1, with a client at host 1 with the qport 5000, that joined with the challenge 0: the keys of a message that
+/// Slot 1, with a client at host 1 with the qport 5000, that joined with the challenge 1: the keys of a message of map 1 that
 /// acknowledges nothing are 0.
 fn joined(alloc: Global) -> Result<Slot, NoMemory> {
     let mut slot = Slot::new(alloc)?;
     let (host, port) = (1, 27960);
-    slot.join(0, 5000, Address { host, port });
+    slot.join(1, 5000, Address { host, port });
     Ok(slot)
 }
 
@@ -37,6 +41,7 @@ fn joined(alloc: Global) -> Result<Slot, NoMemory> {
 fn take(
     slot: &mut Slot,
     profile: &Profile,
+    map: &Map,
     datagram: &[u8],
     said: &mut ClientMessage,
     heard: &mut Heard,
@@ -46,17 +51,18 @@ fn take(
         host: 1,
         port: 27960,
     };
-    heard.commands.clear();
-    heard.moves.clear();
-    slot.take(profile, 1, from, datagram, &mut whole, said, heard)
+    heard.clear();
+    slot.take(profile, map, 1, from, datagram, &mut whole, said, heard)
 }
 
-/// The same of a message in one piece: its number is below 256, and behind three longs that are 0 it has these operations.
+/// The same of a message in one piece: its number, its map's id and the number that it acknowledges are below 256, it
+/// acknowledges no command, and behind the longs it has these operations.
 fn says(
     rt: &impl Abort,
     slot: &mut Slot,
     profile: &Profile,
-    number: u8,
+    map: &Map,
+    longs: (u8, u8, u8),
     operations: &[u8],
     said: &mut ClientMessage,
     heard: &mut Heard,
@@ -64,87 +70,178 @@ fn says(
     let mut bytes = [0; 32];
     assert!(rt; operations.len() <= 14);
     let end = 18 + operations.len();
-    bytes[0] = number;
+    bytes[0] = longs.0;
     bytes[4..6].copy_from_slice(&[0x88, 0x13]);
-    bytes[18..end].copy_from_slice(operations);
-    take(slot, profile, &bytes[..end], said, heard)
+    bytes[6] = longs.1;
+    bytes[10] = longs.2;
+    put_operations(&mut bytes, operations, 1 ^ longs.1 ^ longs.2);
+    take(slot, profile, map, &bytes[..end], said, heard)
 }
 
-fn last_time(moves: &[Move]) -> u32 {
-    match moves.last() {
-        Some(one) => one.time,
-        None => 0,
+/// Puts operations behind the header of a datagram and three longs, under keys that are all the same.
+fn put_operations(bytes: &mut [u8; 32], operations: &[u8], key: u8)
+    requires { length operations.now ≤ 14 }
+{
+    for place in 0..operations.len() {
+        bytes[18 + place] = operations[place] ^ key;
     }
 }
 
+/// A message of the client, what the slot answers, and whether a gamestate is owed then: the message's number, its map's id, the
+/// number that it acknowledges, and its operations.
+type Row = (u8, u8, u8, &'static [u8], ServerTook, bool);
+
+/// The slot takes messages, one after the other, of which no command and no move runs.
+fn waits(
+    rt: &impl Abort,
+    slot: &mut Slot,
+    profile: &Profile,
+    map: &Map,
+    said: &mut ClientMessage,
+    rows: &[Row],
+) {
+    let mut heard = Heard::new();
+    for (number, id, acknowledged, operations, answer, owed) in rows {
+        let longs = (*number, *id, *acknowledged);
+        assert_eq!(rt;
+            says(rt, slot, profile, map, longs, operations, said, &mut heard),
+            *answer
+        );
+        assert_eq!(rt; heard.owed, *owed);
+        assert!(rt; heard.commands.is_empty() && heard.moves.is_empty());
+        assert_eq!(rt; heard.entered, None);
+    }
+}
+
+const NOTHING: &[u8] = &[0x05, 0x00];
+
+/// A move at the time 5, that asks for deltas.
+const AT_5: &[u8] = &[0x02, 0x01, 0x0b, 0x14, 0x00];
+
+/// Message 3, of map 3, before there is a map.
+fn before_the_first_map() -> [Row; 1] {
+    let ignored = ServerTook::Ignored { slot: 1, id: 3 };
+    [(3, 3, 7, AT_5, ignored, false)]
+}
+
+/// What a client says that is connected to map 1.
+fn on_the_first_map() -> [Row; 6] {
+    let bad = ServerTook::Illegible(1, ClientIllegible::BadOp(9));
+    let none = ServerTook::Illegible(1, ClientIllegible::MoveCount(0));
+    [
+        // no gamestate was begun, and the message is of the map
+        (4, 1, 0, AT_5, ServerTook::Ran { slot: 1, number: 4 }, false),
+        (4, 0, 0, NOTHING, ServerTook::Old(1), false),
+        (5, 1, 0, &[0x09, 0x00], bad, false),
+        (
+            6,
+            1,
+            0,
+            &[0x04, 0x02, 0x00, 0x00, 0x00, 0x61, 0x00, 0x05, 0x00],
+            ServerTook::Gap { slot: 1, number: 2 },
+            false,
+        ),
+        // of another map, also where what is behind the longs isn't legible
+        (
+            7,
+            0,
+            0,
+            &[0x09, 0x00],
+            ServerTook::Ignored { slot: 1, id: 0 },
+            true,
+        ),
+        (8, 1, 0, &[0x03, 0x00, 0x05, 0x00], none, true),
+    ]
+}
+
+/// What it says behind a further map.
+fn on_the_next_map() -> [Row; 2] {
+    let ran = ServerTook::Ran { slot: 1, number: 9 };
+    let ignored = ServerTook::Ignored { slot: 1, id: 1 };
+    [
+        (9, 2, 0, AT_5, ran, false),
+        (10, 1, 200, AT_5, ignored, true),
+    ]
+}
+
 #[test]
-fn moves_run_once_and_by_rising_time(rt: HostRuntime) -> Result<(), Fail> {
+fn connected_client_waits_for_a_gamestate(rt: HostRuntime) -> Result<(), Fail> {
     let profile = profile(
         rt.alloc(),
         Table::of(&[0, 8, -16]).expect(&rt, "a table"),
         Table::of(&[0, 16]).expect(&rt, "a table"),
     )?;
     let mut slot = joined(rt.alloc())?;
+    let mut map = Map::new(rt.alloc())?;
     let mut said = ClientMessage::new(rt.alloc())?;
-    let mut heard = Heard::new();
-    let at_5: &[u8] = &[0x03, 0x01, 0x0b, 0x14, 0x00];
-    let at_5_5_7: &[u8] = &[0x03, 0x03, 0x0b, 0x04, 0x50, 0x40, 0x01];
-    let no_operation: &[u8] = &[0x09, 0x00];
-    let no_move: &[u8] = &[0x03, 0x00, 0x05, 0x00];
-    let nothing: &[u8] = &[0x05, 0x00];
-    let bad = ServerTook::Illegible(1, ClientIllegible::BadOp(9));
-    let none = ServerTook::Illegible(1, ClientIllegible::MoveCount(0));
-    // a message's number and operations, the answer, and of the moves run how many there are and the last one's time
-    let table = [
-        (1, nothing, ServerTook::Ran { slot: 1, number: 1 }, 0, 0),
-        (2, at_5, ServerTook::Ran { slot: 1, number: 2 }, 1, 5),
-        (2, at_5, ServerTook::Old(1), 0, 0),
-        (3, at_5, ServerTook::Ran { slot: 1, number: 3 }, 0, 0),
-        (4, no_operation, bad, 0, 0),
-        (4, at_5_5_7, ServerTook::Old(1), 0, 0),
-        (5, no_move, none, 0, 0),
-        (6, at_5_5_7, ServerTook::Ran { slot: 1, number: 6 }, 1, 7),
-        (9, at_5_5_7, ServerTook::Ran { slot: 1, number: 9 }, 0, 0),
-    ];
-    for (number, operations, answer, count, last) in table {
-        assert_eq!(rt;
-            says(
-                &rt, &mut slot, &profile, number, operations, &mut said, &mut heard
-            ),
-            answer
-        );
-        assert_eq!(rt; heard.moves.len(), count);
-        assert_eq!(rt; last_time(&heard.moves), last);
-    }
+    let (slot, by, said) = (&mut slot, &profile, &mut said);
+    waits(&rt, slot, by, &map, said, &before_the_first_map());
+    assert_eq!(rt; map.new_map(1, 77), Ok(()));
+    waits(&rt, slot, by, &map, said, &on_the_first_map());
+    assert_eq!(rt; map.new_map(2, 77), Ok(()));
+    slot.on_new_map();
+    waits(&rt, slot, by, &map, said, &on_the_next_map());
     Ok(())
 }
 
-/// A piece of message 1 from the qport 5000 that has as many bytes as it says: nops, behind three longs that are 0 where
-/// it is the first.
+/// What is answered to a command that the game says.
+fn said(rt: &impl Abort, slot: &mut Slot, text: &[u8]) -> Result<u32, SayError> {
+    slot.say(&Text::of(text).expect(rt, "a text"))
+}
+
+#[test]
+fn commands_are_refused(rt: HostRuntime) -> Result<(), Fail> {
+    let mut empty = Slot::new(rt.alloc())?;
+    assert_eq!(rt;
+        said(&rt, &mut empty, b"cs 1 \"\""),
+        Err(SayError::NoClient)
+    );
+    assert_eq!(rt; empty.set_area(&[1]), Err(NoClient));
+    assert_eq!(rt; empty.address(), None);
+    let mut slot = joined(rt.alloc())?;
+    let own: [&[u8]; 2] = [b"cs 1 \"a\"\n", b"bcs2 1 \"\""];
+    for text in own {
+        assert_eq!(rt; said(&rt, &mut slot, text), Err(SayError::Own));
+    }
+    // of another index, with a leading zero, or without its quotes it isn't of that shape
+    let others: [&[u8]; 3] = [b"cs 2 \"a\"\n", b"cs 01 \"a\"", b"cs 1 a"];
+    for text in others {
+        assert_eq!(rt; said(&rt, &mut slot, text), Err(SayError::NotPrimed));
+    }
+    assert_eq!(rt; slot.set_area(&[1]), Ok(()));
+    Ok(())
+}
+
+/// A piece of message 1 from the qport 5000 that has as many bytes as it says: nops, behind the id 1 and two longs that are 0
+/// where it is the first.
 fn piece(alloc: Global, start: u16, length: u16) -> Result<Vec<u8>, AllocError> {
     let mut piece = Vec::new(alloc);
     piece.extend_from_slice(&[0x01, 0x00, 0x00, 0x80, 0x88, 0x13])?;
     piece.extend_from_slice(&start.to_le_bytes())?;
     piece.extend_from_slice(&length.to_le_bytes())?;
     for place in 0..length {
-        piece.push(if start == 0 && place < 12 { 0 } else { 1 })?;
+        piece.push(if start == 0 && 0 < place && place < 12 {
+            0
+        } else {
+            1
+        })?;
     }
     Ok(piece)
 }
 
-/// The slot takes a datagram, which gives this answer, and so many moves run.
+/// The slot takes a datagram, which gives this answer, and so many commands run.
 fn takes(
     rt: &impl Abort,
     slot: &mut Slot,
-    profile: &Profile,
+    by: (&Profile, &Map),
     datagram: &[u8],
     said: &mut ClientMessage,
     answer: ServerTook,
-    moves: usize,
+    commands: usize,
 ) {
     let mut heard = Heard::new();
-    assert_eq!(rt; take(slot, profile, datagram, said, &mut heard), answer);
-    assert_eq!(rt; heard.moves.len(), moves);
+    assert_eq!(rt; take(slot, by.0, by.1, datagram, said, &mut heard), answer);
+    assert_eq!(rt; heard.commands.len(), commands);
 }
 
 #[test]
@@ -156,22 +253,25 @@ fn a_message_comes_in_two_pieces(rt: HostRuntime) -> Result<(), Fail> {
         Table::of(&[0, 16]).expect(&rt, "a table"),
     )?;
     let mut slot = joined(alloc)?;
+    let mut map = Map::new(alloc)?;
+    assert_eq!(rt; map.new_map(1, 77), Ok(()));
     let mut said = ClientMessage::new(alloc)?;
     let first = piece(alloc, 0, 1_300)?;
     let behind_a_gap = piece(alloc, 1_301, 5)?;
     let long = piece(alloc, 1_300, 1_301)?;
-    // it begins at 1,300 and has five bytes: a move at the time 5
+    // it begins at 1,300 and has nine bytes: the command 1, `a`
     let last = [
-        0x01, 0x00, 0x00, 0x80, 0x88, 0x13, 0x14, 0x05, 0x05, 0x00, 0x03, 0x01, 0x0b, 0x14, 0x00,
+        0x01, 0x00, 0x00, 0x80, 0x88, 0x13, 0x14, 0x05, 0x09, 0x00, 0x04, 0x01, 0x00, 0x00, 0x00,
+        0x61, 0x00, 0x05, 0x00,
     ];
     let ran = ServerTook::Ran { slot: 1, number: 1 };
     let gap = ServerTook::OutOfOrder(1);
     let bad = ServerTook::BadFragment(1);
-    let (slot, by, said) = (&mut slot, &profile, &mut said);
+    let (slot, by, said) = (&mut slot, (&profile, &map), &mut said);
     takes(&rt, slot, by, &first, said, ServerTook::Partial(1), 0);
     takes(&rt, slot, by, &behind_a_gap, said, gap, 0);
     takes(&rt, slot, by, &long, said, bad, 0);
-    takes(&rt, slot, by, &last[..14], said, bad, 0);
+    takes(&rt, slot, by, &last[..18], said, bad, 0);
     takes(&rt, slot, by, &last, said, ran, 1);
     takes(&rt, slot, by, &last, said, ServerTook::Old(1), 0);
     Ok(())

@@ -1,8 +1,7 @@
-use Rattle.std.proofs.Common.{◌≡◌, ◌∙◌, Some, sym, ap, rules}
-use Rattle.q3_bits.specs.Streams.{holding}
+use Rattle.std.proofs.Common.{◌≡◌, ◌∙◌, Option, Some, sym, ap, rules}
 use Rattle.q3_clmsg.specs.Values.{said_of}
 use Rattle.q3_slot.specs.Slot.{SlotState}
-use Rattle.q3_slot.specs.Slots.{slot_of, slot_behind, took_of, commands_run, moves_run}
+use Rattle.q3_slot.specs.Slots.{came_of, slot_of, slot_behind, taken_of}
 use Rattle.q3_slot.specs.Taking.{SlotTaken, run_read, take_slot}
 use Rattle.q3_slot.proofs.Taken.{whole_is_taken}
 use Rattle.q3_slot.proofs.slot.Slot.take.Goals as goal
@@ -16,30 +15,40 @@ is_first c = search rules
 
 -- what the message does to it
 taken : (c : goal.After-run)
-    → run_read (slot_of c.self.inside.sender c.take.new.self c.self.inside.issued c.set_address.new.self) c.args.slot c.in-Whole.number
-    (holding (said_of c.read-read.new.into) c.read-read.result)
-    ≡ take_slot c.args.profile.now c.args.slot c.args.from c.args.datagram.now (first c)
+    → run_read c.args.map.now (slot_of c.self.inside.sender c.take.new.self c.self.inside.issued c.set_address.new.self) c.args.slot c.in-Whole.number
+    (came_of (said_of c.read-read.new.into) c.read-read.result)
+    ≡ take_slot c.args.profile.now c.args.map.now c.args.slot c.args.from c.args.datagram.now (first c)
 taken c =
-    sym (whole_is_taken c.args.profile.now c.args.slot c.args.from c.args.datagram.now c.self.inside.sender c.self.inside.gatherer c.take.new.self
+    sym (whole_is_taken c.args.profile.now c.args.map.now c.args.slot c.args.from c.args.datagram.now c.self.inside.sender c.self.inside.gatherer c.take.new.self
     c.self.inside.issued c.in-Some.client c.set_address.new.self c.in-Whole.number c.in-Whole.length _ _ c.set_address.ensures c.take.ensures.gathering
     (sym c.in-Whole.ensures.answer) c.in-Whole.ensures.message.1 c.read-read.ensures)
 
 pub returns-clause-slot : goal.returns-clause-slot
 returns-clause-slot c =
     ap (λ (slot : SlotState). Some slot) (c.run.ensures.slot c.self.inside.sender c.take.new.self ∙ ap (λ (t : SlotTaken). t.slot) (taken c))
-    ∙ ap (slot_behind c.args.profile.now c.args.slot c.args.from c.args.datagram.now) (is_first c)
+    ∙ ap (slot_behind c.args.profile.now c.args.map.now c.args.slot c.args.from c.args.datagram.now) (is_first c)
 
 pub returns-clause-answer : goal.returns-clause-answer
 returns-clause-answer c =
     c.run.ensures.answer c.self.inside.sender c.take.new.self ∙ ap (λ (t : SlotTaken). t.answer) (taken c)
-    ∙ ap (took_of c.args.profile.now c.args.slot c.args.from c.args.datagram.now) (is_first c)
+    ∙ ap (λ (found : Option SlotState). (taken_of c.args.profile.now c.args.map.now c.args.slot c.args.from c.args.datagram.now found).answer) (is_first c)
 
 pub returns-clause-commands : goal.returns-clause-commands
 returns-clause-commands c =
     c.run.ensures.commands c.self.inside.sender c.take.new.self ∙ ap (λ (t : SlotTaken). t.commands) (taken c)
-    ∙ ap (commands_run c.args.profile.now c.args.slot c.args.from c.args.datagram.now) (is_first c)
+    ∙ ap (λ (found : Option SlotState). (taken_of c.args.profile.now c.args.map.now c.args.slot c.args.from c.args.datagram.now found).commands) (is_first c)
 
 pub returns-clause-moves : goal.returns-clause-moves
 returns-clause-moves c =
     c.run.ensures.moves c.self.inside.sender c.take.new.self ∙ ap (λ (t : SlotTaken). t.moves) (taken c)
-    ∙ ap (moves_run c.args.profile.now c.args.slot c.args.from c.args.datagram.now) (is_first c)
+    ∙ ap (λ (found : Option SlotState). (taken_of c.args.profile.now c.args.map.now c.args.slot c.args.from c.args.datagram.now found).moves) (is_first c)
+
+pub returns-clause-entered : goal.returns-clause-entered
+returns-clause-entered c =
+    c.run.ensures.entered c.self.inside.sender c.take.new.self ∙ ap (λ (t : SlotTaken). t.entered) (taken c)
+    ∙ ap (λ (found : Option SlotState). (taken_of c.args.profile.now c.args.map.now c.args.slot c.args.from c.args.datagram.now found).entered) (is_first c)
+
+pub returns-clause-owed : goal.returns-clause-owed
+returns-clause-owed c =
+    c.run.ensures.owed c.self.inside.sender c.take.new.self ∙ ap (λ (t : SlotTaken). t.owed) (taken c)
+    ∙ ap (λ (found : Option SlotState). (taken_of c.args.profile.now c.args.map.now c.args.slot c.args.from c.args.datagram.now found).owed) (is_first c)
