@@ -6,7 +6,7 @@ use Rattle.circular_buffer.specs.Buffer.{keep_last}
 use Rattle.q3_clmsg.specs.declared.moves.Move.{Move}
 use Rattle.q3_client.specs.declared.moves.Issued.{Issued}
 use Rattle.q3_client.specs.declared.client.MoveError.{MoveError}
-use Rattle.q3_client.specs.declared.client.MoveError.TheVariants.{NotLater, Range}
+use Rattle.q3_client.specs.declared.client.MoveError.TheVariants.{NoGame, NotLater, Range}
 use Rattle.q3_client.specs.Client.{ClientState}
 
 -- how many recent moves are kept, and how many a message carries at most
@@ -33,9 +33,10 @@ issue client one = record client {
   last_time = one.time;
 }
 
--- a client issues a move; times rise
+-- a client issues a move once it has a gamestate; times rise
 abbrev pub add_move_at : ClientState → Move → Handed MoveError
 add_move_at client one =
+    if not client.state.has_game then record { client = client; answer = Err NoGame } else
     if nat_le one.time client.last_time then record { client = client; answer = Err (NotLater client.last_time) } else
     if is_issuable one then record { client = issue client one; answer = Ok tt }
     else record { client = client; answer = Err Range }

@@ -1,9 +1,9 @@
 -- What a client sends. Each emission gives the client after it, its answer, and what it hands out.
-use Rattle.std.specs.Prelude.{ℕ, ◌+◌, if◌then◌else◌, ◌≡◌, Bool, false, List, [], ◌∷◌, length, nat_le, nat_lt, Option, Some, None}
+use Rattle.std.specs.Prelude.{ℕ, ◌+◌, ◌^◌, ◌<◌, if◌then◌else◌, ◌≡◌, Bool, false, List, [], ◌∷◌, length, nat_le, nat_lt, Option, Some, None}
 use Rattle.q3_bits.specs.Bits.{message_bytes, message_length}
 use Rattle.q3_bits.specs.Words.{row_bits}
 use Rattle.q3_text.specs.declared.text.Command.{Command}
-use Rattle.q3_window.specs.Outgoing.{carried as waiting_of}
+use Rattle.q3_window.specs.Outgoing.{issued_of, carried as waiting_of}
 use Rattle.q3_chan.specs.Datagrams.{sequence_end, longest_message}
 use Rattle.q3_chan.specs.Sending.{UnderWay, Piece, started, next_of}
 use Rattle.q3_chan.specs.Scrambling.{scrambled}
@@ -21,35 +21,39 @@ use Rattle.q3_client.specs.declared.client.Sent.TheVariants as sent
 use Rattle.q3_client.specs.Client.{ClientState}
 use Rattle.q3_client.specs.Moves.{carried, asks_delta}
 
--- a message that was begun, the number from which its keys start, and their text: that of the last server command executed
+-- a message that was begun, the number of the last command issued by then, the checksum feed by which its moves are written, the
+-- number from which its keys start, and their text: that of the last server command executed
 pub record Said : Type 0 where
   pub message : Message
+  pub last : ℕ
+  pub feed : ℕ
   pub start : ℕ
   pub text : List ℕ
 
--- a message with these commands and moves, which acknowledges a server message and a server command; the interim rule: no
--- map's id
-abbrev pub message_with : ℕ → ℕ → List Command → Bool → List Move → Message
-message_with acknowledged command commands delta moves =
-    record { id = 0; acknowledged = acknowledged; command = command; commands = commands; delta = asks_delta delta moves; moves = moves }
+-- a message of a map with these commands and moves, which acknowledges a server message and a server command
+abbrev pub message_with : ℕ → ℕ → ℕ → List Command → Bool → List Move → Message
+message_with id acknowledged command commands delta moves =
+    record { id = id; acknowledged = acknowledged; command = command; commands = commands; delta = asks_delta delta moves; moves = moves }
 
 -- the message that goes to the server next: it carries all commands that aren't acknowledged
 abbrev pub next_message : ClientState → Message
 next_message client =
-    message_with client.gathering.taken client.state.executed.executed (waiting_of client.issued) client.delta
+    message_with client.state.id client.gathering.taken client.state.executed.executed (waiting_of client.issued) client.delta
     (carried (client.sending.number + 1) client.dup client.moves)
 
 -- and with it what it is scrambled by
 abbrev pub next_said : ClientState → Said
 next_said client = record {
   message = next_message client;
-  start = client_start client.challenge 0 client.gathering.taken;
+  last = issued_of client.issued;
+  feed = client.state.feed;
+  start = client_start client.challenge client.state.id client.gathering.taken;
   text = client.state.executed.last;
 }
 
--- the bits of a message; the interim rule: the map's checksum feed is 0
+-- the bits of a message
 abbrev pub said_bits : Profile → Said → List Bool
-said_bits profile said = client_text profile.code (message_key 0 said.message.acknowledged said.text) said.message
+said_bits profile said = client_text profile.code (message_key said.feed said.message.acknowledged said.text) said.message
 
 -- and its bytes, scrambled behind the three leading longs
 abbrev pub said_bytes : Profile → Said → List ℕ
@@ -62,6 +66,7 @@ is_unclear profile message = nat_lt 96 (length (row_bits profile.code ((message.
 -- a message as a client begins it that joined with a challenge
 pub record IsSaid (profile : Profile) (challenge : ℕ) (said : Said) : Type 0 where
   pub message : IsMessage said.message
+  pub feed : said.feed < 2 ^ 32
   pub start : said.start ≡ client_start challenge said.message.id said.message.acknowledged
   pub text : IsText said.text
   pub clear : is_unclear profile said.message ≡ false

@@ -56,6 +56,8 @@ pub enum ClientTook {
 /// Why a move can't be issued.
 #[derive(Clone, Copy, Debug, PartialEq, Eq)]
 pub enum MoveError {
+    /// No gamestate was applied.
+    NoGame,
     /// Its time isn't above that of the last move issued, which is this, in milliseconds.
     NotLater(u32),
     /// Forward, right or up is -128, or the time is 2^31 or above.
@@ -201,7 +203,8 @@ impl Client {
         }
     }
 
-    /// Notes of a message that was applied whether its snapshot was accepted. A gamestate wipes the moves.
+    /// Notes of a message that was applied whether its snapshot was accepted. A gamestate wipes the moves, and keeps the time of
+    /// the last one.
     fn note(&mut self, applied: &Applied)
         ensures { self.new ≡ record self.old { delta = is_accepted applied.now.snap; moves = moves_behind applied.now.game self.old.moves } }
     {
@@ -211,12 +214,15 @@ impl Client {
         }
     }
 
-    /// Issues a move: the messages that are begun next carry it. `Err` is the first of: `NotLater` exactly where its time
-    /// isn't above that of the last move issued, or 0 before the first; `Range` exactly where forward, right or up is -128,
-    /// or the time is 2^31 or above.
+    /// Issues a move: the messages that are begun next carry it. `Err` is the first of: `NoGame` exactly where no gamestate was
+    /// applied; `NotLater` exactly where its time isn't above that of the last move issued, also of one before the last
+    /// gamestate, or 0 before the first; `Range` exactly where forward, right or up is -128, or the time is 2^31 or above.
     pub fn add_move(&mut self, one: &Move) -> Result<(), MoveError>
         ensures { add_move_at self.old one.now ≡ record { client = self.new; answer = result } }
     {
+        if !self.state.has_game() {
+            return Err(MoveError::NoGame);
+        }
         if one.time <= self.last_time {
             return Err(MoveError::NotLater(self.last_time));
         }

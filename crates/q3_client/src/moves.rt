@@ -2,7 +2,7 @@
 //! Keeps the rules "which moves may be issued" and "which moves a message carries", the engine's `CL_WritePacket`
 //! (cl_input.c).
 
-ghost use Rattle.std.specs.Prelude.{◌≡◌};
+ghost use Rattle.std.specs.Prelude.{◌≡◌, ◌≤◌, length};
 ghost use Rattle.q3_client.specs.Moves.{most_moves, is_issuable, is_carried, carried};
 
 use arrayvec::ArrayVec;
@@ -44,7 +44,8 @@ pub(crate) fn carry(
     into: &mut ArrayVec<Move, 32>,
 )
     requires { moves.now.capacity ≡ most_moves }
-    ensures { into.new.items ≡ carried number dup moves.now.items }
+    ensures carried { into.new.items ≡ carried number dup moves.now.items }
+    ensures few { length into.new.items ≤ most_moves }
 {
     // they fit the room, since a ring holds no more than it has room for
     prove!(moves.len() <= MOST_MOVES);

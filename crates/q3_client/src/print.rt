@@ -7,20 +7,33 @@ ghost use Rattle.q3_io.specs.Written.{Adds};
 ghost use Rattle.q3_svmsg.specs.Report.{cause_word, cause_number};
 ghost use Rattle.q3_client.specs.Report.{illegible_text, client_text, move_error_text, send_text};
 
-use crate::client::{ClientTook, MoveError, Sent};
-use q3_clstate::{Applied, Log, print_applied};
+use crate::client::{Client, ClientTook, MoveError, Sent};
+use q3_clstate::{Applied, ClState, Log, print_applied};
 use q3_io::{Failed, Piece, Sink, laws, print_all};
 use q3_svmsg::{Illegible, cause_number, cause_word};
 
-/// Prints what stands behind `deliver D`, or `arrive`, where a client took a datagram: the rest of that line, and the lines
-/// of the commands that it executed and of the snapshot. `Failed` comes where the sink failed, behind a front of it.
-pub fn print_took<O: Sink>(c: u8, took: &ClientTook, log: &Log, out: &mut O) -> Result<(), Failed>
+/// Prints what stands behind `deliver D`, or `arrive`, where a client took a datagram, with the client behind it: the rest of that
+/// line, and the lines of the commands that it executed, of the gamestate and of the snapshot. `Failed` comes where the sink
+/// failed, behind a front of it.
+pub fn print_took<O: Sink>(
+    client: &Client,
+    c: u8,
+    took: &ClientTook,
+    log: &Log,
+    out: &mut O,
+) -> Result<(), Failed>
     ensures adds { Adds (O.written out.old) (O.written out.new)
-        (client_text c took.now log.now.commands.items) result }
+        (client_text client.now.state c took.now log.now.commands.items) result }
     ensures cause { HasCause (O.faults out.old) (O.faults out.new) result }
 {
     let word: &[u8] = match took {
-        ClientTook::Applied(applied) => return print_delivered(c, applied, log, out),
+        ClientTook::Applied(applied) => return print_delivered(
+            client.state(),
+            c,
+            applied,
+            log,
+            out,
+        ),
         ClientTook::Illegible(cause) => return print_illegible(c, *cause, out),
         ClientTook::Dropped(_) => b" dropped\n",
         ClientTook::Runt => b" runt\n",
@@ -73,13 +86,19 @@ fn print_illegible<O: Sink>(c: u8, cause: Illegible, out: &mut O) -> Result<(), 
 }
 
 /// Prints the lines of a delivery of what was applied.
-fn print_delivered<O: Sink>(c: u8, applied: &Applied, log: &Log, out: &mut O) -> Result<(), Failed>
-    ensures adds { Adds (O.written out.old) (O.written out.new) (client_text c (ClientTook.Applied applied.now) log.now.commands.items) result }
+fn print_delivered<O: Sink>(
+    state: &ClState,
+    c: u8,
+    applied: &Applied,
+    log: &Log,
+    out: &mut O,
+) -> Result<(), Failed>
+    ensures adds { Adds (O.written out.old) (O.written out.new) (client_text state.now c (ClientTook.Applied applied.now) log.now.commands.items) result }
     ensures cause { HasCause (O.faults out.old) (O.faults out.new) result }
 {
     laws::texts_follow();
     print_number(c, applied.number, out)?;
-    print_applied(applied, log, out)
+    print_applied(state, applied, log, out)
 }
 
 fn print_number<O: Sink>(c: u8, number: u32, out: &mut O) -> Result<(), Failed>
@@ -106,6 +125,7 @@ pub fn print_move_error<O: Sink>(error: MoveError, out: &mut O) -> Result<(), Fa
     ensures cause { HasCause (O.faults out.old) (O.faults out.new) result }
 {
     match error {
+        MoveError::NoGame => print_all(&[Piece::Text(b"nogame")], out),
         MoveError::NotLater(last) => print_all(
             &[Piece::Text(b"notlater "), Piece::Number(u64::from(last))],
             out,

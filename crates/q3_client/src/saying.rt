@@ -10,6 +10,7 @@ ghost use Rattle.q3_window.specs.Outgoing.{carried as waiting_of};
 ghost use Rattle.q3_clmsg.specs.Moves.{message_key};
 ghost use Rattle.q3_clmsg.specs.Texts.{client_text};
 ghost use Rattle.q3_clmsg.specs.Values.{parts_said};
+ghost use Rattle.q3_client.specs.Moves.{most_moves};
 ghost use Rattle.q3_client.specs.Sending.{message_with};
 ghost use Rattle.q3_client.specs.Saying.{FillsScrambled};
 
@@ -27,14 +28,15 @@ const CLEAR_BITS: usize = 96;
 
 /// Whether the leading longs of the message that goes to the server next take more bits than aren't scrambled.
 pub(crate) fn is_unclear(state: &ClState, acknowledged: u32) -> bool
-    ensures { result ≡ nat_lt 96 (length (row_bits state.now.profile.code ((0, 32) ∷ (acknowledged, 32) ∷ (state.now.executed.executed, 32) ∷ []))) }
+    ensures { result ≡ nat_lt 96 (length (row_bits state.now.profile.code ((state.now.id, 32) ∷ (acknowledged, 32) ∷ (state.now.executed.executed, 32) ∷ []))) }
 {
-    let longs = [(0, 32), (acknowledged, 32), (state.executed(), 32)];
+    let longs = [(state.id(), 32), (acknowledged, 32), (state.executed(), 32)];
     state.profile().code.row_length(&longs) > CLEAR_BITS
 }
 
 /// Writes the message that goes to the server next, with these moves, to the front of a buffer, and answers how many bytes it
-/// has. `Overflow` comes exactly where the message is longer than 16,384 bytes.
+/// has. It has the map's id, by which the keys of its scrambling start too, and its moves are hidden by the checksum feed.
+/// `Overflow` comes exactly where the message is longer than 16,384 bytes.
 pub(crate) fn write_scrambled(
     state: &ClState,
     outgoing: &Outgoing,
@@ -45,16 +47,16 @@ pub(crate) fn write_scrambled(
     into: &mut [u8],
 ) -> Result<usize, Overflow>
     requires room { length into.old ≡ longest_message }
-    requires few { length moves.now ≤ 32 }
-    ensures { FillsScrambled (client_start challenge 0 acknowledged) state.now.executed.last
-        (client_text state.now.profile.code (message_key 0 acknowledged state.now.executed.last)
-        (message_with acknowledged state.now.executed.executed (waiting_of outgoing.now) delta moves.now)) into.new result }
+    requires few { length moves.now ≤ most_moves }
+    ensures { FillsScrambled (client_start challenge state.now.id acknowledged) state.now.executed.last
+        (client_text state.now.profile.code (message_key state.now.feed acknowledged state.now.executed.last)
+        (message_with state.now.id acknowledged state.now.executed.executed (waiting_of outgoing.now) delta moves.now)) into.new result }
 {
     let text = state.last_text();
-    let key = message_key(0, acknowledged, text);
+    let key = message_key(state.feed(), acknowledged, text);
     let parts = parts_of(state, outgoing, acknowledged, delta, moves);
     let bytes = write_said(&state.profile().code, parts, key, into)?;
-    let start = client_start(challenge, 0, acknowledged);
+    let start = client_start(challenge, state.id(), acknowledged);
     scramble(&mut into[..bytes], SCRAMBLED_FROM, start, text);
     Ok(bytes)
 }
@@ -67,11 +69,10 @@ fn parts_of<'a>(
     delta: bool,
     moves: &'a [Move],
 ) -> SaidParts<'a>
-    ensures moves { result.moves.now ≡ moves.now }
-    ensures parts { parts_said result ≡ message_with acknowledged state.now.executed.executed (waiting_of outgoing.now) delta moves.now }
+    ensures { parts_said result ≡ message_with state.now.id acknowledged state.now.executed.executed (waiting_of outgoing.now) delta moves.now }
 {
     SaidParts {
-        id: 0,
+        id: state.id(),
         acknowledged,
         command: state.executed(),
         commands: outgoing.waiting(),

@@ -1,6 +1,6 @@
 //! What a client takes and sends, with bytes worked by hand, by the plain code, entity widths 0, 8, -16 and player widths
-//! 0, 16, and what is printed of its answers. The challenge is 17, and where no command is acknowledged each byte of message n is
-//! scrambled by 17 xor n.
+//! 0, 16, and what is printed of its answers. The challenge is 17, and where no command is acknowledged each byte of server message
+//! n is scrambled by 17 xor n, and of a client's message by 17 xor the map's id xor the number that it acknowledges.
 
 use super::*;
 use arrayvec::ArrayVec;
@@ -24,14 +24,26 @@ const SNAPSHOT: [u8; 20] = [
     1, 0, 0, 0, 0, 0, 0, 0, 0x17, 0xf8, 0x13, 0x10, 0x10, 0x10, 0x12, 0x10, 0x10, 0xee, 0x57, 0x10,
 ];
 
-/// The datagram of server message 2, with a snapshot against that of message 1, of the time 1000, with no entity.
-const DELTA_SNAPSHOT: [u8; 20] = [
-    2, 0, 0, 0, 0, 0, 0, 0, 0x14, 0xfb, 0x10, 0x13, 0x13, 0x12, 0x11, 0x13, 0x13, 0xed, 0x54, 0x13,
+/// The datagram of server message 2: the gamestate of map 1 with the feed 77, for slot 0.
+const GAME: [u8; 42] = [
+    2, 0, 0, 0, 0, 0, 0, 0, 0x11, 0x13, 0x13, 0x13, 0x13, 0x10, 0x12, 0x13, 0x4f, 0x60, 0x65, 0x4c,
+    0x60, 0x76, 0x61, 0x65, 0x76, 0x61, 0x7a, 0x77, 0x4f, 0x22, 0x13, 0x1b, 0x13, 0x13, 0x13, 0x13,
+    0x5e, 0x13, 0x13, 0x13, 0x1b, 0x13,
 ];
 
-/// The datagram of server message 4, with a snapshot against that of message 3.
+/// The datagram of server message 3: a snapshot without a base, of the time 1000, with the flags 4 and no entity.
+const BEHIND_GAME: [u8; 20] = [
+    3, 0, 0, 0, 0, 0, 0, 0, 0x15, 0xfa, 0x11, 0x12, 0x12, 0x12, 0x16, 0x12, 0x12, 0xec, 0x55, 0x12,
+];
+
+/// The datagram of server message 4, with such a snapshot against that of message 3.
+const DELTA_SNAPSHOT: [u8; 20] = [
+    4, 0, 0, 0, 0, 0, 0, 0, 0x12, 0xfd, 0x16, 0x15, 0x15, 0x14, 0x11, 0x15, 0x15, 0xeb, 0x52, 0x15,
+];
+
+/// The datagram of server message 6, with such a snapshot against that of message 5.
 const SKIPPED_SNAPSHOT: [u8; 20] = [
-    4, 0, 0, 0, 0, 0, 0, 0, 0x12, 0xfd, 0x16, 0x15, 0x15, 0x14, 0x17, 0x15, 0x15, 0xeb, 0x52, 0x15,
+    6, 0, 0, 0, 0, 0, 0, 0, 0x10, 0xff, 0x14, 0x17, 0x17, 0x16, 0x13, 0x17, 0x17, 0xe9, 0x50, 0x17,
 ];
 
 /// The datagram of server message 2, which has nothing in it.
@@ -42,8 +54,8 @@ const COMMAND: [u8; 17] = [
     1, 0, 0, 0, 0, 0, 0, 0, 0x15, 0x11, 0x10, 0x10, 0x10, 0x72, 0x10, 0x18, 0x10,
 ];
 
-/// The datagram of server message 5, with a gamestate in which nothing but the server's id is set.
-const GAME: [u8; 42] = [
+/// The datagram of server message 5: the gamestate of map 1 with the feed 0, for slot 0.
+const SECOND_GAME: [u8; 42] = [
     5, 0, 0, 0, 0, 0, 0, 0, 0x16, 0x14, 0x14, 0x14, 0x14, 0x17, 0x15, 0x14, 0x48, 0x67, 0x62, 0x4b,
     0x67, 0x71, 0x66, 0x62, 0x71, 0x66, 0x7d, 0x70, 0x48, 0x25, 0x14, 0x1c, 0x14, 0x14, 0x14, 0x14,
     0x14, 0x14, 0x14, 0x14, 0x1c, 0x14,
@@ -70,6 +82,22 @@ fn applied(number: u32, snap: SnapOutcome) -> ClientTook {
         game: false,
         snap,
     })
+}
+
+/// What is answered where one with a gamestate was.
+fn started(number: u32) -> ClientTook {
+    ClientTook::Applied(Applied {
+        number,
+        game: true,
+        snap: SnapOutcome::NoSnap,
+    })
+}
+
+/// The same client behind the gamestate of message 2.
+fn playing(rt: &impl Abort, alloc: Global, dup: u8) -> Result<Client, NoMemory> {
+    let mut client = client(rt, alloc, dup)?;
+    assert_eq!(rt; take(&mut client, &GAME), started(2));
+    Ok(client)
 }
 
 /// Issues a move of a time, with so much forward.
@@ -114,30 +142,32 @@ fn sends(rt: &impl Abort, client: &mut Client, number: u32, bytes: usize, datagr
 }
 
 #[test]
-fn messages_have_their_moves(rt: HostRuntime) -> Result<(), Fail> {
+fn first_frame_over_one_client(rt: HostRuntime) -> Result<(), Fail> {
     let mut client = client(&rt, rt.alloc(), 0)?;
     let accepted = applied(1, SnapOutcome::Accepted { base: 0 });
     assert_eq!(rt; take(&mut client, &SNAPSHOT), accepted);
-    let empty = [
+    assert_eq!(rt; issue(&mut client, 500, 10), Err(MoveError::NoGame));
+    let of_no_map = [
         1, 0, 0, 0, 0x88, 0x13, 0, 0, 0, 0, 1, 0, 0, 0, 0, 0, 0, 0, 0x15, 0x10,
     ];
-    sends(&rt, &mut client, 1, 14, &empty);
-    // the key is 1 xor 500, and 10 xor 245 is 255
+    sends(&rt, &mut client, 1, 14, &of_no_map);
+    assert_eq!(rt; take(&mut client, &GAME), started(2));
+    // the key is 77 xor 2 xor 500, 443, and 10 xor 187 is 177; no snapshot came with the gamestate
     assert_eq!(rt; issue(&mut client, 500, 10), Ok(()));
-    let with_delta = [
-        2, 0, 0, 0, 0x88, 0x13, 0, 0, 0, 0, 1, 0, 0, 0, 0, 0, 0, 0, 0x12, 0x11, 0xf8, 0x13, 0x10,
-        0x10, 0xf2, 0x2f, 4, 0x10,
-    ];
-    sends(&rt, &mut client, 2, 22, &with_delta);
-    let nothing = applied(2, SnapOutcome::NoSnap);
-    assert_eq!(rt; take(&mut client, &NOTHING), nothing);
-    // the key is 2 xor 520, and 10 xor 10 is 0
-    assert_eq!(rt; issue(&mut client, 520, 10), Ok(()));
     let without_delta = [
-        3, 0, 0, 0, 0x88, 0x13, 0, 0, 0, 0, 2, 0, 0, 0, 0, 0, 0, 0, 0x10, 0x12, 3, 0x17, 0x13,
-        0x13, 0x31, 0x13, 7, 0x13,
+        2, 0, 0, 0, 0x88, 0x13, 1, 0, 0, 0, 2, 0, 0, 0, 0, 0, 0, 0, 0x11, 0x13, 0xfa, 0x11, 0x12,
+        0x12, 0x70, 0x3e, 6, 0x12,
     ];
-    sends(&rt, &mut client, 3, 22, &without_delta);
+    sends(&rt, &mut client, 2, 22, &without_delta);
+    let accepted = applied(3, SnapOutcome::Accepted { base: 0 });
+    assert_eq!(rt; take(&mut client, &BEHIND_GAME), accepted);
+    // the key is 77 xor 3 xor 520, 582, and 10 xor 70 is 76
+    assert_eq!(rt; issue(&mut client, 520, 10), Ok(()));
+    let with_delta = [
+        3, 0, 0, 0, 0x88, 0x13, 1, 0, 0, 0, 3, 0, 0, 0, 0, 0, 0, 0, 0x11, 0x12, 3, 0x17, 0x13,
+        0x13, 0x31, 0, 7, 0x13,
+    ];
+    sends(&rt, &mut client, 3, 22, &with_delta);
     Ok(())
 }
 
@@ -237,7 +267,7 @@ fn last_of(client: &mut Client, moves: u32, messages: u32, more: u32) -> (Option
 
 /// A byte of a message of a client that executed no command, as it was before it was scrambled.
 fn plain_byte(client: &Client, out: &Datagram, place: usize) -> Option<u8> {
-    let key = ((17 ^ client.state().number()) % 256) as u8;
+    let key = ((17 ^ client.state().id() ^ client.state().number()) % 256) as u8;
     Some(out.get(place).copied()? ^ key)
 }
 
@@ -253,7 +283,7 @@ fn messages_repeat_moves(rt: HostRuntime) -> Result<(), Fail> {
         (0, 40, 0, 1, 32, 9),
     ];
     for (dup, moves, messages, more, count, oldest) in cases {
-        let mut client = client(&rt, rt.alloc(), dup)?;
+        let mut client = playing(&rt, rt.alloc(), dup)?;
         let (first, second) = last_of(&mut client, moves, messages, more);
         assert_eq!(rt; first, Some(count));
         assert_eq!(rt; second, Some(oldest.wrapping_mul(2).wrapping_add(1)));
@@ -264,6 +294,8 @@ fn messages_repeat_moves(rt: HostRuntime) -> Result<(), Fail> {
 #[test]
 fn moves_are_refused(rt: HostRuntime) -> Result<(), Fail> {
     let mut client = client(&rt, rt.alloc(), 0)?;
+    assert_eq!(rt; issue(&mut client, 0, -128), Err(MoveError::NoGame));
+    assert_eq!(rt; take(&mut client, &GAME), started(2));
     // time and forward of a move, and what is answered
     let cases: [(u32, i8, Result<(), MoveError>); 8] = [
         (0, 10, Err(MoveError::NotLater(0))),
@@ -321,37 +353,34 @@ fn newest_of(client: &Client) -> u32 {
 
 #[test]
 fn skipped_snapshot_ends_deltas(rt: HostRuntime) -> Result<(), Fail> {
-    let mut client = client(&rt, rt.alloc(), 0)?;
+    let mut client = playing(&rt, rt.alloc(), 0)?;
     assert_eq!(rt; (newest_of(&client), time_of(&client, 0)), (0, None));
-    take(&mut client, &SNAPSHOT);
+    take(&mut client, &BEHIND_GAME);
     assert_eq!(rt; operation_sent(&mut client, 500), Some(2));
-    let accepted = applied(2, SnapOutcome::Accepted { base: 1 });
+    let accepted = applied(4, SnapOutcome::Accepted { base: 3 });
     assert_eq!(rt; take(&mut client, &DELTA_SNAPSHOT), accepted);
     assert_eq!(rt; operation_sent(&mut client, 520), Some(2));
     let cause = NoBase::NeverHeld;
-    let skipped = applied(4, SnapOutcome::Skipped { base: 3, cause });
+    let skipped = applied(6, SnapOutcome::Skipped { base: 5, cause });
     assert_eq!(rt; take(&mut client, &SKIPPED_SNAPSHOT), skipped);
     assert_eq!(rt; operation_sent(&mut client, 540), Some(3));
-    assert_eq!(rt; newest_of(&client), 2);
-    assert_eq!(rt; time_of(&client, 1), Some(1000));
-    assert_eq!(rt; time_of(&client, 2), Some(1000));
-    assert_eq!(rt; time_of(&client, 4), None);
+    assert_eq!(rt; newest_of(&client), 4);
+    assert_eq!(rt; time_of(&client, 3), Some(1000));
+    assert_eq!(rt; time_of(&client, 4), Some(1000));
+    assert_eq!(rt; time_of(&client, 6), None);
     Ok(())
 }
 
 #[test]
 fn gamestate_wipes_moves(rt: HostRuntime) -> Result<(), Fail> {
-    let mut client = client(&rt, rt.alloc(), 1)?;
-    take(&mut client, &SNAPSHOT);
+    let mut client = playing(&rt, rt.alloc(), 1)?;
+    take(&mut client, &BEHIND_GAME);
     assert_eq!(rt; issue(&mut client, 500, 10), Ok(()));
-    let game = Applied {
-        number: 5,
-        game: true,
-        snap: SnapOutcome::NoSnap,
-    };
-    assert_eq!(rt; take(&mut client, &GAME), ClientTook::Applied(game));
-    assert_eq!(rt; (newest_of(&client), time_of(&client, 1)), (0, None));
-    // the end stands where moves would
+    assert_eq!(rt; take(&mut client, &SECOND_GAME), started(5));
+    assert_eq!(rt; (newest_of(&client), time_of(&client, 3)), (0, None));
+    // the last time stays, and the end stands where moves would
+    let late = Err(MoveError::NotLater(500));
+    assert_eq!(rt; issue(&mut client, 500, 10), late);
     assert_eq!(rt; operation_sent(&mut client, 500), Some(5));
     assert_eq!(rt; operation_sent(&mut client, 501), Some(3));
     Ok(())
@@ -412,8 +441,9 @@ fn hostile_datagrams_are_refused(rt: HostRuntime) -> Result<(), Fail> {
 
 /// Prints what a client answered to a datagram, which gives this text.
 fn took_prints(rt: &impl Abort, alloc: Global, c: u8, took: ClientTook, text: &[u8]) {
+    let client = playing(rt, alloc, 0).expect(rt, "a client");
     let mut out = MemSink::new(alloc, 128, &[]).expect(rt, "memory");
-    assert_eq!(rt; print_took(c, &took, &new_log(), &mut out), Ok(()));
+    assert_eq!(rt; print_took(&client, c, &took, &new_log(), &mut out), Ok(()));
     assert_eq!(rt; out.bytes(), text);
 }
 
@@ -432,6 +462,8 @@ fn takes_are_printed(rt: HostRuntime) {
     took_prints(&rt, alloc, 0, ack, b" client 0 illegible ack 5\n");
     let nothing = applied(2, SnapOutcome::NoSnap);
     took_prints(&rt, alloc, 0, nothing, b" client 0 applied 2\n");
+    let lines = b" client 1 applied 2\n+ gamestate id 1 slot 0 feed 77\n";
+    took_prints(&rt, alloc, 1, started(2), lines);
     let accepted = applied(40, SnapOutcome::Accepted { base: 39 });
     let lines = b" client 7 applied 40\n+ accepted 40 base 39\n";
     took_prints(&rt, alloc, 7, accepted, lines);
@@ -442,13 +474,16 @@ fn takes_are_printed(rt: HostRuntime) {
 }
 
 #[test]
-fn executed_commands_are_printed(rt: HostRuntime) {
+fn executed_commands_are_printed(rt: HostRuntime) -> Result<(), Fail> {
+    let client = client(&rt, rt.alloc(), 0)?;
     let log = log_of(&rt, 1, b"cp \"hi\"");
     let accepted = applied(2, SnapOutcome::Accepted { base: 1 });
     let mut out = MemSink::new(rt.alloc(), 128, &[]).expect(&rt, "memory");
-    assert_eq!(rt; print_took(0, &accepted, &log, &mut out), Ok(()));
+    let printed = print_took(&client, 0, &accepted, &log, &mut out);
+    assert_eq!(rt; printed, Ok(()));
     let lines = b" client 0 applied 2\n+ command 1 \"cp \\\"hi\\\"\"\n+ accepted 2 base 1\n";
     assert_eq!(rt; out.bytes(), lines.as_slice());
+    Ok(())
 }
 
 /// Prints what a client answered to a `send`, which gives this text.
@@ -482,6 +517,7 @@ fn sends_and_move_errors_are_printed(rt: HostRuntime) {
     sent_prints(&rt, alloc, Sent::SequenceEnd, 0, b"send 3 sequenceend\n");
     sent_prints(&rt, alloc, Sent::Unclear, 0, b"send 3 unclear\n");
     sent_prints(&rt, alloc, Sent::Overlong, 0, b"send 3 overlong\n");
+    error_prints(&rt, alloc, MoveError::NoGame, b"nogame");
     error_prints(&rt, alloc, MoveError::NotLater(530), b"notlater 530");
     error_prints(&rt, alloc, MoveError::Range, b"range");
 }

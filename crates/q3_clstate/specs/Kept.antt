@@ -14,6 +14,10 @@ state_in s = record {
   number = s.number;
   executed = s.incoming;
   has_game = s.has_game;
+  id = s.settings.id;
+  slot = s.slot;
+  feed = s.feed;
+  strings = s.settings.strings;
   lines = s.holding.baselines;
   held = s.holding.rings.held;
 }

@@ -1,9 +1,12 @@
 -- What the messages that were applied left at a client, and what one more does.
-use Rattle.std.specs.Prelude.{ℕ, zero, suc, ◌+◌, nat_le, if◌then◌else◌, Bool, true, false, List, [], Option, Some, None, option_map, Result, Ok, Err, is_ok}
+use Rattle.std.specs.Prelude.{ℕ, zero, suc, ◌+◌, ◌==◌, ◌&&◌, nat_le, if◌then◌else◌, Bool, true, false, List, [], ◌∷◌, Option, Some, None, option_map, unwrap_or, Result, Ok, Err, is_ok}
 use Rattle.q3_bits.specs.Bits.{bits_of}
 use Rattle.q3_bits.specs.ResultBind.{◌>>=◌}
 use Rattle.q3_text.specs.declared.text.Command.{Command}
-use Rattle.q3_window.specs.Incoming.{IncomingState, new_incoming, fresh_of, executes}
+use Rattle.q3_window.specs.Incoming.{IncomingState, new_incoming, fresh_of, executes, jump_at}
+use Rattle.q3_config.specs.Strings.{Strings, no_strings, server_id}
+use Rattle.q3_config.specs.Commands.{Change, change_in}
+use Rattle.q3_config.specs.Changes.{Applied as Changed, after_command}
 use Rattle.q3_profile.specs.declared.profile.Profile.{Profile}
 use Rattle.q3_entity.specs.Baselines.{Lines, no_lines}
 use Rattle.q3_gamestate.specs.Values.{Gamestate}
@@ -20,12 +23,17 @@ use Rattle.q3_clstate.specs.declared.applied.SnapOutcome.{SnapOutcome}
 use Rattle.q3_clstate.specs.declared.applied.SnapOutcome.TheVariants.{NoSnap, Accepted, Skipped, Stale}
 
 -- by which profile messages are read; the number of the last one that was applied, 0 for none; the server's commands that were
--- executed; whether a gamestate was applied, and the baselines of the last; and the snapshots that are held since then
+-- executed; whether a gamestate was applied; the id of the map, the client's slot and the checksum feed, all 0 before one; the config
+-- strings and the baselines; and the snapshots that are held since then
 pub record AppliedState : Type 0 where
   pub profile : Profile
   pub number : ℕ
   pub executed : IncomingState
   pub has_game : Bool
+  pub id : ℕ
+  pub slot : ℕ
+  pub feed : ℕ
+  pub strings : Strings
   pub lines : Lines
   pub held : HeldSnapshots
 
@@ -36,6 +44,10 @@ new_state profile = record {
   number = 0;
   executed = new_incoming;
   has_game = false;
+  id = 0;
+  slot = 0;
+  feed = 0;
+  strings = no_strings;
   lines = no_lines;
   held = no_snapshots profile.parse_ring;
 }
@@ -73,10 +85,28 @@ accepts state number base snapshot = record {
   heard = [];
 }
 
--- a gamestate is applied: no snapshot of before is held any more, and its baselines take the place of others
+-- the id of the map that config strings tell, or the one known before
+abbrev pub id_in : ℕ → Strings → ℕ
+id_in id strings = unwrap_or (server_id strings) id
+
+-- what a gamestate leaves: no snapshot of before is held any more, its id, slot, feed, strings and baselines take the place of others,
+-- and the commands up to its number count as executed
+abbrev pub after_gamestate : AppliedState → Gamestate → AppliedState
+after_gamestate state game = record state {
+  executed = jump_at state.executed game.command;
+  has_game = true;
+  id = id_in state.id game.strings;
+  slot = game.slot;
+  feed = game.feed;
+  strings = game.strings;
+  lines = game.lines;
+  held = no_snapshots state.held.ring;
+}
+
+-- a gamestate is applied
 abbrev pub applies_game : AppliedState → ℕ → Gamestate → Application
 applies_game state number game = record {
-  state = record state { number = number; has_game = true; lines = game.lines; held = no_snapshots state.held.ring };
+  state = record (after_gamestate state game) { number = number };
   answer = record { number = number; game = true; snap = NoSnap };
   accepted = None;
   heard = [];
@@ -102,9 +132,39 @@ apply_section state number (told.Skipped base) =
     if is_stale state.held number then passes state number Stale
     else passes state number (Skipped base (skipped_for (held_snapshot state.held base)))
 
+-- the config strings and the map's id
+pub record Settings : Type 0 where
+  pub strings : Strings
+  pub id : ℕ
+
+-- whether a change is one of string 1, which tells the id
+abbrev pub is_of_info : Option Change → Bool
+is_of_info None = false
+is_of_info (Some change) = change.index == 1
+
+-- whether a command's text has the shape of such a change
+abbrev pub tells_id : List ℕ → Bool
+tells_id text = is_of_info (change_in text)
+
+-- what a command does to them: one that changes string 1 may tell another id
+abbrev pub settled : ℕ → Bool → Changed → Settings
+settled id tells changed = record { strings = changed.strings; id = if changed.changed && tells then id_in id changed.strings else id }
+
+-- and what commands do, one after the other
+unfoldable pub after_texts : Settings → List Command → Settings
+after_texts settings [] = settings
+after_texts settings (command ∷ commands) = after_texts (settled settings.id (tells_id command.text) (after_command settings.strings command.text)) commands
+
+-- the config strings and the id behind the commands of a message that are executed
+abbrev pub settings_behind : AppliedState → List Command → Settings
+settings_behind state commands =
+    after_texts (record { strings = state.strings; id = state.id }) (fresh_of state.executed.executed commands)
+
 -- the state once the commands of a message are executed: those above the last one executed, also across a gap
 abbrev pub hearing : AppliedState → List Command → AppliedState
-hearing state commands = record state { executed = executes state.executed commands }
+hearing state commands =
+    let settings = settings_behind state commands in
+    record state { executed = executes state.executed commands; strings = settings.strings; id = settings.id }
 
 -- what was applied behind these commands, of which those above the last one executed were executed
 abbrev pub heard_with : AppliedState → List Command → Application → Application

@@ -1,10 +1,11 @@
-//! What the messages that were applied left at a client: the number of the last, and the snapshots and baselines that
-//! others are read against.
+//! What the messages that were applied left at a client: the number of the last, the commands executed, what the last gamestate
+//! told, with the changes since then, and the snapshots and baselines that others are read against.
 #![tactic(auto)]
 
 pub mod applied;
 mod holding;
 pub mod print;
+mod settings;
 pub mod state;
 #[cfg(test)]
 mod tests;

@@ -4,22 +4,51 @@ ghost use Rattle.std.specs.Prelude.{◌≡◌, [], ◌∷◌, codes, decimal};
 ghost use Rattle.std.specs.List.{concat};
 ghost use Rattle.q3_io.specs.Faults.{HasCause};
 ghost use Rattle.q3_io.specs.Written.{Adds};
-ghost use Rattle.q3_clstate.specs.Report.{cause_text, outcome_text, applied_text};
+ghost use Rattle.q3_clstate.specs.Report.{cause_text, outcome_text, game_text, applied_text};
 
 use crate::applied::{Applied, Log, SnapOutcome};
+use crate::state::ClState;
 use q3_io::{Failed, Piece, Sink, laws, print_all};
 use q3_rings::NoBase;
 use q3_window::print_commands;
 
-/// Prints the lines under an applied message: one for each command that was executed, and that of its snapshot, where it has one.
-/// `Failed` comes where the sink failed, behind a front of them.
-pub fn print_applied<O: Sink>(applied: &Applied, log: &Log, out: &mut O) -> Result<(), Failed>
-    ensures adds { Adds (O.written out.old) (O.written out.new) (applied_text applied.now log.now.commands.items) result }
+/// Prints the lines under an applied message, by the state behind it: one for each command that was executed, and those of its
+/// gamestate and of its snapshot, where it has one. `Failed` comes where the sink failed, behind a front of them.
+pub fn print_applied<O: Sink>(
+    state: &ClState,
+    applied: &Applied,
+    log: &Log,
+    out: &mut O,
+) -> Result<(), Failed>
+    ensures adds { Adds (O.written out.old) (O.written out.new) (applied_text state.now applied.now log.now.commands.items) result }
     ensures cause { HasCause (O.faults out.old) (O.faults out.new) result }
 {
     laws::texts_follow();
     print_commands(&log.commands, out)?;
+    print_game(state, applied.game, out)?;
     print_outcome(applied, out)
+}
+
+/// Prints the line of a message's gamestate, where it has one: the id, the slot and the feed that the state has of it.
+fn print_game<O: Sink>(state: &ClState, game: bool, out: &mut O) -> Result<(), Failed>
+    ensures adds { Adds (O.written out.old) (O.written out.new) (game_text state.now game) result }
+    ensures cause { HasCause (O.faults out.old) (O.faults out.new) result }
+{
+    if !game {
+        return print_all(&[], out);
+    }
+    print_all(
+        &[
+            Piece::Text(b"+ gamestate id "),
+            Piece::Number(u64::from(state.id())),
+            Piece::Text(b" slot "),
+            Piece::Number(u64::from(state.slot())),
+            Piece::Text(b" feed "),
+            Piece::Number(u64::from(state.feed())),
+            Piece::Text(b"\n"),
+        ],
+        out,
+    )
 }
 
 /// Prints the line of what became of a message's snapshot, where it has one.

@@ -1,7 +1,8 @@
 //! What a client has of the messages that were applied. Keeps the rules "held snapshots of a client", "snapshot whose base
-//! is not held", "gaps in command numbers" and, as far as it is built, "what a gamestate resets": the engine's
-//! `CL_ParseServerMessage`, `CL_ParseCommandString`, `CL_ParseSnapshot` and `CL_ParseGamestate` (cl_parse.c). Which bases
-//! are held, and that a snapshot without its base changes nothing, is this project's own.
+//! is not held", "gaps in command numbers", "config commands at the client" and "what a gamestate resets": the engine's
+//! `CL_ParseServerMessage`, `CL_ParseCommandString`, `CL_ParseSnapshot` and `CL_ParseGamestate` (cl_parse.c). This project's
+//! own is which bases are held, that a snapshot without its base changes nothing, that config commands change strings as
+//! messages are applied, and that the last text becomes empty where a gamestate's command number isn't the last executed.
 
 ghost use Rattle.std.specs.Prelude.{◌≡◌, ◌<◌, ◌≤◌, option_map, slice_index_or, None, IfOk, IfSome};
 ghost use Rattle.q3_entity.specs.Entities.{Rises, run_of};
@@ -11,7 +12,10 @@ ghost use Rattle.q3_clstate.specs.State.{new_state, apply_at, state_behind, answ
 
 use crate::applied::{Applied, Log, SnapOutcome};
 use crate::holding::Holding;
+use crate::settings::MapSettings;
 use q3_bits::NoMemory;
+use q3_config::Configs;
+use q3_entity::Baselines;
 use q3_entity::laws::list_rises;
 use q3_profile::Profile;
 use q3_rings::{Held, NoBase, SnapView};
@@ -22,14 +26,18 @@ use std::alloc::Global;
 use std::marker::Model;
 
 /// What the messages that were applied left: a copy of the profile by which they are read, the number of the last, the server's
-/// commands that were executed, whether a gamestate was among them, and what others are read against; and a place to read into.
-/// After `new` no call takes memory.
+/// commands that were executed, whether a gamestate was among them, the client's slot and the checksum feed that the last one
+/// told, the config strings with the id of the map, and what others are read against; and a place to read into. After `new` no
+/// call takes memory.
 #[derive(Drop)]
 pub struct ClState {
     profile: Profile,
     number: u32,
     incoming: Incoming,
     has_game: bool,
+    slot: u32,
+    feed: u32,
+    settings: MapSettings,
     holding: Holding,
     message: ServerMessage,
 }
@@ -58,16 +66,21 @@ impl ClState {
             number: 0,
             incoming: Incoming::new(),
             has_game: false,
+            slot: 0,
+            feed: 0,
+            settings: MapSettings::new(alloc)?,
             holding: Holding::new(alloc, profile.parse_ring)?,
             message: ServerMessage::new(alloc)?,
         })
     }
 
     /// Applies a message of a number, any bytes, and tells which of its commands it executed: those above the last one executed,
-    /// also across a gap. `Err` is why it isn't legible; nothing changes then, and nothing was executed.
+    /// also across a gap. `Err` is why it isn't legible; nothing changes then, and nothing was executed. The commands that are
+    /// executed change the config strings, one after the other, and a change of string 1 sets the map's id where it tells one.
     ///
     /// Of its snapshot `Stale` is told exactly where the number isn't above the newest accepted since the last gamestate, else
-    /// `Skipped` exactly where its base isn't held, and why, else `Accepted`. A gamestate ends what was held before.
+    /// `Skipped` exactly where its base isn't held, and why, else `Accepted`. A gamestate ends what was held before: its id,
+    /// slot, feed, config strings and baselines take the place of others, and the commands up to its number count as executed.
     pub fn apply(
         &mut self,
         number: u32,
@@ -92,10 +105,15 @@ impl ClState {
         prove!(self.message.commands.len() <= 64);
         self.incoming
             .execute(&self.message.commands, &mut log.commands);
+        self.settings.execute(&log.commands);
         let snap = match self.message.section {
             Section::Nothing => SnapOutcome::NoSnap,
             Section::Game => {
+                self.incoming.jump(self.message.command);
                 self.has_game = true;
+                self.slot = self.message.slot;
+                self.feed = self.message.feed;
+                self.settings.start(&mut self.message);
                 self.holding.start(&mut self.message);
                 return Ok(Applied {
                     number,
@@ -134,7 +152,7 @@ impl ClState {
         self.incoming.executed()
     }
 
-    /// The text of the last server command executed, empty for none.
+    /// The text of the last server command executed, empty for none, and behind a gamestate with another command's number.
     pub fn last_text(&self) -> &Text
         ensures { result.now ≡ self.now.executed.last }
     {
@@ -146,6 +164,41 @@ impl ClState {
         ensures { result ≡ self.now.has_game }
     {
         self.has_game
+    }
+
+    /// The id of the map, 0 before a gamestate or a change of string 1 told one.
+    pub fn id(&self) -> u32
+        ensures { result ≡ self.now.id }
+    {
+        self.settings.id()
+    }
+
+    /// The client's slot that the last gamestate told, 0 before one.
+    pub fn slot(&self) -> u32
+        ensures { result ≡ self.now.slot }
+    {
+        self.slot
+    }
+
+    /// The checksum feed that the last gamestate told, 0 before one.
+    pub fn feed(&self) -> u32
+        ensures { result ≡ self.now.feed }
+    {
+        self.feed
+    }
+
+    /// The config strings: those of the last gamestate, with the changes that commands made.
+    pub fn configs(&self) -> &Configs
+        ensures { result.now ≡ self.now.strings }
+    {
+        self.settings.configs()
+    }
+
+    /// The baselines of the last gamestate.
+    pub fn baselines(&self) -> &Baselines
+        ensures { result.now ≡ self.now.lines }
+    {
+        &self.holding.baselines
     }
 
     /// Lends the snapshot of a number, if it is held.

@@ -261,15 +261,126 @@ fn commands_are_executed_once(rt: HostRuntime) {
     assert_eq!(rt; state.executed(), 6);
 }
 
+/// A message with nothing but a command, of a number below 256.
+fn applies(rt: &impl Abort, state: &mut ClState, number: u32, text: &[u8]) {
+    let mut message = ArrayVec::<u8, 64>::new();
+    assert!(rt; text.len() <= 50);
+    let head = [0, 0, 0, 0, 5, (number % 256) as u8, 0, 0, 0];
+    assert!(rt; message.try_extend_from_slice(&head).is_ok());
+    assert!(rt; message.try_extend_from_slice(text).is_ok());
+    assert!(rt; message.try_extend_from_slice(&[0, 8, 0]).is_ok());
+    let applied = Applied {
+        number,
+        game: false,
+        snap: SnapOutcome::NoSnap,
+    };
+    assert_eq!(rt; apply(state, number, &message), Ok(applied));
+    assert_eq!(rt; state.executed(), number);
+    assert_eq!(rt; state.last_text().bytes(), text);
+}
+
+/// Applies a gamestate.
+fn starts(rt: &impl Abort, state: &mut ClState, number: u32, message: &[u8]) {
+    let applied = Applied {
+        number,
+        game: true,
+        snap: SnapOutcome::NoSnap,
+    };
+    assert_eq!(rt; apply(state, number, message), Ok(applied));
+}
+
+/// A gamestate of map 7 behind command 2, with the string 2, for slot 3 with the feed 77.
+const GAME_7: &[u8] =
+    b"\0\0\0\0\x02\x02\0\0\0\x03\x01\0\\sv_serverid\\7\0\x03\x02\0x\0\x08\x03\0\0\0\x4d\0\0\0\x08\0";
+
+/// A gamestate of map 8 behind command 9, for slot 4 with the feed 78, in a message with command 4.
+const GAME_8: &[u8] =
+    b"\0\0\0\0\x05\x04\0\0\0cs 5 \"a\"\0\x02\x09\0\0\0\x03\x01\0\\sv_serverid\\8\0\x08\x04\0\0\0\x4e\0\0\0\x08\0";
+
+/// What a gamestate told: the id, the slot and the feed.
+fn told(state: &ClState) -> (u32, u32, u32) {
+    (state.id(), state.slot(), state.feed())
+}
+
+/// A config string is this text.
+fn has_string(rt: &impl Abort, state: &ClState, index: u32, text: &[u8]) {
+    assert_eq!(rt; state.configs().get(index), text);
+}
+
+#[test]
+fn gamestate_takes_the_place_of_strings(rt: HostRuntime) {
+    let mut state = new_state(&rt, rt.alloc());
+    assert_eq!(rt; told(&state), (0, 0, 0));
+    applies(&rt, &mut state, 1, b"cs 5 \"a\"\n");
+    has_string(&rt, &state, 5, b"a");
+    applies(&rt, &mut state, 2, b"bcs0 6 \"b\"");
+    starts(&rt, &mut state, 3, GAME_7);
+    assert_eq!(rt; told(&state), (7, 3, 77));
+    has_string(&rt, &state, 5, b"");
+    has_string(&rt, &state, 2, b"x");
+    // command 2 was the last one executed
+    assert_eq!(rt; state.executed(), 2);
+    assert_eq!(rt; state.last_text().bytes(), b"bcs0 6 \"b\"".as_slice());
+    // nothing is pending
+    applies(&rt, &mut state, 3, b"bcs2 6 \"c\"");
+    has_string(&rt, &state, 6, b"");
+    // and command 4 wasn't the one before command 9
+    starts(&rt, &mut state, 4, GAME_8);
+    assert_eq!(rt; told(&state), (8, 4, 78));
+    assert_eq!(rt; state.executed(), 9);
+    assert!(rt; state.last_text().bytes().is_empty());
+    has_string(&rt, &state, 5, b"");
+    has_string(&rt, &state, 2, b"");
+}
+
+#[test]
+fn commands_change_strings(rt: HostRuntime) {
+    let mut state = new_state(&rt, rt.alloc());
+    applies(&rt, &mut state, 1, b"cs 1 \"\\sv_serverid\\12\"\n");
+    assert_eq!(rt; (state.id(), state.has_game()), (12, false));
+    // no id: the last one is kept
+    applies(&rt, &mut state, 2, b"cs 1 \"\\sv_serverid\\013\"\n");
+    assert_eq!(rt; state.id(), 12);
+    has_string(&rt, &state, 1, b"\\sv_serverid\\013");
+    applies(&rt, &mut state, 3, b"bcs0 1 \"sv_server\"\n");
+    applies(&rt, &mut state, 4, b"cs 07 \"a\"");
+    applies(&rt, &mut state, 5, b"bcs1 1 \"id\\1\"\n");
+    has_string(&rt, &state, 1, b"\\sv_serverid\\013");
+    applies(&rt, &mut state, 6, b"bcs2 1 \"4\\a\"\n");
+    has_string(&rt, &state, 1, b"sv_serverid\\14\\a");
+    assert_eq!(rt; state.id(), 14);
+    has_string(&rt, &state, 7, b"");
+}
+
+#[test]
+fn gamestates_are_printed(rt: HostRuntime) {
+    let mut state = new_state(&rt, rt.alloc());
+    starts(&rt, &mut state, 3, GAME_7);
+    let log = log_of(&rt, 3, b"cp hi");
+    let applied = Applied {
+        number: 40,
+        game: true,
+        snap: SnapOutcome::NoSnap,
+    };
+    let mut out = MemSink::new(rt.alloc(), 128, &[]).expect(&rt, "memory");
+    assert_eq!(rt; print_applied(&state, &applied, &log, &mut out), Ok(()));
+    let lines = b"+ command 3 \"cp hi\"\n+ gamestate id 7 slot 3 feed 77\n";
+    assert_eq!(rt; out.bytes(), lines.as_slice());
+}
+
 /// Prints what became of message 40 without a gamestate, which gives this text.
 fn prints(rt: &impl Abort, alloc: Global, snap: SnapOutcome, text: &[u8]) {
+    let state = new_state(rt, alloc);
     let applied = Applied {
         number: 40,
         game: false,
         snap,
     };
     let mut out = MemSink::new(alloc, 128, &[]).expect(rt, "memory");
-    assert_eq!(rt; print_applied(&applied, &new_log(), &mut out), Ok(()));
+    assert_eq!(rt;
+        print_applied(&state, &applied, &new_log(), &mut out),
+        Ok(())
+    );
     assert_eq!(rt; out.bytes(), text);
 }
 
@@ -277,20 +388,6 @@ fn prints(rt: &impl Abort, alloc: Global, snap: SnapOutcome, text: &[u8]) {
 fn skipped_prints(rt: &impl Abort, alloc: Global, cause: NoBase, text: &[u8]) {
     let skipped = SnapOutcome::Skipped { base: 8, cause };
     prints(rt, alloc, skipped, text);
-}
-
-#[test]
-fn commands_are_printed(rt: HostRuntime) {
-    let log = log_of(&rt, 3, b"cp hi");
-    let applied = Applied {
-        number: 40,
-        game: false,
-        snap: SnapOutcome::Stale,
-    };
-    let mut out = MemSink::new(rt.alloc(), 128, &[]).expect(&rt, "memory");
-    assert_eq!(rt; print_applied(&applied, &log, &mut out), Ok(()));
-    let lines = b"+ command 3 \"cp hi\"\n+ stale 40\n";
-    assert_eq!(rt; out.bytes(), lines.as_slice());
 }
 
 #[test]

@@ -1,4 +1,5 @@
 use Rattle.std.proofs.Common.{rules, ◌≡◌, true}
+use Rattle.q3_window.specs.Incoming.{fresh_of}
 use Rattle.q3_svmsg.specs.declared.message.Section.TheVariants.{Snap}
 use Rattle.q3_clstate.specs.State.{is_stale, hearing}
 use Rattle.q3_clstate.specs.contracts.state.ClState.{the_view}
@@ -12,6 +13,7 @@ returns-in-Snap-default-true-clause-state c =
     let base = c.in-Snap-default-true.base in
     let held : message.section ≡ Snap base true = search rules in
     let commands : c.deref-3.result.now ≡ message.commands.value.items = search rules in
+    let ran : c.deref-4.result.now ≡ fresh_of now.executed.executed message.commands.value.items = search rules in
     let heard = hearing now message.commands.value.items in
-    rw (← c.self.view_is, ← c.in_ok-read_server_message.ensures.reads, held, c.accept-snap.ensures.held, c.accept-snap.ensures.lines, c.execute.ensures.window, commands)
+    rw (← c.self.view_is, ← c.in_ok-read_server_message.ensures.reads, held, c.accept-snap.ensures.held, c.accept-snap.ensures.lines, c.execute.ensures.window, commands, c.execute-2.ensures, ran)
     (snap_state heard c.args.number base (record { head = message.head; entities = message.entities.value.items }) (is_stale now.held c.args.number))
