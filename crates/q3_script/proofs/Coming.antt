@@ -25,9 +25,9 @@ pub record HasCome (bytes left : List ℕ) (whole : Option (List ℕ)) : Type 0 
   pub enough : length left ≤ most
   pub goes_on : whole ≡ with_front bytes (bytes_at most left)
 
--- what is few enough for a text
-abbrev few : Option (List ℕ) → Option (List ℕ)
-few o = option_and_then (λ bytes. cond (leb (length bytes) most_bytes) (some_bytes bytes) no_bytes) o
+-- what is at most so many
+abbrev few : ℕ → Option (List ℕ) → Option (List ℕ)
+few limit o = option_and_then (λ bytes. cond (leb (length bytes) limit) (some_bytes bytes) no_bytes) o
 
 -- nothing in front
 nothing_before : (o : Option (List ℕ)) → o ≡ with_front [] o
@@ -40,9 +40,9 @@ unfolding unquoted_at
 begins word text e = record { most = length text; enough = omega arith; goes_on = rw (← e) (nothing_before (bytes_at (length text) text)) }
 
 -- a word without a first quote spells nothing
-pub not_begun : (word : List ℕ) → no_bytes ≡ behind (codes "\"") word → no_bytes ≡ few_at word
+pub not_begun : (limit : ℕ) (word : List ℕ) → no_bytes ≡ behind (codes "\"") word → no_bytes ≡ few_at limit word
 unfolding unquoted_at
-not_begun word e = rw (← e) refl
+not_begun limit word e = rw (← e) refl
 
 -- one turn
 one_more : (bytes : List ℕ) (byte : ℕ) (o : Option (List ℕ)) → with_front bytes (option_and_then (λ others. Some (byte ∷ others)) o) ≡ with_front (bytes ++ byte ∷ []) o
@@ -63,15 +63,15 @@ pub goes : {bytes left : List ℕ} {whole : Option (List ℕ)} → HasCome bytes
 goes {bytes = bytes} {left = left} {whole = whole} came byte rest other front shorter = turn came.most bytes left rest byte whole came.enough came.goes_on other front shorter
 
 -- too many bytes
-many : (bytes : List ℕ) (o : Option (List ℕ)) → most_bytes < length bytes → no_bytes ≡ few (with_front bytes o)
-many bytes (Some others) long = rw (lt-leb (length (bytes ++ others)) most_bytes (omega (arith, length-append bytes others))) refl
-many bytes None long = refl
+many : (limit : ℕ) (bytes : List ℕ) (o : Option (List ℕ)) → limit < length bytes → no_bytes ≡ few limit (with_front bytes o)
+many limit bytes (Some others) long = rw (lt-leb (length (bytes ++ others)) limit (omega (arith, length-append bytes others))) refl
+many limit bytes None long = refl
 
--- are no text
-pub fills : {bytes left : List ℕ} (word : List ℕ) → HasCome bytes left (unquoted_at word) → (byte : ℕ) (rest : List ℕ) → bytes_eq (codes "\"") left ≡ false → Some (byte, rest) ≡ front_at left → length rest < length left → length bytes ≡ most_bytes → no_bytes ≡ few_at word
-fills {bytes = bytes} {left = left} word came byte rest other front shorter full =
+-- are refused
+pub fills : {bytes left : List ℕ} (limit : ℕ) (word : List ℕ) → HasCome bytes left (unquoted_at word) → (byte : ℕ) (rest : List ℕ) → bytes_eq (codes "\"") left ≡ false → Some (byte, rest) ≡ front_at left → length rest < length left → length bytes ≡ limit → no_bytes ≡ few_at limit word
+fills {bytes = bytes} {left = left} limit word came byte rest other front shorter full =
     let next = goes came byte rest other front shorter in
-    rw (next.goes_on) (many (bytes ++ byte ∷ []) (bytes_at next.most rest) (omega (arith, length-append bytes (byte ∷ []))))
+    rw (next.goes_on) (many limit (bytes ++ byte ∷ []) (bytes_at next.most rest) (omega (arith, length-append bytes (byte ∷ []))))
 
 -- what begins with no spelling
 no_turn : (most : ℕ) (left : List ℕ) → bytes_eq (codes "\"") left ≡ false → None ≡ front_at left → bytes_at most left ≡ no_bytes
@@ -80,8 +80,8 @@ no_turn zero left other none = refl
 no_turn (suc most) left other none = rw (other, ← none) refl
 
 -- spells nothing
-pub stops : {bytes left : List ℕ} (word : List ℕ) → HasCome bytes left (unquoted_at word) → bytes_eq (codes "\"") left ≡ false → None ≡ front_at left → no_bytes ≡ few_at word
-stops {bytes = bytes} {left = left} word came other none = rw (came.goes_on, no_turn came.most left other none) refl
+pub stops : {bytes left : List ℕ} (limit : ℕ) (word : List ℕ) → HasCome bytes left (unquoted_at word) → bytes_eq (codes "\"") left ≡ false → None ≡ front_at left → no_bytes ≡ few_at limit word
+stops {bytes = bytes} {left = left} limit word came other none = rw (came.goes_on, no_turn came.most left other none) refl
 
 -- the last quote
 last_turn : (most : ℕ) (left : List ℕ) → length left ≤ most → bytes_eq (codes "\"") left ≡ true → bytes_at most left ≡ some_bytes []
@@ -90,10 +90,10 @@ last_turn zero left enough end = let size = ap (λ (x : List ℕ). length x) ((b
 last_turn (suc most) left enough end = rw end refl
 
 -- ends the word
-pub ends : {bytes left : List ℕ} (word : List ℕ) → HasCome bytes left (unquoted_at word) → bytes_eq (codes "\"") left ≡ true → length bytes ≤ most_bytes → some_bytes bytes ≡ few_at word
-ends {bytes = bytes} {left = left} word came end short =
+pub ends : {bytes left : List ℕ} (limit : ℕ) (word : List ℕ) → HasCome bytes left (unquoted_at word) → bytes_eq (codes "\"") left ≡ true → length bytes ≤ limit → some_bytes bytes ≡ few_at limit word
+ends {bytes = bytes} {left = left} limit word came end short =
     let all : bytes ++ [] ≡ bytes = append-nil bytes in
-    rw (came.goes_on, last_turn came.most left came.enough end, all, le-leb (length bytes) most_bytes short) refl
+    rw (came.goes_on, last_turn came.most left came.enough end, all, le-leb (length bytes) limit short) refl
 
 -- ---- the text of a word
 
@@ -106,11 +106,11 @@ unfolding text_of text_fault
 too_long bytes long = rw (lt-ltb most_bytes (length bytes) long) refl
 
 -- few bytes, and their text
-pub text_steps : (word : List ℕ) → text_word word ≡ (ok_or (few_at word) causes.Text >>= λ bytes. ok_or (result_ok (text_of bytes)) causes.Text)
+pub text_steps : (word : List ℕ) → text_word word ≡ (ok_or (few_at most_bytes word) causes.Text >>= λ bytes. ok_or (result_ok (text_of bytes)) causes.Text)
 unfolding text_at
 text_steps word = of_bytes (unquoted_at word)
   where
-    of_bytes : (o : Option (List ℕ)) → ok_or (option_and_then (λ bytes. result_ok (text_of bytes)) o) causes.Text ≡ (ok_or (few o) causes.Text >>= λ bytes. ok_or (result_ok (text_of bytes)) causes.Text)
+    of_bytes : (o : Option (List ℕ)) → ok_or (option_and_then (λ bytes. result_ok (text_of bytes)) o) causes.Text ≡ (ok_or (few most_bytes o) causes.Text >>= λ bytes. ok_or (result_ok (text_of bytes)) causes.Text)
     of_bytes (Some bytes) =
         elim (cases_Bool (leb (length bytes) most_bytes)) [
           | inl enough ↦ rw enough refl

@@ -1,5 +1,5 @@
--- Commands in a line against the grammar of events: what is read was spelled so, and what is spelled so is read.
-use Rattle.std.proofs.Common.{◌≡◌, ℕ, List, [], ◌∷◌, Ok, refl, sym, ap, subst, ◌∙◌, arith}
+-- Commands and config strings in a line against the grammar of events: what is read was spelled so, and what is spelled so is read.
+use Rattle.std.proofs.Common.{◌≡◌, ℕ, ◌^◌, ◌<◌, ◌≤◌, List, [], ◌∷◌, length, Ok, refl, sym, ap, subst, ◌∙◌, arith}
 use Rattle.std.specs.Prelude.{codes}
 use Rattle.std.specs.Fmt.{decimal}
 use Rattle.std.specs.List.{join_with_byte}
@@ -8,14 +8,14 @@ use Rattle.q3_io.specs.Quoted.{quoted}
 use Rattle.q3_text.specs.Texts.{IsText}
 use Rattle.q3_text.proofs.Translation.{texts}
 use Rattle.q3_script.specs.declared.event.Event.{Event}
-use Rattle.q3_script.specs.declared.event.Event.TheVariants.{Say, TypeText}
+use Rattle.q3_script.specs.declared.event.Event.TheVariants.{Config, Say, TypeText}
 use Rattle.q3_bits.specs.ResultBind.{◌>>=◌, bind_ok}
-use Rattle.q3_script.specs.Quotes.{text_word}
-use Rattle.q3_script.specs.Lines.{client_word, command_at, say_line, type_line}
-use Rattle.q3_script.specs.Grammar.{SpellsText, SpellsEvent}
+use Rattle.q3_script.specs.Quotes.{bytes_word, text_word}
+use Rattle.q3_script.specs.Lines.{most_config, number_word, client_word, config_at, config_line, command_at, say_line, type_line}
+use Rattle.q3_script.specs.Grammar.{SpellsBytes, SpellsText, SpellsEvent}
 use Rattle.q3_script.proofs.Spaces.{words_at_space, AreLeft, IsOfLine, second_of_line}
 use Rattle.q3_script.proofs.NumberWords.{ok_is, number_word-spelled, number_word-again}
-use Rattle.q3_script.proofs.Unquoted.{text_word-spelled, text_word-again}
+use Rattle.q3_script.proofs.Unquoted.{bytes_word-spelled, bytes_word-again, text_word-spelled, text_word-again}
 
 -- a command's text, and whose it is
 record WasCommand (words : List (List ℕ)) (c : ℕ) (text : List ℕ) : Type 0 where
@@ -65,3 +65,46 @@ pub command_at-again : (c : ℕ) (text : List ℕ) (last : List (List ℕ)) → 
 unfolding command_at
 command_at-again c text [] none spelled = let nothing = spelled.whole ∙ words_at_space (quoted spelled.bytes) in absurd cc
 command_at-again c text (first ∷ rest) none spelled = rw (number_word-again 0 0 c (omega arith) (omega arith) (omega arith), text_word-again (first ∷ rest) text spelled) refl
+
+-- ---- config strings
+
+-- a config string's index and its text
+record WasConfig (words : List (List ℕ)) (index : ℕ) (text : List ℕ) : Type 0 where
+  small : index < 2 ^ 32
+  short : length text ≤ most_config
+  last : List (List ℕ)
+  spelled : SpellsBytes last text
+  whole : words ≡ decimal index ∷ last
+
+-- are spelled so, in a line
+config_from : (word : List ℕ) (others : List (List ℕ)) (index : ℕ) (text : List ℕ) → IsOfLine others → number_word 0 4294967295 word ≡ Ok index → bytes_word most_config (join_with_byte 32 others) ≡ Ok text → WasConfig (word ∷ others) index text
+config_from word others index text of_line index_read text_read =
+    let is = number_word-spelled 0 4294967295 word index (omega arith) index_read in
+    let joined : join_with_byte 32 others ≡ of_line.0 = ap (join_with_byte 32) of_line.1 ∙ join_with_byte-slice_split 32 of_line.0 in
+    let was = bytes_word-spelled most_config of_line.0 text (ap (bytes_word most_config) (sym joined) ∙ text_read) in
+    record { small = omega arith; short = was.0; last = others; spelled = subst (λ (x : List (List ℕ)). SpellsBytes x text) (sym of_line.1) was.1; whole = ap (λ (w : List ℕ). w ∷ others) is.2 }
+
+config_at-spelled : (words : List (List ℕ)) (config : ℕ × List ℕ) → AreLeft words → config_at words ≡ Ok config → WasConfig words config.0 config.1
+unfolding config_at
+config_at-spelled [] config left e = absurd cc
+config_at-spelled (word ∷ []) config left e = absurd cc
+config_at-spelled (word ∷ first ∷ rest) config left e =
+    let index = bind_ok (number_word 0 4294967295 word) (λ index. bytes_word most_config (join_with_byte 32 (first ∷ rest)) >>= λ text. Ok (index, text)) config e in
+    let text = bind_ok (bytes_word most_config (join_with_byte 32 (first ∷ rest))) (λ text. Ok (index.0, text)) config index.2 in
+    let was = config_from word (first ∷ rest) index.0 text.0 (second_of_line word first rest left) index.1 text.1 in
+    subst (λ (x : ℕ × List ℕ). WasConfig (word ∷ first ∷ rest) x.0 x.1) (ok_is (index.0, text.0) config text.2) was
+
+-- what is read of the line was spelled so
+pub config_line-spelled : (words : List (List ℕ)) (event : Event) → AreLeft words → config_line words ≡ Ok event → SpellsEvent (codes "config" ∷ words) event
+unfolding config_line
+config_line-spelled words event left e =
+    let config = bind_ok (config_at words) (λ config. Ok (Config config.0 config.1)) event e in
+    let was = config_at-spelled words config.0 left config.1 in
+    subst (λ (x : Event). SpellsEvent (codes "config" ∷ words) x) (ok_is (Config config.0.0 config.0.1) event config.2)
+    (record { event_of_replay = (was.small, was.short, was.spelled.are_bytes); whole = (was.last, was.spelled, ap (λ (others : List (List ℕ)). codes "config" ∷ others) was.whole) })
+
+-- a config string that is spelled so is read
+pub config_at-again : (index : ℕ) (text : List ℕ) (last : List (List ℕ)) → index < 2 ^ 32 → length text ≤ most_config → SpellsBytes last text → config_at (decimal index ∷ last) ≡ Ok (index, text)
+unfolding config_at
+config_at-again index text [] small short spelled = let nothing = spelled.whole ∙ words_at_space (quoted text) in absurd cc
+config_at-again index text (first ∷ rest) small short spelled = rw (number_word-again 0 4294967295 index (omega arith) (omega arith) (omega arith), bytes_word-again most_config (first ∷ rest) text short spelled) refl

@@ -20,7 +20,7 @@ use Rattle.q3_entity.specs.declared.state.EntityState.{EntityState}
 use Rattle.q3_player.specs.declared.state.PlayerState.{PlayerState}
 use Rattle.q3_io.specs.declared.address.Address.{Address}
 use Rattle.q3_script.specs.declared.event.Event.{Event}
-use Rattle.q3_script.specs.declared.event.Event.TheVariants.{Client, Entity, Remove, Player, Area, Time, Say, TypeText, Move, Serve, Send, Deliver, Show}
+use Rattle.q3_script.specs.declared.event.Event.TheVariants.{Client, Map, Entity, Remove, Baseline, Player, Area, Time, Config, Say, TypeText, Move, Serve, Send, Deliver, Show}
 use Rattle.q3_script.specs.declared.cause.LineCause.{LineCause}
 use Rattle.q3_script.specs.declared.cause.LineCause.TheVariants as causes
 use Rattle.q3_bits.specs.ResultBind.{◌>>=◌, bind_ok}
@@ -28,14 +28,14 @@ use Rattle.q3_script.specs.Words.{words_of, words_left}
 use Rattle.q3_script.specs.Addresses.{address_at}
 use Rattle.q3_script.specs.Hex.{area_at}
 use Rattle.q3_script.specs.Fields.{values_of, player_of, entity_at, player_at}
-use Rattle.q3_script.specs.Lines.{last_entity, last_datagram, number_word, entity_word, client_word, client_line, entity_line, remove_line, player_line, area_line, time_line, say_line, type_line, move_line, serve_line, send_line, deliver_line, show_line, Table, replay_lines, line_in, line_at}
+use Rattle.q3_script.specs.Lines.{last_entity, last_datagram, number_word, entity_word, client_word, client_line, map_line, entity_line, remove_line, baseline_line, player_line, area_line, time_line, config_line, say_line, type_line, move_line, serve_line, send_line, deliver_line, show_line, Table, replay_lines, line_in, line_at}
 use Rattle.q3_script.specs.Grammar.{AreFields, SpellsEntity, SpellsPlayer, SpellsEvent}
 use Rattle.q3_script.proofs.Spaces.{is_space, words_at_space, AreLeft}
 use Rattle.q3_script.proofs.NumberWords.{done, ok_is, ok_or-ok, number_word-spelled, number_word-again}
 use Rattle.q3_script.proofs.Addresses.{address_at-spelled, address_at-again}
 use Rattle.q3_script.proofs.FieldWords.{entity_at-spelled, entity_at-again, player_at-spelled, player_at-again}
 use Rattle.q3_script.proofs.HexWords.{area_at-spelled, area_at-again}
-use Rattle.q3_script.proofs.SpelledCommands.{command_at-again, say_line-spelled, type_line-spelled}
+use Rattle.q3_script.proofs.SpelledCommands.{config_line-spelled, config_at-again, command_at-again, say_line-spelled, type_line-spelled}
 use Rattle.q3_script.proofs.SpelledMoves.{move_line-spelled, move_line-again}
 
 -- a refusal
@@ -133,6 +133,23 @@ client_line-spelled (c ∷ challenge ∷ qport ∷ dup ∷ last ∷ []) event e 
     (client_from c challenge qport dup last c'.0 challenge'.0 qport'.0 dup'.0 address.0 c'.1 challenge'.1 qport'.1 dup'.1 (ok_or-ok (address_at last) causes.Address address.0 address.1))
 client_line-spelled (c ∷ challenge ∷ qport ∷ dup ∷ address ∷ other ∷ others) event e = absurd cc
 
+-- the two words of a map, each read
+map_from : (word last : List ℕ) (id feed : ℕ) → number_word 1 2147483647 word ≡ Ok id → number_word 0 4294967295 last ≡ Ok feed → SpellsEvent (codes "map" ∷ word ∷ last ∷ []) (Map id feed)
+map_from word last id feed id_read feed_read =
+    let id_is = number_word-spelled 1 2147483647 word id (omega arith) id_read in
+    let feed_is = number_word-spelled 0 4294967295 last feed (omega arith) feed_read in
+    record { event_of_replay = (id_is.0, omega arith, omega arith); whole = rw (id_is.2, feed_is.2) refl }
+
+map_line-spelled : (words : List (List ℕ)) (event : Event) → map_line words ≡ Ok event → SpellsEvent (codes "map" ∷ words) event
+unfolding map_line
+map_line-spelled [] event e = absurd cc
+map_line-spelled (word ∷ []) event e = absurd cc
+map_line-spelled (word ∷ last ∷ []) event e =
+    let id = bind_ok (number_word 1 2147483647 word) (λ id. number_word 0 4294967295 last >>= λ feed. Ok (Map id feed)) event e in
+    let feed = bind_ok (number_word 0 4294967295 last) (λ feed. Ok (Map id.0 feed)) event id.2 in
+    subst (λ (x : Event). SpellsEvent (codes "map" ∷ word ∷ last ∷ []) x) (ok_is (Map id.0 feed.0) event feed.2) (map_from word last id.0 feed.0 id.1 feed.1)
+map_line-spelled (word ∷ last ∷ other ∷ others) event e = absurd cc
+
 entity_line-spelled : (words : List (List ℕ)) (event : Event) → entity_line words ≡ Ok event → SpellsEvent (codes "entity" ∷ words) event
 unfolding entity_line
 entity_line-spelled [] event e = absurd cc
@@ -153,6 +170,18 @@ remove_line-spelled (word ∷ []) event e =
     let is = number_word-spelled 0 last_entity word number.0 (omega arith) number.1 in
     subst (λ (x : Event). SpellsEvent (codes "remove" ∷ word ∷ []) x) (ok_is (Remove number.0) event number.2) (record { event_of_replay = is.1; whole = ap (λ (w : List ℕ). codes "remove" ∷ w ∷ []) is.2 })
 remove_line-spelled (word ∷ other ∷ others) event e = absurd cc
+
+baseline_line-spelled : (words : List (List ℕ)) (event : Event) → baseline_line words ≡ Ok event → SpellsEvent (codes "baseline" ∷ words) event
+unfolding baseline_line
+baseline_line-spelled [] event e = absurd cc
+baseline_line-spelled (word ∷ words) event e =
+    let number = bind_ok (number_word 1 last_entity word) (λ number. entity_at number words >>= λ state. Ok (Baseline state)) event e in
+    let state = bind_ok (entity_at number.0 words) (λ state. Ok (Baseline state)) event number.2 in
+    let is = number_word-spelled 1 last_entity word number.0 (omega arith) number.1 in
+    let was = entity_at-spelled number.0 words state.0 state.1 in
+    let same = was.is in
+    subst (λ (x : Event). SpellsEvent (codes "baseline" ∷ word ∷ words) x) (ok_is (Baseline state.0) event state.2)
+    (record { event_of_replay = (omega arith, omega arith, entity_words words state.0 was.spelled); whole = (words, was.spelled, ap (λ (w : List ℕ). codes "baseline" ∷ w ∷ words) (is.2 ∙ ap decimal (sym same))) })
 
 player_line-spelled : (words : List (List ℕ)) (event : Event) → player_line words ≡ Ok event → SpellsEvent (codes "player" ∷ words) event
 unfolding player_line
@@ -255,30 +284,39 @@ others_spelled word others event left e =
     found replay_lines word others event (
       of_any (codes "client") client_line client_line-spelled,
       (
-        of_any (codes "entity") entity_line entity_line-spelled,
+        of_any (codes "map") map_line map_line-spelled,
         (
-          of_any (codes "remove") remove_line remove_line-spelled,
+          of_any (codes "entity") entity_line entity_line-spelled,
           (
-            of_any (codes "player") player_line player_line-spelled,
+            of_any (codes "remove") remove_line remove_line-spelled,
             (
-              of_any (codes "area") area_line area_line-spelled,
+              of_any (codes "baseline") baseline_line baseline_line-spelled,
               (
-                of_any (codes "time") time_line time_line-spelled,
+                of_any (codes "player") player_line player_line-spelled,
                 (
-                  say_line-spelled,
+                  of_any (codes "area") area_line area_line-spelled,
                   (
-                    type_line-spelled,
+                    of_any (codes "time") time_line time_line-spelled,
                     (
-                      of_any (codes "move") move_line move_line-spelled,
+                      config_line-spelled,
                       (
-                        of_any (codes "serve") serve_line serve_line-spelled,
+                        say_line-spelled,
                         (
-                          of_any (codes "send") send_line send_line-spelled,
+                          type_line-spelled,
                           (
-                            of_any (codes "deliver") deliver_line deliver_line-spelled,
+                            of_any (codes "move") move_line move_line-spelled,
                             (
-                              of_any (codes "show") show_line show_line-spelled,
-                              tt,
+                              of_any (codes "serve") serve_line serve_line-spelled,
+                              (
+                                of_any (codes "send") send_line send_line-spelled,
+                                (
+                                  of_any (codes "deliver") deliver_line deliver_line-spelled,
+                                  (
+                                    of_any (codes "show") show_line show_line-spelled,
+                                    tt,
+                                  ),
+                                ),
+                              ),
                             ),
                           ),
                         ),
@@ -303,7 +341,7 @@ line_at-spelled line event e =
 
 -- and what is spelled so is read
 pub line_at-again : (words : List (List ℕ)) (event : Event) → SpellsEvent words event → line_at words ≡ Ok event
-unfolding line_at client_line entity_line remove_line player_line area_line time_line say_line type_line serve_line send_line deliver_line show_line
+unfolding line_at client_line map_line entity_line remove_line baseline_line player_line area_line time_line config_line say_line type_line serve_line send_line deliver_line show_line
 line_at-again words (Client c challenge qport dup address) spelled =
     let is = spelled.event_of_replay in
     ap line_at spelled.whole.2 ∙ rw (
@@ -313,10 +351,16 @@ line_at-again words (Client c challenge qport dup address) spelled =
       number_word-again 0 5 dup (omega arith) (omega arith) is.3,
       address_at-again spelled.whole.0 address spelled.whole.1 is.4 is.5,
     ) refl
+line_at-again words (Map id feed) spelled =
+    let is = spelled.event_of_replay in
+    ap line_at spelled.whole ∙ rw (number_word-again 1 2147483647 id (omega arith) is.0 (omega arith), number_word-again 0 4294967295 feed (omega arith) (omega arith) (omega arith)) refl
 line_at-again words (Entity state) spelled =
     let is = spelled.event_of_replay in
     ap line_at spelled.whole.2 ∙ rw (number_word-again 0 last_entity state.number (omega arith) (omega arith) is.0, entity_at-again spelled.whole.0 state spelled.whole.1) refl
 line_at-again words (Remove number) spelled = let is = spelled.event_of_replay in ap line_at spelled.whole ∙ rw (number_word-again 0 last_entity number (omega arith) (omega arith) is) refl
+line_at-again words (Baseline state) spelled =
+    let is = spelled.event_of_replay in
+    ap line_at spelled.whole.2 ∙ rw (number_word-again 1 last_entity state.number (omega arith) is.0 is.1, entity_at-again spelled.whole.0 state spelled.whole.1) refl
 line_at-again words (Player c player) spelled =
     let is = spelled.event_of_replay in
     ap line_at spelled.whole.2 ∙ rw (number_word-again 0 0 c (omega arith) (omega arith) (omega arith), player_at-again spelled.whole.0 player spelled.whole.1) refl
@@ -324,6 +368,9 @@ line_at-again words (Area c area) spelled =
     let is = spelled.event_of_replay in
     ap line_at spelled.whole.2 ∙ rw (number_word-again 0 0 c (omega arith) (omega arith) (omega arith), area_at-again spelled.whole.0 area spelled.whole.1 is.1 is.2) refl
 line_at-again words (Time time) spelled = let is = spelled.event_of_replay in ap line_at spelled.whole ∙ rw (number_word-again 0 4294967295 time (omega arith) (omega arith) (omega arith)) refl
+line_at-again words (Config index text) spelled =
+    let is = spelled.event_of_replay in
+    ap line_at spelled.whole.2 ∙ rw (config_at-again index text spelled.whole.0 is.0 is.1 spelled.whole.1) refl
 line_at-again words (Say c text) spelled = let is = spelled.event_of_replay in ap line_at spelled.whole.2 ∙ rw (command_at-again c text spelled.whole.0 is.0 spelled.whole.1) refl
 line_at-again words (TypeText c text) spelled = let is = spelled.event_of_replay in ap line_at spelled.whole.2 ∙ rw (command_at-again c text spelled.whole.0 is.0 spelled.whole.1) refl
 line_at-again words (Move c one) spelled = let is = spelled.event_of_replay in ap line_at spelled.whole ∙ move_line-again c one is.0 is.1

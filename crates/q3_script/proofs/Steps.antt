@@ -1,15 +1,15 @@
 -- Each line in the steps by which it is read.
 use Rattle.std.proofs.Common.{◌≡◌, ℕ, List, [], ◌∷◌, Ok, refl}
 use Rattle.std.specs.Option.{ok_or}
-use Rattle.q3_script.specs.declared.event.Event.TheVariants.{Client, Entity, Remove, Player, Area, Time, Move, Serve, Send, Deliver, Show}
+use Rattle.q3_script.specs.declared.event.Event.TheVariants.{Client, Map, Entity, Remove, Baseline, Player, Area, Time, Move, Serve, Send, Deliver, Show}
 use Rattle.q3_script.specs.declared.cause.LineCause.TheVariants.{Address, Count, Number}
 use Rattle.q3_bits.specs.ResultBind.{◌>>=◌}
 use Rattle.q3_script.specs.Words.{next_of, three_of, only_of, text_from}
 use Rattle.q3_script.specs.Addresses.{address_at}
 use Rattle.q3_script.specs.Hex.{area_at}
-use Rattle.q3_script.specs.Quotes.{text_word}
+use Rattle.q3_script.specs.Quotes.{bytes_word, text_word}
 use Rattle.q3_script.specs.Fields.{entity_at, player_at}
-use Rattle.q3_script.specs.Lines.{last_datagram, number_word, entity_word, client_word, angles_at, steps_at, move_with, client_line, entity_line, remove_line, player_line, area_line, time_line, command_at, move_line, serve_line, send_line, deliver_line, show_line}
+use Rattle.q3_script.specs.Lines.{last_datagram, last_entity, most_config, number_word, entity_word, client_word, angles_at, steps_at, move_with, client_line, map_line, entity_line, remove_line, baseline_line, player_line, area_line, time_line, config_at, command_at, move_line, serve_line, send_line, deliver_line, show_line}
 
 -- a client: four words and the last, then each of them
 pub client_steps : (words : List (List ℕ)) → client_line words ≡ (ok_or (next_of words) Count >>= λ c. ok_or (next_of c.1) Count >>= λ challenge. ok_or (next_of challenge.1) Count >>= λ qport. ok_or (next_of qport.1) Count >>= λ dup. ok_or (only_of dup.1) Count >>= λ address.
@@ -24,6 +24,14 @@ client_steps (c ∷ challenge ∷ qport ∷ dup ∷ []) = refl
 client_steps (c ∷ challenge ∷ qport ∷ dup ∷ address ∷ []) = refl
 client_steps (c ∷ challenge ∷ qport ∷ dup ∷ address ∷ other ∷ others) = refl
 
+-- a map: a word and the last, then each of them
+pub map_steps : (words : List (List ℕ)) → map_line words ≡ (ok_or (next_of words) Count >>= λ id. ok_or (only_of id.1) Count >>= λ feed. number_word 1 2147483647 id.0 >>= λ id. number_word 0 4294967295 feed >>= λ feed. Ok (Map id feed))
+unfolding map_line
+map_steps [] = refl
+map_steps (id ∷ []) = refl
+map_steps (id ∷ feed ∷ []) = refl
+map_steps (id ∷ feed ∷ other ∷ others) = refl
+
 -- an entity: a word, and fields
 pub entity_steps : (words : List (List ℕ)) → entity_line words ≡ (ok_or (next_of words) Count >>= λ number. entity_word number.0 >>= λ n. entity_at n number.1 >>= λ state. Ok (Entity state))
 unfolding entity_line
@@ -36,6 +44,12 @@ unfolding remove_line
 remove_steps [] = refl
 remove_steps (number ∷ []) = refl
 remove_steps (number ∷ other ∷ others) = refl
+
+-- a baseline: a word, and fields
+pub baseline_steps : (words : List (List ℕ)) → baseline_line words ≡ (ok_or (next_of words) Count >>= λ number. number_word 1 last_entity number.0 >>= λ n. entity_at n number.1 >>= λ state. Ok (Baseline state))
+unfolding baseline_line
+baseline_steps [] = refl
+baseline_steps (number ∷ fields) = refl
 
 -- area bytes: a word and the last, then each of them
 pub area_steps : (words : List (List ℕ)) → area_line words ≡ (ok_or (next_of words) Count >>= λ c. ok_or (only_of c.1) Count >>= λ area. client_word c.0 >>= λ c. ok_or (area_at area) Number >>= λ area. Ok (Area c area))
@@ -57,6 +71,13 @@ pub player_steps : (words : List (List ℕ)) → player_line words ≡ (ok_or (n
 unfolding player_line
 player_steps [] = refl
 player_steps (c ∷ fields) = refl
+
+-- a config string: a word, and the text behind it, then each of them
+pub config_steps : (words : List (List ℕ)) → config_at words ≡ (ok_or (next_of words) Count >>= λ index. ok_or (text_from index.1) Count >>= λ text. number_word 0 4294967295 index.0 >>= λ index. bytes_word most_config text >>= λ text. Ok (index, text))
+unfolding config_at
+config_steps [] = refl
+config_steps (index ∷ []) = refl
+config_steps (index ∷ first ∷ rest) = refl
 
 -- a command: a word, and the text behind it, then each of them
 pub command_steps : (words : List (List ℕ)) → command_at words ≡ (ok_or (next_of words) Count >>= λ c. ok_or (text_from c.1) Count >>= λ text. client_word c.0 >>= λ c. text_word text >>= λ text. Ok (c, text))

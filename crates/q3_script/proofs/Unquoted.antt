@@ -1,10 +1,10 @@
 -- Words in quotes: what is read was spelled so, and what is spelled so is read.
-use Rattle.std.proofs.Common.{◌≡◌, ℕ, zero, suc, ◌+◌, ◌<◌, ◌≤◌, false, List, [], ◌∷◌, ◌++◌, length, Option, Some, None, Result, Ok, Err, inl, inr, refl, sym, ap, ◌∙◌, arith, append_assoc, length-append}
+use Rattle.std.proofs.Common.{◌≡◌, ℕ, zero, suc, ◌+◌, ◌<◌, ◌≤◌, Bool, true, false, cond, leb, List, [], ◌∷◌, ◌++◌, length, Option, Some, None, Result, Ok, Err, inl, inr, refl, sym, ap, subst, ◌∙◌, arith, append_assoc, length-append}
 use Rattle.std.specs.Prelude.{codes, All}
 use Rattle.std.specs.List.{flat_map, join_with_byte}
 use Rattle.std.specs.Result.{result_ok}
 use Rattle.std.specs.Str.{bytes_eq}
-use Rattle.std.proofs.lemmas.Bool.{cases_Bool}
+use Rattle.std.proofs.lemmas.Bool.{cases_Bool, leb-true, le-leb}
 use Rattle.std.proofs.lemmas.Option.{same_Some}
 use Rattle.std.proofs.lemmas.List.Elements.{All-nil, All-cons, All-head, All-tail}
 use Rattle.std.proofs.lemmas.List.Splits.{join_with_byte-slice_split}
@@ -15,8 +15,8 @@ use Rattle.q3_text.specs.Texts.{text_of}
 use Rattle.q3_script.specs.declared.cause.LineCause.TheVariants as causes
 use Rattle.q3_bits.specs.OptionBind.{◌>>=◌}
 use Rattle.q3_script.specs.Words.{behind, words_of}
-use Rattle.q3_script.specs.Quotes.{front_at, bytes_at, unquoted_at, text_at, text_word}
-use Rattle.q3_script.specs.Grammar.{SpellsText}
+use Rattle.q3_script.specs.Quotes.{front_at, bytes_at, unquoted_at, few_at, bytes_word, text_at, text_word}
+use Rattle.q3_script.specs.Grammar.{SpellsBytes, SpellsText}
 use Rattle.q3_script.proofs.Prefixes.{behind-spelled, behind-again}
 use Rattle.q3_script.proofs.Addresses.{bind_some}
 use Rattle.q3_script.proofs.NumberWords.{ok_or-ok}
@@ -111,6 +111,27 @@ unfolding unquoted_at
 unquoted_at-again bytes each =
     let text : behind (codes "\"") (quoted bytes) ≡ Some (ended bytes) = behind-again (codes "\"") (ended bytes) in
     rw text (bytes_at-again (length (ended bytes)) bytes each (omega arith))
+
+-- ---- bytes up to a limit
+
+-- bytes that passed a test
+guard_some : (b : Bool) (x y : List ℕ) → cond b (some_bytes x) no_bytes ≡ Some y → (b ≡ true) × (x ≡ y)
+guard_some true x y e = (refl, same_Some x y e)
+guard_some false x y e = absurd cc
+
+-- bytes that are read are few enough, and were spelled so
+pub bytes_word-spelled : (limit : ℕ) (word bytes : List ℕ) → bytes_word limit word ≡ Ok bytes → (length bytes ≤ limit) × SpellsBytes (words_of word) bytes
+bytes_word-spelled limit word bytes e =
+    let read = bind_some (unquoted_at word) (λ bytes. cond (leb (length bytes) limit) (some_bytes bytes) no_bytes) bytes (ok_or-ok (few_at limit word) causes.Text bytes e) in
+    let few = guard_some (leb (length read.0) limit) read.0 bytes read.2 in
+    let were = unquoted_at-spelled word read.0 read.1 in
+    subst (λ (x : List ℕ). (length x ≤ limit) × SpellsBytes (words_of word) x) few.1 (leb-true (length read.0) limit few.0, record { are_bytes = were.each; whole = ap words_of were.spelled })
+
+-- and what is spelled so is read, if it is few enough
+pub bytes_word-again : (limit : ℕ) (words : List (List ℕ)) (bytes : List ℕ) → length bytes ≤ limit → SpellsBytes words bytes → bytes_word limit (join_with_byte 32 words) ≡ Ok bytes
+bytes_word-again limit words bytes short spelled =
+    let word : join_with_byte 32 words ≡ quoted bytes = ap (join_with_byte 32) spelled.whole ∙ join_with_byte-slice_split 32 (quoted bytes) in
+    rw (word, unquoted_at-again bytes spelled.are_bytes, le-leb (length bytes) limit short) refl
 
 -- ---- texts
 

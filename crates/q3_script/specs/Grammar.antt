@@ -12,12 +12,12 @@ use Rattle.q3_io.specs.Quoted.{quoted}
 use Rattle.q3_io.specs.declared.address.Address.{Address}
 use Rattle.q3_text.specs.Texts.{IsText, text_of}
 use Rattle.q3_script.specs.declared.event.Event.{Event}
-use Rattle.q3_script.specs.declared.event.Event.TheVariants.{Client, Entity, Remove, Player, Area, Time, Say, TypeText, Move, Serve, Send, Deliver, Show}
+use Rattle.q3_script.specs.declared.event.Event.TheVariants.{Client, Map, Entity, Remove, Baseline, Player, Area, Time, Config, Say, TypeText, Move, Serve, Send, Deliver, Show}
 use Rattle.q3_script.specs.Words.{words_of}
 use Rattle.q3_script.specs.Addresses.{host_of}
 use Rattle.q3_script.specs.Hex.{hex_text, most_area}
 use Rattle.q3_script.specs.Fields.{values_of, player_of}
-use Rattle.q3_script.specs.Lines.{last_entity, last_datagram}
+use Rattle.q3_script.specs.Lines.{last_entity, last_datagram, most_config}
 use Rattle.q3_script.specs.Script.{is_passed_over, lines_of, longest_script, most_events}
 
 -- a signed value of 8 bits
@@ -39,11 +39,14 @@ pub record IsHeldMove (one : MoveValue) : Type 0 where
 abbrev pub IsReplayEvent : Event → Type 0
 IsReplayEvent (Client c challenge qport dup address) =
     (c ≡ 0) × (challenge < 2 ^ 32) × (qport < 2 ^ 16) × (dup ≤ 5) × (1 ≤ address.port) × (address.port < 2 ^ 16)
+IsReplayEvent (Map id feed) = (1 ≤ id) × (id < 2 ^ 31) × (feed < 2 ^ 32)
 IsReplayEvent (Entity state) = (state.number ≤ last_entity) × AreWords 64 state.words
 IsReplayEvent (Remove number) = number ≤ last_entity
+IsReplayEvent (Baseline state) = (1 ≤ state.number) × (state.number ≤ last_entity) × AreWords 64 state.words
 IsReplayEvent (Player c player) = (c ≡ 0) × IsState player
 IsReplayEvent (Area c area) = (c ≡ 0) × (length area.items ≤ most_area) × All (λ byte. byte < 256) area.items
 IsReplayEvent (Time time) = time < 2 ^ 32
+IsReplayEvent (Config index text) = (index < 2 ^ 32) × (length text ≤ most_config) × All (λ byte. (0 < byte) × (byte < 256)) text
 IsReplayEvent (Say c text) = (c ≡ 0) × IsText text
 IsReplayEvent (TypeText c text) = (c ≡ 0) × IsText text
 IsReplayEvent (Move c one) = (c ≡ 0) × IsHeldMove one
@@ -102,6 +105,11 @@ pub record SpellsPlayer (words : List (List ℕ)) (player : PlayerState) : Type 
       ++ field_words (codes "u") powerups
   pub state : player ≡ player_of fields stats persistant ammo powerups
 
+-- the words of bytes in quotes, none of them 0
+pub record SpellsBytes (words : List (List ℕ)) (bytes : List ℕ) : Type 0 where
+  pub are_bytes : All (λ byte. (0 < byte) × (byte < 256)) bytes
+  pub whole : words ≡ words_of (quoted bytes)
+
 -- the words of bytes in quotes, none of them 0, which become a text
 pub record SpellsText (words : List (List ℕ)) (text : List ℕ) : Type 0 where
   pub bytes : List ℕ
@@ -113,11 +121,14 @@ pub record SpellsText (words : List (List ℕ)) (text : List ℕ) : Type 0 where
 abbrev pub HasWords : List (List ℕ) → Event → Type 0
 HasWords words (Client c challenge qport dup address) =
     (last : List ℕ) × SpellsAddress last address × (words ≡ codes "client" ∷ decimal c ∷ decimal challenge ∷ decimal qport ∷ decimal dup ∷ last ∷ [])
+HasWords words (Map id feed) = words ≡ codes "map" ∷ decimal id ∷ decimal feed ∷ []
 HasWords words (Entity state) = (fields : List (List ℕ)) × SpellsEntity fields state × (words ≡ codes "entity" ∷ decimal state.number ∷ fields)
 HasWords words (Remove number) = words ≡ codes "remove" ∷ decimal number ∷ []
+HasWords words (Baseline state) = (fields : List (List ℕ)) × SpellsEntity fields state × (words ≡ codes "baseline" ∷ decimal state.number ∷ fields)
 HasWords words (Player c player) = (fields : List (List ℕ)) × SpellsPlayer fields player × (words ≡ codes "player" ∷ decimal c ∷ fields)
 HasWords words (Area c area) = (last : List ℕ) × SpellsHex last area.items × (words ≡ codes "area" ∷ decimal c ∷ last ∷ [])
 HasWords words (Time time) = words ≡ codes "time" ∷ decimal time ∷ []
+HasWords words (Config index text) = (last : List (List ℕ)) × SpellsBytes last text × (words ≡ codes "config" ∷ decimal index ∷ last)
 HasWords words (Say c text) = (last : List (List ℕ)) × SpellsText last text × (words ≡ codes "say" ∷ decimal c ∷ last)
 HasWords words (TypeText c text) = (last : List (List ℕ)) × SpellsText last text × (words ≡ codes "type" ∷ decimal c ∷ last)
 HasWords words (Move c one) = words ≡ codes "move" ∷ decimal c ∷ move_words one

@@ -6,7 +6,7 @@ use Rattle.std.specs.Map.{lookup}
 use Rattle.std.specs.Str.{bytes_eq}
 use Rattle.q3_clmsg.specs.declared.moves.Move.{Move as MoveValue}
 use Rattle.q3_script.specs.declared.event.Event.{Event}
-use Rattle.q3_script.specs.declared.event.Event.TheVariants.{Client, Entity, Remove, Player, Area, Time, Say, TypeText, Move, Serve, Send, Deliver, Show}
+use Rattle.q3_script.specs.declared.event.Event.TheVariants.{Client, Map, Entity, Remove, Baseline, Player, Area, Time, Config, Say, TypeText, Move, Serve, Send, Deliver, Show}
 use Rattle.q3_script.specs.declared.cause.LineCause.{LineCause}
 use Rattle.q3_script.specs.declared.cause.LineCause.TheVariants as causes
 use Rattle.q3_bits.specs.ResultBind.{◌>>=◌}
@@ -14,7 +14,7 @@ use Rattle.q3_text.specs.Decimals.{number_at}
 use Rattle.q3_script.specs.Words.{behind}
 use Rattle.q3_script.specs.Addresses.{address_at}
 use Rattle.q3_script.specs.Hex.{area_at}
-use Rattle.q3_script.specs.Quotes.{text_word}
+use Rattle.q3_script.specs.Quotes.{bytes_word, text_word}
 use Rattle.q3_script.specs.Fields.{entity_at, player_at}
 
 -- the greatest number of a datagram that a line can name
@@ -24,6 +24,10 @@ last_datagram = 65536
 -- the greatest number of an entity
 abbrev pub last_entity : ℕ
 last_entity = 1022
+
+-- the most bytes of the text of a config string in a script
+abbrev pub most_config : ℕ
+most_config = 9000
 
 -- a word that is a number from low to high
 abbrev pub number_word : ℕ → ℕ → List ℕ → Result ℕ LineCause
@@ -57,6 +61,13 @@ client_line (c ∷ challenge ∷ qport ∷ dup ∷ address ∷ []) = do
   Ok (Client c challenge qport dup address)
 client_line words = Err causes.Count
 
+unfoldable pub map_line : List (List ℕ) → Result Event LineCause
+map_line (id ∷ feed ∷ []) = do
+  id ← number_word 1 2147483647 id
+  feed ← number_word 0 4294967295 feed
+  Ok (Map id feed)
+map_line words = Err causes.Count
+
 unfoldable pub entity_line : List (List ℕ) → Result Event LineCause
 entity_line (number ∷ fields) = do
   number ← entity_word number
@@ -69,6 +80,13 @@ remove_line (number ∷ []) = do
   number ← entity_word number
   Ok (Remove number)
 remove_line words = Err causes.Count
+
+unfoldable pub baseline_line : List (List ℕ) → Result Event LineCause
+baseline_line (number ∷ fields) = do
+  number ← number_word 1 last_entity number
+  state ← entity_at number fields
+  Ok (Baseline state)
+baseline_line [] = Err causes.Count
 
 unfoldable pub player_line : List (List ℕ) → Result Event LineCause
 player_line (c ∷ fields) = do
@@ -89,6 +107,19 @@ time_line (time ∷ []) = do
   time ← number_word 0 4294967295 time
   Ok (Time time)
 time_line words = Err causes.Count
+
+-- an index and the text of its config string, which is the rest of the line with its spaces
+unfoldable pub config_at : List (List ℕ) → Result (ℕ × List ℕ) LineCause
+config_at (index ∷ first ∷ rest) = do
+  index ← number_word 0 4294967295 index
+  text ← bytes_word most_config (join_with_byte 32 (first ∷ rest))
+  Ok (index, text)
+config_at words = Err causes.Count
+
+unfoldable pub config_line : List (List ℕ) → Result Event LineCause
+config_line words = do
+  config ← config_at words
+  Ok (Config config.0 config.1)
 
 -- a client and the command to it or from it, which is the rest of the line with its spaces
 unfoldable pub command_at : List (List ℕ) → Result (ℕ × List ℕ) LineCause
@@ -183,11 +214,14 @@ line_in lines word others = option_map_or (λ line. line others) (lookup (λ tex
 abbrev pub replay_lines : Table
 replay_lines =
     (codes "client", client_line)
+    ∷ (codes "map", map_line)
     ∷ (codes "entity", entity_line)
     ∷ (codes "remove", remove_line)
+    ∷ (codes "baseline", baseline_line)
     ∷ (codes "player", player_line)
     ∷ (codes "area", area_line)
     ∷ (codes "time", time_line)
+    ∷ (codes "config", config_line)
     ∷ (codes "say", say_line)
     ∷ (codes "type", type_line)
     ∷ (codes "move", move_line)

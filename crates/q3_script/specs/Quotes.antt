@@ -1,4 +1,4 @@
--- Texts in quotes, and the bytes that they spell.
+-- Texts and bytes in quotes, and the bytes that they spell.
 use Rattle.std.specs.Prelude.{ℕ, zero, suc, ◌==◌, ◌&&◌, ◌||◌, not, Bool, if◌then◌else◌, List, [], ◌∷◌, length, codes, nat_le, Option, Some, None, option_map, Result}
 use Rattle.std.specs.List.{list_any}
 use Rattle.std.specs.Option.{ok_or}
@@ -6,7 +6,7 @@ use Rattle.std.specs.Result.{result_ok}
 use Rattle.std.specs.Str.{bytes_eq}
 use Rattle.hex.specs.Hex.{pair_value}
 use Rattle.q3_bits.specs.OptionBind.{◌>>=◌}
-use Rattle.q3_text.specs.Texts.{most_bytes, text_of}
+use Rattle.q3_text.specs.Texts.{text_of}
 use Rattle.q3_script.specs.declared.cause.LineCause.{LineCause}
 use Rattle.q3_script.specs.declared.cause.LineCause.TheVariants as causes
 use Rattle.q3_script.specs.Words.{behind}
@@ -70,11 +70,14 @@ unquoted_at word = do
   text ← behind (codes "\"") word
   bytes_at (length text) text
 
--- those bytes, if a text may have so many
-abbrev pub few_at : List ℕ → Option (List ℕ)
-few_at word = do
+-- those bytes, if they are at most so many
+abbrev pub few_at : ℕ → List ℕ → Option (List ℕ)
+few_at most word = do
   bytes ← unquoted_at word
-  if nat_le (length bytes) most_bytes then Some bytes else None
+  if nat_le (length bytes) most then Some bytes else None
+
+abbrev pub bytes_word : ℕ → List ℕ → Result (List ℕ) LineCause
+bytes_word most word = ok_or (few_at most word) causes.Text
 
 -- the text of the bytes that a word in quotes spells
 unfoldable pub text_at : List ℕ → Option (List ℕ)

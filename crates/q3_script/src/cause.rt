@@ -26,7 +26,8 @@ pub enum LineCause {
     Number,
     /// A word is no field and no value of an array, or its place doesn't rise.
     Fields,
-    /// What is left of the line is no text in quotes, or one of more than 1,023 bytes.
+    /// What is left of the line is no text in quotes, or one of too many bytes: more than 1,023, or in a line `config` more
+    /// than 9,000.
     Text,
     /// The word isn't an address.
     Address,

@@ -1,5 +1,6 @@
 //! The events of a replay.
 
+use crate::bytes::Bytes;
 use arrayvec::ArrayVec;
 use q3_clmsg::Move;
 use q3_entity::EntityState;
@@ -20,6 +21,11 @@ pub enum Event {
         dup: u8,
         address: Address,
     },
+    /// A new map, with its id and its checksum feed.
+    Map {
+        id: u32,
+        feed: u32,
+    },
     /// The whole state of an entity, under its number.
     Entity {
         state: EntityState,
@@ -27,6 +33,10 @@ pub enum Event {
     /// The entity of this number is gone from now on.
     Remove {
         number: u16,
+    },
+    /// The baseline of an entity, under its number.
+    Baseline {
+        state: EntityState,
     },
     /// The whole state of a client's player.
     Player {
@@ -41,6 +51,11 @@ pub enum Event {
     /// The server's time, in milliseconds.
     Time {
         time: u32,
+    },
+    /// A config string changes to a text. An index of 1,024 or more is refused when the event is done.
+    Config {
+        index: u32,
+        text: Bytes,
     },
     /// The server issues a command to the client.
     Say {

@@ -3,6 +3,7 @@
 
 mod address;
 mod area;
+pub mod bytes;
 pub mod cause;
 pub mod event;
 mod fields;
@@ -14,6 +15,7 @@ mod quotes;
 mod script;
 mod words;
 
+pub use bytes::Bytes;
 pub use cause::{LineCause, ScriptError, ScriptKind};
 pub use event::Event;
 pub use script::read_script;

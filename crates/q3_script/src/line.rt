@@ -1,19 +1,27 @@
 //! Reads one line of a script.
 
-ghost use Rattle.std.specs.Prelude.{◌≡◌, ◌∷◌};
+ghost use Rattle.std.specs.Prelude.{◌≡◌, ◌∷◌, IfOk};
+ghost use Rattle.std.specs.Result.{result_map_both};
 ghost use Rattle.q3_script.specs.Words.{words_of, words_left};
-ghost use Rattle.q3_script.specs.Lines.{client_line, entity_line, remove_line, player_line, area_line, time_line, command_at, say_line, type_line, serve_line, send_line, deliver_line, show_line, line_at};
+ghost use Rattle.q3_script.specs.Lines.{client_line, map_line, entity_line, remove_line, baseline_line, player_line, area_line, time_line, config_at, config_line, command_at, say_line, type_line, serve_line, send_line, deliver_line, show_line, line_at};
 
 use crate::address::address;
 use crate::area::area_bytes;
+use crate::bytes::Bytes;
 use crate::cause::LineCause;
 use crate::event::Event;
 use crate::fields::{entity_state, player_state};
 use crate::moves::move_line;
 use crate::numbers::{client_word, entity_word, number_word};
-use crate::quotes::text_word;
+use crate::quotes::{bytes_word, text_word};
 use crate::words::{first_word, is, next_word, only_word, text_left};
+use arrayvec::ArrayVec;
+use q3_bits::NoMemory;
 use q3_text::Text;
+use std::alloc::Global;
+
+/// The most bytes of the text of a config string in a script.
+const MOST_CONFIG: usize = 9_000;
 
 #[tactic(auto, using(crate::proofs::Steps::client_steps))]
 fn client(left: &[u8]) -> Result<Event, LineCause>
@@ -30,6 +38,18 @@ fn client(left: &[u8]) -> Result<Event, LineCause>
         qport: number_word(qport, 0, 65_535)? as u16,
         dup: number_word(dup, 0, 5)? as u8,
         address: address(host).ok_or(LineCause::Address)?,
+    })
+}
+
+#[tactic(auto, using(crate::proofs::Steps::map_steps))]
+fn map(left: &[u8]) -> Result<Event, LineCause>
+    ensures { result ≡ map_line (words_left left.now) }
+{
+    let (id, left) = next_word(left).ok_or(LineCause::Count)?;
+    let feed = only_word(left).ok_or(LineCause::Count)?;
+    Ok(Event::Map {
+        id: number_word(id, 1, 2_147_483_647)?,
+        feed: number_word(feed, 0, u32::MAX)?,
     })
 }
 
@@ -51,6 +71,17 @@ fn remove(left: &[u8]) -> Result<Event, LineCause>
     let word = only_word(left).ok_or(LineCause::Count)?;
     Ok(Event::Remove {
         number: entity_word(word)?,
+    })
+}
+
+#[tactic(auto, using(crate::proofs::Steps::baseline_steps))]
+fn baseline(left: &[u8]) -> Result<Event, LineCause>
+    ensures { result ≡ baseline_line (words_left left.now) }
+{
+    let (number, left) = next_word(left).ok_or(LineCause::Count)?;
+    let number = number_word(number, 1, 1022)? as u16;
+    Ok(Event::Baseline {
+        state: entity_state(number, left)?,
     })
 }
 
@@ -85,6 +116,33 @@ fn time(left: &[u8]) -> Result<Event, LineCause>
     Ok(Event::Time {
         time: number_word(word, 0, u32::MAX)?,
     })
+}
+
+/// An index, and the text of its config string.
+#[tactic(auto, using(crate::proofs::Steps::config_steps))]
+fn config_text(left: &[u8]) -> Result<(u32, ArrayVec<u8, MOST_CONFIG>), LineCause>
+    ensures { result_map_both (λ config. (config.0, config.1.items)) (λ cause. cause) result ≡ config_at (words_left left.now) }
+{
+    let (index, left) = next_word(left).ok_or(LineCause::Count)?;
+    let text = text_left(left).ok_or(LineCause::Count)?;
+    Ok((
+        number_word(index, 0, u32::MAX)?,
+        bytes_word::<MOST_CONFIG>(text)?,
+    ))
+}
+
+/// The text is kept in memory of its own.
+#[tactic(auto, unfolding(crate::specs::Lines::config_line))]
+fn config(alloc: Global, left: &[u8]) -> Result<Result<Event, LineCause>, NoMemory>
+    ensures { IfOk result (λ answer. answer ≡ config_line (words_left left.now)) }
+{
+    match config_text(left) {
+        Ok((index, bytes)) => Ok(Ok(Event::Config {
+            index,
+            text: Bytes::of(alloc, &bytes)?,
+        })),
+        Err(cause) => Ok(Err(cause)),
+    }
 }
 
 /// A client, and the command to it or from it.
@@ -153,46 +211,52 @@ fn show(left: &[u8]) -> Result<Event, LineCause>
     })
 }
 
-/// The event of the line that begins with this word.
+/// The event of the line that begins with this word. `Err` is want of memory.
 #[tactic(auto, unfolding(crate::specs::Lines::line_at))]
-fn event(word: &[u8], left: &[u8]) -> Result<Event, LineCause>
-    ensures { result ≡ line_at (word.now ∷ words_left left.now) }
+fn event(alloc: Global, word: &[u8], left: &[u8]) -> Result<Result<Event, LineCause>, NoMemory>
+    ensures { IfOk result (λ answer. answer ≡ line_at (word.now ∷ words_left left.now)) }
 {
     if is(word, b"client") {
-        client(left)
+        Ok(client(left))
+    } else if is(word, b"map") {
+        Ok(map(left))
     } else if is(word, b"entity") {
-        entity(left)
+        Ok(entity(left))
     } else if is(word, b"remove") {
-        remove(left)
+        Ok(remove(left))
+    } else if is(word, b"baseline") {
+        Ok(baseline(left))
     } else if is(word, b"player") {
-        player(left)
+        Ok(player(left))
     } else if is(word, b"area") {
-        area(left)
+        Ok(area(left))
     } else if is(word, b"time") {
-        time(left)
+        Ok(time(left))
+    } else if is(word, b"config") {
+        config(alloc, left)
     } else if is(word, b"say") {
-        say(left)
+        Ok(say(left))
     } else if is(word, b"type") {
-        type_text(left)
+        Ok(type_text(left))
     } else if is(word, b"move") {
-        move_line(left)
+        Ok(move_line(left))
     } else if is(word, b"serve") {
-        serve(left)
+        Ok(serve(left))
     } else if is(word, b"send") {
-        send(left)
+        Ok(send(left))
     } else if is(word, b"deliver") {
-        deliver(left)
+        Ok(deliver(left))
     } else if is(word, b"show") {
-        show(left)
+        Ok(show(left))
     } else {
-        Err(LineCause::Word)
+        Ok(Err(LineCause::Word))
     }
 }
 
-/// The event that a line spells, or the first cause for which it is refused.
-pub fn read_line(line: &[u8]) -> Result<Event, LineCause>
-    ensures { result ≡ line_at (words_of line.now) }
+/// The event that a line spells, or the first cause for which it is refused. `Err` is want of memory.
+pub fn read_line(alloc: Global, line: &[u8]) -> Result<Result<Event, LineCause>, NoMemory>
+    ensures { IfOk result (λ answer. answer ≡ line_at (words_of line.now)) }
 {
     let (word, left) = first_word(line);
-    event(word, left)
+    event(alloc, word, left)
 }

@@ -1,7 +1,8 @@
-//! Texts in quotes. Their spelling is this project's own.
+//! Texts and bytes in quotes. Their spelling is this project's own.
 
 ghost use Rattle.std.specs.Prelude.{◌≡◌, ◌<◌, length, option_map, IfSome};
-ghost use Rattle.q3_script.specs.Quotes.{hex_byte, coded_byte, coded_at, escaped_at, front_at, few_at, text_word};
+ghost use Rattle.std.specs.Result.{result_map_both};
+ghost use Rattle.q3_script.specs.Quotes.{hex_byte, coded_byte, coded_at, escaped_at, front_at, few_at, bytes_word, text_word};
 
 use crate::area::has_capital;
 use crate::cause::LineCause;
@@ -78,9 +79,9 @@ fn front(text: &[u8]) -> Option<(u8, &[u8])>
     }
 }
 
-/// The bytes that a word in quotes spells, if a text may have so many.
-fn unquoted(word: &[u8]) -> Option<ArrayVec<u8, MOST_BYTES>>
-    ensures { option_map (λ bytes. bytes.items) result ≡ few_at word.now }
+/// The bytes that a word in quotes spells, if they are at most `MOST`.
+fn unquoted<const MOST: usize>(word: &[u8]) -> Option<ArrayVec<u8, MOST>>
+    ensures { option_map (λ bytes. bytes.items) result ≡ few_at MOST word.now }
 {
     let mut left = behind(b"\"", word)?;
     let mut bytes = ArrayVec::new();
@@ -95,11 +96,18 @@ fn unquoted(word: &[u8]) -> Option<ArrayVec<u8, MOST_BYTES>>
     Some(bytes)
 }
 
+/// The bytes that a word in quotes spells, as they are, if they are at most `MOST`.
+pub fn bytes_word<const MOST: usize>(word: &[u8]) -> Result<ArrayVec<u8, MOST>, LineCause>
+    ensures { result_map_both (λ bytes. bytes.items) (λ cause. cause) result ≡ bytes_word MOST word.now }
+{
+    unquoted::<MOST>(word).ok_or(LineCause::Text)
+}
+
 /// The text that a word in quotes spells, translated.
 #[tactic(auto, using(crate::proofs::Coming::text_steps))]
 pub fn text_word(word: &[u8]) -> Result<Text, LineCause>
     ensures { result ≡ text_word word.now }
 {
-    let bytes = unquoted(word).ok_or(LineCause::Text)?;
+    let bytes = unquoted::<MOST_BYTES>(word).ok_or(LineCause::Text)?;
     Text::of(&bytes).ok().ok_or(LineCause::Text)
 }

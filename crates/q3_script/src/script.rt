@@ -8,6 +8,7 @@ ghost use Rattle.q3_script.specs.Grammar.{SpellsScript, IsReplayEvent};
 use crate::cause::{LineCause, ScriptError, ScriptKind};
 use crate::event::Event;
 use crate::line::read_line;
+use q3_bits::NoMemory;
 use std::alloc::Global;
 
 /// The longest script, in bytes.
@@ -23,14 +24,14 @@ fn passed_over(line: &[u8]) -> bool
     line.is_empty() || line[0] == b'#'
 }
 
-/// The event of a line that stands behind so many others.
-fn event_of(line: &[u8], before: usize) -> Result<Event, LineCause>
-    ensures { result ≡ event_at before line.now }
+/// The event of a line that stands behind so many others. `Err` is want of memory.
+fn event_of(alloc: Global, line: &[u8], before: usize) -> Result<Result<Event, LineCause>, NoMemory>
+    ensures { IfOk result (λ answer. answer ≡ event_at before line.now) }
 {
     if before >= MOST_EVENTS {
-        return Err(LineCause::Many);
+        return Ok(Err(LineCause::Many));
     }
-    read_line(line)
+    read_line(alloc, line)
 }
 
 /// The events of all lines, up to the first bad one.
@@ -45,7 +46,7 @@ fn events(alloc: Global, bytes: &[u8]) -> Result<Vec<Event>, ScriptError>
         if passed_over(line) {
             continue;
         }
-        match event_of(line, events.len()) {
+        match event_of(alloc, line, events.len())? {
             Ok(event) => events.push(event)?,
             Err(cause) => return Err(ScriptError::Line {
                 line: number,

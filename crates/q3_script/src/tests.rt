@@ -84,6 +84,40 @@ fn one_line_of_each_kind(rt: HostRuntime) -> Result<(), Fail> {
     Ok(())
 }
 
+/// The least and the greatest numbers of maps, baselines and config strings.
+#[test]
+fn maps_baselines_and_config_strings(rt: HostRuntime) -> Result<(), Fail> {
+    let script =
+        "map 1 0\nmap 2147483647 4294967295\nbaseline 1\nbaseline 1022 0:7 63:4294967295\nconfig 0 \"\"\nconfig 4294967295 \"a b\"\n";
+    let events = read_script(rt.alloc(), ScriptKind::Replay, script.as_bytes())
+        .ok()
+        .ok_or("the script is a good one")?;
+    let mut last = EntityState::zero(1022);
+    last.words[0] = 7;
+    last.words[63] = 4_294_967_295;
+    let wanted = [
+        Event::Map { id: 1, feed: 0 },
+        Event::Map {
+            id: 2_147_483_647,
+            feed: 4_294_967_295,
+        },
+        Event::Baseline {
+            state: EntityState::zero(1),
+        },
+        Event::Baseline { state: last },
+        Event::Config {
+            index: 0,
+            text: Bytes::of(rt.alloc(), b"")?,
+        },
+        Event::Config {
+            index: 4_294_967_295,
+            text: Bytes::of(rt.alloc(), b"a b")?,
+        },
+    ];
+    assert_eq!(rt; events.as_slice(), wanted.as_slice());
+    Ok(())
+}
+
 /// As many area bytes as there may be.
 #[test]
 fn most_area_bytes(rt: HostRuntime) -> Result<(), Fail> {
@@ -128,10 +162,39 @@ fn said(alloc: Global, line: &[u8]) -> Option<Text> {
     }
 }
 
-/// A line that says so many bytes.
-fn line_of(alloc: Global, count: usize) -> Result<Vec<u8>, AllocError> {
+/// The texts of config strings in quotes: their bytes are kept as they are.
+#[test]
+fn config_strings_in_quotes(rt: HostRuntime) -> Result<(), Fail> {
+    let table: [(&str, &[u8]); 5] = [
+        ("config 5 \"\"", b""),
+        ("config 5 \"a b  c\"", b"a b  c"),
+        ("config 5 \"\\\"\\\\\\n\\x07\"", b"\"\\\n\x07"),
+        ("config 5 \"100% ~\\x7f\\x80\\xff\"", b"100% ~\x7f\x80\xff"),
+        ("config 5 \"\\\\x41\"", b"\\x41"),
+    ];
+    for (line, bytes) in table {
+        let text = Bytes::of(rt.alloc(), bytes)?;
+        assert!(rt;
+            configured(rt.alloc(), line.as_bytes()) == Some(text),
+            "at {line}"
+        );
+    }
+    Ok(())
+}
+
+/// The text of the config string in a script of one line.
+fn configured(alloc: Global, line: &[u8]) -> Option<Bytes> {
+    match read_script(alloc, ScriptKind::Replay, line).ok()?.pop()? {
+        Event::Config { text, .. } => Some(text),
+        _ => None,
+    }
+}
+
+/// A line that begins so, with so many bytes in quotes.
+fn line_of(alloc: Global, front: &[u8], count: usize) -> Result<Vec<u8>, AllocError> {
     let mut line = Vec::new(alloc);
-    line.extend_from_slice(b"say 0 \"")?;
+    line.extend_from_slice(front)?;
+    line.push(b'"')?;
     for _ in 0..count {
         line.push(b'a')?;
     }
@@ -141,10 +204,26 @@ fn line_of(alloc: Global, count: usize) -> Result<Vec<u8>, AllocError> {
 
 #[test]
 fn longest_text(rt: HostRuntime) -> Result<(), Fail> {
-    let longest = line_of(rt.alloc(), 1_023)?;
+    let longest = line_of(rt.alloc(), b"say 0 ", 1_023)?;
     let text = said(rt.alloc(), &longest).ok_or("a text")?;
     assert_eq!(rt; text.bytes().len(), 1_023);
-    let longer = line_of(rt.alloc(), 1_024)?;
+    let longer = line_of(rt.alloc(), b"say 0 ", 1_024)?;
+    assert!(rt;
+        read_script(rt.alloc(), ScriptKind::Replay, &longer)
+            == Err(ScriptError::Line {
+                line: 1,
+                cause: LineCause::Text
+            })
+    );
+    Ok(())
+}
+
+#[test]
+fn longest_config_string(rt: HostRuntime) -> Result<(), Fail> {
+    let longest = line_of(rt.alloc(), b"config 5 ", 9_000)?;
+    let text = configured(rt.alloc(), &longest).ok_or("a text")?;
+    assert_eq!(rt; text.bytes().len(), 9_000);
+    let longer = line_of(rt.alloc(), b"config 5 ", 9_001)?;
     assert!(rt;
         read_script(rt.alloc(), ScriptKind::Replay, &longer)
             == Err(ScriptError::Line {
@@ -201,6 +280,25 @@ fn bad_scripts(rt: HostRuntime) {
         ("entity 5 64:1\n", 1, LineCause::Fields),
         ("entity 5 2:1 1:1\n", 1, LineCause::Fields),
         ("entity 5 s1:1\n", 1, LineCause::Fields),
+        ("map 1\n", 1, LineCause::Count),
+        ("map 1 2 3\n", 1, LineCause::Count),
+        ("map 0 1\n", 1, LineCause::Number),
+        ("map 2147483648 1\n", 1, LineCause::Number),
+        ("map 1 4294967296\n", 1, LineCause::Number),
+        ("map 1 \n", 1, LineCause::Number),
+        ("baseline\n", 1, LineCause::Count),
+        ("baseline 0\n", 1, LineCause::Number),
+        ("baseline 1023 x\n", 1, LineCause::Number),
+        ("baseline 5 \n", 1, LineCause::Fields),
+        ("baseline 5 2:1 2:1\n", 1, LineCause::Fields),
+        ("config\n", 1, LineCause::Count),
+        ("config 5\n", 1, LineCause::Count),
+        ("config 4294967296 x\n", 1, LineCause::Number),
+        ("config 5 \n", 1, LineCause::Text),
+        ("config 5 hi\n", 1, LineCause::Text),
+        ("config 5 \"hi\" \n", 1, LineCause::Text),
+        ("config 5 \"\\x00\"\n", 1, LineCause::Text),
+        ("config 5 \"\\x25\"\n", 1, LineCause::Text),
         ("remove\n", 1, LineCause::Count),
         ("remove 1 2\n", 1, LineCause::Count),
         ("remove 1023\n", 1, LineCause::Number),

@@ -1,36 +1,35 @@
 use Rattle.std.proofs.Common.{◌≡◌, ◌<◌, false, true, length, sym, ◌∙◌, rules, arith}
 use Rattle.std.proofs.lemmas.Bool.Decides.{nat_tests}
-use Rattle.q3_text.specs.Texts.{most_bytes}
 use Rattle.q3_script.proofs.Coming.{not_begun, begins, stops, fills, goes, ends}
 use Rattle.q3_script.proofs.quotes.unquoted.Goals as goal
 
 pub returns-in_err-left : goal.returns-in_err-left
-returns-in_err-left c = search (rules, not_begun c.args.word.now)
+returns-in_err-left g c = search (rules, not_begun g.row.MOST c.args.word.now)
 
 pub loop-left-init : goal.loop-left-init
-loop-left-init c = record { came = rw c.new-bytes.ensures (begins c.args.word.now c.in_ok-left.left.now c.in_ok-left.ensures); few = rw c.new-bytes.ensures (omega arith) }
+loop-left-init g c = record { came = rw c.new-bytes.ensures (begins c.args.word.now c.in_ok-left.left.now c.in_ok-left.ensures); few = rw c.new-bytes.ensures (omega arith) }
 
 pub returns-in_err-byte : goal.returns-in_err-byte
-returns-in_err-byte c =
+returns-in_err-byte g c =
     let no : c.is.result ≡ false = search rules in
-    search (rules, stops c.args.word.now c.loop-left.invariant.came (sym c.is.ensures ∙ no))
+    search (rules, stops g.row.MOST c.args.word.now c.loop-left.invariant.came (sym c.is.ensures ∙ no))
 
 pub returns-then-is_full : goal.returns-then-is_full
-returns-then-is_full c =
+returns-then-is_full g c =
     let no : c.is.result ≡ false = search rules in
-    let full : length c.loop-left.bytes.items ≡ most_bytes = grind (arith, nat_tests) in
-    fills c.args.word.now c.loop-left.invariant.came c.in_ok-byte.byte c.in_ok-byte.rest.now (sym c.is.ensures ∙ no) c.in_ok-byte.ensures.value c.in_ok-byte.ensures.shorter full
+    let full : length c.loop-left.bytes.items ≡ g.row.MOST = grind (arith, nat_tests) in
+    fills g.row.MOST c.args.word.now c.loop-left.invariant.came c.in_ok-byte.byte c.in_ok-byte.rest.now (sym c.is.ensures ∙ no) c.in_ok-byte.ensures.value c.in_ok-byte.ensures.shorter full
 
 pub loop-left-preserved : goal.loop-left-preserved
-loop-left-preserved c =
+loop-left-preserved g c =
     let no : c.is.result ≡ false = search rules in
-    let room : length c.loop-left.bytes.items < most_bytes = grind (arith, nat_tests) in
+    let room : length c.loop-left.bytes.items < g.row.MOST = grind (arith, nat_tests) in
     record {
       came = rw c.push.ensures.items (goes c.loop-left.invariant.came c.in_ok-byte.byte c.in_ok-byte.rest.now (sym c.is.ensures ∙ no) c.in_ok-byte.ensures.value c.in_ok-byte.ensures.shorter);
       few = omega arith;
     }
 
 pub returns : goal.returns
-returns c =
+returns g c =
     let yes : c.is.result ≡ true = search rules in
-    ends c.args.word.now c.loop-left.invariant.came (sym c.is.ensures ∙ yes) c.loop-left.invariant.few
+    ends g.row.MOST c.args.word.now c.loop-left.invariant.came (sym c.is.ensures ∙ yes) c.loop-left.invariant.few

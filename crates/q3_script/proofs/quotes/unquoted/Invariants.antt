@@ -1,14 +1,13 @@
 use Rattle.std.proofs.Common.{◌≤◌, length}
-use Rattle.q3_text.specs.Texts.{most_bytes}
 use Rattle.q3_script.specs.Quotes.{unquoted_at}
 use Rattle.q3_script.proofs.Coming.{HasCome}
 use Rattle.q3_script.proofs.quotes.unquoted.Given as goal
 
 abbrev pub invariant-loop-left : goal.invariant-loop-left
-invariant-loop-left l = record {
+invariant-loop-left g l = record {
   came : HasCome l.bytes.items l.left (unquoted_at l.word);
-  few : length l.bytes.items ≤ most_bytes;
+  few : length l.bytes.items ≤ g.row.MOST;
 }
 
 abbrev pub decreases-loop-left : goal.decreases-loop-left
-decreases-loop-left l = length l.left
+decreases-loop-left g l = length l.left

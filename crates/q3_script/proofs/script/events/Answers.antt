@@ -1,4 +1,4 @@
-use Rattle.std.proofs.Common.{◌≡◌, eqb, rules, tests, arith, length}
+use Rattle.std.proofs.Common.{◌≡◌, eqb, sym, ◌∙◌, rules, tests, arith, length}
 use Rattle.std.proofs.lemmas.List.{length_push}
 use Rattle.std.proofs.lemmas.Iterator.Consumers.{YieldsList-turn, YieldsList-end}
 use Rattle.std.proofs.lemmas.Iterator.Splits.{YieldsList-from_slice_split}
@@ -22,7 +22,7 @@ loop-line-preserved c =
     let t = YieldsList-turn (YieldsList-from_slice_split _ (λ x. eqb x 10) c.args.bytes.now (cc) (cc) (cc) (λ x b q k. search (rules, tests))) c.loop-line.yielded _ c.loop-line.yielded_by _ _ c.in-Some.line c.in-Some.is c.next.ensures.steps in
     let next : Next (lines_of c.args.bytes.now) (length c.loop-line.yielded) c.in-Some.line.now = record { inside = t.0; is = t.1 } in
     let len : c.len.result ≡ length c.loop-line.events.items = omega arith in
-    let spells = rw len at c.in-Ok.ensures in
+    let spells = sym c.in-Ok.is ∙ rw len at c.in_ok-event.ensures in
     record {
       reached = rw (length_push, c.in_ok-push-in-Ok.ensures.items) (adds c.loop-line.invariant.reached next (cc) spells);
       number = rw length_push (omega arith);
@@ -35,7 +35,7 @@ returns-in-Err c =
     let t = YieldsList-turn (YieldsList-from_slice_split _ (λ x. eqb x 10) c.args.bytes.now (cc) (cc) (cc) (λ x b q k. search (rules, tests))) c.loop-line.yielded _ c.loop-line.yielded_by _ _ c.in-Some.line c.in-Some.is c.next.ensures.steps in
     let next : Next (lines_of c.args.bytes.now) (length c.loop-line.yielded) c.in-Some.line.now = record { inside = t.0; is = t.1 } in
     let len : c.len.result ≡ length c.loop-line.events.items = omega arith in
-    let refused = rw len at c.in-Err.ensures in
+    let refused = sym c.in-Err.is ∙ rw len at c.in_ok-event.ensures in
     rw c.loop-line.invariant.number (refuses c.loop-line.invariant.reached next (cc) refused)
 
 pub returns : goal.returns
