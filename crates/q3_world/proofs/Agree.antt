@@ -1,5 +1,5 @@
 -- A step by bytes is a step by tags: what that rests on, and where nothing changes.
-use Rattle.std.proofs.Common.{◌≡◌, ℕ, ◌≤◌, List, map, Option, Some, None, Ok, refl, sym, subst, inl, inr}
+use Rattle.std.proofs.Common.{◌≡◌, ℕ, ◌≤◌, List, map, Option, Some, None, Ok, refl, sym, subst, inl, inr, false}
 use Rattle.std.specs.Prelude.{◌⊎◌, IfSome}
 use Rattle.q3_bits.specs.Laws.{MessageIsBytes}
 use Rattle.q3_profile.specs.declared.profile.Profile.{Profile}
@@ -9,7 +9,8 @@ use Rattle.q3_fields.specs.States.{AreWords}
 use Rattle.q3_fields.specs.Kinds.{end_mark}
 use Rattle.q3_entity.specs.declared.state.EntityState.{EntityState}
 use Rattle.q3_entity.specs.Entities.{normal_entity, IsNormal}
-use Rattle.q3_entity.specs.Baselines.{no_lines}
+use Rattle.q3_entity.specs.Baselines.{AreLines}
+use Rattle.q3_map.specs.Map.{MapState, is_other}
 use Rattle.q3_chan.specs.Senders.{QportIsTold}
 use Rattle.q3_chan.specs.Laws.{SentIsTagged, TaggedDoes, EndsGather, EndsSend}
 use Rattle.q3_window.specs.Outgoing.{acknowledge_at, text_at}
@@ -18,30 +19,31 @@ use Rattle.q3_client.specs.Sending.{said_bytes, Said, IsSaid}
 use Rattle.q3_slot.specs.Slot.{SlotState}
 use Rattle.q3_slot.specs.Built.{Built, IsHeld, IsSnapshot, IsBuilt}
 use Rattle.q3_slot.specs.Emitting.{built_bytes}
-use Rattle.q3_slot.specs.Taking.{said_by}
+use Rattle.q3_slot.specs.Taking.{came_as, said_by}
 use Rattle.q3_world.specs.MessageLaws.{AreBuilt, HoldsThis}
-use Rattle.q3_world.specs.Layers.{ServerLaws, RingLaws, WindowLaws, ScramblingLaws}
+use Rattle.q3_world.specs.Layers.{ServerLaws, RingLaws, WindowLaws, ScramblingLaws, ConfigLaws}
 use Rattle.q3_world.specs.Ends.{client_at}
 use Rattle.q3_world.specs.Kept.{Kept, KeptStep}
 use Rattle.q3_world.specs.World.{Tag, Step, Whole, History, history_at, with_history}
 use Rattle.q3_world.specs.StandsFor.{bytes_of}
 use Rattle.q3_world.proofs.Growth.{noted_same}
-use Rattle.q3_world.proofs.Holding.{Holds, with_client_of, same_clients}
+use Rattle.q3_world.proofs.Events.{Holds, with_client_of, same_clients}
 
 -- ---- what is cited of the layers below
 
 -- a message that was built is received from its bytes as its value
 abbrev pub ReadsBack : Profile → Type 0
-ReadsBack profile = (client : ClientState) (number : ℕ) (built : Built) → IsBuilt profile client.challenge number built → client.state.profile ≡ profile → client.state.lines ≡ no_lines
+ReadsBack profile = (client : ClientState) (number : ℕ) (built : Built) → IsBuilt profile client.challenge number built → client.state.profile ≡ profile → AreLines profile.entity client.state.lines → IfSome built.under (λ game. client.state.lines ≡ built.lines)
     → (acknowledge_at client.issued built.message.ack).answer ≡ Ok tt → text_at client.issued built.message.ack ≡ built.text
     → AreBuilt profile client.state.held → IfSome built.base (λ base. IsSnapshot profile base × HoldsThis client.state.held base)
     → receive_bytes client number (built_bytes profile built) ≡ Ok (receive_message client number built.message)
 
 -- and one that a client said is read back
 abbrev pub HearsBack : Profile → Type 0
-HearsBack profile = (slot : SlotState) (said : Said) → IsSaid profile slot.challenge said
+HearsBack profile = (map : MapState) (slot : SlotState) (said : Said) → IsSaid profile slot.challenge said
     → (acknowledge_at slot.issued said.message.command).answer ≡ Ok tt → text_at slot.issued said.message.command ≡ said.text
-    → said_by profile slot (said_bytes profile said) ≡ Ok said.message
+    → (is_other map said.message.id ≡ false → said.feed ≡ map.feed)
+    → said_by profile map slot (said_bytes profile said) ≡ Ok (came_as map said.message)
 
 -- what is read back, which players and entities are in normal form, which numbers entities may have, how much room a client's ring
 -- has, what a datagram does that was sent and which qport it tells, how many bytes a message has, what a server's frames and a
@@ -65,6 +67,7 @@ pub record Cited (profile : Profile) : Type 0 where
   pub rings : RingLaws
   pub windows : WindowLaws
   pub scrambles : ScramblingLaws
+  pub configs : ConfigLaws
 
 -- ---- what is kept of a whole world
 

@@ -5,14 +5,13 @@ use Rattle.q3_script.specs.declared.event.Event.{Event}
 use Rattle.q3_script.specs.declared.event.Event.TheVariants as events
 use Rattle.q3_script.specs.Grammar.{IsReplayEvent}
 use Rattle.q3_server.specs.Server.{emit_at}
-use Rattle.q3_world.specs.Ends.{Ends, set_entity, remove_entity, set_player, set_area}
+use Rattle.q3_world.specs.Ends.{Ends, new_map, set_baseline, set_time, set_entity, remove_entity, set_player, set_area}
 use Rattle.q3_world.specs.Kept.{SentBytes, Kept, KeptStep, kept_step}
 use Rattle.q3_world.specs.World.{Whole, step}
 use Rattle.q3_world.specs.StandsFor.{StandsFor}
-use Rattle.q3_world.proofs.Holding.{Holds}
-use Rattle.q3_world.proofs.Given.{Holds-map}
+use Rattle.q3_world.proofs.Events.{Holds}
 use Rattle.q3_world.proofs.Agree.{Cited, kept_of, seen, Agree}
-use Rattle.q3_world.proofs.HandedIn.{handed, holds_join, holds_player, holds_area, holds_entity, holds_removed, holds_say, holds_type, holds_move}
+use Rattle.q3_world.proofs.HandedIn.{handed, holds_join, holds_new_map, holds_baseline, holds_config, holds_time, holds_entity, holds_removed, holds_player, holds_area, holds_say, holds_type, holds_move}
 use Rattle.q3_world.proofs.Making.{served, sends_agree}
 use Rattle.q3_world.proofs.Arriving.{delivers_agree}
 
@@ -23,6 +22,11 @@ pub steps_agree : (profile : Profile) (whole : Whole) (event : Event) → Cited 
 unfolding kept_step step emit_at
 steps_agree profile whole (events.Client c challenge qport dup address) cited is holds =
     record { same = refl; holds = holds_join profile whole c challenge qport dup address cited (omega (arith, is.0)) is.2 holds }
+steps_agree profile whole (events.Map id feed) cited is holds =
+    handed profile whole (new_map whole.ends id feed) (holds_new_map profile whole id feed cited is.1 is.2 holds)
+steps_agree profile whole (events.Baseline state) cited is holds =
+    handed profile whole (set_baseline whole.ends state) (holds_baseline profile whole state cited is.1 is.2 holds)
+steps_agree profile whole (events.Config index text) cited is holds = record { same = refl; holds = holds_config profile whole index text cited is.2 holds }
 steps_agree profile whole (events.Entity state) cited is holds =
     handed profile whole (set_entity whole.ends state) (holds_entity profile whole state cited is.0 is.1 holds)
 steps_agree profile whole (events.Remove number) cited is holds =
@@ -31,7 +35,7 @@ steps_agree profile whole (events.Area c area) cited is holds =
     handed profile whole (set_area whole.ends c area) (holds_area profile whole c area (record { bytes = is.2; short = is.1 }) (omega (arith, is.0)) holds)
 steps_agree profile whole (events.Player c player) cited is holds =
     handed profile whole (set_player whole.ends c player) (holds_player profile whole c player (cited.normal player is.1) (omega (arith, is.0)) holds)
-steps_agree profile whole (events.Time time) cited is holds = record { same = refl; holds = Holds-map profile whole (record whole.ends.server.map { time = time }) is holds.facts.entities holds }
+steps_agree profile whole (events.Time time) cited is holds = handed profile whole (set_time whole.ends time) (holds_time profile whole time is holds)
 steps_agree profile whole (events.Say c text) cited is holds = record { same = refl; holds = holds_say profile whole c text cited is.1 (omega (arith, is.0)) holds }
 steps_agree profile whole (events.TypeText c text) cited is holds = record { same = refl; holds = holds_type profile whole c text cited is.1 (omega (arith, is.0)) holds }
 steps_agree profile whole (events.Move c one) cited is holds = record { same = refl; holds = holds_move profile whole c one is.1 (omega (arith, is.0)) holds }

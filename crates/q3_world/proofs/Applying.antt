@@ -8,10 +8,11 @@ use Rattle.q3_rings.specs.declared.rings.NoBase.TheVariants.{EntitiesGone}
 use Rattle.q3_rings.specs.Rings.{HeldSnapshots, is_young, held_snapshot}
 use Rattle.q3_rings.specs.Accepted.{SnapshotsStandFor, age_of}
 use Rattle.q3_clstate.specs.declared.applied.SnapOutcome.TheVariants.{Accepted, Skipped}
-use Rattle.q3_clstate.specs.State.{AppliedState, passes, accepts, skipped_for, hearing, heard_with, has_base, apply_message}
+use Rattle.q3_gamestate.specs.Values.{Gamestate}
+use Rattle.q3_clstate.specs.State.{AppliedState, applies_game, passes, accepts, skipped_for, hearing, heard_with, has_base, apply_message}
 use Rattle.q3_text.specs.declared.text.Command.{Command}
 use Rattle.q3_svmsg.specs.Values.{Message}
-use Rattle.q3_slot.specs.Built.{Built, Telling, number_of, message_of, built_of, IsNear}
+use Rattle.q3_slot.specs.Built.{Built, Telling, number_of, message_of, built_of, game_message_of, game_built_of, IsNear}
 use Rattle.q3_world.specs.Layers.{RingLaws}
 use Rattle.q3_world.specs.Schedules.{outcome_of}
 
@@ -73,7 +74,7 @@ IsBuiltSkipped state took n built =
     × (apply_message state n built.message
     ≡ heard_with state built.message.commands (passes (hearing state built.message.commands) n (Skipped (number_of built.base) (EntitiesGone age))))
 
-pub applies_message : RingLaws → (state : AppliedState) (took : List Snapshot) (n : ℕ) (built : Built) (telling : Telling) (snapshot : Snapshot) → built ≡ built_of telling built.base snapshot
+pub applies_message : RingLaws → (state : AppliedState) (took : List Snapshot) (n : ℕ) (built : Built) (telling : Telling) (snapshot : Snapshot) → built ≡ built_of telling built.lines built.base snapshot
     → SnapshotsStandFor took state.held → state.held.newest < n → IfSome built.base (λ b. IsNear n b × Contains took b)
     → IsBuiltAccepted state took n built snapshot ⊎ IsBuiltSkipped state took n built
 applies_message laws state took n built telling snapshot is stands newer known =
@@ -92,3 +93,12 @@ applies_message laws state took n built telling snapshot is stands newer known =
         applied ∙ (skipped.2 ∙ ap (λ (c : List Command). heard_with state c (passes (hearing state c) n (Skipped number (EntitiesGone skipped.0)))) commands),
       )
     ]
+
+-- one with a gamestate is applied: it takes the place of all before
+pub applies_game_message : (state : AppliedState) (n : ℕ) (built : Built) (telling : Telling) (game : Gamestate) → built ≡ game_built_of telling built.lines game
+    → apply_message state n built.message ≡ heard_with state built.message.commands (applies_game (hearing state built.message.commands) n game)
+applies_game_message state n built telling game is =
+    let message_is : built.message ≡ game_message_of telling game = ap (λ (b : Built). b.message) is in
+    let applied = ap (λ (m : Message). apply_message state n m) message_is in
+    let commands : telling.commands ≡ built.message.commands = sym (ap (λ (m : Message). m.commands) message_is) in
+    applied ∙ ap (λ (c : List Command). heard_with state c (applies_game (hearing state c) n game)) commands

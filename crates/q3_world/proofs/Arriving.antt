@@ -1,9 +1,10 @@
 -- A datagram arrives by its bytes as by its tag.
-use Rattle.std.proofs.Common.{◌≡◌, ℕ, ◌-◌, ◌^◌, ◌<◌, Bool, true, false, List, [], ◌∷◌, length, Option, Some, None, Result, Ok, refl, sym, ap, subst, ◌∙◌, inl, inr, arith, lit<}
-use Rattle.std.specs.Prelude.{slice_get, All, Contains, ◌⊎◌, IfSome, if◌then◌else◌}
+use Rattle.q3_rings.specs.declared.rings.NoBase.TheVariants.{EntitiesGone}
+use Rattle.std.proofs.Common.{◌≡◌, ℕ, ◌-◌, ◌^◌, ◌<◌, Bool, true, false, List, [], ◌∷◌, length, Option, Some, None, Result, Ok, refl, sym, ap, subst, ◌∙◌, inl, inr, arith, lit<, ◌++◌, ◌≤◌}
+use Rattle.std.specs.Prelude.{◌||◌, slice_get, All, Contains, ◌⊎◌, IfSome, if◌then◌else◌}
 use Rattle.std.specs.Option.{option_map}
 use Rattle.std.proofs.lemmas.List.{append-nil}
-use Rattle.std.proofs.lemmas.List.Elements.{All-nil, All-get_or}
+use Rattle.std.proofs.lemmas.List.Elements.{All-nil, All-get_or, Contains-get_or}
 use Rattle.std.proofs.lemmas.Option.{slice_get-map, slice_get_within, get_or_from_slice_get}
 use Rattle.q3_profile.specs.declared.profile.Profile.{Profile}
 use Rattle.q3_io.specs.declared.address.Address.{Address}
@@ -12,12 +13,12 @@ use Rattle.q3_clmsg.specs.declared.moves.Move.{Move}
 use Rattle.q3_clmsg.specs.declared.error.ClientIllegible.{ClientIllegible}
 use Rattle.q3_clmsg.specs.Values as client_told
 use Rattle.q3_window.specs.Outgoing.{OutgoingState, IsOutgoing, acknowledge_at}
-use Rattle.q3_window.specs.Incoming.{fresh_of, gap_in, executes}
+use Rattle.q3_window.specs.Incoming.{fresh_of, gap_in, executes, jump_at, IncomingState}
 use Rattle.q3_window.specs.Flow.{Flow}
 use Rattle.q3_svmsg.specs.declared.error.Illegible.{Illegible}
 use Rattle.q3_ring.specs.Snapshot.{Snapshot}
 use Rattle.q3_rings.specs.Rings.{accept_at}
-use Rattle.q3_clstate.specs.State.{Application, apply_message}
+use Rattle.q3_clstate.specs.State.{Application, apply_message, AppliedState, accepts, after_gamestate, applies_game, heard_with, hearing, passes}
 use Rattle.q3_chan.specs.declared.side.Side.{Side}
 use Rattle.q3_chan.specs.declared.side.Side.TheVariants.{Server, Client}
 use Rattle.q3_chan.specs.declared.gatherer.Gathered.{Gathered}
@@ -31,10 +32,10 @@ use Rattle.q3_chan.specs.Senders.{qport_of}
 use Rattle.q3_chan.specs.Laws.{HoldsFront, SentIsTagged, Gathers}
 use Rattle.q3_client.specs.Client.{ClientState, Taken, Reception, receive_message, receive_bytes, applies, applies_read, take_answer, take_gathered, take_unless, take_at}
 use Rattle.q3_client.specs.Sending.{said_bytes, Said, IsSaid}
-use Rattle.q3_slot.specs.Built.{Built, IsNear, IsSnapshot, IsBuilt}
+use Rattle.q3_slot.specs.Built.{Built, IsNear, IsSnapshot, IsBuilt, BuildsGame, BuildsSnapshot, Telling, number_of}
 use Rattle.q3_slot.specs.Slot.{SlotState}
 use Rattle.q3_slot.specs.Emitting.{built_bytes}
-use Rattle.q3_slot.specs.Taking.{asked_with, delta_behind, runs, last_run_of, said_by}
+use Rattle.q3_slot.specs.Taking.{asked_with, delta_behind, runs, last_run_of, said_by, Came, OfMap, OfOther, asks_game, heads_of, moves_on, came_as, goes_on}
 use Rattle.q3_server.specs.Server.{places, slot_at}
 use Rattle.q3_server.specs.Taking.{sender_of}
 use Rattle.q3_slot.specs.Taking as by_slot
@@ -44,17 +45,29 @@ use Rattle.q3_world.specs.declared.made.Direction.TheVariants.{ToClient, ToServe
 use Rattle.q3_world.specs.MessageLaws.{HoldsThis}
 use Rattle.q3_world.specs.Ends.{client_at, address_at}
 use Rattle.q3_world.specs.Kept.{kept_client_took, kept_to_client, kept_server_took, kept_arrive, kept_deliver, kept_step}
-use Rattle.q3_world.specs.World.{Tag, Whole, History, no_said, history_at, named, client_took, to_client, said_under, server_took, to_server, arrive, deliver, step}
-use Rattle.q3_world.specs.StandsFor.{BeginsMessages, KeepsSlot, IsPiece, IsSent, IsClient, IsWay, WasBuilt, WasAccepted, carried_built, acks_built, carried_said, acks_said, AreCommanded, messages_of, messages_said, bytes_of}
-use Rattle.q3_world.proofs.MoveLists.{consecutive_issued, runs_are}
-use Rattle.q3_world.proofs.Clients.{no_client, no_end, at_number, said_number, KeepsSlot-ran, TakesBuilt-gathered, TakesBuilt-passed, TakesBuilt-accepted}
+use Rattle.q3_world.specs.World.{Tag, Whole, History, no_said, history_at, named, client_took, to_client, said_under, server_took, to_server, arrive, deliver, step, Played, game_in, texts_of, with_game, with_taken, with_heard}
+use Rattle.q3_world.specs.StandsFor.{BeginsMessages, KeepsSlot, IsPiece, IsSent, IsClient, IsWay, WasBuilt, WasAccepted, carried_built, acks_built, carried_said, acks_said, AreCommanded, messages_of, messages_said, bytes_of, KeepsClient, TakesBuilt}
+use Rattle.q3_world.proofs.MoveLists.{consecutive_issued}
+use Rattle.q3_world.proofs.Clients.{no_client, no_end, at_number, said_number, KeepsSlot-ran, TakesBuilt-gathered, TakesBuilt-passed, TakesBuilt-accepted, TakesBuilt-started, KeepsSlot-acknowledged, AreAsked-accepted}
 use Rattle.q3_world.proofs.Bases.{if_some_then}
-use Rattle.q3_world.proofs.Knowing.{KnownBase, known_base, was_built_is, held_are_built, holds_this}
-use Rattle.q3_world.proofs.Applying.{applies_message}
+use Rattle.q3_world.proofs.Knowing.{KnownBase, known_base, was_built_is, held_are_built, holds_this, lines_are}
+use Rattle.q3_world.proofs.Applying.{applies_message, applies_game_message}
 use Rattle.q3_world.proofs.Commanded.{ClientHears, client_hears, SlotHears, slot_hears}
-use Rattle.q3_world.proofs.Holding.{Holds, Has, has_slot, has_client}
-use Rattle.q3_world.proofs.Came.{TakesSo, Holds-taken, HearsSo, Holds-heard, tag_was_built, names_built}
+use Rattle.q3_world.proofs.Events.{Holds, Has, TakesSo, Holds-taken, HearsSo, Holds-heard, has_slot, has_client, tag_was_built, names_built}
+use Rattle.q3_svmsg.specs.Values.{Told}
+use Rattle.q3_text.specs.declared.text.Command.{Command}
+use Rattle.q3_gamestate.specs.Values.{Gamestate}
+use Rattle.q3_slot.specs.declared.stage.ClientStage.TheVariants.{Connected, Primed, Active}
+use Rattle.q3_world.proofs.Events as taking
 use Rattle.q3_world.proofs.Agree.{Cited, kept_of, Agree, found_or}
+use Rattle.q3_clstate.specs.declared.applied.SnapOutcome.TheVariants.{Skipped}
+use Rattle.q3_map.specs.Map.{MapState, is_other}
+use Rattle.q3_slot.specs.declared.stage.ClientStage.{ClientStage}
+use Rattle.q3_world.proofs.GamesMoves.{since_more, since_none, since_were, issued_most, AreSince-started}
+use Rattle.q3_world.proofs.Mapped.{fresh_own, jump_same, mapped_accepted, mapped_base, mapped_lines, mapped_other, mapped_started, mapped_runs, mapped_passed}
+use Rattle.q3_world.proofs.Plays.{plays_are, plays_on}
+use Rattle.q3_world.specs.Games.{Carries, accepted_since, AreMapped, standing_of}
+use Rattle.std.proofs.lemmas.Bool.{cases_Bool}
 
 -- ---- what a datagram does
 
@@ -84,13 +97,18 @@ quiet_same client gathered.BadFragment read other is = absurd is
 quiet_same client gathered.Runt read other is = absurd is
 quiet_same client gathered.Connectionless read other is = absurd is
 
--- the client is as it was, and accepts and executes nothing
-pub quiet_client : (client : ClientState) (answer : Gathered) (read : ℕ → Read) → IsQuiet answer
-    → ((take_answer client answer read).client ≡ client) × ((take_answer client answer read).accepted ≡ None) × ((take_answer client answer read).heard ≡ [])
+-- the client is as it was, and accepts, executes and applies nothing
+pub record Unmoved (client : ClientState) (taken : Taken) : Type 0 where
+  pub client_is : taken.client ≡ client
+  pub accepted : taken.accepted ≡ None
+  pub heard : taken.heard ≡ []
+  pub game : (section : Told) → game_in taken.answer section ≡ None
+
+pub quiet_client : (client : ClientState) (answer : Gathered) (read : ℕ → Read) → IsQuiet answer → Unmoved client (take_answer client answer read)
 quiet_client client (gathered.Whole number count) read is = absurd is
-quiet_client client gathered.Partial read is = (refl, refl, refl)
-quiet_client client gathered.Old read is = (refl, refl, refl)
-quiet_client client gathered.OutOfOrder read is = (refl, refl, refl)
+quiet_client client gathered.Partial read is = record { client_is = refl; accepted = refl; heard = refl; game = λ section. refl }
+quiet_client client gathered.Old read is = record { client_is = refl; accepted = refl; heard = refl; game = λ section. refl }
+quiet_client client gathered.OutOfOrder read is = record { client_is = refl; accepted = refl; heard = refl; game = λ section. refl }
 quiet_client client gathered.BadFragment read is = absurd is
 quiet_client client gathered.Runt read is = absurd is
 quiet_client client gathered.Connectionless read is = absurd is
@@ -158,11 +176,22 @@ tag_gathers profile whole tag client cited is found holds =
     subst (λ (m : List ℕ). Gathers messages (length built) (tagged client.gathering tag.number m tag.index).gathering) (at_number profile built tag.number is.1.some)
     (cited.gathers.piece messages (length built) client.gathering tag.number tag.index had.1.joined.of_client.gathers is.1.begun)
 
+-- a message for a client that doesn't play has no base
+waits_none : (profile : Profile) (challenge n : ℕ) (built : Built) → IsBuilt profile challenge n built → built.under ≡ None → built.base ≡ None
+waits_none profile challenge n built is under =
+    elim is.section [
+      | inl one ↦ (one.waits (sym (ap (λ (b : Built). b.under) one.is) ∙ under)).1
+      | inr made ↦ ap (λ (b : Built). b.base) made.is
+    ]
+
 -- what is known of a message that is named by a tag
 pub record Named (profile : Profile) (whole : Whole) (c n : ℕ) (slot : SlotState) (client : ClientState) (built : Built) : Type 0 where
   pub is : IsBuilt profile client.challenge n built
-  pub was : WasBuilt (history_at whole.histories c).built is.snapshot
-  pub base : IfSome built.base (KnownBase n (history_at whole.histories c).built (history_at whole.histories c).accepted)
+  pub was : (telling : Telling) (one : BuildsSnapshot profile telling n built) → WasBuilt (history_at whole.histories c).built one.snapshot
+  pub carries : (telling : Telling) (one : BuildsGame profile telling built) → Carries (history_at whole.histories c).built n one.game
+  pub base : client.gathering.taken < n
+      → IfSome built.base (KnownBase n (history_at whole.histories c).built (accepted_since (history_at whole.histories c).games (history_at whole.histories c).accepted))
+  pub lines : client.gathering.taken < n → IfSome built.under (λ game. client.state.lines ≡ built.lines)
   pub hears : client.gathering.taken < n → ClientHears slot client (history_at whole.histories c) n built
 
 pub names : (profile : Profile) (whole : Whole) (tag : Tag) (slot : SlotState) (client : ClientState) → Cited profile → IsFor profile whole tag → Has profile whole tag.client slot client
@@ -172,10 +201,13 @@ names profile whole tag slot client cited is had =
     let history = history_at whole.histories c in
     let built = tag_was_built profile whole tag slot client is.1 had in
     let of_slot = subst (λ (challenge : ℕ). IsBuilt profile challenge tag.number (named whole.histories tag)) (sym had.keeps.challenge) built in
+    let known = known_base profile slot client history tag.number is.1.some is.1.begun of_slot had.keeps.of_slot had.joined.asked in
     record {
       is = built;
-      was = names_built profile whole tag is.1 client.challenge built;
-      base = known_base profile slot client history tag.number is.1.some is.1.begun of_slot had.keeps.of_slot had.joined.asked;
+      was = λ telling one. names_built profile whole tag is.1 telling one;
+      carries = λ telling one. record { some = is.1.some; begun = is.1.begun; is = ap (λ (b : Built). b.message.section) one.is };
+      base = λ newer. mapped_base whole.ends.server.map slot client history tag.number newer is.1.begun had.joined.mapped (waits_none profile client.challenge tag.number (named whole.histories tag) built) known;
+      lines = λ newer. mapped_lines whole.ends.server.map slot client history tag.number newer is.1.begun had.joined.mapped;
       hears = λ newer. client_hears cited.windows.flow slot client history tag.number newer is.1.begun had.joined.commanded;
     }
 
@@ -187,78 +219,143 @@ received_alike profile whole c n slot client built cited had named_is newer =
     let history = history_at whole.histories c in
     let takes = had.joined.of_client in
     let are = had.keeps.of_slot.built in
+    let since = accepted_since history.games history.accepted in
+    let were = since_were history.games history.accepted (WasBuilt history.built) takes.accepted in
     let hears = named_is.hears newer in
-    cited.reads client n built named_is.is had.keeps.of_client.by takes.lines hears.takes hears.text
-    (held_are_built cited.rings profile slot.challenge client.state.held history.built history.accepted are takes.stands takes.accepted)
-    (if_some_then built.base (KnownBase n history.built history.accepted) (λ base. IsSnapshot profile base × HoldsThis client.state.held base)
-    (λ base known. (was_built_is profile slot.challenge history.built base are known.1, holds_this cited.rings client.state.held history.built history.accepted base takes.stands takes.accepted known.1))
-    named_is.base)
+    cited.reads client n built named_is.is had.keeps.of_client.by (lines_are profile slot client history are had.joined.mapped.has) (named_is.lines newer) hears.takes hears.text
+    (held_are_built cited.rings profile slot.challenge client.state.held history.built since are takes.stands were)
+    (if_some_then built.base (KnownBase n history.built since) (λ base. IsSnapshot profile base × HoldsThis client.state.held base)
+    (λ base known. (was_built_is profile slot.challenge history.built base are known.1, holds_this cited.rings client.state.held history.built since base takes.stands were known.1))
+    (named_is.base newer))
 
 -- where nothing comes whole, the commands on their way are as they were
 waits_so : (slot : SlotState) (client : ClientState) (history : History) (g : Gathering) → g.taken ≡ client.gathering.taken → IsOutgoing client.issued → AreCommanded slot client history
-    → TakesSo slot history g client.state client.issued []
+    → TakesSo slot history g client.state client.issued history.client_executed
 waits_so slot client history g taken window are =
     record {
       is = window;
-      to_client = subst (λ (texts : List (List ℕ)). Flow slot.issued client.state.executed history.server_commands texts (carried_built history.built) (acks_said history.said) slot.gathering.taken)
-          (sym (append-nil history.client_executed)) are.to_client;
-      to_server = subst (λ (n : ℕ). Flow client.issued slot.executed history.client_commands history.server_executed (carried_said history.said) (acks_built history.built) n) (sym taken) are.to_server;
+      to_client = subst (λ (n : ℕ). Flow slot.issued client.state.executed history.server_commands history.client_executed (carried_built history.built) (acks_said history.said) slot.gathering.taken n)
+          (sym taken) are.to_client;
+      to_server = subst (λ (n : ℕ). Flow client.issued slot.executed history.client_commands history.server_executed (carried_said history.said) (acks_built history.built) n slot.gathering.taken) (sym taken) are.to_server;
     }
 
 -- a client's window behind a message
 abbrev pub window_heard : ClientState → Built → OutgoingState
 window_heard client built = (acknowledge_at client.issued built.message.ack).window
 
+-- where nothing is noted
+nothing_noted : (history : History) (n time : ℕ) (taken : Taken) (section : Told) → taken.accepted ≡ None → taken.heard ≡ [] → game_in taken.answer section ≡ None
+    → with_taken history n section taken ≡ history
+nothing_noted history n time taken section accepted heard game =
+    ap (λ (g : Option Gamestate). with_game (with_heard history taken.accepted taken.heard) n taken.client.last_time g) game
+    ∙ (ap (λ (s : Option Snapshot). with_heard history s taken.heard) accepted
+    ∙ (ap (λ (commands : List Command). with_heard history None commands) heard
+    ∙ ap (λ (texts : List (List ℕ)). record history { client_executed = texts }) (append-nil history.client_executed)))
+
+-- what a client has once it executed the commands of a message
+abbrev heard_state : AppliedState → List Command → AppliedState
+heard_state state commands = hearing state commands
+
 -- what arrives of a piece: what holds stays
-pub holds_piece : (profile : Profile) (whole : Whole) (c number n : ℕ) (slot : SlotState) (client : ClientState) (took : Took) (built : Built) → Cited profile → c < places
-    → Has profile whole c slot client → PieceDoes client.gathering n (built_bytes profile built) took
+pub holds_piece : (profile : Profile) (whole : Whole) (c datagram n : ℕ) (slot : SlotState) (client : ClientState) (took : Took) (built : Built) → Cited profile → c < places
+    → n ≤ length (history_at whole.histories c).built → Has profile whole c slot client → PieceDoes client.gathering n (built_bytes profile built) took
     → Gathers (messages_of profile (history_at whole.histories c).built) (length (history_at whole.histories c).built) took.gathering
     → Named profile whole c n slot client built
-    → Holds profile whole → Holds profile (client_took whole number c (take_gathered client took (λ k. Ok (receive_message client k built.message)))).whole
-holds_piece profile whole c number n slot client took built cited lt had does gathers named_is holds =
+    → Holds profile whole → Holds profile (client_took whole datagram c n built.message.section (take_gathered client took (λ k. Ok (receive_message client k built.message)))).whole
+holds_piece profile whole c datagram n slot client took built cited lt within had does gathers named_is holds =
     let g = took.gathering in
+    let map = whole.ends.server.map in
     let history = history_at whole.histories c in
+    let since = accepted_since history.games history.accepted in
     let state = client.state in
     let now = record client { gathering = g } in
     let read : ℕ → Read = λ k. Ok (receive_message client k built.message) in
     let joined = had.joined.of_client in
+    let mapped = had.joined.mapped in
     let window = had.keeps.of_client.window in
     elim does.either [
       | inl waits ↦
           let same = quiet_client now took.answer read waits.quiet in
-          rw (same.0, same.1, same.2) (Holds-taken profile whole c slot client g state client.issued client.delta None [] lt had does.side refl refl
+          let noted = nothing_noted history n client.last_time (take_answer now took.answer read) built.message.section same.accepted same.heard (same.game built.message.section) in
+          rw (noted, same.client_is) (Holds-taken profile whole c slot client g state client.issued client.delta false history.games history.accepted history.client_executed lt had does.side refl refl
           (waits_so slot client history g waits.taken window had.joined.commanded)
-          (TakesBuilt-gathered profile client history.built history.accepted g waits.taken gathers joined) holds)
+          (TakesBuilt-gathered profile client history.built history.accepted since g waits.taken gathers joined) had.joined.asked
+          (subst (λ (k : ℕ). AreMapped map (standing_of slot) state k client.last_time history.built history.games history.said history.accepted history.client_executed) (sym waits.taken) mapped) had.joined.since holds)
       | inr came ↦
           let newer = came.newer in
           let below = joined.below in
           let is = named_is.is in
-          let snapshot = is.snapshot in
-          let number_is = is.number in
           let taken = came.taken in
           let hears = named_is.hears newer in
           let after = window_heard client built in
           let commands = built.message.commands in
-          let executed = executes state.executed commands in
           let fresh = fresh_of state.executed.executed commands in
-          let known = if_some_then built.base (KnownBase n history.built history.accepted) (λ base. IsNear n base × Contains history.accepted base) (λ base known. (known.0, known.2)) named_is.base in
+          let texts = texts_of fresh in
+          let heard = history.client_executed ++ texts in
           let still : IsOutgoing after = cited.windows.stays.acknowledges client.issued built.message.ack window in
-          let to_server : Flow after slot.executed history.client_commands history.server_executed (carried_said history.said) (acks_built history.built) g.taken =
-          subst (λ (k : ℕ). Flow after slot.executed history.client_commands history.server_executed (carried_said history.said) (acks_built history.built) k) (sym taken) hears.to_server in
+          let at_taken : (state : AppliedState) (games : List Played) (accepted : List Snapshot) (heard : List (List ℕ))
+          → AreMapped map (standing_of slot) state n client.last_time history.built games history.said accepted heard
+          → AreMapped map (standing_of slot) state g.taken client.last_time history.built games history.said accepted heard =
+          λ state games accepted heard is.
+          subst (λ (k : ℕ). AreMapped map (standing_of slot) state k client.last_time history.built games history.said accepted heard) (sym taken) is in
+          let own = fresh_own slot client history n built had.keeps.of_slot.own hears in
+          let to_server : Flow after slot.executed history.client_commands history.server_executed (carried_said history.said) (acks_built history.built) g.taken slot.gathering.taken =
+          subst (λ (k : ℕ). Flow after slot.executed history.client_commands history.server_executed (carried_said history.said) (acks_built history.built) k slot.gathering.taken) (sym taken) hears.to_server in
+          let to_client : Flow slot.issued (executes state.executed commands) history.server_commands heard (carried_built history.built) (acks_said history.said) slot.gathering.taken g.taken =
+          subst (λ (k : ℕ). Flow slot.issued (executes state.executed commands) history.server_commands heard (carried_built history.built) (acks_said history.said) slot.gathering.taken k) (sym taken) hears.to_client in
           let applied_as : Application → Taken = λ application. applies now (record { issued = after; application = application }) in
           let came_so : take_answer now took.answer read ≡ applied_as (apply_message state n built.message) = ap (λ (a : Gathered). take_answer now a read) came.answer in
-          elim (applies_message cited.rings state history.accepted n built is.telling snapshot is.is joined.stands (omega (arith, newer, below)) known) [
-            | inl accepted ↦
-                subst (λ (t : Taken). Holds profile (client_took whole number c t).whole) (sym (came_so ∙ ap applied_as accepted.1))
-                (Holds-taken profile whole c slot client g (record state { number = n; executed = executed; held = accept_at state.held snapshot }) after true (Some snapshot) fresh lt had does.side refl refl
-                (record { is = still; to_client = hears.to_client; to_server = to_server })
-                (TakesBuilt-accepted cited.rings profile client history.built history.accepted g after executed n snapshot (taken ∙ sym number_is) gathers is.are.few named_is.was
-                (omega (arith, newer, number_is)) joined) holds)
-            | inr skipped ↦
-                subst (λ (t : Taken). Holds profile (client_took whole number c t).whole) (sym (came_so ∙ ap applied_as skipped.2))
-                (Holds-taken profile whole c slot client g (record state { number = n; executed = executed }) after false None fresh lt had does.side refl refl
-                (record { is = still; to_client = hears.to_client; to_server = to_server })
-                (TakesBuilt-passed profile client history.built history.accepted g after executed n (omega (arith, taken, newer)) gathers joined) holds)
+          elim is.section [
+            | inl one ↦
+                let snapshot = one.snapshot in
+                let number_is = one.number in
+                let section = ap (λ (b : Built). b.message.section) one.is in
+                let known = if_some_then built.base (KnownBase n history.built since) (λ base. IsNear n base × Contains since base) (λ base known. (known.0, known.2)) (named_is.base newer) in
+                elim (applies_message cited.rings state since n built is.telling snapshot one.is joined.stands (omega (arith, newer, below)) known) [
+                  | inl accepted ↦
+                      let state' = record (hearing state commands) { number = n; held = accept_at state.held snapshot } in
+                      let since_is = since_more history.games history.accepted snapshot mapped.has in
+                      let takes = TakesBuilt-accepted cited.rings profile client history.built history.accepted since g state' after client.moves snapshot (taken ∙ sym number_is) gathers one.are.few (named_is.was is.telling one)
+                      (omega (arith, newer, number_is)) refl joined in
+                      subst (λ (t : Taken). Holds profile (client_took whole datagram c n built.message.section t).whole) (sym (came_so ∙ ap applied_as accepted.1))
+                      (subst (λ (s : Told). Holds profile (client_took whole datagram c n s (applied_as (heard_with state commands (accepts (hearing state commands) n (number_of built.base) snapshot)))).whole) (sym section)
+                      (Holds-taken profile whole c slot client g state' after true false history.games (history.accepted ++ snapshot ∷ []) heard lt had does.side refl refl
+                      (record { is = still; to_client = to_client; to_server = to_server })
+                      (subst (λ (s : List Snapshot). TakesBuilt profile (taking.client_took client g state' after true false) history.built (history.accepted ++ snapshot ∷ []) s) (sym since_is) takes)
+                      (AreAsked-accepted slot history.said history.built history.accepted snapshot had.joined.asked)
+                      (at_taken state' history.games (history.accepted ++ snapshot ∷ []) heard (mapped_accepted map slot client history n commands snapshot (accept_at state.held snapshot) newer number_is own mapped))
+                      had.joined.since holds))
+                  | inr skipped ↦
+                      let state' = record (hearing state commands) { number = n } in
+                      subst (λ (t : Taken). Holds profile (client_took whole datagram c n built.message.section t).whole) (sym (came_so ∙ ap applied_as skipped.2))
+                      (subst (λ (s : Told). Holds profile (client_took whole datagram c n s (applied_as (heard_with state commands (passes (hearing state commands) n (Skipped (number_of built.base) (EntitiesGone skipped.0)))))).whole) (sym section)
+                      (Holds-taken profile whole c slot client g state' after false false history.games history.accepted heard lt had does.side refl refl
+                      (record { is = still; to_client = to_client; to_server = to_server })
+                      (TakesBuilt-passed profile client history.built history.accepted since g state' after client.moves (omega (arith, taken, newer)) gathers refl joined) had.joined.asked
+                      (at_taken state' history.games history.accepted heard (mapped_passed map slot client history n commands state.held newer own mapped)) had.joined.since holds))
+                ]
+            | inr made ↦
+                let game = made.game in
+                let section = ap (λ (b : Built). b.message.section) made.is in
+                let last : (executes state.executed commands).executed ≡ game.command =
+                hears.last ∙ (ap (λ (b : Built). b.last) made.is ∙ sym made.last) in
+                let jumped : jump_at (executes state.executed commands) game.command ≡ executes state.executed commands = jump_same (executes state.executed commands) game.command last in
+                let state' = record (after_gamestate (hearing state commands) game) { number = n } in
+                let played : Played = record { number = n; game = game; accepted = length history.accepted; executed = length heard; time = client.last_time } in
+                let games = history.games ++ played ∷ [] in
+                let since_is : accepted_since games history.accepted ≡ [] = since_none history.games history.accepted played refl in
+                let takes = TakesBuilt-started cited.rings profile client history.built history.accepted since g state' after [] (omega (arith, taken, newer)) gathers (subst (λ (k : ℕ). 512 ≤ k) (sym had.keeps.of_client.ring) cited.ring) refl joined in
+                subst (λ (t : Taken). Holds profile (client_took whole datagram c n built.message.section t).whole) (sym (came_so ∙ ap applied_as (applies_game_message state n built is.telling game made.is)))
+                (subst (λ (s : Told). Holds profile (client_took whole datagram c n s (applied_as (heard_with state commands (applies_game (hearing state commands) n game)))).whole) (sym section)
+                (Holds-taken profile whole c slot client g state' after false true games history.accepted heard lt had does.side refl refl
+                (record {
+                  is = still;
+                  to_client = subst (λ (i : IncomingState). Flow slot.issued i history.server_commands heard (carried_built history.built) (acks_said history.said) slot.gathering.taken g.taken) (sym jumped) to_client;
+                  to_server = to_server;
+                })
+                (subst (λ (s : List Snapshot). TakesBuilt profile (taking.client_took client g state' after false true) history.built history.accepted s) (sym since_is) takes) had.joined.asked
+                (at_taken state' games history.accepted heard (mapped_started profile map slot client history n commands game newer (named_is.carries is.telling made) made.are joined.most mapped))
+                (AreSince-started history.games played) holds))
           ]
     ]
 
@@ -282,49 +379,53 @@ delivered_to profile whole number tag (Some client) cited is at holds =
       same = ap (λ (t : Taken). kept_client_took (kept_of profile whole) number tag.client t)
           (taken_by_bytes client tag.bytes took had.1.joined.of_client.legible (tag_is profile whole tag client cited is at holds)
           ∙ taken_alike profile client took tag.number built (received_alike profile whole tag.client tag.number had.0 client built cited had.1 named_is) does);
-      holds = holds_piece profile whole tag.client number tag.number had.0 client took built cited is.0 had.1 does (tag_gathers profile whole tag client cited is at holds) named_is holds;
+      holds = holds_piece profile whole tag.client number tag.number had.0 client took built cited is.0 is.1.begun had.1 does (tag_gathers profile whole tag client cited is at holds) named_is holds;
     }
 
 -- ---- delivering to the server
 
 abbrev pub Heard : Type 0
-Heard = Result client_told.Message ClientIllegible
+Heard = Result Came ClientIllegible
 
 -- where nothing came whole, nothing is read
-pub quiet_heard : (slot : SlotState) (c : ℕ) (answer : Gathered) (read other : ℕ → Heard) → IsQuiet answer → by_slot.take_answer slot c answer read ≡ by_slot.take_answer slot c answer other
-quiet_heard slot c (gathered.Whole number count) read other is = absurd is
-quiet_heard slot c gathered.Partial read other is = refl
-quiet_heard slot c gathered.Old read other is = refl
-quiet_heard slot c gathered.OutOfOrder read other is = refl
-quiet_heard slot c gathered.BadFragment read other is = absurd is
-quiet_heard slot c gathered.Runt read other is = absurd is
-quiet_heard slot c gathered.Connectionless read other is = absurd is
+pub quiet_heard : (map : MapState) (slot : SlotState) (c : ℕ) (answer : Gathered) (read other : ℕ → Heard) → IsQuiet answer → by_slot.take_answer map slot c answer read ≡ by_slot.take_answer map slot c answer other
+quiet_heard map slot c (gathered.Whole number count) read other is = absurd is
+quiet_heard map slot c gathered.Partial read other is = refl
+quiet_heard map slot c gathered.Old read other is = refl
+quiet_heard map slot c gathered.OutOfOrder read other is = refl
+quiet_heard map slot c gathered.BadFragment read other is = absurd is
+quiet_heard map slot c gathered.Runt read other is = absurd is
+quiet_heard map slot c gathered.Connectionless read other is = absurd is
 
 -- the slot is as it was, and executes and runs nothing
-pub quiet_slot : (slot : SlotState) (c : ℕ) (answer : Gathered) (read : ℕ → Heard) → IsQuiet answer
-    → ((by_slot.take_answer slot c answer read).slot ≡ slot) × ((by_slot.take_answer slot c answer read).commands ≡ []) × ((by_slot.take_answer slot c answer read).moves ≡ [])
-quiet_slot slot c (gathered.Whole number count) read is = absurd is
-quiet_slot slot c gathered.Partial read is = (refl, refl, refl)
-quiet_slot slot c gathered.Old read is = (refl, refl, refl)
-quiet_slot slot c gathered.OutOfOrder read is = (refl, refl, refl)
-quiet_slot slot c gathered.BadFragment read is = absurd is
-quiet_slot slot c gathered.Runt read is = absurd is
-quiet_slot slot c gathered.Connectionless read is = absurd is
+pub record Idle (slot : SlotState) (taken : by_slot.SlotTaken) : Type 0 where
+  pub slot_is : taken.slot ≡ slot
+  pub commands : taken.commands ≡ []
+  pub moves : taken.moves ≡ []
 
--- what comes whole is read as the message that was said
-pub heard_alike : (profile : Profile) (slot : SlotState) (c : ℕ) (took : Took) (number : ℕ) (said : Said)
-    → (slot.gathering.taken < number → said_by profile slot (said_bytes profile said) ≡ Ok said.message)
+pub quiet_slot : (map : MapState) (slot : SlotState) (c : ℕ) (answer : Gathered) (read : ℕ → Heard) → IsQuiet answer → Idle slot (by_slot.take_answer map slot c answer read)
+quiet_slot map slot c (gathered.Whole number count) read is = absurd is
+quiet_slot map slot c gathered.Partial read is = record { slot_is = refl; commands = refl; moves = refl }
+quiet_slot map slot c gathered.Old read is = record { slot_is = refl; commands = refl; moves = refl }
+quiet_slot map slot c gathered.OutOfOrder read is = record { slot_is = refl; commands = refl; moves = refl }
+quiet_slot map slot c gathered.BadFragment read is = absurd is
+quiet_slot map slot c gathered.Runt read is = absurd is
+quiet_slot map slot c gathered.Connectionless read is = absurd is
+
+-- what comes whole is read as what the message that was said is to the map
+pub heard_alike : (profile : Profile) (map : MapState) (slot : SlotState) (c : ℕ) (took : Took) (number : ℕ) (said : Said)
+    → (slot.gathering.taken < number → said_by profile map slot (said_bytes profile said) ≡ Ok (came_as map said.message))
     → PieceDoes slot.gathering number (said_bytes profile said) took
     → (from : Address)
-    → by_slot.take_gathered (record slot { address = from }) c took (λ k. said_by profile slot took.message)
-    ≡ by_slot.take_gathered (record slot { address = from }) c took (λ k. Ok said.message)
-heard_alike profile slot c took number said hears_back does from =
+    → by_slot.take_gathered map (record slot { address = from }) c took (λ k. said_by profile map slot took.message)
+    ≡ by_slot.take_gathered map (record slot { address = from }) c took (λ k. Ok (came_as map said.message))
+heard_alike profile map slot c took number said hears_back does from =
     let now = record slot { address = from; gathering = took.gathering } in
     elim does.either [
-      | inl waits ↦ quiet_heard now c took.answer (λ k. said_by profile slot took.message) (λ k. Ok said.message) waits.quiet
+      | inl waits ↦ quiet_heard map now c took.answer (λ k. said_by profile map slot took.message) (λ k. Ok (came_as map said.message)) waits.quiet
       | inr came ↦
-          let read : said_by profile slot took.message ≡ Ok said.message = ap (λ (m : List ℕ). said_by profile slot m) came.message_is ∙ hears_back came.newer in
-          ap (λ (r : Heard). by_slot.take_answer now c took.answer (λ k. r)) read
+          let read : said_by profile map slot took.message ≡ Ok (came_as map said.message) = ap (λ (m : List ℕ). said_by profile map slot m) came.message_is ∙ hears_back came.newer in
+          ap (λ (r : Heard). by_slot.take_answer map now c took.answer (λ k. r)) read
     ]
 
 -- a tag of a client's datagram
@@ -336,7 +437,7 @@ IsOf profile whole tag from =
 -- the server takes it by what its bytes do to its client's slot
 pub heard_by_bytes : (profile : Profile) (whole : Whole) (tag : Tag) (from : Address) (slot : SlotState) → Cited profile → IsOf profile whole tag from
     → slot_at whole.ends.server tag.client ≡ Some slot → Holds profile whole
-    → hears.take_at whole.ends.server from tag.bytes ≡ hears.taken_at whole.ends.server tag.client (by_slot.take_slot profile tag.client from tag.bytes slot)
+    → hears.take_at whole.ends.server from tag.bytes ≡ hears.taken_at whole.ends.server tag.client (by_slot.take_slot profile whole.ends.server.map tag.client from tag.bytes slot)
 unfolding hears.take_at
 heard_by_bytes profile whole tag from slot cited is at holds =
     let server = whole.ends.server in
@@ -358,7 +459,7 @@ heard_by_bytes profile whole tag from slot cited is at holds =
     ap (λ (r : Result ℕ NoQport). hears.take_headed server from tag.bytes r) told
     ∙ (ap (λ (o : Option ℕ). hears.take_from server from tag.bytes o) found
     ∙ (ap (λ (o : Option SlotState). hears.take_by server c from tag.bytes o) at
-    ∙ ap (λ (p : Profile). hears.taken_at server c (by_slot.take_slot p c from tag.bytes slot)) holds.facts.by))
+    ∙ ap (λ (p : Profile). hears.taken_at server c (by_slot.take_slot p server.map c from tag.bytes slot)) holds.facts.by))
 
 -- what a slot writes against behind a message was accepted, or is none
 asked_behind : (accepted : List Snapshot) (before : ℕ) (message : client_told.Message) → (before ≡ 0) ⊎ WasAccepted accepted before
@@ -374,14 +475,58 @@ asked_behind accepted before message was asks = with_moves message.moves
     with_moves [] = was
     with_moves (one ∷ moves) = if_asked message.delta refl
 
+asked_playing : (accepted : List Snapshot) (slot : SlotState) (message : client_told.Message) → (slot.delta ≡ 0) ⊎ WasAccepted accepted slot.delta
+    → (message.delta ≡ true → WasAccepted accepted message.acknowledged)
+    → ((goes_on slot message message.moves).delta ≡ 0) ⊎ WasAccepted accepted (goes_on slot message message.moves).delta
+asked_playing accepted slot message was asks = with_moves message.moves
+  where
+    at_stage : (one : Move) (others : List Move) (stage : ClientStage) → ((moves_on slot message one others stage).delta ≡ 0) ⊎ WasAccepted accepted (moves_on slot message one others stage).delta
+    at_stage one others Connected = inl refl
+    at_stage one others Primed = inl refl
+    at_stage one others Active = asked_behind accepted slot.delta message was asks
+
+    with_moves : (moves : List Move) → ((goes_on slot message moves).delta ≡ 0) ⊎ WasAccepted accepted (goes_on slot message moves).delta
+    with_moves [] = was
+    with_moves (one ∷ others) = at_stage one others slot.stage
+
+-- where nothing is run, what was run stays
+none_run : (profile : Profile) (has : SlotState) (history : History) → KeepsSlot profile has history.qport history.host history.built history.run history.server_commands
+    → KeepsSlot profile has history.qport history.host history.built (history.run ++ []) history.server_commands
+none_run profile has history keeps = subst (λ (run : List Move). KeepsSlot profile has history.qport history.host history.built run history.server_commands) (sym (append-nil history.run)) keeps
+
 -- where nothing comes whole, the commands on their way are as they were
 hears_nothing : (slot : SlotState) (client : ClientState) (history : History) (g : Gathering) → g.taken ≡ slot.gathering.taken → AreCommanded slot client history
     → HearsSo client history g slot.issued slot.executed []
 hears_nothing slot client history g taken are =
     record {
-      to_client = subst (λ (n : ℕ). Flow slot.issued client.state.executed history.server_commands history.client_executed (carried_built history.built) (acks_said history.said) n) (sym taken) are.to_client;
-      to_server = subst (λ (texts : List (List ℕ)). Flow client.issued slot.executed history.client_commands texts (carried_said history.said) (acks_built history.built) client.gathering.taken)
-          (sym (append-nil history.server_executed)) are.to_server;
+      to_client = subst (λ (n : ℕ). Flow slot.issued client.state.executed history.server_commands history.client_executed (carried_built history.built) (acks_said history.said) n client.gathering.taken) (sym taken) are.to_client;
+      to_server = subst (λ (texts : List (List ℕ)). Flow client.issued slot.executed history.client_commands texts (carried_said history.said) (acks_built history.built) client.gathering.taken g.taken)
+          (sym (append-nil history.server_executed))
+          (subst (λ (n : ℕ). Flow client.issued slot.executed history.client_commands history.server_executed (carried_said history.said) (acks_built history.built) client.gathering.taken n) (sym taken) are.to_server);
+    }
+
+-- and where a message of another map comes, its acknowledgement is taken
+hears_other : (slot : SlotState) (client : ClientState) (history : History) (g : Gathering) (n : ℕ) (said : Said) → g.taken ≡ n → SlotHears slot client history n said
+    → HearsSo client history g (acknowledge_at slot.issued said.message.command).window slot.executed []
+hears_other slot client history g n said taken heard =
+    let after = (acknowledge_at slot.issued said.message.command).window in
+    record {
+      to_client = subst (λ (k : ℕ). Flow after client.state.executed history.server_commands history.client_executed (carried_built history.built) (acks_said history.said) k client.gathering.taken) (sym taken) heard.to_client;
+      to_server = subst (λ (texts : List (List ℕ)). Flow client.issued slot.executed history.client_commands texts (carried_said history.said) (acks_built history.built) client.gathering.taken g.taken)
+          (sym (append-nil history.server_executed))
+          (subst (λ (k : ℕ). Flow client.issued slot.executed history.client_commands history.server_executed (carried_said history.said) (acks_built history.built) client.gathering.taken k) (sym taken) heard.passes);
+    }
+
+-- one of the map runs
+hears_run : (slot : SlotState) (client : ClientState) (history : History) (g : Gathering) (n : ℕ) (said : Said) → g.taken ≡ n → SlotHears slot client history n said
+    → HearsSo client history g (acknowledge_at slot.issued said.message.command).window (executes slot.executed said.message.commands) (fresh_of slot.executed.executed said.message.commands)
+hears_run slot client history g n said taken heard =
+    let after = (acknowledge_at slot.issued said.message.command).window in
+    let executed = executes slot.executed said.message.commands in
+    let texts = history.server_executed ++ texts_of (fresh_of slot.executed.executed said.message.commands) in
+    record {
+      to_client = subst (λ (k : ℕ). Flow after client.state.executed history.server_commands history.client_executed (carried_built history.built) (acks_said history.said) k client.gathering.taken) (sym taken) heard.to_client;
+      to_server = subst (λ (k : ℕ). Flow client.issued executed history.client_commands texts (carried_said history.said) (acks_built history.built) client.gathering.taken k) (sym taken) heard.to_server;
     }
 
 -- a message leaves no gap, and so it runs
@@ -389,44 +534,70 @@ pub runs_whole : (slot : SlotState) (c n : ℕ) (message : client_told.Message) 
     → by_slot.run_message slot c n message ≡ by_slot.run_unless slot c n message None
 runs_whole slot c n message none = ap (λ (gap : Option ℕ). by_slot.run_unless slot c n message gap) none
 
+-- the moves of a message are at most as late as the last that was issued
+said_most : (profile : Profile) (client : ClientState) (history : History) (moves : List Move) → KeepsClient profile client history.qport history.said history.issued history.client_commands
+    → All (Contains history.issued) moves → All (λ (one : Move). one.time ≤ client.last_time) moves
+said_most profile client history moves keeps were =
+    subst (λ (most : ℕ). All (λ (one : Move). one.time ≤ most) moves) (sym keeps.last) (issued_most moves history.issued keeps.rise were)
+
 -- what comes of a piece: what holds stays
 pub holds_heard : (profile : Profile) (whole : Whole) (c number n : ℕ) (from : Address) (slot : SlotState) (client : ClientState) (took : Took) (said : Said) → Cited profile → c < places
     → Has profile whole c slot client → from.host ≡ slot.address.host → PieceDoes slot.gathering n (said_bytes profile said) took
     → Gathers (messages_said profile (history_at whole.histories c).said) (length (history_at whole.histories c).said) took.gathering
+    → Contains (history_at whole.histories c).said said
     → All (Contains (history_at whole.histories c).issued) said.message.moves
     → (said.message.delta ≡ true → WasAccepted (history_at whole.histories c).accepted said.message.acknowledged)
     → (slot.gathering.taken < n → SlotHears slot client (history_at whole.histories c) n said) → Holds profile whole
-    → Holds profile (server_took whole number c (hears.taken_at whole.ends.server c (by_slot.take_gathered (record slot { address = from }) c took (λ k. Ok said.message)))).whole
-holds_heard profile whole c number n from slot client took said cited lt had host does gathers were asks hears_so holds =
+    → Holds profile (server_took whole number c (hears.taken_at whole.ends.server c (by_slot.take_gathered whole.ends.server.map (record slot { address = from }) c took (λ k. Ok (came_as whole.ends.server.map said.message))))).whole
+holds_heard profile whole c number n from slot client took said cited lt had host does gathers there were asks hears_so holds =
     let g = took.gathering in
+    let map = whole.ends.server.map in
     let history = history_at whole.histories c in
     let now = record slot { address = from; gathering = g } in
-    let read : ℕ → Heard = λ k. Ok said.message in
+    let message = said.message in
+    let read : ℕ → Heard = λ k. Ok (came_as map message) in
     let keeps = had.keeps.of_slot in
+    let mapped = had.joined.mapped in
     let before = had.joined.asked.delta in
+    let result = by_slot.take_answer map now c took.answer read in
     elim does.either [
       | inl waits ↦
-          let same = quiet_slot now c took.answer read waits.quiet in
-          rw (same.0, same.1, same.2) (Holds-heard profile whole c slot client from g slot.issued slot.executed slot.delta slot.last_run [] [] lt had host does.side gathers
-          (subst (λ (run : List Move). KeepsSlot profile slot history.qport history.host history.built run history.server_commands) (sym (append-nil history.run)) keeps)
+          let same = quiet_slot map now c took.answer read waits.quiet in
+          rw (same.slot_is, same.commands, same.moves) (Holds-heard profile whole c slot slot client from g (record { commands = []; entered = result.entered; moves = []; owed = result.owed }) lt had host does.side refl refl refl gathers
+          (none_run profile slot history keeps)
           (hears_nothing slot client history g waits.taken had.joined.commanded)
-          (All-nil (Contains history.issued)) before holds)
+          (All-nil (Contains history.issued)) before mapped holds)
       | inr came ↦
-          let message = said.message in
           let heard = hears_so came.newer in
           let after = (acknowledge_at slot.issued message.command).window in
-          let executed = executes slot.executed message.commands in
           let still : IsOutgoing after = cited.windows.stays.acknowledges slot.issued message.command keeps.window in
-          let to_client : Flow after client.state.executed history.server_commands history.client_executed (carried_built history.built) (acks_said history.said) g.taken =
-          subst (λ (k : ℕ). Flow after client.state.executed history.server_commands history.client_executed (carried_built history.built) (acks_said history.said) k) (sym came.taken) heard.to_client in
-          let ran_so : by_slot.take_answer now c took.answer read ≡ by_slot.run_unless now c n message None =
-          ap (λ (a : Gathered). by_slot.take_answer now c a read) came.answer ∙ runs_whole now c n message heard.gap in
-          subst (λ (t : by_slot.SlotTaken). Holds profile (server_took whole number c (hears.taken_at whole.ends.server c t)).whole) (sym ran_so)
-          (Holds-heard profile whole c slot client from g after executed (delta_behind slot.delta message) (last_run_of slot.last_run message.moves)
-          (fresh_of slot.executed.executed message.commands) (runs slot.last_run message.moves) lt had host does.side gathers
-          (KeepsSlot-ran profile slot history.qport history.host history.built history.run history.server_commands after executed message.moves (delta_behind slot.delta message) still keeps)
-          (record { to_client = to_client; to_server = heard.to_server })
-          (runs_are (Contains history.issued) slot.last_run message.moves were) (asked_behind history.accepted slot.delta message before asks) holds)
+          let read_so : result ≡ by_slot.run_read map now c n (Ok (came_as map message)) = ap (λ (a : Gathered). by_slot.take_answer map now c a read) came.answer in
+          elim (cases_Bool (is_other map message.id)) [
+            | inl other ↦
+                let owed = slot.owed || asks_game map slot (heads_of message) in
+                let has = record slot { issued = after; owed = owed } in
+                let ignored : result ≡ by_slot.ignores map now c (heads_of message) =
+                read_so ∙ ap (λ (b : Bool). by_slot.run_read map now c n (Ok (if b then OfOther (heads_of message) else OfMap message))) other in
+                subst (λ (t : by_slot.SlotTaken). Holds profile (server_took whole number c (hears.taken_at whole.ends.server c t)).whole) (sym ignored)
+                (Holds-heard profile whole c slot has client from g (record { commands = []; entered = None; moves = []; owed = owed }) lt had host does.side refl refl refl gathers
+                (none_run profile has history (KeepsSlot-acknowledged profile slot history.qport history.host history.built history.run history.server_commands after owed still keeps))
+                (hears_other slot client history g n said came.taken heard)
+                (All-nil (Contains history.issued)) before (mapped_other map slot client history said there other mapped) holds)
+            | inr same ↦
+                let executed = executes slot.executed message.commands in
+                let playing = goes_on slot message message.moves in
+                let has = record slot { stage = playing.stage; issued = after; executed = executed; delta = playing.delta; last_run = playing.last_run } in
+                let on = mapped_runs map slot client history said there same (said_most profile client history said.message.moves had.keeps.of_client were) mapped in
+                let rises = plays_on slot message history.run keeps.last keeps.rise on.late in
+                let ran_so : result ≡ by_slot.run_unless now c n message None =
+                read_so ∙ (ap (λ (b : Bool). by_slot.run_read map now c n (Ok (if b then OfOther (heads_of message) else OfMap message))) same ∙ runs_whole now c n message heard.gap) in
+                subst (λ (t : by_slot.SlotTaken). Holds profile (server_took whole number c (hears.taken_at whole.ends.server c t)).whole) (sym ran_so)
+                (Holds-heard profile whole c slot has client from g (record { commands = fresh_of slot.executed.executed message.commands; entered = playing.entered; moves = playing.moves; owed = slot.owed })
+                lt had host does.side refl refl refl gathers
+                (KeepsSlot-ran profile slot history.qport history.host history.built history.run history.server_commands after executed playing still rises.0 rises.1 keeps)
+                (hears_run slot client history g n said came.taken heard)
+                (plays_are (Contains history.issued) slot message were) (asked_playing history.accepted slot message before asks) on.mapped holds)
+          ]
     ]
 
 -- what is known of a message that the tag of a client's datagram names
@@ -490,18 +661,21 @@ heard_at profile whole number tag from cited is holds =
     let hears_so = said_hears profile whole tag from slot had.0 cited is had.1 in
     let said_is : IsSaid profile slot.challenge said =
     subst (λ (challenge : ℕ). IsSaid profile challenge said) (sym keeps.challenge) (keeps.of_client.said (tag.number - 1) no_said within) in
-    let reads : slot.gathering.taken < tag.number → said_by profile slot (said_bytes profile said) ≡ Ok said.message =
-    λ newer. let heard = hears_so newer in cited.hears slot said said_is heard.takes heard.text in
+    let map = whole.ends.server.map in
+    let there : Contains history.said said = Contains-get_or history.said (tag.number - 1) no_said within in
+    let carried = consecutive_issued said.message.moves history.issued (keeps.of_client.carried (tag.number - 1) no_said within) in
+    let reads : slot.gathering.taken < tag.number → said_by profile map slot (said_bytes profile said) ≡ Ok (came_as map said.message) =
+    λ newer. let heard = hears_so newer in cited.hears map slot said said_is heard.takes heard.text (λ same. (mapped_runs map slot had.0 history said there same (said_most profile had.0 history said.message.moves keeps.of_client carried) had.1.joined.mapped).feed) in
     let gathers : Gathers messages (length history.said) took.gathering =
     subst (λ (m : List ℕ). Gathers messages (length history.said) (tagged slot.gathering tag.number m tag.index).gathering) at_said
     (cited.gathers.piece messages (length history.said) slot.gathering tag.number tag.index had.1.joined.of_slot.gathers is.2.begun) in
     rw at (record {
       same = ap (λ (t : hears.Taken). kept_server_took (kept_of profile whole) number t)
           (heard_by_bytes profile whole tag from slot cited is at holds
-          ∙ (ap (λ (t : Took). hears.taken_at whole.ends.server c (by_slot.take_gathered (record slot { address = from }) c t (λ k. said_by profile slot t.message))) takes
-          ∙ ap (λ (t : by_slot.SlotTaken). hears.taken_at whole.ends.server c t) (heard_alike profile slot c took tag.number said reads does from)));
-      holds = holds_heard profile whole c number tag.number from slot had.0 took said cited is.0 had.1 (is.1 ∙ sym keeps.of_slot.host) does gathers
-          (consecutive_issued said.message.moves history.issued (keeps.of_client.carried (tag.number - 1) no_said within))
+          ∙ (ap (λ (t : Took). hears.taken_at whole.ends.server c (by_slot.take_gathered map (record slot { address = from }) c t (λ k. said_by profile map slot t.message))) takes
+          ∙ ap (λ (t : by_slot.SlotTaken). hears.taken_at whole.ends.server c t) (heard_alike profile map slot c took tag.number said reads does from)));
+      holds = holds_heard profile whole c number tag.number from slot had.0 took said cited is.0 had.1 (is.1 ∙ sym keeps.of_slot.host) does gathers there
+          carried
           (All-get_or (λ (s : Said). s.message.delta ≡ true → WasAccepted history.accepted s.message.acknowledged) history.said (tag.number - 1) no_said within had.1.joined.asked.asks) hears_so holds;
     })
 

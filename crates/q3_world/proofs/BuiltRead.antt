@@ -1,5 +1,5 @@
 -- A message that was built is read back from its bytes.
-use Rattle.std.proofs.Common.{◌≡◌, ℕ, ◌-◌, ◌*◌, ◌^◌, ◌<◌, ◌≤◌, Bool, false, List, [], ◌∷◌, ◌++◌, length, drop, replicate, Option, Result, Ok, refl, sym, ap, subst, ◌∙◌, append_assoc, arith}
+use Rattle.std.proofs.Common.{◌≡◌, ℕ, ◌-◌, ◌*◌, ◌^◌, ◌<◌, ◌≤◌, Bool, false, List, [], ◌∷◌, ◌++◌, length, drop, replicate, Option, Result, Ok, refl, sym, ap, subst, ◌∙◌, inl, inr, append_assoc, arith}
 use Rattle.std.specs.Prelude.{IfSome, option_map}
 use Rattle.std.proofs.lemmas.Bool.{ltb-false}
 use Rattle.q3_bits.specs.Bits.{bits_of, message_bytes, message_length}
@@ -16,22 +16,21 @@ use Rattle.q3_chan.specs.Keys.{server_start}
 use Rattle.q3_chan.specs.Laws.{TwiceIsNone, FrontStays}
 use Rattle.q3_profile.specs.declared.profile.Profile.{Profile}
 use Rattle.q3_profile.specs.Profile.{IsCodec}
-use Rattle.q3_entity.specs.Baselines.{Lines, no_lines}
+use Rattle.q3_entity.specs.Baselines.{Lines, AreLines}
 use Rattle.q3_svmsg.specs.declared.error.Illegible.{Illegible}
 use Rattle.q3_svmsg.specs.Values.{Base, base_from, Message}
 use Rattle.q3_svmsg.specs.Texts.{section_bits, message_text}
-use Rattle.q3_svmsg.specs.Reading.{bits_read, ack_at, message_at}
+use Rattle.q3_svmsg.specs.Reading.{bits_read, ack_at, message_after, message_at}
 use Rattle.q3_svmsg.specs.Laws.{WrittenIsRead, ReadIsSkipped}
-use Rattle.q3_ring.specs.Snapshot.{Snapshot}
 use Rattle.q3_clstate.specs.State.{Application, context_of, received, apply_read, apply_at}
-use Rattle.q3_slot.specs.Built.{Built, Telling, message_of, built_of, IsSnapshot, IsNear, IsTelling}
+use Rattle.q3_slot.specs.Built.{Built, is_unclear, IsSnapshot, IsNear, IsBuilt}
 use Rattle.q3_slot.specs.Emitting.{built_bits, built_bytes}
 use Rattle.q3_client.specs.Client.{ClientState, Reception, receive_message, receive_bytes, ack_taken, cleared}
 use Rattle.q3_world.specs.MessageLaws.{AreBuilt, HoldsThis, BuiltIsRead}
 use Rattle.q3_world.proofs.BitFronts.{begins_both}
 use Rattle.q3_world.proofs.Bases.{if_some_then}
 use Rattle.q3_world.proofs.Knowing.{three_some}
-use Rattle.q3_world.proofs.BuiltText.{value_of, text_is_received}
+use Rattle.q3_world.proofs.BuiltText.{value_of, read_so, text_is_received, text_alike, game_is_received}
 
 -- the leading long of a message
 abbrev long_of : Profile → Message → List Bool
@@ -82,49 +81,81 @@ received_by : (client : ClientState) (n bits : ℕ) (bytes : List ℕ) (message 
 received_by client n bits bytes message found taken is =
     ap (by_long client n bytes) found ∙ (ap (by_ack client n bytes message.ack) taken ∙ ap (by_read client n message.ack) is)
 
--- what is read of bytes, by a profile and baselines
-abbrev read_with : ClientState → ℕ → List ℕ → Profile → Lines → Result Message Illegible
-read_with client n bytes profile lines = message_at profile (context_of client.state.held lines) n (bits_of bytes)
+-- what is read of bytes by a profile
+abbrev read_with : ClientState → ℕ → List ℕ → Profile → Result Message Illegible
+read_with client n bytes profile = message_at profile (context_of client.state.held client.state.lines) n (bits_of bytes)
 
-module _ (put : PutIsRead) (holds : MessageHoldsBits) (twice : TwiceIsNone) (front : FrontStays) (law : WrittenIsRead) (skips : ReadIsSkipped) where
-  -- a message by what it tells beside its snapshot
-  told_is_read : (profile : Profile) → IsCodec profile → (client : ClientState) (n : ℕ) (telling : Telling) (base : Option Snapshot) (snapshot : Snapshot)
-      → IsTelling profile client.challenge n telling → IsSnapshot profile snapshot → snapshot.head.number ≡ n → client.state.profile ≡ profile → client.state.lines ≡ no_lines
-      → AreBuilt profile client.state.held → IfSome base (λ b. IsNear n b × IsSnapshot profile b × HoldsThis client.state.held b)
-      → (acknowledge_at client.issued telling.ack.number).answer ≡ Ok tt → text_at client.issued telling.ack.number ≡ telling.ack.text
-      → receive_bytes client n (built_bytes profile (built_of telling base snapshot)) ≡ Ok (receive_message client n (message_of telling base snapshot))
-  told_is_read profile codec client n telling base snapshot tells is number of_profile no_line are known taken same =
+-- ---- a message that was built
+
+-- by what it is scrambled: its leading long stays in sight
+record IsHeaded (profile : Profile) (challenge n : ℕ) (built : Built) : Type 0 where
+  ack : built.message.ack < 2 ^ 32
+  start : built.start ≡ server_start challenge n
+  clear : is_unclear profile built.message.ack ≡ false
+
+is_headed : (profile : Profile) (challenge n : ℕ) (built : Built) → IsBuilt profile challenge n built → IsHeaded profile challenge n built
+is_headed profile challenge n built is =
+    let tells = is.tells in
+    elim is.section [
+      | inl one ↦ subst (IsHeaded profile challenge n) (sym one.is) (record { ack = tells.ack; start = tells.start; clear = tells.clear })
+      | inr made ↦ subst (IsHeaded profile challenge n) (sym made.is) (record { ack = tells.ack; start = tells.start; clear = tells.clear })
+    ]
+
+-- its bits are read against all that a client has, whatever follows them
+abbrev AreRead : Profile → ClientState → ℕ → Built → Type 0
+AreRead profile client n built = (rest : List Bool)
+    → message_after profile (context_of client.state.held client.state.lines) n (built_bits profile built ++ rest) ≡ read_so client.state.held built.message rest
+
+bits_are_read : WrittenIsRead → ReadIsSkipped → (profile : Profile) → IsCodec profile → (client : ClientState) (n : ℕ) (built : Built) → IsBuilt profile client.challenge n built
+    → AreLines profile.entity client.state.lines → IfSome built.under (λ game. client.state.lines ≡ built.lines)
+    → AreBuilt profile client.state.held → IfSome built.base (λ base. IsSnapshot profile base × HoldsThis client.state.held base) → AreRead profile client n built
+bits_are_read law skips profile codec client n built is are_lines same are known =
+    let held = client.state.held in
+    let lines = client.state.lines in
+    let telling = is.telling in
+    let base = built.base in
+    elim is.section [
+      | inl one ↦
+          let under = subst (λ (o : Option ℕ). IfSome o (λ game. lines ≡ built.lines)) (ap (λ (b : Built). b.under) one.is) same in
+          let bases = three_some base (IsNear n) (IsSnapshot profile) (HoldsThis held) one.base_is
+          (if_some_then base (λ b. IsSnapshot profile b × HoldsThis held b) (IsSnapshot profile) (λ b two. two.0) known)
+          (if_some_then base (λ b. IsSnapshot profile b × HoldsThis held b) (HoldsThis held) (λ b two. two.1) known) in
+          subst (AreRead profile client n) (sym one.is)
+          (λ rest. ap (λ (bits : List Bool). message_after profile (context_of held lines) n (bits ++ rest))
+          (text_alike profile built.lines lines telling base one.snapshot telling.under under one.waits)
+          ∙ text_is_received profile client.challenge law skips codec held lines n telling base one.snapshot rest are_lines is.tells one.are one.number are bases)
+      | inr made ↦
+          subst (AreRead profile client n) (sym made.is)
+          (λ rest. game_is_received profile client.challenge law codec held lines built.lines n telling made.game rest are_lines is.tells made.are are)
+    ]
+
+module _ (put : PutIsRead) (holds : MessageHoldsBits) (twice : TwiceIsNone) (front : FrontStays) where
+  -- a message whose bits are read is received from its bytes
+  bytes_are_received : (profile : Profile) → IsCodec profile → (client : ClientState) (n : ℕ) (built : Built) → IsHeaded profile client.challenge n built → client.state.profile ≡ profile
+      → (acknowledge_at client.issued built.message.ack).answer ≡ Ok tt → text_at client.issued built.message.ack ≡ built.text → AreRead profile client n built
+      → receive_bytes client n (built_bytes profile built) ≡ Ok (receive_message client n built.message)
+  bytes_are_received profile codec client n built headed of_profile taken same are_read =
       let words = profile.code in
-      let held = client.state.held in
-      let built = built_of telling base snapshot in
-      let message = message_of telling base snapshot in
+      let message = built.message in
       let bits = built_bits profile built in
       let plain = message_bytes bits in
       let bytes = built_bytes profile built in
       let rest = replicate (8 * message_length (length bits) - length bits) false in
       let row = long_of profile message in
-      let few : length row ≤ 32 = ltb-false 32 (length row) tells.clear in
-      let begins = begins_with_long profile no_lines (option_map base_from base) message rest in
-      let left = begins_both 4 row begins.0 plain bytes (omega (arith, few)) ((front 4 telling.start telling.ack.text plain).1 4 (omega arith)) (holds bits ∙ begins.1) in
-      let found = long_is_read put words codec.code telling.ack.number (drop (length row) (bits_of bytes)) tells.ack in
-      let clear : cleared_at client n telling.ack.number bytes ≡ plain =
+      let few : length row ≤ 32 = ltb-false 32 (length row) headed.clear in
+      let begins = begins_with_long profile built.lines (option_map base_from built.base) message rest in
+      let left = begins_both 4 row begins.0 plain bytes (omega (arith, few)) ((front 4 built.start built.text plain).1 4 (omega arith)) (holds bits ∙ begins.1) in
+      let found = long_is_read put words codec.code message.ack (drop (length row) (bits_of bytes)) headed.ack in
+      let clear : cleared_at client n message.ack bytes ≡ plain =
       ap (λ (t : List ℕ). scrambled 4 (server_start client.challenge n) t bytes) same
-      ∙ (ap (λ (start : ℕ). scrambled 4 start telling.ack.text bytes) (sym tells.start) ∙ twice 4 telling.start telling.ack.text plain) in
+      ∙ (ap (λ (start : ℕ). scrambled 4 start built.text bytes) (sym headed.start) ∙ twice 4 built.start built.text plain) in
       received_by client n found.0 bytes message (ap (λ (p : Profile). ack_at p.code (bits_of bytes)) of_profile ∙ (ap (ack_at words) left ∙ found.1)) taken
-      (ap (λ (p : Profile). read_with client n (cleared_at client n telling.ack.number bytes) p client.state.lines) of_profile
-      ∙ (ap (λ (lines : Lines). read_with client n (cleared_at client n telling.ack.number bytes) profile lines) no_line
-      ∙ (ap (λ (l : List ℕ). read_with client n l profile no_lines) clear
-      ∙ (ap (message_at profile (context_of held no_lines) n) (holds bits)
-      ∙ ap value_of (text_is_received profile client.challenge law skips codec held n telling base snapshot rest tells is number are known)))))
+      (ap (read_with client n (cleared_at client n message.ack bytes)) of_profile
+      ∙ (ap (λ (l : List ℕ). read_with client n l profile) clear
+      ∙ (ap (message_at profile (context_of client.state.held client.state.lines) n) (holds bits)
+      ∙ ap value_of (are_read rest))))
 
-  pub built_is_read : BuiltIsRead
-  built_is_read profile codec client n built is of_profile no_line taken same are known =
-      let held = client.state.held in
-      let base = built.base in
-      let IsReceived : Built → Type 0 = λ b. (acknowledge_at client.issued b.message.ack).answer ≡ Ok tt → text_at client.issued b.message.ack ≡ b.text
-      → receive_bytes client n (built_bytes profile b) ≡ Ok (receive_message client n b.message) in
-      let bases = three_some base (IsNear n) (IsSnapshot profile) (HoldsThis held) is.base_is
-      (if_some_then base (λ b. IsSnapshot profile b × HoldsThis held b) (IsSnapshot profile) (λ b one. one.0) known)
-      (if_some_then base (λ b. IsSnapshot profile b × HoldsThis held b) (HoldsThis held) (λ b one. one.1) known) in
-      subst IsReceived (sym is.is)
-      (λ is_taken is_same. told_is_read profile codec client n is.telling base is.snapshot is.tells is.are is.number of_profile no_line are bases is_taken is_same) taken same
+  pub built_is_read : WrittenIsRead → ReadIsSkipped → BuiltIsRead
+  built_is_read law skips profile codec client n built is of_profile are_lines under taken same are known =
+      bytes_are_received profile codec client n built (is_headed profile client.challenge n built is) of_profile taken same
+      (bits_are_read law skips profile codec client n built is are_lines under are known)

@@ -1,13 +1,13 @@
 -- Every list of events: what holds after it, and what it answers.
-use Rattle.std.proofs.Common.{◌≡◌, ℕ, ◌+◌, ◌-◌, ◌^◌, ◌<◌, ◌≤◌, List, [], ◌∷◌, length, get_or, false, Option, Some, None, Result, Ok, refl, sym, ap, subst, ◌∙◌, inl, inr, arith}
-use Rattle.std.specs.Prelude.{◌&&◌, nat_le, slice_get, All, Contains, IfSome}
+use Rattle.std.proofs.Common.{◌≡◌, ℕ, ◌+◌, ◌-◌, ◌^◌, ◌<◌, ◌≤◌, List, [], ◌∷◌, length, get_or, false, Option, Some, None, Result, Ok, refl, sym, ap, subst, ◌∙◌, inl, inr, arith, Bool}
+use Rattle.std.specs.Prelude.{◌&&◌, nat_le, slice_get, All, Contains, IfSome, MatchOption}
 use Rattle.std.specs.Int.{is_power_of_two}
 use Rattle.std.specs.List.{AllByRecursion, last_or}
 use Rattle.std.specs.Option.{option_map}
 use Rattle.std.specs.Result.{result_ok}
 use Rattle.std.proofs.lemmas.Option.{slice_get-map}
 use Rattle.std.proofs.Math.Pow.{pow_mono}
-use Rattle.std.proofs.lemmas.List.Elements.{All-nil, All-get_or}
+use Rattle.std.proofs.lemmas.List.Elements.{All-nil, All-get_or, All-contains}
 use Rattle.std.proofs.lemmas.Bool.{and_parts, leb-true}
 use Rattle.q3_profile.specs.declared.profile.Profile.{Profile}
 use Rattle.q3_script.specs.declared.event.Event.{Event}
@@ -27,7 +27,7 @@ use Rattle.q3_chan.specs.Gathering.{Took, gathered as gathered_of}
 use Rattle.q3_chan.specs.Tags.{tagged, IsQuiet}
 use Rattle.q3_chan.specs.Laws.{TaggedDoes}
 use Rattle.q3_clstate.specs.declared.applied.SnapOutcome.{SnapOutcome}
-use Rattle.q3_clstate.specs.declared.applied.SnapOutcome.TheVariants.{Accepted, Skipped}
+use Rattle.q3_clstate.specs.declared.applied.SnapOutcome.TheVariants.{Accepted, Skipped, NoSnap}
 use Rattle.q3_client.specs.declared.client.ClientTook.TheVariants.{Applied}
 use Rattle.q3_svmsg.specs.declared.error.Illegible.{Illegible}
 use Rattle.q3_client.specs.declared.client.ClientTook.{ClientTook}
@@ -39,25 +39,30 @@ use Rattle.q3_world.specs.declared.answer.Answer.TheVariants.{Unknown, Deliver}
 use Rattle.q3_world.specs.declared.made.Direction.{Direction}
 use Rattle.q3_world.specs.declared.made.Direction.TheVariants.{ToClient, ToServer}
 use Rattle.q3_world.specs.Layers.{Layers}
-use Rattle.q3_slot.specs.Built.{Built, number_of, IsNear}
+use Rattle.q3_slot.specs.Built.{Built, number_of, IsNear, IsBuilt}
 use Rattle.q3_slot.specs.Slot.{SlotState}
 use Rattle.q3_slot.specs.Emitting.{built_bytes}
 use Rattle.q3_server.specs.Server.{places, slot_at}
 use Rattle.q3_client.specs.Client.{ClientState, Taken, Reception, receive_message, take_answer, take_gathered}
-use Rattle.q3_world.specs.Ends.{Ends, Answered, delivered, client_at, address_at, with_client, newest}
+use Rattle.q3_world.specs.Ends.{Ends, Answered, delivered, client_at, address_at, with_client, newest, ran_nothing}
 use Rattle.q3_world.specs.Kept.{SentBytes, Kept, KeptStep, opening_kept, kept_step, kept_after, kept_answers}
-use Rattle.q3_world.specs.World.{Tag, Step, Whole, History, history_at, built_at, opening, step, after, answers, deliver, arrive, to_client, to_server, named}
+use Rattle.q3_world.specs.World.{Tag, Step, Whole, History, history_at, built_at, opening, step, after, answers, deliver, arrive, to_client, to_server, named, Played}
 use Rattle.q3_world.specs.StandsFor.{IsChecked, IsSent, IsClient, WasBuilt, Rise, IsJoined, StandsFor, bytes_of}
-use Rattle.q3_world.specs.Schedules.{StepFollows, kept_then, whole_then, BytesFollowTags, AcceptedWereBuilt, ShownWasBuilt, ShownIsNewest, AsksForAccepted, outcome_of, applied_of, heard_of, Shows, AppliedWasBuilt, NewerIsAccepted, BasesWereAccepted, HeldIsAccepted, ViewsWereBuilt}
+use Rattle.q3_world.specs.Schedules.{StepFollows, kept_then, whole_then, BytesFollowTags, AcceptedWereBuilt, ShownWasBuilt, ShownIsNewest, AsksForAccepted, outcome_of, applied_of, heard_of, Shows, AppliedWasBuilt, NewerIsAccepted, BasesWereAccepted, HeldIsAccepted, ViewsWereBuilt, AnswersSo, StateIsOfGame, is_game, outcome_in}
 use Rattle.q3_world.specs.Layers.{RingLaws}
-use Rattle.q3_world.proofs.Holding.{Holds, Holds-opening, Has, has_client}
+use Rattle.q3_world.proofs.Events.{Holds, Holds-opening, Has, has_client}
 use Rattle.q3_world.proofs.Agree.{Cited, seen}
 use Rattle.q3_world.proofs.Arriving.{IsFor, Named, names, is_sent, is_for, tag_is, delivers_agree}
 use Rattle.q3_world.proofs.Agreement.{stands_of, stands_next, kept_is}
 use Rattle.q3_world.proofs.Bases.{if_some_then}
 use Rattle.q3_world.proofs.Knowing.{KnownBase, three_some, view_was_built}
-use Rattle.q3_world.proofs.Applying.{applies_message}
+use Rattle.q3_world.proofs.Applying.{applies_message, applies_game_message}
 use Rattle.q3_world.proofs.OnePlace.{set_there}
+use Rattle.q3_world.specs.Games.{Carries, HasGames, IsFresh, IsOf, WasApplied, accepted_since, last_played}
+use Rattle.q3_map.specs.Map.{MapState}
+use Rattle.q3_svmsg.specs.Values.{Told}
+use Rattle.q3_world.proofs.GamesParts.{newest as games_newest}
+use Rattle.q3_world.proofs.GamesMoves.{since_were}
 
 -- what is cited of the layers below, of a profile that passed its check
 pub cited_of : Layers → (profile : Profile) → IsChecked profile → Cited profile
@@ -85,6 +90,7 @@ cited_of below profile checked =
       rings = below.rings;
       windows = below.windows;
       scrambles = below.scrambles;
+      configs = below.configs;
     }
 
 -- ---- bytes and tags
@@ -108,12 +114,12 @@ follow law profile (event ∷ events) kept whole are stands =
     )
 
 -- what is kept at first stands for the opening world
-pub stands_opening : (profile : Profile) → IsChecked profile → StandsFor profile (opening_kept profile) (opening profile)
+pub stands_opening : Layers → (profile : Profile) → IsChecked profile → StandsFor profile (opening_kept profile) (opening profile)
 unfolding opening
-stands_opening profile checked = stands_of profile (opening profile) (Holds-opening profile checked)
+stands_opening below profile checked = stands_of profile (opening profile) (Holds-opening profile below.configs.stay below.configs.texts checked)
 
-pub bytes_follow_tags : StepFollows → BytesFollowTags
-bytes_follow_tags law profile all is are = follow law profile all (opening_kept profile) (opening profile) are (stands_opening profile is)
+pub bytes_follow_tags : StepFollows → Layers → BytesFollowTags
+bytes_follow_tags law below profile all is are = follow law profile all (opening_kept profile) (opening profile) are (stands_opening below profile is)
 
 -- what stands after the events
 abbrev Then : Profile → List Event → Type 0
@@ -125,28 +131,35 @@ abbrev WereAccepted : History → Type 0
 WereAccepted history = All (WasBuilt history.built) history.accepted × Rise history.accepted
 
 -- what a client accepted, wherever it is
-accepted_by : (profile : Profile) (slot : Option SlotState) (client : Option ClientState) (address : Address) (history : History)
-    → IsClient profile slot client address history → IsJoined profile slot client history → WereAccepted history
-accepted_by profile None None address history is joined = rw is (All-nil _, (λ j k d lt within. absurd (omega (arith, within))))
-accepted_by profile None (Some client) address history is joined = absurd is
-accepted_by profile (Some slot) None address history is joined = absurd is
-accepted_by profile (Some slot) (Some client) address history is joined = (joined.of_client.accepted, joined.of_client.rise)
+accepted_by : (profile : Profile) (map : MapState) (slot : Option SlotState) (client : Option ClientState) (address : Address) (history : History)
+    → IsClient profile slot client address history → IsJoined profile map slot client history → WereAccepted history
+accepted_by profile map None None address history is joined = rw is (All-nil _, (λ j k d lt within. absurd (omega (arith, within))))
+accepted_by profile map None (Some client) address history is joined = absurd is
+accepted_by profile map (Some slot) None address history is joined = absurd is
+accepted_by profile map (Some slot) (Some client) address history is joined = (joined.of_client.accepted, joined.of_client.rise)
 
 pub accepted_were_built : BytesFollowTags → AcceptedWereBuilt
 accepted_were_built law profile all c is are within =
     let stands : Then profile all = (law profile all is are).0 in
     let whole = whole_then profile all in
-    accepted_by profile (slot_at whole.ends.server c) (client_at whole.ends c) (address_at whole.ends c) (history_at whole.histories c)
+    accepted_by profile whole.ends.server.map (slot_at whole.ends.server c) (client_at whole.ends c) (address_at whole.ends c) (history_at whole.histories c)
     (stands.facts.each c within) (stands.joined c within)
 
+-- what a client accepted since the last gamestate that it applied, and that it was built
+abbrev since_of : History → List Snapshot
+since_of history = accepted_since history.games history.accepted
+
+since_built : (history : History) → All (WasBuilt history.built) history.accepted → All (WasBuilt history.built) (since_of history)
+since_built history were = since_were history.games history.accepted (WasBuilt history.built) were
+
 -- what a client that is there shows was built
-newest_was : RingLaws → (profile : Profile) (slot : Option SlotState) (client : Option ClientState) (address : Address) (history : History) (snapshot : Snapshot)
-    → newest client ≡ Some snapshot → IsClient profile slot client address history → IsJoined profile slot client history → WasBuilt history.built snapshot
-newest_was laws profile slot None address history snapshot shown is joined = absurd cc
-newest_was laws profile None (Some client) address history snapshot shown is joined = absurd is
-newest_was laws profile (Some slot) (Some client) address history snapshot shown is joined =
+newest_was : RingLaws → (profile : Profile) (map : MapState) (slot : Option SlotState) (client : Option ClientState) (address : Address) (history : History) (snapshot : Snapshot)
+    → newest client ≡ Some snapshot → IsClient profile slot client address history → IsJoined profile map slot client history → WasBuilt history.built snapshot
+newest_was laws profile map slot None address history snapshot shown is joined = absurd cc
+newest_was laws profile map None (Some client) address history snapshot shown is joined = absurd is
+newest_was laws profile map (Some slot) (Some client) address history snapshot shown is joined =
     let takes = joined.of_client in
-    (view_was_built laws client.state.held history.built history.accepted client.state.held.newest snapshot takes.stands takes.accepted shown).1
+    (view_was_built laws client.state.held history.built (since_of history) client.state.held.newest snapshot takes.stands (since_built history takes.accepted) shown).1
 
 -- what a show by bytes prints
 pub shows : (kept : Kept) (c : ℕ) → (kept_step kept (events.Show c)).answer.snapshot ≡ newest (client_at kept.ends c)
@@ -157,17 +170,17 @@ pub shown_was_built : BytesFollowTags → Layers → ShownWasBuilt
 shown_was_built law below profile all c snapshot is are within shown =
     let stands : Then profile all = (law profile all is are).0 in
     let whole = whole_then profile all in
-    newest_was below.rings profile (slot_at whole.ends.server c) (client_at whole.ends c) (address_at whole.ends c) (history_at whole.histories c) snapshot
+    newest_was below.rings profile whole.ends.server.map (slot_at whole.ends.server c) (client_at whole.ends c) (address_at whole.ends c) (history_at whole.histories c) snapshot
     (ap (λ (e : Ends). newest (client_at e c)) (sym stands.ends) ∙ (sym (shows (kept_then profile all) c) ∙ shown))
     (stands.facts.each c within) (stands.joined c within)
 
--- and it is the newest that the client accepted
-newest_by : (profile : Profile) (slot : Option SlotState) (client : Option ClientState) (address : Address) (history : History)
-    → IsClient profile slot client address history → IsJoined profile slot client history → newest client ≡ last_or None history.accepted
-newest_by profile None None address history is joined = rw is refl
-newest_by profile None (Some client) address history is joined = absurd is
-newest_by profile (Some slot) None address history is joined = absurd is
-newest_by profile (Some slot) (Some client) address history is joined = joined.of_client.shows
+-- and it is the newest that the client accepted since
+newest_by : (profile : Profile) (map : MapState) (slot : Option SlotState) (client : Option ClientState) (address : Address) (history : History)
+    → IsClient profile slot client address history → IsJoined profile map slot client history → newest client ≡ last_or None (since_of history)
+newest_by profile map None None address history is joined = rw is refl
+newest_by profile map None (Some client) address history is joined = absurd is
+newest_by profile map (Some slot) None address history is joined = absurd is
+newest_by profile map (Some slot) (Some client) address history is joined = joined.of_client.shows
 
 pub shown_is_newest : BytesFollowTags → ShownIsNewest
 shown_is_newest law profile all c is are within =
@@ -175,7 +188,7 @@ shown_is_newest law profile all c is are within =
     let whole = whole_then profile all in
     shows (kept_then profile all) c
     ∙ (ap (λ (e : Ends). newest (client_at e c)) stands.ends
-    ∙ newest_by profile (slot_at whole.ends.server c) (client_at whole.ends c) (address_at whole.ends c) (history_at whole.histories c)
+    ∙ newest_by profile whole.ends.server.map (slot_at whole.ends.server c) (client_at whole.ends c) (address_at whole.ends c) (history_at whole.histories c)
     (stands.facts.each c within) (stands.joined c within))
 
 pub asks_for_accepted : BytesFollowTags → AsksForAccepted
@@ -188,15 +201,24 @@ asks_for_accepted law profile all c client is are within found =
 
 -- ---- what a client holds
 
-bases_by : (profile : Profile) (slot : Option SlotState) (client : Option ClientState) (address : Address) (history : History) (k : ℕ) (d : Built)
-    → IsClient profile slot client address history → IsJoined profile slot client history → k < length history.built
+-- each base of a message is near
+near_of : (profile : Profile) (challenge n : ℕ) (built : Built) → IsBuilt profile challenge n built → IfSome built.base (IsNear n)
+near_of profile challenge n built is =
+    elim is.section [
+      | inl one ↦ one.base_is
+      | inr made ↦ subst (λ (base : Option Snapshot). IfSome base (IsNear n)) (sym (ap (λ (b : Built). b.base) made.is)) tt
+    ]
+
+bases_by : (profile : Profile) (map : MapState) (slot : Option SlotState) (client : Option ClientState) (address : Address) (history : History) (k : ℕ) (d : Built)
+    → IsClient profile slot client address history → IsJoined profile map slot client history → k < length history.built
     → IfSome (get_or history.built k d).base (KnownBase (k + 1) history.built history.accepted)
-bases_by profile None None address history k d is joined lt =
+bases_by profile map None None address history k d is joined lt =
     let none : length history.built ≡ 0 = ap (λ (h : History). length h.built) is in absurd (omega (arith, lt, none))
-bases_by profile None (Some client) address history k d is joined lt = absurd is
-bases_by profile (Some slot) None address history k d is joined lt = absurd is
-bases_by profile (Some slot) (Some client) address history k d is joined lt =
-    three_some (get_or history.built k d).base (IsNear (k + 1)) (WasBuilt history.built) (Contains history.accepted) (is.of_slot.built k d lt).base_is
+bases_by profile map None (Some client) address history k d is joined lt = absurd is
+bases_by profile map (Some slot) None address history k d is joined lt = absurd is
+bases_by profile map (Some slot) (Some client) address history k d is joined lt =
+    three_some (get_or history.built k d).base (IsNear (k + 1)) (WasBuilt history.built) (Contains history.accepted)
+    (near_of profile slot.challenge (k + 1) (get_or history.built k d) (is.of_slot.built k d lt))
     (All-get_or (λ (b : Built). IfSome b.base (WasBuilt history.built)) history.built k d lt is.of_slot.bases)
     (All-get_or (λ (b : Built). IfSome b.base (Contains history.accepted)) history.built k d lt joined.asked.bases)
 
@@ -204,7 +226,7 @@ pub bases_were_accepted : BytesFollowTags → BasesWereAccepted
 bases_were_accepted law profile all c k d is are within lt =
     let stands : Then profile all = (law profile all is are).0 in
     let whole = whole_then profile all in
-    bases_by profile (slot_at whole.ends.server c) (client_at whole.ends c) (address_at whole.ends c) (history_at whole.histories c) k d
+    bases_by profile whole.ends.server.map (slot_at whole.ends.server c) (client_at whole.ends c) (address_at whole.ends c) (history_at whole.histories c) k d
     (stands.facts.each c within) (stands.joined c within) lt
 
 pub views_were_built : BytesFollowTags → Layers → ViewsWereBuilt
@@ -214,7 +236,8 @@ views_were_built law below profile all c number client snapshot is are within fo
     let holds : Holds profile whole = record { facts = stands.facts; joined = stands.joined } in
     let had = has_client profile whole c client within (ap (λ (e : Ends). client_at e c) (sym stands.ends) ∙ found) holds in
     let takes = had.1.joined.of_client in
-    view_was_built below.rings client.state.held (history_at whole.histories c).built (history_at whole.histories c).accepted number snapshot takes.stands takes.accepted viewed
+    let history = history_at whole.histories c in
+    view_was_built below.rings client.state.held history.built (since_of history) number snapshot takes.stands (since_built history takes.accepted) viewed
 
 pub held_is_accepted : BytesFollowTags → Layers → HeldIsAccepted
 held_is_accepted law below profile all c number client is are within found =
@@ -222,8 +245,9 @@ held_is_accepted law below profile all c number client is are within found =
     let whole = whole_then profile all in
     let holds : Holds profile whole = record { facts = stands.facts; joined = stands.joined } in
     let had = has_client profile whole c client within (ap (λ (e : Ends). client_at e c) (sym stands.ends) ∙ found) holds in
-    subst (λ (ring : ℕ). held_snapshot client.state.held number ≡ held_among ring (history_at whole.histories c).accepted number) had.1.keeps.of_client.ring
-    (below.rings.of_list (history_at whole.histories c).accepted client.state.held number had.1.joined.of_client.stands)
+    let since = since_of (history_at whole.histories c) in
+    subst (λ (ring : ℕ). held_snapshot client.state.held number ≡ held_among ring since number) had.1.keeps.of_client.ring
+    (below.rings.of_list since client.state.held number had.1.joined.of_client.stands)
 
 -- ---- newer messages
 
@@ -248,7 +272,7 @@ came_whole does_so profile whole tag client n count e =
 
 -- what a client's delivery answers
 abbrev pub delivered_so : ℕ → ℕ → Taken → Answered
-delivered_so number c taken = delivered number c taken.answer taken.heard
+delivered_so number c taken = delivered number c taken.client.state taken.answer taken.heard
 
 pub answers_tag : (profile : Profile) (whole : Whole) (number : ℕ) (tag : Tag) (client : ClientState) → slice_get whole.sent (number - 1) ≡ Some tag
     → tag.direction ≡ ToClient → client_at whole.ends tag.client ≡ Some client
@@ -258,10 +282,15 @@ pub answers_tag : (profile : Profile) (whole : Whole) (number : ℕ) (tag : Tag)
 unfolding step
 answers_tag profile whole number tag client at way found = rw (at, way, found) refl
 
+-- what is answered of a message that was built, by what its client accepted since the last gamestate that it applied
+abbrev pub applied_now : Profile → History → ℕ → Built → AppliedSo
+applied_now profile history n built = applied_of profile.parse_ring (accepted_since history.games history.accepted) n built
+
 -- what a message that was built does at its client, and what is answered of it
 pub record Outcome (profile : Profile) (whole : Whole) (c n : ℕ) (client : ClientState) (built : Built) : Type 0 where
-  pub answer : (apply_message client.state n built.message).answer ≡ applied_of profile.parse_ring (history_at whole.histories c).accepted n built
+  pub answer : (apply_message client.state n built.message).answer ≡ applied_now profile (history_at whole.histories c) n built
   pub executed : client.state.executed.executed ≡ length (history_at whole.histories c).client_executed
+  pub number : (apply_message client.state n built.message).state.number ≡ n
   pub shows : (base : ℕ) → (apply_message client.state n built.message).answer.snap ≡ Accepted base
       → (snapshot : Snapshot) × (view_at (apply_message client.state n built.message).state.held (apply_message client.state n built.message).state.held.newest ≡ Some snapshot)
       × (snapshot.head.number ≡ n) × WasBuilt (history_at whole.histories c).built snapshot
@@ -270,53 +299,78 @@ pub outcome : (profile : Profile) (whole : Whole) (c n : ℕ) (slot : SlotState)
     → client.gathering.taken < n → Named profile whole c n slot client built → Outcome profile whole c n client built
 outcome profile whole c n slot client built cited had newer named_is =
     let history = history_at whole.histories c in
+    let since = since_of history in
     let state = client.state in
     let is = named_is.is in
-    let snapshot = is.snapshot in
     let takes = had.joined.of_client in
     let below = takes.below in
     let above : state.held.newest < n = omega (arith, newer, below) in
-    let ring = had.keeps.of_client.ring in
     let counted = had.joined.commanded.to_client.runs.executed in
-    let known = if_some_then built.base (KnownBase n history.built history.accepted) (λ base. IsNear n base × Contains history.accepted base) (λ base known. (known.0, known.2)) named_is.base in
-    let number_is = is.number in
-    let of_ring : (snap : SnapOutcome) → outcome_of state.held.ring history.accepted built.base ≡ snap → outcome_of profile.parse_ring history.accepted built.base ≡ snap =
-    λ snap so. ap (λ (r : ℕ). outcome_of r history.accepted built.base) (sym ring) ∙ so in
-    elim (applies_message cited.rings state history.accepted n built is.telling snapshot is.is takes.stands above known) [
-      | inl accepted ↦ record {
-        answer = ap (λ (a : Application). a.answer) accepted.1 ∙ ap (λ (snap : SnapOutcome). answer_with n snap) (sym (of_ring (Accepted (number_of built.base)) accepted.0));
-        executed = counted;
-        shows = λ base so. (
-          snapshot,
-          ap (λ (a : Application). view_at a.state.held a.state.held.newest) accepted.1
-              ∙ ap (λ r. result_ok r) (cited.rings.there state.held snapshot takes.stands.held (omega (arith, above, number_is)) is.are.few),
-          number_is,
-          named_is.was,
-        );
-      }
-      | inr skipped ↦ record {
-        answer = ap (λ (a : Application). a.answer) skipped.2 ∙ ap (λ (snap : SnapOutcome). answer_with n snap) (sym (of_ring (Skipped (number_of built.base) (EntitiesGone skipped.0)) skipped.1));
-        executed = counted;
-        shows = λ base so. absurd (skipped_not_accepted (number_of built.base) skipped.0 base (sym (ap (λ (a : Application). a.answer.snap) skipped.2) ∙ so));
-      }
+    elim is.section [
+      | inl one ↦
+          let snapshot = one.snapshot in
+          let number_is = one.number in
+          let section = ap (λ (b : Built). b.message.section) one.is in
+          let known = if_some_then built.base (KnownBase n history.built since) (λ base. IsNear n base × Contains since base) (λ base known. (known.0, known.2)) (named_is.base newer) in
+          let told : (snap : SnapOutcome) → outcome_of state.held.ring since built.base ≡ snap → answer_with n false snap ≡ applied_now profile history n built =
+          λ snap so. ap (λ (snap : SnapOutcome). answer_with n false snap) (sym so)
+          ∙ (ap (λ (ring : ℕ). answer_with n false (outcome_of ring since built.base)) had.keeps.of_client.ring ∙ sym (of_section profile.parse_ring since n built.base section)) in
+          elim (applies_message cited.rings state since n built is.telling snapshot one.is takes.stands above known) [
+            | inl accepted ↦ record {
+              answer = ap (λ (a : Application). a.answer) accepted.1 ∙ told (Accepted (number_of built.base)) accepted.0;
+              executed = counted;
+              number = ap (λ (a : Application). a.state.number) accepted.1;
+              shows = λ base so. (
+                snapshot,
+                ap (λ (a : Application). view_at a.state.held a.state.held.newest) accepted.1
+                    ∙ ap (λ r. result_ok r) (cited.rings.there state.held snapshot takes.stands.held (omega (arith, above, number_is)) one.are.few),
+                number_is,
+                named_is.was is.telling one,
+              );
+            }
+            | inr skipped ↦ record {
+              answer = ap (λ (a : Application). a.answer) skipped.2 ∙ told (Skipped (number_of built.base) (EntitiesGone skipped.0)) skipped.1;
+              executed = counted;
+              number = ap (λ (a : Application). a.state.number) skipped.2;
+              shows = λ base so. absurd (skipped_not_accepted (number_of built.base) skipped.0 base (sym (ap (λ (a : Application). a.answer.snap) skipped.2) ∙ so));
+            }
+          ]
+      | inr made ↦
+          let section = ap (λ (b : Built). b.message.section) made.is in
+          let applied = applies_game_message state n built is.telling made.game made.is in
+          record {
+            answer = ap (λ (a : Application). a.answer) applied ∙ sym (of_section profile.parse_ring since n built.base section);
+            executed = counted;
+            number = ap (λ (a : Application). a.state.number) applied;
+            shows = λ base so. absurd (none_not_accepted base (sym (ap (λ (a : Application). a.answer.snap) applied) ∙ so));
+          }
     ]
   where
-    answer_with : ℕ → SnapOutcome → AppliedSo
-    answer_with n snap = record { number = n; game = false; snap = snap }
+    answer_with : ℕ → Bool → SnapOutcome → AppliedSo
+    answer_with n game snap = record { number = n; game = game; snap = snap }
+
+    -- by its section
+    of_section : {section : Told} (ring : ℕ) (since : List Snapshot) (n : ℕ) (base : Option Snapshot) → built.message.section ≡ section
+        → answer_with n (is_game built.message.section) (outcome_in ring since base built.message.section) ≡ answer_with n (is_game section) (outcome_in ring since base section)
+    of_section ring since n base is = ap (λ (s : Told). answer_with n (is_game s) (outcome_in ring since base s)) is
 
     skipped_not_accepted : (base age other : ℕ) → Skipped base (EntitiesGone age) ≡ Accepted other → ⊥
     skipped_not_accepted base age other e = absurd cc
 
--- what is answered of a message that came whole
+    none_not_accepted : (other : ℕ) → NoSnap ≡ Accepted other → ⊥
+    none_not_accepted other e = absurd cc
+
+-- what is answered of a message that came whole, and what is executed of it
 pub whole_answer : (profile : Profile) (whole : Whole) (number c n : ℕ) (client now : ClientState) → Outcome profile whole c n client (built_at (history_at whole.histories c).built n)
     → (count : ℕ)
-    → delivered_so number c (take_answer now (CameWhole n count) (λ k. Ok (receive_message client k (built_at (history_at whole.histories c).built n).message)))
-    ≡ delivered number c (Applied (applied_of profile.parse_ring (history_at whole.histories c).accepted n (built_at (history_at whole.histories c).built n))) (heard_of (history_at whole.histories c) n)
+    → AnswersSo (delivered_so number c (take_answer now (CameWhole n count) (λ k. Ok (receive_message client k (built_at (history_at whole.histories c).built n).message))))
+    (Deliver number c (Applied (applied_now profile (history_at whole.histories c) n (built_at (history_at whole.histories c).built n))))
+    (record ran_nothing { commands = heard_of (history_at whole.histories c) n })
 whole_answer profile whole number c n client now out count =
-    let history = history_at whole.histories c in
-    let commands = (built_at history.built n).message.commands in
-    ap (λ (a : AppliedSo). delivered number c (Applied a) (fresh_of client.state.executed.executed commands)) out.answer
-    ∙ ap (λ (k : ℕ). delivered number c (Applied (applied_of profile.parse_ring history.accepted n (built_at history.built n))) (fresh_of k commands)) out.executed
+    let commands = (built_at (history_at whole.histories c).built n).message.commands in (
+      ap (λ (a : AppliedSo). Deliver number c (Applied a)) out.answer,
+      ap (λ (k : ℕ). record ran_nothing { commands = fresh_of k commands }) out.executed,
+    )
 
 pub newer_is_accepted : BytesFollowTags → Layers → NewerIsAccepted
 newer_is_accepted law below profile all number n count sent client is are at way found came =
@@ -342,14 +396,19 @@ newer_is_accepted law below profile all number n count sent client is are at way
     let out = outcome profile whole tag.0.client tag.0.number had.0 client built cited had.1 whole_is.1 (names profile whole tag.0 had.0 client cited sent_is had.1) in
     let by_bytes = ap (λ (k : Kept). (kept_step k (events.Deliver number)).answer) (kept_is profile kept whole stands)
     ∙ ap (λ (s : KeptStep). s.answer) (delivers_agree profile whole number cited holds).same in
-    let told : ℕ → ℕ → Answered = λ c k.
-    delivered number c (Applied (applied_of profile.parse_ring (history_at whole.histories c).accepted k (built_at (history_at whole.histories c).built k))) (heard_of (history_at whole.histories c) k) in
+    let so : ℕ → ℕ → Type 0 = λ c k.
+    AnswersSo (kept_step kept (events.Deliver number)).answer
+    (Deliver number c (Applied (applied_now profile (history_at whole.histories c) k (built_at (history_at whole.histories c).built k))))
+    (record ran_nothing { commands = heard_of (history_at whole.histories c) k }) in
+    let given : (kept_step kept (events.Deliver number)).answer
+    ≡ delivered_so number tag.0.client (take_answer now (CameWhole tag.0.number count) (λ j. Ok (receive_message client j built.message))) =
     by_bytes
     ∙ (answers_tag profile whole number tag.0 client tag.1 goes client_is
     ∙ (ap (λ (a : Gathered). delivered_so number tag.0.client (take_answer now a (λ k. Ok (receive_message client k built.message)))) answer
-    ∙ (ap (λ (k : ℕ). delivered_so number tag.0.client (take_answer now (CameWhole k count) (λ j. Ok (receive_message client j built.message)))) whole_is.0
-    ∙ (whole_answer profile whole number tag.0.client tag.0.number client now out count
-    ∙ (ap (λ (k : ℕ). told tag.0.client k) (sym whole_is.0) ∙ ap (λ (s : SentBytes). told s.client n) tag.2)))))
+    ∙ ap (λ (k : ℕ). delivered_so number tag.0.client (take_answer now (CameWhole k count) (λ j. Ok (receive_message client j built.message)))) whole_is.0)) in
+    let by_tag = whole_answer profile whole number tag.0.client tag.0.number client now out count in
+    let here : so tag.0.client tag.0.number = (ap (λ (a : Answered). a.answer) given ∙ by_tag.0, ap (λ (a : Answered). a.ran) given ∙ by_tag.1) in
+    subst (λ (s : SentBytes). so s.client n) tag.2 (subst (λ (k : ℕ). so tag.0.client k) (sym whole_is.0) here)
 
 -- ---- what is applied
 
@@ -367,9 +426,10 @@ not_delivered number c took e = absurd cc
 abbrev Applies : Profile → List Tag → ℕ → Ends → Ends → ℕ → AppliedSo → History → Type 0
 Applies profile sent number before now c applied history =
     ((client : ClientState) × (client_at before c ≡ Some client) × (client.gathering.taken < applied.number))
-    × (applied ≡ applied_of profile.parse_ring history.accepted applied.number (built_at history.built applied.number))
+    × (applied ≡ applied_now profile history applied.number (built_at history.built applied.number))
     × ((tag : Tag) × (slice_get sent (number - 1) ≡ Some tag) × (tag.direction ≡ ToClient) × (tag.client ≡ c) × (tag.number ≡ applied.number))
     × ((base : ℕ) → applied.snap ≡ Accepted base → Shows now c applied.number history.built)
+    × ((after : ClientState) × (client_at now c ≡ Some after) × (after.state.number ≡ applied.number))
 
 -- where nothing came whole, nothing is answered as applied
 quiet_applies : (client : ClientState) (answer : Gathered) (apply : ℕ → Result Reception Illegible) (applied : AppliedSo) → IsQuiet answer
@@ -396,12 +456,12 @@ applied_whole profile whole number c applied tag client next count lt at way fou
     let alike = same_delivered number tag.client c (Applied answer) (Applied applied) e in
     let took = alike.1 in
     let same : answer ≡ applied = one_applied answer applied took in
-    let is : applied_of profile.parse_ring history.accepted tag.number (named whole.histories tag) ≡ applied = sym out.answer ∙ same in
+    let is : applied_now profile history tag.number (named whole.histories tag) ≡ applied = sym out.answer ∙ same in
     let numbered : tag.number ≡ applied.number = ap (λ (a : AppliedSo). a.number) is in
     let there = set_there whole.ends.clients tag.client None (Some next) count lt in
     subst (λ (k : ℕ). Applies profile whole.sent number whole.ends (with_client whole.ends tag.client next) k applied (history_at whole.histories k)) alike.0 (
       (client, found, omega (arith, numbered, newer)),
-      sym is ∙ ap (λ (k : ℕ). applied_of profile.parse_ring history.accepted k (built_at history.built k)) numbered,
+      sym is ∙ ap (λ (k : ℕ). applied_now profile history k (built_at history.built k)) numbered,
       (tag, at, way, refl, numbered),
       λ base so.
           let shown = out.shows base (ap (λ (a : AppliedSo). a.snap) same ∙ so) in (
@@ -410,6 +470,7 @@ applied_whole profile whole number c applied tag client next count lt at way fou
             shown.2 ∙ numbered,
             shown.3,
           ),
+      (next, there, ap (λ (s : AppliedState). s.number) state_is ∙ (out.number ∙ numbered)),
     )
   where
     one_applied : (x y : AppliedSo) → Applied x ≡ Applied y → x ≡ y
@@ -479,3 +540,26 @@ applied_was_built law below profile all number c applied is are e =
     subst (λ (before : Ends). Applies profile whole.sent number before (kept_step kept (events.Deliver number)).kept.ends c applied history) (sym stands.ends)
     (subst (λ (s : KeptStep). Applies profile whole.sent number whole.ends s.kept.ends c applied history) (sym same)
     (applied_step profile whole number c applied cited holds (sym (ap (λ (s : KeptStep). s.answer.answer) same) ∙ e)))
+
+-- ---- a client's state
+
+-- by the last gamestate that a client applied
+state_by : (client : ClientState) (history : History) → HasGames client.state client.gathering.taken client.last_time history.built history.games history.accepted history.client_executed
+    → MatchOption (last_played history.games) (IsFresh client.state)
+    (λ played. Carries history.built played.number played.game × IsOf client.state played history.client_executed)
+state_by client history has = of_last (last_played history.games) refl has.shows
+  where
+    of_last : (last : Option Played) → last_played history.games ≡ last → MatchOption last (IsFresh client.state) (λ played. IsOf client.state played history.client_executed)
+        → MatchOption last (IsFresh client.state) (λ played. Carries history.built played.number played.game × IsOf client.state played history.client_executed)
+    of_last None is fresh = fresh
+    of_last (Some played) is shows =
+        let last = games_newest history.games played has.rise is in
+        ((All-contains (WasApplied client.gathering.taken client.last_time history.built history.accepted history.client_executed) history.games played has.each last.there).carries, shows)
+
+pub state_is_of_game : BytesFollowTags → StateIsOfGame
+state_is_of_game law profile all c client is are within found =
+    let stands : Then profile all = (law profile all is are).0 in
+    let whole = whole_then profile all in
+    let holds : Holds profile whole = record { facts = stands.facts; joined = stands.joined } in
+    let had = has_client profile whole c client within (ap (λ (e : Ends). client_at e c) (sym stands.ends) ∙ found) holds in
+    state_by client (history_at whole.histories c) had.1.joined.mapped.has

@@ -1,9 +1,14 @@
 -- What the game hands in keeps what holds.
-use Rattle.std.proofs.Common.{◌≡◌, ℕ, ◌^◌, ◌<◌, ◌≤◌, false, List, length, Some, refl, sym, subst, inl, inr, arith}
-use Rattle.std.specs.Prelude.{nat_le, position}
-use Rattle.std.proofs.lemmas.Bool.{cases_Bool, leb-false, lt-leb}
+use Rattle.std.proofs.Common.{◌≡◌, ℕ, ◌^◌, ◌<◌, ◌≤◌, true, false, Bool, cond, List, [], ◌++◌, length, get_or, Option, Some, None, Ok, Err, refl, sym, ap, subst, ◌∙◌, inl, inr, arith}
+use Rattle.std.specs.Prelude.{◌==◌, if◌then◌else◌, not, nat_le, nat_lt, position, All}
+use Rattle.std.specs.List.{position_or_len}
+use Rattle.std.proofs.lemmas.Bool.{cases_Bool, cases_lt, cond_both, leb-false, lt-leb, ltb-false, not-false, eqb-false}
+use Rattle.std.proofs.lemmas.List.{append-nil, get_or_past}
+use Rattle.std.proofs.lemmas.List.FromFn.{get_or-map-range_with_len, length-map-range_with_len}
+use Rattle.std.proofs.lemmas.List.Sums.{fails_before_first}
+use Rattle.std.proofs.lemmas.List.Elements.{All-nil, All-weaker}
 use Rattle.q3_profile.specs.declared.profile.Profile.{Profile}
-use Rattle.q3_player.specs.State.{normal_player}
+use Rattle.q3_player.specs.State.{zero_player, normal_player}
 use Rattle.q3_player.specs.declared.state.PlayerState.{PlayerState}
 use Rattle.q3_io.specs.declared.address.Address.{Address}
 use Rattle.q3_script.specs.Grammar.{IsHeldMove}
@@ -11,21 +16,42 @@ use Rattle.arrayvec.specs.ArrayVec.{ArrayVec}
 use Rattle.q3_fields.specs.States.{AreWords}
 use Rattle.q3_entity.specs.declared.state.EntityState.{EntityState}
 use Rattle.q3_entity.specs.Entities.{normal_entity}
+use Rattle.q3_entity.specs.Baselines.{with_line}
 use Rattle.q3_text.specs.Texts.{IsText}
-use Rattle.q3_window.specs.Outgoing.{fits as has_room}
+use Rattle.q3_config.specs.declared.error.ConfigError.{ConfigError}
+use Rattle.q3_config.specs.Strings.{with_string, admit_fault}
+use Rattle.q3_config.specs.Laws.{piece_texts}
+use Rattle.q3_window.specs.Outgoing.{IsOutgoing, fits as has_room, total_of, with_texts}
 use Rattle.q3_clmsg.specs.declared.moves.Move.{Move}
-use Rattle.q3_client.specs.Moves.{is_issuable}
-use Rattle.q3_map.specs.Map.{with_entity, without_entity}
-use Rattle.q3_slot.specs.Built.{IsHeld, IsArea}
-use Rattle.q3_slot.specs.Slot.{SlotState, is_of, with_player}
-use Rattle.q3_server.specs.Server.{ServerState, places, slot_at, with_slot}
-use Rattle.q3_world.specs.Ends.{EndsStep, client_at, join, set_entity, remove_entity, set_player, set_area, say_command, type_command, add_move}
+use Rattle.q3_client.specs.Client.{ClientState}
+use Rattle.q3_client.specs.declared.client.MoveError.{MoveError}
+use Rattle.q3_client.specs.declared.client.MoveError.TheVariants.{NoGame, NotLater, Range}
+use Rattle.q3_client.specs.Moves.{Handed as HandedMove, is_issuable, issue}
+use Rattle.q3_map.specs.declared.map.Late.{Late}
+use Rattle.q3_map.specs.Map.{MapState, AreHeld, Handed as HandedMap, after_new_map, set_baseline_at, with_config, with_entity, without_entity}
+use Rattle.q3_slot.specs.Built.{Built, IsHeld, IsArea}
+use Rattle.q3_slot.specs.Slot.{SlotState, is_connected, is_of, on_new_map, with_player}
+use Rattle.q3_slot.specs.Slots.{changes_own, lacks_room, tells}
+use Rattle.q3_server.specs.declared.server.ConfigRefused.{ConfigRefused}
+use Rattle.q3_server.specs.declared.server.ConfigRefused.TheVariants.{Own}
+use Rattle.q3_server.specs.Server.{ServerState, Handed, places, own_string, slot_at, with_slot, is_same, change_config, change_unless, change_or}
+use Rattle.q3_world.specs.declared.answer.Answer.TheVariants.{Config}
+use Rattle.q3_world.specs.Layers.{WindowLaws}
+use Rattle.q3_world.specs.Ends.{EndsStep, client_at, with_client, address_at, moved, join, new_map, set_baseline, set_config, set_time, set_entity, remove_entity, set_player, set_area, say_command, type_command, add_move}
+use Rattle.q3_world.specs.Games.{standing_of}
 use Rattle.q3_world.specs.Kept.{kept_ends}
-use Rattle.q3_world.specs.World.{Whole, history_at, with_history, with_joined, with_spoken, with_typed, with_issued, with_ends, with_noted}
+use Rattle.q3_world.specs.StandsFor.{IsMap, KeepsSlot, AreEnds, AreJoined}
+use Rattle.q3_world.specs.World.{Whole, History, no_history, history_at, with_history, with_joined, with_spoken, texts_told, with_texts_told, with_told, with_typed, with_issued, with_ends, with_noted, with_all}
 use Rattle.q3_world.proofs.MoveLists.{is_move}
-use Rattle.q3_world.proofs.Holding.{Holds, Holds-new, same_server}
-use Rattle.q3_world.proofs.Given.{with_new_slot, Holds-player, Holds-area, Holds-map, Holds-issued}
-use Rattle.q3_world.proofs.Issuing.{Holds-spoken, Holds-typed}
+use Rattle.q3_world.proofs.Growth.{Grow, HistoryGrows, HistoryGrows-same, HistoryGrows-beside}
+use Rattle.q3_world.proofs.Clients.{KeepsSlot-told, TakesSaid-same}
+use Rattle.q3_world.proofs.Events.{Holds, with_new_slot, has_client, Holds-new, Holds-player, Holds-area, with_map, Holds-map, joined_stays, Holds-issued, same_server}
+use Rattle.q3_world.proofs.EverySlot.{LeavesClient, Holds-every}
+use Rattle.q3_world.proofs.Maps.{map_given, map_new, map_lined, MayGoOut, may_go_out, map_configured, pieces_own}
+use Rattle.q3_world.proofs.GamesBuilt.{AreMapped-new}
+use Rattle.q3_world.proofs.GamesMaps.{AreMapped-map, AreMapped-given, AreMapped-configured, AreMapped-lined}
+use Rattle.q3_world.proofs.Mapped.{mapped_issued}
+use Rattle.q3_world.proofs.Issuing.{joined_told, Holds-spoken, Holds-typed}
 use Rattle.q3_world.proofs.Agree.{Cited, kept_of, Agree, found_or, unnoted, left_alone}
 
 -- ---- what the game hands in, or reads
@@ -42,7 +68,9 @@ holds_join profile whole c challenge qport dup address cited lt fits holds =
     let within : nat_le (length slots) c ≡ false = lt-leb (length slots) c (omega (arith, lt, holds.facts.slots)) in
     rw within (elim (found_or (slot_at whole.ends.server c)) [
       | inl none ↦ rw none (elim (found_or (position (is_of address.host qport) slots)) [
-        | inl alone ↦ rw alone (Holds-new cited.rings cited.windows profile whole c challenge qport dup address cited.ring cited.sends cited.gathers cited.zero lt fits none alone holds)
+        | inl alone ↦
+            rw alone (Holds-new cited.rings cited.windows profile whole c challenge qport dup address cited.ring cited.sends cited.gathers cited.zero lt fits none alone
+            (AreMapped-new profile challenge qport address whole.ends.server.map) holds)
         | inr twin ↦ rw twin.1 (unnoted profile whole c holds)
       ])
       | inr found ↦ rw found.1 (unnoted profile whole c holds)
@@ -66,6 +94,17 @@ holds_area profile whole c area is lt holds =
       | inr found ↦ rw found.1 (Holds-area profile whole c found.0 area.items lt found.1 is holds)
     ]
 
+-- the time and the entities change
+pub holds_given : (profile : Profile) (whole : Whole) (time : ℕ) (entities : List EntityState) → time < 2 ^ 32 → AreHeld profile.entity entities → Holds profile whole
+    → Holds profile (with_map whole (record whole.ends.server.map { time = time; entities = entities }))
+holds_given profile whole time entities short held holds =
+    let map = whole.ends.server.map in
+    let next = record map { time = time; entities = entities } in
+    Holds-map profile whole next (map_given profile map time entities short held holds.facts.map) (joined_stays profile map next (AreMapped-given map time entities)) holds
+
+pub holds_time : (profile : Profile) (whole : Whole) (time : ℕ) → time < 2 ^ 32 → Holds profile whole → Holds profile (record whole { ends = (set_time whole.ends time).ends })
+holds_time profile whole time short holds = holds_given profile whole time whole.ends.server.map.entities short holds.facts.map.entities holds
+
 pub holds_entity : (profile : Profile) (whole : Whole) (state : EntityState) → Cited profile → state.number ≤ 1022 → AreWords 64 state.words → Holds profile whole
     → Holds profile (record whole { ends = (set_entity whole.ends state).ends })
 holds_entity profile whole state cited le words holds =
@@ -73,24 +112,285 @@ holds_entity profile whole state cited le words holds =
     let server = whole.ends.server in
     let entity = normal_entity profile.entity state in
     let normal = cited.normal_entity state words in
-    let held = cited.server.lists.put profile.entity entity server.map.entities (omega (arith, le, cited.end)) normal.0 normal.1 facts.entities in
-    subst (λ (p : Profile). Holds profile (record whole {
-      ends = record whole.ends {
-        server = record server {
-          map = record server.map { entities = with_entity (normal_entity p.entity state) server.map.entities };
-        };
-      };
-    })) (sym facts.by)
-    (Holds-map profile whole (record server.map { entities = with_entity entity server.map.entities }) facts.time held holds)
+    let held = cited.server.lists.put profile.entity entity server.map.entities (omega (arith, le, cited.end)) normal.0 normal.1 facts.map.entities in
+    subst (λ (p : Profile). Holds profile (with_map whole (record server.map { entities = with_entity (normal_entity p.entity state) server.map.entities }))) (sym facts.by)
+    (holds_given profile whole server.map.time (with_entity entity server.map.entities) facts.map.time held holds)
 
 pub holds_removed : (profile : Profile) (whole : Whole) (number : ℕ) → Cited profile → Holds profile whole
     → Holds profile (record whole { ends = (remove_entity whole.ends number).ends })
 holds_removed profile whole number cited holds =
     let map = whole.ends.server.map in
-    Holds-map profile whole (record map { entities = without_entity number map.entities }) holds.facts.time
-    (cited.server.lists.without profile.entity number map.entities holds.facts.entities) holds
+    let is = holds.facts.map in
+    holds_given profile whole map.time (without_entity number map.entities) is.time (cited.server.lists.without profile.entity number map.entities is.entities) holds
+
+-- ---- maps
+
+-- no area bytes
+no_area : IsArea []
+no_area = record { bytes = All-nil (λ (byte : ℕ). byte < 256); short = omega arith }
+
+-- a slot on a new map
+slot_on_map : (profile : Profile) (slot : SlotState) (qport host : ℕ) (built : List Built) (run : List Move) (commands : List (List ℕ)) → IsHeld profile zero_player
+    → KeepsSlot profile slot qport host built run commands → KeepsSlot profile (on_new_map slot) qport host built run commands
+slot_on_map profile slot qport host built run commands first keeps =
+    record {
+      qport = keeps.qport;
+      host = keeps.host;
+      sending = keeps.sending;
+      player = first;
+      area = no_area;
+      built = keeps.built;
+      bases = keeps.bases;
+      from = keeps.from;
+      last = keeps.last;
+      rise = keeps.rise;
+      window = keeps.window;
+      texts = keeps.texts;
+      own = keeps.own;
+    }
+
+-- what joins its ends
+joined_on_map : (profile : Profile) (map : MapState) (slot : SlotState) (client : ClientState) (history : History) (id feed : ℕ) → map.id < id → AreJoined profile map slot client history
+    → AreJoined profile (after_new_map map id feed) (on_new_map slot) client history
+joined_on_map profile map slot client history id feed above joined =
+    let next = on_new_map slot in
+    record {
+      of_client = joined.of_client;
+      of_slot = TakesSaid-same profile slot next history.said history.issued history.run refl joined.of_slot;
+      asked = record { asks = joined.asked.asks; delta = inl refl; bases = joined.asked.bases };
+      commanded = record { to_client = joined.commanded.to_client; to_server = joined.commanded.to_server };
+      mapped = AreMapped-map map (standing_of slot) client.state client.gathering.taken client.last_time history.built history.games history.said history.accepted history.client_executed id feed above
+          joined.mapped;
+      since = joined.since;
+    }
+
+-- a new map, whose id is above the last one's
+pub holds_new_map : (profile : Profile) (whole : Whole) (id feed : ℕ) → Cited profile → id < 2 ^ 31 → feed < 2 ^ 32 → Holds profile whole
+    → Holds profile (record whole { ends = (new_map whole.ends id feed).ends })
+holds_new_map profile whole id feed cited least short holds =
+    let map = whole.ends.server.map in
+    elim (cases_Bool (nat_le id map.id)) [
+      | inl early ↦ rw early holds
+      | inr later ↦
+          rw later (Holds-every profile whole (after_new_map map id feed) on_new_map whole.histories
+          (record {
+            leaves = record { host = λ slot. refl; qport = λ slot. refl };
+            is = map_new cited.configs profile map id feed least short holds.facts.map;
+            count = holds.facts.histories;
+            grows = λ c. HistoryGrows-same (history_at whole.histories c);
+            built = λ c lt. refl;
+            nobody = λ c lt none is. is;
+            keeps = λ c slot client lt had.
+                let history = history_at whole.histories c in
+                let keeps = had.keeps in
+                record {
+                  of_slot = slot_on_map profile slot history.qport history.host history.built history.run history.server_commands cited.zero keeps.of_slot;
+                  of_client = keeps.of_client;
+                  challenge = keeps.challenge;
+                  host = keeps.host;
+                };
+            joins = λ c slot client lt had. joined_on_map profile map slot client (history_at whole.histories c) id feed (leb-false id map.id later) had.joined;
+          }) holds)
+    ]
+
+-- a baseline, which is refused once a gamestate of the map was begun
+pub holds_baseline : (profile : Profile) (whole : Whole) (state : EntityState) → Cited profile → state.number ≤ 1022 → AreWords 64 state.words → Holds profile whole
+    → Holds profile (record whole { ends = (set_baseline whole.ends state).ends })
+holds_baseline profile whole state cited le words holds =
+    let map = whole.ends.server.map in
+    let entity = normal_entity profile.entity state in
+    let normal = cited.normal_entity state words in
+    let next = record map { lines = with_line map.lines entity } in
+    subst (λ (p : Profile). Holds profile (with_map whole (set_baseline_at p.entity map state).map)) (sym holds.facts.by)
+    (cond_both map.begun (record { map = map; answer = Err (record {}) }) (record { map = next; answer = Ok tt })
+    (λ (handed : HandedMap Late). Holds profile (with_map whole handed.map))
+    (λ begun. holds)
+    (λ before. Holds-map profile whole next (map_lined profile map entity (omega (arith, le)) normal.0 normal.1 holds.facts.map)
+    (joined_stays profile map next (AreMapped-lined map (with_line map.lines entity) before)) holds))
+
+-- ---- config strings
+
+-- the commands of a change are issued to each client for which a gamestate was begun: there is room for all of them, they are texts, and
+-- they leave string 1
+record MayTell (server : ServerState) (texts : List (List ℕ)) : Type 0 where
+  room : (c : ℕ) → c < places → lacks_room texts (slot_at server c) ≡ false
+  are : All IsText texts
+  own : All (λ text. changes_own text ≡ false) texts
+
+-- where none passes a test, each fails
+none_passes : {X : Type 0} (test : X → Bool) (xs : List X) → position test xs ≡ None → (k : ℕ) (d : X) → k < length xs → test (get_or xs k d) ≡ false
+none_passes test xs none k d lt =
+    let past : length xs ≤ position_or_len test xs = elim (cases_Bool (nat_lt (position_or_len test xs) (length xs))) [
+      | inl found ↦ absurd (some_none (subst (λ (b : Bool). cond b (Some (position_or_len test xs)) None ≡ None) found none))
+      | inr past ↦ ltb-false (position_or_len test xs) (length xs) past
+    ] in
+    fails_before_first test xs k d (omega (arith, lt, past))
+  where
+    some_none : {k : ℕ} → Some k ≡ None → ⊥
+    some_none e = absurd cc
+
+-- the history of a client that was told
+abbrev told_history : List (List ℕ) → Option SlotState → History → History
+told_history texts slot history = record history { server_commands = history.server_commands ++ texts_told texts slot }
+
+told_at : (server : ServerState) (texts : List (List ℕ)) (histories : List History) (c : ℕ) → c < places
+    → history_at (with_texts_told server texts histories) c ≡ told_history texts (slot_at server c) (history_at histories c)
+told_at server texts histories c lt =
+    get_or-map-range_with_len (λ (k : ℕ). told_history texts (slot_at server k) (history_at histories k)) 0 places c c no_history lt (omega arith)
+
+told_count : (server : ServerState) (texts : List (List ℕ)) (histories : List History) → length (with_texts_told server texts histories) ≡ places
+told_count server texts histories = length-map-range_with_len (λ (k : ℕ). told_history texts (slot_at server k) (history_at histories k)) 0 places
+
+-- and of each place
+told_grows : (server : ServerState) (texts : List (List ℕ)) (histories : List History) → length histories ≡ places → Grow histories (with_texts_told server texts histories)
+told_grows server texts histories count c =
+    elim (cases_lt c places) [
+      | inl lt ↦
+          subst (HistoryGrows (history_at histories c)) (sym (told_at server texts histories c lt))
+          (HistoryGrows-beside (history_at histories c) (told_history texts (slot_at server c) (history_at histories c)) refl refl refl refl)
+      | inr past ↦
+          let many = told_count server texts histories in
+          let before : history_at histories c ≡ no_history = get_or_past histories c no_history (omega (arith, past, count)) in
+          let behind : history_at (with_texts_told server texts histories) c ≡ no_history = get_or_past (with_texts_told server texts histories) c no_history (omega (arith, past, many)) in
+          subst (HistoryGrows (history_at histories c)) (sym behind) (subst (λ (h : History). HistoryGrows h no_history) (sym before) (HistoryGrows-same no_history))
+    ]
+
+-- who a client is stays
+tells_leaves : (texts : List (List ℕ)) → LeavesClient (tells texts)
+tells_leaves texts =
+    record {
+      host = λ slot. cond_both (is_connected slot.stage) slot (record slot { issued = with_texts slot.issued texts }) (λ (s : SlotState). s.address.host ≡ slot.address.host) (λ e. refl) (λ e. refl);
+      qport = λ slot. cond_both (is_connected slot.stage) slot (record slot { issued = with_texts slot.issued texts }) (λ (s : SlotState). s.qport ≡ slot.qport) (λ e. refl) (λ e. refl);
+    }
+
+-- one with room
+has_room_of : (texts : List (List ℕ)) (slot : SlotState) → is_connected slot.stage ≡ false → lacks_room texts (Some slot) ≡ false → has_room slot.issued (length texts) (total_of texts) ≡ true
+has_room_of texts slot begun lacks = not-false (has_room slot.issued (length texts) (total_of texts)) (rw begun at lacks)
+
+module _ (laws : WindowLaws) (profile : Profile) (slot : SlotState) (client : ClientState) (history : History) (texts : List (List ℕ))
+    (lacks : lacks_room texts (Some slot) ≡ false) (are : All IsText texts) (own : All (λ text. changes_own text ≡ false) texts) where
+  -- what both ends keep of one
+  ends_told : (address : Address) → AreEnds profile slot client address history → AreEnds profile (tells texts slot) client address (told_history texts (Some slot) history)
+  ends_told address keeps =
+      elim (cases_Bool (is_connected slot.stage)) [
+        | inl waits ↦
+            rw waits (subst (λ (commands : List (List ℕ)). AreEnds profile slot client address (record history { server_commands = commands })) (sym (append-nil history.server_commands)) keeps)
+        | inr begun ↦
+            rw begun (record {
+              of_slot = KeepsSlot-told profile slot history.qport history.host history.built history.run history.server_commands (with_texts slot.issued texts) texts
+                  (laws.stays.tells slot.issued texts keeps.of_slot.window (has_room_of texts slot begun lacks) are) are own keeps.of_slot;
+              of_client = keeps.of_client;
+              challenge = keeps.challenge;
+              host = keeps.host;
+            })
+      ]
+
+  -- and what joins them
+  joins_told : (map : MapState) → IsOutgoing slot.issued → AreJoined profile map slot client history → AreJoined profile map (tells texts slot) client (told_history texts (Some slot) history)
+  joins_told map window joined =
+      elim (cases_Bool (is_connected slot.stage)) [
+        | inl waits ↦
+            rw waits (subst (λ (commands : List (List ℕ)). AreJoined profile map slot client (record history { server_commands = commands })) (sym (append-nil history.server_commands)) joined)
+        | inr begun ↦ rw begun (joined_told laws profile map slot client history texts (has_room_of texts slot begun lacks) are window joined)
+      ]
+
+-- the world behind a change
+abbrev config_changed : Whole → ℕ → List ℕ → Whole
+config_changed whole index text =
+    record whole {
+      ends = record whole.ends { server = change_config whole.ends.server index text };
+      histories = with_texts_told whole.ends.server (piece_texts index text) whole.histories;
+    }
+
+Holds-config : (profile : Profile) (whole : Whole) (index : ℕ) (text : List ℕ) → Cited profile → IsMap profile (with_config whole.ends.server.map index text)
+    → MayTell whole.ends.server (piece_texts index text) → Holds profile whole → Holds profile (config_changed whole index text)
+Holds-config profile whole index text cited is may holds =
+    let server = whole.ends.server in
+    let texts = piece_texts index text in
+    let next = with_config server.map index text in
+    let told = with_texts_told server texts whole.histories in
+    Holds-every profile whole next (tells texts) told
+    (record {
+      leaves = tells_leaves texts;
+      is = is;
+      count = told_count server texts whole.histories;
+      grows = told_grows server texts whole.histories holds.facts.histories;
+      built = λ c lt. ap (λ (h : History). h.built) (told_at server texts whole.histories c lt);
+      nobody = λ c lt none nothing.
+          told_at server texts whole.histories c lt
+          ∙ (ap (λ (s : Option SlotState). told_history texts s (history_at whole.histories c)) none ∙ ap (λ (h : History). told_history texts None h) nothing);
+      keeps = λ c slot client lt had.
+          subst (AreEnds profile (tells texts slot) client (address_at whole.ends c)) (sym (noted c slot lt had.slot_is))
+          (ends_told cited.windows profile slot client (history_at whole.histories c) texts (lacks c slot lt had.slot_is) may.are may.own (address_at whole.ends c) had.keeps);
+      joins = λ c slot client lt had.
+          subst (AreJoined profile next (tells texts slot) client) (sym (noted c slot lt had.slot_is))
+          (joins_told cited.windows profile slot client (history_at whole.histories c) texts (lacks c slot lt had.slot_is) may.are may.own next had.keeps.of_slot.window
+          (joined_stays profile server.map next (AreMapped-configured server.map (with_string server.map.strings index text)) (Some slot) (Some client) (history_at whole.histories c) had.joined));
+    }) holds
+  where
+    lacks : (c : ℕ) (slot : SlotState) → c < places → slot_at whole.ends.server c ≡ Some slot → lacks_room (piece_texts index text) (Some slot) ≡ false
+    lacks c slot lt at = subst (λ (s : Option SlotState). lacks_room (piece_texts index text) s ≡ false) at (may.room c lt)
+
+    noted : (c : ℕ) (slot : SlotState) → c < places → slot_at whole.ends.server c ≡ Some slot
+        → history_at (with_texts_told whole.ends.server (piece_texts index text) whole.histories) c ≡ told_history (piece_texts index text) (Some slot) (history_at whole.histories c)
+    noted c slot lt at =
+        told_at whole.ends.server (piece_texts index text) whole.histories c lt
+        ∙ ap (λ (s : Option SlotState). told_history (piece_texts index text) s (history_at whole.histories c)) at
+
+-- what holds behind a change, or where it is refused
+abbrev Configured : Profile → Whole → ℕ → List ℕ → Handed ConfigRefused → Type 0
+Configured profile whole index text given =
+    Holds profile (record whole {
+      ends = record whole.ends { server = given.server };
+      histories = with_told whole.ends.server index text (Config index given.answer) whole.histories;
+    })
+
+-- a config string but string 1: each client for which a gamestate was begun is told, unless one has no room
+pub holds_config : (profile : Profile) (whole : Whole) (index : ℕ) (text : List ℕ) → Cited profile → All (λ byte. (0 < byte) × (byte < 256)) text → Holds profile whole
+    → Holds profile (with_all whole (set_config whole.ends index text) (with_told whole.ends.server index text)).whole
+holds_config profile whole index text cited bytes holds =
+    let server = whole.ends.server in
+    cond_both (index == own_string) (record { server = server; answer = Err Own }) (change_or server index text (admit_fault server.map.strings index text)) (Configured profile whole index text)
+    (λ own. holds)
+    (λ other. of_fault (eqb-false index own_string other) (admit_fault server.map.strings index text) refl)
+  where
+    told : (index ≡ 1 → ⊥) → MayGoOut whole.ends.server.map.strings index text → admit_fault whole.ends.server.map.strings index text ≡ None → position (lacks_room (piece_texts index text)) whole.ends.server.slots ≡ None
+        → Holds profile (config_changed whole index text)
+    told other may admitted none =
+        Holds-config profile whole index text cited
+        (map_configured cited.configs profile whole.ends.server.map index text other (All-weaker (λ byte. (0 < byte) × (byte < 256)) (λ byte. 0 < byte) (λ byte is. is.0) text bytes) may holds.facts.map)
+        (record {
+          room = λ c lt. none_passes (lacks_room (piece_texts index text)) whole.ends.server.slots none c None (omega (arith, lt, holds.facts.slots));
+          are = cited.configs.pieces whole.ends.server.map.strings index text admitted;
+          own = pieces_own cited.configs.read index text other may.within may.carried;
+        }) holds
+
+    of_place : (index ≡ 1 → ⊥) → MayGoOut whole.ends.server.map.strings index text → admit_fault whole.ends.server.map.strings index text ≡ None → is_same whole.ends.server.map index text ≡ false → (found : Option ℕ)
+        → position (lacks_room (piece_texts index text)) whole.ends.server.slots ≡ found → Configured profile whole index text (change_unless whole.ends.server index text found)
+    of_place other may admitted changed (Some c) found = holds
+    of_place other may admitted changed None found = rw changed (told other may admitted found)
+
+    of_fault : (index ≡ 1 → ⊥) → (fault : Option ConfigError) → admit_fault whole.ends.server.map.strings index text ≡ fault → Configured profile whole index text (change_or whole.ends.server index text fault)
+    of_fault other (Some fault) refused = holds
+    of_fault other None admitted =
+        elim (cases_Bool (is_same whole.ends.server.map index text)) [
+          | inl same ↦ rw same (rw same holds)
+          | inr changed ↦ rw changed (of_place other (may_go_out whole.ends.server.map.strings index text admitted) admitted changed (position (lacks_room (piece_texts index text)) whole.ends.server.slots) refl)
+        ]
 
 -- ---- moves
+
+-- what holds behind a move, or where it is refused
+abbrev Moved : Profile → Whole → ℕ → Move → HandedMove MoveError → Type 0
+Moved profile whole c one given =
+    Holds profile (with_noted whole c (record { ends = with_client whole.ends c given.client; answer = moved c given.answer }) (with_issued (history_at whole.histories c) one)).whole
+
+-- a move of a client that has a gamestate
+abbrev moves_on : ClientState → Move → HandedMove MoveError
+moves_on client one =
+    if nat_le one.time client.last_time then record { client = client; answer = Err (NotLater client.last_time) } else
+    if is_issuable one then record { client = issue client one; answer = Ok tt }
+    else record { client = client; answer = Err Range }
 
 pub holds_move : (profile : Profile) (whole : Whole) (c : ℕ) (one : Move) → IsHeldMove one → c < places → Holds profile whole
     → Holds profile (with_noted whole c (add_move whole.ends c one) (with_issued (history_at whole.histories c) one)).whole
@@ -98,15 +398,26 @@ holds_move profile whole c one held lt holds =
     elim (found_or (client_at whole.ends c)) [
       | inl none ↦ rw none (unnoted profile whole c holds)
       | inr found ↦
-          let client = found.0 in
-          rw found.1 (elim (cases_Bool (nat_le one.time client.last_time)) [
-            | inl early ↦ rw early (left_alone profile whole c client whole.sent found.1 refl holds)
-            | inr later ↦ rw later (elim (cases_Bool (is_issuable one)) [
-              | inl may ↦ rw may (Holds-issued profile whole c client one lt found.1 (is_move one held may) (leb-false one.time client.last_time later) holds)
-              | inr bad ↦ rw bad (left_alone profile whole c client whole.sent found.1 refl holds)
-            ])
-          ])
+          rw found.1 (cond_both (not found.0.state.has_game) (record { client = found.0; answer = Err NoGame }) (moves_on found.0 one) (Moved profile whole c one)
+          (λ none. left_alone profile whole c found.0 whole.sent found.1 refl holds)
+          (λ game. with_game found.0 found.1 (not-false found.0.state.has_game game)))
     ]
+  where
+    with_game : (client : ClientState) → client_at whole.ends c ≡ Some client → client.state.has_game ≡ true → Moved profile whole c one (moves_on client one)
+    with_game client at game =
+        let had = has_client profile whole c client lt at holds in
+        let slot = had.0 in
+        let has = had.1 in
+        elim (cases_Bool (nat_le one.time client.last_time)) [
+          | inl early ↦ rw early (left_alone profile whole c client whole.sent at refl holds)
+          | inr later ↦ rw later (elim (cases_Bool (is_issuable one)) [
+            | inl may ↦
+                let above = leb-false one.time client.last_time later in
+                rw may (Holds-issued profile whole c slot client one lt (is_move one held may) above game has
+                (mapped_issued whole.ends.server.map slot client (history_at whole.histories c) one.time (omega (arith, above)) has.joined.mapped) holds)
+            | inr bad ↦ rw bad (left_alone profile whole c client whole.sent at refl holds)
+          ])
+        ]
 
 -- ---- commands
 
@@ -118,9 +429,15 @@ holds_say profile whole c text cited is lt holds =
       | inl none ↦ rw none (unnoted profile whole c holds)
       | inr found ↦
           let slot = found.0 in
-          rw found.1 (elim (cases_Bool (has_room slot.issued 1 (length text))) [
-            | inl room ↦ rw room (Holds-spoken cited.windows profile whole c slot text lt found.1 room is holds)
-            | inr full ↦ rw full (slot_alone profile whole c slot found.1 holds)
+          rw found.1 (elim (cases_Bool (changes_own text)) [
+            | inl own ↦ rw own (slot_alone profile whole c slot found.1 holds)
+            | inr other ↦ rw other (elim (cases_Bool (is_connected slot.stage)) [
+              | inl waits ↦ rw waits (slot_alone profile whole c slot found.1 holds)
+              | inr begun ↦ rw begun (elim (cases_Bool (has_room slot.issued 1 (length text))) [
+                | inl room ↦ rw room (Holds-spoken cited.windows profile whole c slot text lt found.1 room is other holds)
+                | inr full ↦ rw full (slot_alone profile whole c slot found.1 holds)
+              ])
+            ])
           ])
     ]
   where

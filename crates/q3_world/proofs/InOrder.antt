@@ -3,10 +3,10 @@ use Rattle.std.proofs.Common.{◌≡◌, ℕ, suc, ◌+◌, ◌-◌, ◌<◌, �
 use Rattle.std.specs.Prelude.{◌⊎◌, slice_get}
 use Rattle.std.specs.List.{AllByRecursion}
 use Rattle.std.proofs.Math.ListN.{length-set}
-use Rattle.std.proofs.lemmas.List.{append-nil}
 use Rattle.q3_profile.specs.declared.profile.Profile.{Profile}
 use Rattle.q3_script.specs.declared.event.Event.{Event}
 use Rattle.q3_script.specs.declared.event.Event.TheVariants as events
+use Rattle.q3_world.specs.declared.answer.Answer.TheVariants as answers
 use Rattle.q3_script.specs.Grammar.{IsReplayEvent}
 use Rattle.q3_ring.specs.Snapshot.{Snapshot}
 use Rattle.q3_text.specs.declared.text.Command.{Command}
@@ -26,18 +26,22 @@ use Rattle.q3_slot.specs.Emitting.{built_bytes}
 use Rattle.q3_server.specs.Server.{places}
 use Rattle.q3_client.specs.Client.{ClientState, Taken, Reception, receive_message, take_answer, take_gathered}
 use Rattle.q3_world.specs.declared.made.Direction.TheVariants.{ToClient}
-use Rattle.q3_world.specs.Ends.{client_at, with_client, delivered}
+use Rattle.q3_world.specs.Ends.{client_at, with_client, Answered, ran_nothing}
 use Rattle.q3_world.specs.Kept.{Kept, KeptStep, kept_step}
-use Rattle.q3_world.specs.World.{Tag, Whole, History, no_history, history_at, with_history, with_heard, built_at, named, client_took, step, after, opening}
+use Rattle.q3_world.specs.World.{Tag, Whole, History, no_history, history_at, with_history, with_heard, built_at, named, client_took, step, after, opening, with_game, with_taken, game_in, Played}
 use Rattle.q3_world.specs.StandsFor.{StandsFor, messages_of}
 use Rattle.q3_world.specs.Layers.{Layers}
-use Rattle.q3_world.specs.Schedules.{kept_then, whole_then, BytesFollowTags, applied_of, heard_of, ArePieces, deliveries, InOrderIsAccepted}
+use Rattle.q3_world.specs.Schedules.{kept_then, whole_then, BytesFollowTags, applied_of, heard_of, ArePieces, deliveries, InOrderIsAccepted, AnswersSo}
 use Rattle.q3_world.proofs.Clients.{at_number}
-use Rattle.q3_world.proofs.Holding.{Holds, has_client}
+use Rattle.q3_world.proofs.Events.{Holds, has_client}
 use Rattle.q3_world.proofs.Arriving.{quiet_client, Named, names, is_sent, is_for, delivers_agree}
 use Rattle.q3_world.proofs.Agreement.{kept_is}
-use Rattle.q3_world.proofs.EverySchedule.{cited_of, outcome, delivered_so, answers_tag}
+use Rattle.q3_world.proofs.EverySchedule.{cited_of, outcome, delivered_so, answers_tag, applied_now}
 use Rattle.q3_world.proofs.OnePlace.{set_there}
+use Rattle.q3_gamestate.specs.Values.{Gamestate}
+use Rattle.q3_world.specs.Games.{accepted_since}
+use Rattle.q3_svmsg.specs.Values.{Told}
+use Rattle.std.proofs.lemmas.List.{append-nil}
 
 -- ---- one piece
 
@@ -52,16 +56,25 @@ answer_gathers client gathered.Runt apply = refl
 answer_gathers client gathered.Connectionless apply = refl
 
 -- and what was built
-heard_built : (history : History) (heard : Option Snapshot) (commands : List Command) → (with_heard history heard commands).built ≡ history.built
-heard_built history None commands = refl
-heard_built history (Some snapshot) commands = refl
+noted_built : (history : History) (heard : Option Snapshot) (commands : List Command) (number time : ℕ) (game : Option Gamestate)
+    → (with_game (with_heard history heard commands) number time game).built ≡ history.built
+noted_built history None commands number time None = refl
+noted_built history None commands number time (Some game) = refl
+noted_built history (Some snapshot) commands number time None = refl
+noted_built history (Some snapshot) commands number time (Some game) = refl
 
--- nothing was accepted or executed
+-- where nothing came, nothing is noted
+nothing_noted : (history : History) (number : ℕ) (taken : Taken) (section : Told) → taken.accepted ≡ None → taken.heard ≡ [] → game_in taken.answer section ≡ None
+    → with_taken history number section taken ≡ history
+nothing_noted history number taken section accepted heard game =
+    ap (λ (g : Option Gamestate). with_game (with_heard history taken.accepted taken.heard) number taken.client.last_time g) game
+    ∙ (ap (λ (s : Option Snapshot). with_heard history s taken.heard) accepted
+    ∙ (ap (λ (commands : List Command). with_heard history None commands) heard
+    ∙ ap (λ (texts : List (List ℕ)). record history { client_executed = texts }) (append-nil history.client_executed)))
+
+-- nothing was applied, accepted or executed
 abbrev IsAsBefore : History → History → Type 0
-IsAsBefore before now = (now.accepted ≡ before.accepted) × (now.client_executed ≡ before.client_executed)
-
-nothing_heard : (history : History) → IsAsBefore history (with_heard history None [])
-nothing_heard history = (refl, append-nil history.client_executed)
+IsAsBefore before now = (now.games ≡ before.games) × (now.accepted ≡ before.accepted) × (now.client_executed ≡ before.client_executed)
 
 -- a world in which of one message so many first pieces arrived since another
 pub record Reached (profile : Profile) (start now : Whole) (c n count : ℕ) (g : Gathering) : Type 0 where
@@ -86,7 +99,7 @@ reached_none profile start c n client holds found = record {
   client = client;
   found = found;
   gathers = refl;
-  accepted = inr (refl, refl);
+  accepted = inr (refl, refl, refl);
 }
 
 -- the piece of a tag arrives
@@ -96,10 +109,8 @@ arrived profile whole number tag client =
     (λ n. Ok (receive_message client n (named whole.histories tag).message))
 
 abbrev arrives_at : Profile → Whole → ℕ → Tag → ClientState → Whole
-arrives_at profile whole number tag client = (client_took whole number tag.client (arrived profile whole number tag client)).whole
-
-as_before : (start middle now : History) → IsAsBefore start middle → IsAsBefore middle now → IsAsBefore start now
-as_before start middle now first second = (second.0 ∙ first.0, second.1 ∙ first.1)
+arrives_at profile whole number tag client =
+    (client_took whole number tag.client tag.number (named whole.histories tag).message.section (arrived profile whole number tag client)).whole
 
 reached_more : TaggedDoes → (profile : Profile) (start now : Whole) (c n count number : ℕ) (g : Gathering) (tag : Tag) → c < places → tag.client ≡ c → tag.number ≡ n → tag.index ≡ count
     → (reached : Reached profile start now c n count g) → Reached profile start (arrives_at profile now number tag reached.client) c n (count + 1) g
@@ -119,24 +130,23 @@ reached_more does_so profile start now c n count number g tag lt is_c is_n is_in
     ∙ (ap (λ (b : Built). tagged (tagged_all g n message count) n (built_bytes profile b) tag.index) built_is
     ∙ ap (λ (k : ℕ). tagged (tagged_all g n message count) n message k) is_index)) in
     let one : suc count ≡ count + 1 = omega arith in
-    let noted = with_heard (history_at now.histories tag.client) taken.accepted taken.heard in
+    let section = built.message.section in
+    let history = history_at now.histories tag.client in
+    let noted = with_taken history tag.number section taken in
     let there = set_there now.histories tag.client no_history noted reached.histories (subst (λ (k : ℕ). k < places) (sym is_c) lt) in
     let does = does_so client.gathering tag.number (built_bytes profile built) tag.index in
     let apply : ℕ → Reception = λ k. receive_message client k built.message in
     let here = record client { gathering = took.gathering } in
     let gathers = answer_gathers here took.answer apply in
-    let noted_is : taken.accepted ≡ None → taken.heard ≡ [] → history_at (with_history now.histories tag.client noted) c ≡ with_heard (history_at now.histories c) None [] =
-    λ accepted heard. ap (λ (k : ℕ). history_at (with_history now.histories tag.client noted) k) (sym is_c)
-    ∙ (there ∙ (ap (λ (s : Option Snapshot). with_heard (history_at now.histories tag.client) s taken.heard) accepted
-    ∙ (ap (λ (l : List Command). with_heard (history_at now.histories tag.client) None l) heard ∙ ap (λ (k : ℕ). with_heard (history_at now.histories k) None []) is_c))) in
+    let noted_is : history_at (with_history now.histories tag.client noted) c ≡ noted = ap (λ (k : ℕ). history_at (with_history now.histories tag.client noted) k) (sym is_c) ∙ there in
     let taken_is : taken.client.gathering.taken ≡ took.gathering.taken = ap (λ (x : Gathering). x.taken) gathers in
     record {
       sent = reached.sent;
       clients = length-set now.ends.clients tag.client (Some taken.client) ∙ reached.clients;
       histories = length-set now.histories tag.client noted ∙ reached.histories;
-      built = ap (λ (k : ℕ). (history_at (with_history now.histories tag.client noted) k).built) (sym is_c)
-          ∙ (ap (λ (h : History). h.built) there ∙ (heard_built (history_at now.histories tag.client) taken.accepted taken.heard
-          ∙ (ap (λ (k : ℕ). (history_at now.histories k).built) is_c ∙ reached.built)));
+      built = ap (λ (h : History). h.built) noted_is
+          ∙ (noted_built history taken.accepted taken.heard tag.number taken.client.last_time (game_in taken.answer section)
+          ∙ (ap (λ (k : ℕ). (history_at now.histories k).built) is_c ∙ reached.built));
       client = taken.client;
       found = ap (λ (k : ℕ). client_at (with_client now.ends tag.client taken.client) k) (sym is_c)
           ∙ set_there now.ends.clients tag.client None (Some taken.client) reached.clients (subst (λ (k : ℕ). k < places) (sym is_c) lt);
@@ -146,8 +156,10 @@ reached_more does_so profile start now c n count number g tag lt is_c is_n is_in
             let same = quiet_client here took.answer (λ k. Ok (apply k)) waits.quiet in
             elim reached.accepted [
               | inl past ↦ inl (omega (arith, past, taken_is, waits.taken))
-              | inr before ↦ inr (subst (λ (h : History). IsAsBefore (history_at start.histories c) h) (sym (noted_is same.1 same.2))
-                  (as_before (history_at start.histories c) (history_at now.histories c) (with_heard (history_at now.histories c) None []) before (nothing_heard (history_at now.histories c))))
+              | inr before ↦
+                  let still : history_at (with_history now.histories tag.client noted) c ≡ history_at now.histories c =
+                  noted_is ∙ (nothing_noted history tag.number taken section same.accepted same.heard (same.game section) ∙ ap (λ (k : ℕ). history_at now.histories k) is_c) in
+                  inr (subst (λ (h : History). IsAsBefore (history_at start.histories c) h) (sym still) before)
             ]
         | inr came ↦ inl (omega (arith, taken_is, came.taken, is_n))
       ];
@@ -199,14 +211,16 @@ last_answer : (profile : Profile) (whole : Whole) (c n last : ℕ) (tag : Tag) (
     → (tagged client.gathering tag.number (built_bytes profile (named whole.histories tag)) tag.index).answer ≡ CameWhole n (length (built_bytes profile (named whole.histories tag)))
     → (apply_message client.state n (named whole.histories tag).message).answer ≡ applied
     → fresh_of client.state.executed.executed (named whole.histories tag).message.commands ≡ heard
-    → (step profile whole (events.Deliver last)).answer ≡ delivered last c (Applied applied) heard
+    → AnswersSo (step profile whole (events.Deliver last)).answer (answers.Deliver last c (Applied applied)) (record ran_nothing { commands = heard })
 last_answer profile whole c n last tag client applied heard at way is_c found came is heard_is =
     let built = named whole.histories tag in
     let took = tagged client.gathering tag.number (built_bytes profile built) tag.index in
-    answers_tag profile whole last tag client at way found
-    ∙ (ap (λ (a : Gathered). delivered_so last tag.client (take_answer (record client { gathering = took.gathering }) a (λ k. Ok (receive_message client k built.message)))) came
-    ∙ (ap (λ (a : AppliedSo). delivered last tag.client (Applied a) (fresh_of client.state.executed.executed built.message.commands)) is
-    ∙ (ap (λ (l : List Command). delivered last tag.client (Applied applied) l) heard_is ∙ ap (λ (k : ℕ). delivered last k (Applied applied) heard) is_c)))
+    let given = answers_tag profile whole last tag client at way found
+    ∙ ap (λ (a : Gathered). delivered_so last tag.client (take_answer (record client { gathering = took.gathering }) a (λ k. Ok (receive_message client k built.message)))) came in (
+      ap (λ (a : Answered). a.answer) given
+          ∙ (ap (λ (a : AppliedSo). answers.Deliver last tag.client (Applied a)) is ∙ ap (λ (k : ℕ). answers.Deliver last k (Applied applied)) is_c),
+      ap (λ (a : Answered). a.ran) given ∙ ap (λ (l : List Command). record ran_nothing { commands = l }) heard_is,
+    )
 
 pub in_order_is_accepted : BytesFollowTags → Layers → PiecesAreTagged → InOrderIsAccepted
 unfolding tagged_all
@@ -260,21 +274,21 @@ in_order_is_accepted law below pieces profile all c n last numbers client is are
     (subst (λ (k : ℕ). Named profile now tag.client k had_now.0 reached.client (named now.histories tag)) tail.4 (names profile now tag had_now.0 reached.client cited tag_sent had_now.1)) in
     let as_then : IsAsBefore (history_at start.histories c) (history_at now.histories c) =
     elim reached.accepted [ inl past ↦ absurd (omega (arith, past, still)) | inr same ↦ same ] in
-    let accepted_is = as_then.0 in
     let heard_is : fresh_of reached.client.state.executed.executed (named now.histories tag).message.commands ≡ heard_of (history_at start.histories c) n =
     ap (λ (k : ℕ). fresh_of k (named now.histories tag).message.commands) out.executed
     ∙ (ap (λ (k : ℕ). fresh_of (length (history_at now.histories k).client_executed) (named now.histories tag).message.commands) tail.3
-    ∙ (ap (λ (l : List (List ℕ)). fresh_of (length l) (named now.histories tag).message.commands) as_then.1
+    ∙ (ap (λ (l : List (List ℕ)). fresh_of (length l) (named now.histories tag).message.commands) as_then.2
     ∙ ap (λ (b : Built). fresh_of (length (history_at start.histories c).client_executed) b.message.commands) named_is)) in
-    let applied_is : applied_of profile.parse_ring (history_at now.histories tag.client).accepted n (named now.histories tag)
-    ≡ applied_of profile.parse_ring (history_at start.histories c).accepted n (built_at built n) =
-    ap (λ (k : ℕ). applied_of profile.parse_ring (history_at now.histories k).accepted n (named now.histories tag)) tail.3
-    ∙ (ap (λ (a : List Snapshot). applied_of profile.parse_ring a n (named now.histories tag)) accepted_is
-    ∙ ap (λ (b : Built). applied_of profile.parse_ring (history_at start.histories c).accepted n b) named_is) in
-    ap (λ (k : Kept). (kept_step k (events.Deliver last)).answer) (kept_is profile (kept_then profile all') now stands)
-    ∙ (ap (λ (s : KeptStep). s.answer) (delivers_agree profile now last cited holds).same
-    ∙ last_answer profile now c n last tag reached.client (applied_of profile.parse_ring (history_at start.histories c).accepted n (built_at built n)) (heard_of (history_at start.histories c) n) at tail.2 tail.3 tag_found answer
-    (out.answer ∙ applied_is) heard_is)
+    let applied_is : applied_now profile (history_at now.histories tag.client) n (named now.histories tag) ≡ applied_now profile (history_at start.histories c) n (built_at built n) =
+    ap (λ (k : ℕ). applied_now profile (history_at now.histories k) n (named now.histories tag)) tail.3
+    ∙ (ap (λ (g : List Played). applied_of profile.parse_ring (accepted_since g (history_at now.histories c).accepted) n (named now.histories tag)) as_then.0
+    ∙ (ap (λ (a : List Snapshot). applied_of profile.parse_ring (accepted_since (history_at start.histories c).games a) n (named now.histories tag)) as_then.1
+    ∙ ap (λ (b : Built). applied_now profile (history_at start.histories c) n b) named_is)) in
+    let by_bytes = ap (λ (k : Kept). (kept_step k (events.Deliver last)).answer) (kept_is profile (kept_then profile all') now stands)
+    ∙ ap (λ (s : KeptStep). s.answer) (delivers_agree profile now last cited holds).same in
+    let by_tag = last_answer profile now c n last tag reached.client (applied_now profile (history_at start.histories c) n (built_at built n)) (heard_of (history_at start.histories c) n) at tail.2 tail.3
+    tag_found answer (out.answer ∙ applied_is) heard_is in
+    (ap (λ (a : Answered). a.answer) by_bytes ∙ by_tag.0, ap (λ (a : Answered). a.ran) by_bytes ∙ by_tag.1)
   where
     ap_lt : {x y z : ℕ} → x ≡ y → x < z → y < z
     ap_lt {x = x} {y = y} {z = z} same lt = omega (arith, same, lt)

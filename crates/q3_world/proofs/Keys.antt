@@ -7,7 +7,7 @@ use Rattle.q3_world.specs.World.{history_at}
 use Rattle.q3_world.specs.StandsFor.{AreCommanded, StandsFor}
 use Rattle.q3_world.specs.Layers.{Layers}
 use Rattle.q3_world.specs.Schedules.{kept_then, whole_then, BytesFollowTags, KeysAgree}
-use Rattle.q3_world.proofs.Holding.{Holds, has_client}
+use Rattle.q3_world.proofs.Events.{Holds, has_client}
 use Rattle.q3_world.proofs.Commanded.{client_hears, slot_hears}
 
 pub keys_agree : BytesFollowTags → Layers → KeysAgree

@@ -1,6 +1,6 @@
 -- What a client holds was accepted, and what it accepted was built.
-use Rattle.std.proofs.Common.{◌≡◌, ℕ, ◌+◌, ◌-◌, ◌<◌, ◌≤◌, List, length, get_or, Option, Some, None, Result, Ok, Err, sym, ap, subst, ◌∙◌, arith}
-use Rattle.std.specs.Prelude.{All, Contains, IfSome}
+use Rattle.std.proofs.Common.{◌≡◌, ℕ, ◌+◌, ◌-◌, ◌<◌, ◌≤◌, List, length, get_or, Option, Some, None, Result, Ok, Err, sym, ap, subst, ◌∙◌, arith, inl, inr, refl}
+use Rattle.std.specs.Prelude.{All, Contains, IfSome, MatchOption}
 use Rattle.std.specs.Result.{result_ok}
 use Rattle.std.proofs.lemmas.List.Elements.{All-get_or, All-contains}
 use Rattle.q3_profile.specs.declared.profile.Profile.{Profile}
@@ -13,9 +13,18 @@ use Rattle.q3_slot.specs.Slot.{SlotState}
 use Rattle.q3_client.specs.Client.{ClientState}
 use Rattle.q3_world.specs.Layers.{RingLaws}
 use Rattle.q3_world.specs.MessageLaws.{AreBuilt, HoldsThis}
-use Rattle.q3_world.specs.World.{History, no_message, built_at}
+use Rattle.q3_world.specs.World.{History, no_message, built_at, Played}
 use Rattle.q3_world.specs.StandsFor.{snapshot_in, WasBuilt, KeepsSlot, AreAsked}
 use Rattle.q3_world.proofs.Bases.{some_one, was_built_one}
+use Rattle.q3_svmsg.specs.Values as told
+use Rattle.q3_world.proofs.GamesParts.{newest}
+use Rattle.q3_entity.specs.Baselines.{AreLines}
+use Rattle.q3_entity.specs.declared.state.EntityState.{EntityState}
+use Rattle.q3_gamestate.specs.Laws.{IsGamestate}
+use Rattle.q3_gamestate.specs.Values.{Gamestate}
+use Rattle.q3_player.specs.declared.head.SnapHead.{SnapHead}
+use Rattle.q3_world.proofs.Lines.{no_lines_are}
+use Rattle.q3_world.specs.Games.{Carries, HasGames, IsOf, last_played, IsFresh, WasApplied}
 
 -- the messages that were begun are so
 abbrev pub AreMessages : Profile → ℕ → List Built → Type 0
@@ -27,7 +36,30 @@ was_built_is profile challenge began snapshot are was =
     let some = was.0 in
     let few = was.1 in
     let is = are (snapshot.head.number - 1) no_message (omega (arith, some, few)) in
-    subst (IsSnapshot profile) (some_one is.snapshot snapshot (sym (ap (λ (b : Built). snapshot_in b.message.section) is.is) ∙ was.2)) is.are
+    elim is.section [
+      | inl one ↦ subst (IsSnapshot profile) (some_one one.snapshot snapshot (sym (ap (λ (b : Built). snapshot_in b.message.section) one.is) ∙ was.2)) one.are
+      | inr game ↦ absurd (none_some (sym (ap (λ (b : Built). snapshot_in b.message.section) game.is) ∙ was.2))
+    ]
+  where
+    none_some : None ≡ Some snapshot → ⊥
+    none_some e = absurd cc
+
+-- and a gamestate that was built is one that may be sent
+pub game_built_is : (profile : Profile) (challenge : ℕ) (began : List Built) (n : ℕ) (game : Gamestate) → AreMessages profile challenge began → Carries began n game → IsGamestate profile game
+game_built_is profile challenge began n game are carries =
+    let some = carries.some in
+    let few = carries.begun in
+    let is = are (n - 1) no_message (omega (arith, some, few)) in
+    elim is.section [
+      | inl one ↦ absurd (not_game (sym (ap (λ (b : Built). b.message.section) one.is) ∙ carries.is))
+      | inr made ↦ subst (IsGamestate profile) (one_game (sym (ap (λ (b : Built). b.message.section) made.is) ∙ carries.is)) made.are
+    ]
+  where
+    not_game : {base : ℕ} {head : SnapHead} {entities : List EntityState} → told.Snap base head entities ≡ told.Game game → ⊥
+    not_game e = absurd cc
+
+    one_game : {other : Gamestate} → told.Game other ≡ told.Game game → other ≡ game
+    one_game e = cc
 
 ok_of : (r : Result Snapshot NoBase) (snapshot : Snapshot) → result_ok r ≡ Some snapshot → r ≡ Ok snapshot
 ok_of (Ok x) snapshot e = cc
@@ -74,6 +106,25 @@ pub known_base : (profile : Profile) (slot : SlotState) (client : ClientState) (
     → IfSome (built_at history.built n).base (KnownBase n history.built history.accepted)
 known_base profile slot client history n some few is keeps asked =
     let lt : n - 1 < length history.built = omega (arith, some, few) in
-    three_some (built_at history.built n).base (IsNear n) (WasBuilt history.built) (Contains history.accepted) is.base_is
+    three_some (built_at history.built n).base (IsNear n) (WasBuilt history.built) (Contains history.accepted) near
     (All-get_or (λ (b : Built). IfSome b.base (WasBuilt history.built)) history.built (n - 1) no_message lt keeps.bases)
     (All-get_or (λ (b : Built). IfSome b.base (Contains history.accepted)) history.built (n - 1) no_message lt asked.bases)
+  where
+    near : IfSome (built_at history.built n).base (IsNear n)
+    near = elim is.section [
+      | inl one ↦ one.base_is
+      | inr game ↦ subst (λ (base : Option Snapshot). IfSome base (IsNear n)) (sym (ap (λ (b : Built). b.base) game.is)) tt
+    ]
+
+-- each message that was built is one that is read by the baselines that a client has
+pub lines_are : (profile : Profile) (slot : SlotState) (client : ClientState) (history : History) → AreMessages profile slot.challenge history.built
+    → HasGames client.state client.gathering.taken client.last_time history.built history.games history.accepted history.client_executed → AreLines profile.entity client.state.lines
+lines_are profile slot client history are has = of_last (last_played history.games) refl has.shows
+  where
+    of_last : (last : Option Played) → last_played history.games ≡ last → MatchOption last (IsFresh client.state) (λ played. IsOf client.state played history.client_executed)
+        → AreLines profile.entity client.state.lines
+    of_last None is fresh = subst (AreLines profile.entity) (sym fresh.lines) (no_lines_are profile)
+    of_last (Some played) is shows =
+        let last = newest history.games played has.rise is in
+        let applied = All-contains (WasApplied client.gathering.taken client.last_time history.built history.accepted history.client_executed) history.games played has.each last.there in
+        subst (AreLines profile.entity) (sym shows.lines) (game_built_is profile slot.challenge history.built played.number played.game are applied.carries).lines

@@ -31,6 +31,7 @@ use Rattle.q3_ring.specs.Snapshot.{Snapshot}
 use Rattle.q3_rings.specs.Rings.{is_young}
 use Rattle.q3_rings.specs.Accepted.{age_of}
 use Rattle.q3_slot.specs.Taking as by_slot
+use Rattle.q3_svmsg.specs.Values as told
 use Rattle.q3_client.specs.declared.client.MoveError.{MoveError}
 use Rattle.q3_client.specs.Client.{ClientState, new_client, type_at, receive_message, take_answer}
 use Rattle.q3_client.specs.Moves.{add_move_at}
@@ -44,11 +45,16 @@ use Rattle.q3_world.specs.Kept.{Kept, opening_kept, kept_step, kept_answers}
 use Rattle.q3_world.specs.World.{Tag, Whole, history_at, opening, step, send, named, to_client, said_under, to_server, arrive, deliver}
 use Rattle.q3_world.specs.StandsFor.{IsSent, StandsFor}
 use Rattle.q3_world.specs.Layers.{Layers}
-use Rattle.q3_world.specs.Schedules.{StepFollows, MayBecome, outcome_of, IsLegible, AlwaysLegible}
-use Rattle.q3_world.proofs.Holding.{Holds, has_slot, has_client}
+use Rattle.q3_world.specs.Schedules.{StepFollows, MayBecome, outcome_of, IsLegible, AlwaysLegible, outcome_in}
+use Rattle.q3_world.proofs.Events.{Holds, has_slot, has_client}
 use Rattle.q3_world.proofs.Agree.{Cited}
 use Rattle.q3_world.proofs.Arriving.{IsFor, IsOf, names, is_sent, is_for, is_of_client, slot_of_tag, said_hears}
 use Rattle.q3_world.proofs.EverySchedule.{cited_of, outcome, stands_opening}
+use Rattle.q3_svmsg.specs.Values.{Told}
+use Rattle.q3_world.specs.Games.{accepted_since}
+use Rattle.q3_map.specs.Map.{MapState, is_other}
+use Rattle.q3_slot.specs.Taking.{came_as}
+use Rattle.q3_world.proofs.RunIssued.{slot_does}
 
 -- ---- what the game hands in
 
@@ -109,6 +115,13 @@ may_become ring accepted (Some base) =
       | inr old ↦ rw old tt
     ]
 
+-- and a gamestate has none
+may_become_in : (ring : ℕ) (accepted : List Snapshot) (base : Option Snapshot) (section : Told) → MayBecome (outcome_in ring accepted base section)
+may_become_in ring accepted base told.Nothing = tt
+may_become_in ring accepted base (told.Game game) = tt
+may_become_in ring accepted base (told.Snap number head entities) = may_become ring accepted base
+may_become_in ring accepted base (told.Skipped number) = tt
+
 -- what a client makes of a piece: nothing came whole, or its message did, and was applied
 legible_took : (datagram c n : ℕ) (client now : ClientState) (answer : Gathered) (built : Built)
     → IsQuiet answer ⊎ ((count : ℕ) × (answer ≡ CameWhole n count) × MayBecome (apply_message client.state n built.message).answer.snap)
@@ -141,19 +154,20 @@ legible_to_client profile whole number tag (Some client) cited is at holds =
           inr (
             length (built_bytes profile built),
             came.answer,
-            subst (λ (a : Applied). MayBecome a.snap) (sym out.answer) (may_become profile.parse_ring (history_at whole.histories tag.client).accepted built.base),
+            subst (λ (a : Applied). MayBecome a.snap) (sym out.answer)
+                (may_become_in profile.parse_ring (accepted_since (history_at whole.histories tag.client).games (history_at whole.histories tag.client).accepted) built.base built.message.section),
           )
     ])
 
 -- ---- what the server takes
 
--- what a slot makes of a piece: nothing came whole, or its message did, and was run
-legible_heard : (datagram c n : ℕ) (slot : SlotState) (answer : Gathered) (message : Message)
+-- what a slot makes of a piece: nothing came whole, or its message did, and was run, or is of another map
+legible_heard : (map : MapState) (datagram c n : ℕ) (slot : SlotState) (answer : Gathered) (message : Message)
     → IsQuiet answer ⊎ ((count : ℕ) × (answer ≡ CameWhole n count) × (gap_in slot.executed.executed message.commands ≡ None))
-    → IsLegible (answers.ToServer datagram (by_slot.take_answer slot c answer (λ k. Ok message)).answer)
-legible_heard datagram c n slot answer message (inl quiet) = waits answer quiet
+    → IsLegible (answers.ToServer datagram (by_slot.take_answer map slot c answer (λ k. Ok (came_as map message))).answer)
+legible_heard map datagram c n slot answer message (inl quiet) = waits answer quiet
   where
-    waits : (answer : Gathered) → IsQuiet answer → IsLegible (answers.ToServer datagram (by_slot.take_answer slot c answer (λ k. Ok message)).answer)
+    waits : (answer : Gathered) → IsQuiet answer → IsLegible (answers.ToServer datagram (by_slot.take_answer map slot c answer (λ k. Ok (came_as map message))).answer)
     waits (CameWhole number count) is = absurd is
     waits gathered.Partial is = tt
     waits gathered.Old is = tt
@@ -161,7 +175,12 @@ legible_heard datagram c n slot answer message (inl quiet) = waits answer quiet
     waits gathered.BadFragment is = absurd is
     waits gathered.Runt is = absurd is
     waits gathered.Connectionless is = absurd is
-legible_heard datagram c n slot answer message (inr came) = rw (came.1, came.2) tt
+legible_heard map datagram c n slot answer message (inr came) =
+    let doing = slot_does map slot c n came.0 message answer came.1 came.2 in
+    elim (cases_Bool (is_other map message.id)) [
+      | inl other ↦ subst (λ (t : by_slot.SlotTaken). IsLegible (answers.ToServer datagram t.answer)) (sym (doing.of_other other)) tt
+      | inr same ↦ subst (λ (t : by_slot.SlotTaken). IsLegible (answers.ToServer datagram t.answer)) (sym (doing.of_map same)) tt
+    ]
 
 legible_to_server : (profile : Profile) (whole : Whole) (number : ℕ) (tag : Tag) (from : Address) → Cited profile → IsOf profile whole tag from → Holds profile whole
     → IsLegible (to_server profile whole number tag from (slot_at whole.ends.server tag.client)).answer.answer
@@ -174,7 +193,7 @@ legible_to_server profile whole number tag from cited is holds =
     let took = tagged slot.gathering tag.number bytes tag.index in
     let does = cited.does slot.gathering tag.number bytes tag.index in
     let next = record slot { address = from; gathering = took.gathering } in
-    rw found.1 (legible_heard number tag.client tag.number next took.answer said.message
+    rw found.1 (legible_heard whole.ends.server.map number tag.client tag.number next took.answer said.message
     (elim does.either [
       | inl waits ↦ inl waits.quiet
       | inr came ↦ inr (length bytes, came.answer, (said_hears profile whole tag from slot had.0 cited is had.1 came.newer).gap)
@@ -201,6 +220,9 @@ unfolding step
 legible_step profile whole (events.Client c challenge qport dup address) cited is holds =
     let added = add_client_at whole.ends.server c challenge qport address in
     legible_joined (record whole.ends { server = added.server }) c (new_client profile challenge qport dup) address added.answer
+legible_step profile whole (events.Map id feed) cited is holds = tt
+legible_step profile whole (events.Baseline state) cited is holds = tt
+legible_step profile whole (events.Config index text) cited is holds = tt
 legible_step profile whole (events.Entity state) cited is holds = tt
 legible_step profile whole (events.Remove number) cited is holds = tt
 legible_step profile whole (events.Player c player) cited is holds = tt
@@ -231,4 +253,4 @@ legible_answers law profile (event ∷ events) kept whole cited are stands =
     )
 
 pub always_legible : StepFollows → Layers → AlwaysLegible
-always_legible law below profile all is are = legible_answers law profile all (opening_kept profile) (opening profile) (cited_of below profile is) are (stands_opening profile is)
+always_legible law below profile all is are = legible_answers law profile all (opening_kept profile) (opening profile) (cited_of below profile is) are (stands_opening below profile is)

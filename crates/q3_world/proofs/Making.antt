@@ -1,8 +1,8 @@
 -- Both ends make datagrams by bytes as by tags.
 use Rattle.std.proofs.Common.{◌≡◌, ℕ, ◌+◌, ◌^◌, ◌<◌, Bool, false, List, length, Option, Some, None, refl, sym, subst, ◌∙◌, inl, inr, arith}
-use Rattle.std.specs.Prelude.{nat_le, nat_lt, ◌%◌, ◌≤◌, bit_xor}
+use Rattle.std.specs.Prelude.{nat_le, nat_lt, ◌%◌, ◌≤◌, bit_xor, true}
 use Rattle.std.proofs.lemmas.List.{length-map, map_push}
-use Rattle.std.proofs.lemmas.Bool.{cases_Bool, leb-false, ltb-false}
+use Rattle.std.proofs.lemmas.Bool.{cases_Bool, cond_both, leb-false, ltb-false}
 use Rattle.q3_bits.specs.Bits.{message_bytes, message_length}
 use Rattle.q3_bits.specs.Laws.{MessageIsBytes}
 use Rattle.q3_profile.specs.declared.profile.Profile.{Profile}
@@ -19,19 +19,24 @@ use Rattle.q3_client.specs.declared.client.Sent.TheVariants as answered_sent
 use Rattle.q3_client.specs.Client.{ClientState}
 use Rattle.q3_client.specs.Sending as speaks
 use Rattle.q3_client.specs.Sending.{said_bits, said_bytes, next_message, next_said, is_unclear as is_said_unclear}
-use Rattle.q3_slot.specs.Built.{is_unclear}
-use Rattle.q3_slot.specs.Slot.{SlotState}
-use Rattle.q3_slot.specs.Emitting.{next_frames, begun_next, built_bits, built_bytes, emit_built, most_placed, emit_new, emit_slot}
+use Rattle.q3_slot.specs.Built.{is_unclear, IsBuilt, IsNear}
+use Rattle.q3_slot.specs.Slot.{SlotState, asked, primed}
+use Rattle.q3_slot.specs.Emitting.{SlotEmission, next_frames, begun_next, built_bits, built_bytes, emit_built, most_placed, emit_new, emit_slot, next_game, telling_of, emit_game, emit_next, next_snapshot, next_game_built}
 use Rattle.q3_server.specs.Server.{ServerState, Emission, places, slot_at, with_slot, emission_at, emit_from}
 use Rattle.q3_world.specs.Ends.{client_at, address_at}
 use Rattle.q3_world.specs.Kept.{kept_serve, kept_said, kept_send}
-use Rattle.q3_world.specs.World.{Whole, history_at, serve, say, send}
+use Rattle.q3_world.specs.World.{Whole, history_at, serve, say, send, with_built}
 use Rattle.q3_world.specs.Layers.{ScramblingLaws}
 use Rattle.q3_world.specs.StandsFor.{bytes_of}
-use Rattle.q3_world.proofs.Clients.{slot_begun, client_begun}
-use Rattle.q3_world.proofs.Holding.{Holds, has_slot, has_client, same_server}
-use Rattle.q3_world.proofs.Begun.{Holds-handed, Holds-begun, Holds-too_long, handed_tag, Holds-goes, Holds-said, said_tag, executed_by_slot, executed_by_client}
+use Rattle.q3_world.proofs.Clients.{slot_begun, client_begun, BaseIs, asked_has, next_base, waits_empty, next_number, next_tells, next_is_snapshot}
+use Rattle.q3_world.proofs.Events.{Holds, Holds-handed, Holds-begun, Holds-too_long, handed_tag, Holds-goes, Holds-said, said_tag, has_slot, has_client, executed_by_slot, executed_by_client, same_server, Has, joined_stays}
+use Rattle.q3_world.proofs.Maps.{map_begun}
+use Rattle.q3_world.proofs.GamesMaps.{AreMapped-begun}
 use Rattle.q3_world.proofs.Agree.{Cited, kept_of, Agree, found_or, unnoted, left_alone}
+use Rattle.q3_map.specs.Map.{begins_game}
+use Rattle.q3_slot.specs.declared.stage.ClientStage.TheVariants.{Primed}
+use Rattle.q3_world.proofs.Bases.{KeepsFrames-built, KeepsFrames-game, if_some_then, frames_begun, frames_of_game}
+use Rattle.q3_world.proofs.Mapped.{has_snapshot, mapped_game, mapped_snapshot, next_is_game, state_short, mapped_said, asked_base}
 
 -- ---- serving
 
@@ -64,29 +69,130 @@ sendable laws bits from start text law begins is fits =
 low_byte : (number : ℕ) → number % 256 < 2 ^ 8
 low_byte number = omega arith
 
--- a message is begun, unless it is too long
+-- the message with the next snapshot is one that a server builds
+next_is_built : (profile : Profile) (whole : Whole) (c : ℕ) (slot : SlotState) (client : ClientState) → Cited profile → c < places → Has profile whole c slot client
+    → slot.sending.number + 1 < sequence_end → is_unclear profile slot.executed.executed ≡ false → Holds profile whole
+    → IsBuilt profile slot.challenge (slot.sending.number + 1) (begun_next whole.ends.server.map whole.ends.server.frames c slot)
+next_is_built profile whole c slot client cited lt had fits clear holds =
+    let map = whole.ends.server.map in
+    let frames = whole.ends.server.frames in
+    let history = history_at whole.histories c in
+    let keeps = had.keeps.of_slot in
+    let joined = had.joined in
+    let next = begun_next map frames c slot in
+    let n = slot.sending.number + 1 in
+    let names = executed_by_slot profile slot client history had.keeps.of_client joined.commanded in
+    let has = asked_has slot history.said history.built history.accepted joined.of_client.accepted joined.asked in
+    let base = next_base cited.server map frames c slot history.built keeps.sending.begun (holds.facts.frames.each c lt) has in
+    record {
+      telling = telling_of slot;
+      tells = next_tells profile slot keeps.window names clear;
+      lines = holds.facts.map.lines;
+      section = inl (record {
+        snapshot = next_snapshot map slot;
+        is = refl;
+        number = next_number map slot;
+        are = next_is_snapshot cited.server profile map slot holds.facts.map fits cited.zero keeps.player keeps.area;
+        waits = waits_empty map frames c slot (λ none. joined.mapped.stands.none.0 none);
+        base_is = if_some_then next.base (BaseIs n (asked slot) history.built) (IsNear n) (λ b known. known.0) base;
+      });
+    }
+
+-- a snapshot is begun, unless it is too long
 pub served_built : (profile : Profile) (whole : Whole) (c : ℕ) (slot : SlotState) → Cited profile → c < places → slot_at whole.ends.server c ≡ Some slot
     → slot.sending.number + 1 < sequence_end → is_unclear profile slot.executed.executed ≡ false → Holds profile whole
-    → Served profile whole c (emission_at whole.ends.server c (emit_built profile slot (next_frames whole.ends.server.map whole.ends.server.frames c slot)
+    → Served profile whole c (emission_at whole.ends.server c (emit_built profile slot whole.ends.server.map (next_frames whole.ends.server.map whole.ends.server.frames c slot)
     (begun_next whole.ends.server.map whole.ends.server.frames c slot)))
 served_built profile whole c slot cited lt is fits clear holds =
     let server = whole.ends.server in
-    let next = begun_next server.map server.frames c slot in
+    let map = server.map in
+    let frames = server.frames in
+    let history = history_at whole.histories c in
+    let next = begun_next map frames c slot in
     let bits = built_bits profile next in
     let first : UnderWay = record { message = built_bytes profile next; next = 0 } in
     let had = has_slot profile whole c slot lt is holds in
-    let names = executed_by_slot profile slot had.0 (history_at whole.histories c) had.1.keeps.of_client had.1.joined.commanded in
+    let client = had.0 in
+    let joined = had.1.joined in
+    let begun = had.1.keeps.of_slot.sending.begun in
+    let number = next_number map slot in
+    let are = holds.facts.frames.each c lt in
+    let has = asked_has slot history.said history.built history.accepted joined.of_client.accepted joined.asked in
+    let base = next_base cited.server map frames c slot history.built begun are has in
+    let names = executed_by_slot profile slot client history had.1.keeps.of_client joined.commanded in
     let may = sendable cited.scrambles bits 4 next.start next.text cited.bytes (low_byte (bit_xor slot.challenge (slot.sending.number + 1))) names.text in
     let count = length-map whole.sent bytes_of in
     elim (cases_Bool (nat_lt longest_message (message_length (length bits)))) [
       | inl long ↦ rw long (record { same = rw count refl; holds = Holds-too_long cited.server profile whole c slot lt is holds })
       | inr short ↦
           let pushed = map_push bytes_of whole.sent (handed_tag c (slot_begun profile slot next) first) in
+          let built = next_is_built profile whole c slot client cited lt had.1 fits clear holds in
+          let kept = KeepsFrames-built cited.server frames whole.histories c (with_built history (Some next)) (next_snapshot map slot) lt holds.facts.histories
+          (frames_begun cited.server frames c history.built (telling_of slot) map.lines next.base (next_snapshot map slot) (omega (arith, begun, number)) are) holds.facts.frames in
+          let mapped = mapped_snapshot map slot client history next (has_snapshot next refl) refl refl (asked_base slot next history.built (slot.sending.number + 1) base) joined.mapped in
           rw short (record {
             same = rw (count, pushed) refl;
-            holds = Holds-begun cited.server cited.windows profile whole c slot first cited.sends cited.gathers lt is fits clear (may short) refl holds;
+            holds = Holds-begun cited.windows profile whole c slot client slot.stage slot.game slot.owed next map (next_frames map frames c slot) first cited.sends cited.gathers lt had.1 fits built (may short) refl refl base refl
+                holds.facts.map (λ s e h joined. joined) kept mapped holds;
           })
     ]
+
+-- a gamestate is begun, unless it is too long
+pub served_game : (profile : Profile) (whole : Whole) (c : ℕ) (slot : SlotState) → Cited profile → c < places → slot_at whole.ends.server c ≡ Some slot → slot.owed ≡ true
+    → slot.sending.number + 1 < sequence_end → is_unclear profile slot.executed.executed ≡ false → Holds profile whole
+    → Served profile whole c (emission_at whole.ends.server c (emit_game profile slot whole.ends.server.map whole.ends.server.frames (next_game_built whole.ends.server.map c slot)))
+served_game profile whole c slot cited lt is owed fits clear holds =
+    let server = whole.ends.server in
+    let map = server.map in
+    let frames = server.frames in
+    let history = history_at whole.histories c in
+    let next = next_game_built map c slot in
+    let bits = built_bits profile next in
+    let n = slot.sending.number + 1 in
+    let stands = primed slot n in
+    let first : UnderWay = record { message = built_bytes profile next; next = 0 } in
+    let had = has_slot profile whole c slot lt is holds in
+    let client = had.0 in
+    let joined = had.1.joined in
+    let keeps = had.1.keeps in
+    let begun = keeps.of_slot.sending.begun in
+    let names = executed_by_slot profile slot client history keeps.of_client joined.commanded in
+    let may = sendable cited.scrambles bits 4 next.start next.text cited.bytes (low_byte (bit_xor slot.challenge n)) names.text in
+    let count = length-map whole.sent bytes_of in
+    elim (cases_Bool (nat_lt longest_message (message_length (length bits)))) [
+      | inl long ↦ rw long (quiet profile whole c (with_slot server c slot) emitted.Overlong (same_server server c slot is) holds)
+      | inr short ↦
+          let pushed = map_push bytes_of whole.sent (handed_tag c (slot_begun profile stands next) first) in
+          let other = joined.mapped.stands.owed owed in
+          let game = next_is_game profile map c slot holds.facts.map other.1 (omega (arith, lt)) keeps.of_slot.window in
+          let built : IsBuilt profile slot.challenge n next = record {
+            telling = telling_of slot;
+            tells = next_tells profile slot keeps.of_slot.window names clear;
+            lines = holds.facts.map.lines;
+            section = inr (record { game = next_game map c slot; is = refl; last = refl; lines = refl; are = game });
+          } in
+          let kept = KeepsFrames-game frames whole.histories c (with_built history (Some next)) lt holds.facts.histories
+          (frames_of_game frames c history.built next refl (holds.facts.frames.each c lt)) holds.facts.frames in
+          let mapped = mapped_game map slot client history next (next_game map c slot) owed refl refl (holds.facts.map.tells other.1) refl refl begun joined.of_client.gathers.taken
+          joined.mapped in
+          rw short (record {
+            same = rw (count, pushed) refl;
+            holds = Holds-begun cited.windows profile whole c slot client Primed (Some n) false next (begins_game map) frames first cited.sends cited.gathers lt had.1 fits built (may short) refl refl tt refl
+                (map_begun profile map holds.facts.map) (joined_stays profile map (begins_game map) (AreMapped-begun map)) kept mapped holds;
+          })
+    ]
+
+-- the next message: the gamestate where one is owed, else a snapshot
+pub served_next : (profile : Profile) (whole : Whole) (c : ℕ) (slot : SlotState) → Cited profile → c < places → slot_at whole.ends.server c ≡ Some slot
+    → slot.sending.number + 1 < sequence_end → is_unclear profile slot.executed.executed ≡ false → Holds profile whole
+    → Served profile whole c (emission_at whole.ends.server c (emit_next profile whole.ends.server.map whole.ends.server.frames c slot))
+served_next profile whole c slot cited lt is fits clear holds =
+    let server = whole.ends.server in
+    cond_both slot.owed (emit_game profile slot server.map server.frames (next_game_built server.map c slot))
+    (emit_built profile slot server.map (next_frames server.map server.frames c slot) (begun_next server.map server.frames c slot))
+    (λ (emission : SlotEmission). Served profile whole c (emission_at server c emission))
+    (λ owed. served_game profile whole c slot cited lt is owed fits clear holds)
+    (λ none. served_built profile whole c slot cited lt is fits clear holds)
 
 -- the next message, unless message numbers have ended or too many entities were placed, or its leading long would be hidden
 pub served_new : (profile : Profile) (whole : Whole) (c : ℕ) (slot : SlotState) → Cited profile → c < places → slot_at whole.ends.server c ≡ Some slot → Holds profile whole
@@ -99,7 +205,7 @@ served_new profile whole c slot cited lt is holds =
         | inl full ↦ rw (goes, full) (quiet profile whole c (with_slot server c slot) emitted.SequenceEnd (same_server server c slot is) holds)
         | inr room ↦ elim (cases_Bool (is_unclear profile slot.executed.executed)) [
           | inl hidden ↦ rw (goes, room, hidden) (quiet profile whole c (with_slot server c slot) emitted.Unclear (same_server server c slot is) holds)
-          | inr clear ↦ rw (goes, room, clear) (served_built profile whole c slot cited lt is (leb-false sequence_end (slot.sending.number + 1) goes) clear holds)
+          | inr clear ↦ rw (goes, room, clear) (served_next profile whole c slot cited lt is (leb-false sequence_end (slot.sending.number + 1) goes) clear holds)
         ]
       ]
     ]
@@ -154,15 +260,17 @@ said_text profile whole c client cited lt found fits clear holds =
     let first : UnderWay = record { message = said_bytes profile next; next = 0 } in
     let had = has_client profile whole c client lt found holds in
     let names = executed_by_client profile had.0 client (history_at whole.histories c) had.1.keeps.of_slot had.1.joined.commanded in
-    let may = sendable cited.scrambles bits 12 next.start next.text cited.bytes (low_byte (bit_xor (bit_xor client.challenge 0) client.gathering.taken)) names.text in
+    let may = sendable cited.scrambles bits 12 next.start next.text cited.bytes (low_byte (bit_xor (bit_xor client.challenge client.state.id) client.gathering.taken)) names.text in
     elim (cases_Bool (nat_lt longest_message (message_length (length bits)))) [
       | inl long ↦ rw long (silent profile whole c client answered_sent.Overlong found holds)
       | inr short ↦
           let count = length-map whole.sent bytes_of in
+          let short_of = state_short profile whole.ends.server.map had.0 client (history_at whole.histories c) holds.facts.map had.1.keeps.of_slot.built had.1.joined.mapped in
           let pushed = map_push bytes_of whole.sent (said_tag c (address_at whole.ends c) (client_begun profile client) first) in
           rw short (record {
             same = rw (count, pushed) refl;
-            holds = Holds-said cited.windows profile whole c client first cited.sends cited.gathers lt found refl fits (taken_fits profile whole c client lt found holds) clear (may short) holds;
+            holds = Holds-said cited.windows profile whole c had.0 client first cited.sends cited.gathers lt had.1 refl fits short_of.id short_of.feed (taken_fits profile whole c client lt found holds) clear (may short)
+                (mapped_said whole.ends.server.map had.0 client (history_at whole.histories c) had.1.joined.of_client.asks.0 had.1.joined.since had.1.joined.mapped) holds;
           })
     ]
 

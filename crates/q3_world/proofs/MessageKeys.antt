@@ -38,6 +38,6 @@ text_key_fits text is =
     let sum = weighted_few 119 (take 32 text) (All-take IsTextByte 32 text is.each) (omega (arith, few)) in
     mixed_fits (weighted 119 (take 32 text)) (omega (arith, few, sum))
 
-pub message_key_fits : (acknowledged : ℕ) (text : List ℕ) → acknowledged < 2 ^ 32 → IsText text → message_key 0 acknowledged text < 2 ^ 32
-message_key_fits acknowledged text fits is =
-    xor_lt 32 (bit_xor 0 acknowledged) (key_of text) (xor_lt 32 0 acknowledged (omega arith) fits) (text_key_fits text is)
+pub message_key_fits : (feed acknowledged : ℕ) (text : List ℕ) → feed < 2 ^ 32 → acknowledged < 2 ^ 32 → IsText text → message_key feed acknowledged text < 2 ^ 32
+message_key_fits feed acknowledged text fed fits is =
+    xor_lt 32 (bit_xor feed acknowledged) (key_of text) (xor_lt 32 feed acknowledged fed fits) (text_key_fits text is)

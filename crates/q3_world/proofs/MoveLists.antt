@@ -80,7 +80,7 @@ runs_are P before (one ∷ moves) all =
     ]
 
 -- each move that rises behind a time is later
-later : (before : ℕ) (moves : List Move) → TimesRise before moves → All (λ (one : Move). before < one.time) moves
+pub later : (before : ℕ) (moves : List Move) → TimesRise before moves → All (λ (one : Move). before < one.time) moves
 later before [] rise = All-nil (λ (one : Move). before < one.time)
 later before (one ∷ moves) rise =
     let first = rise.0 in
@@ -252,3 +252,7 @@ KeepsMoves-push moves begun issued one is keeps =
 
 pub KeepsMoves-none : KeepsMoves [] 0 []
 KeepsMoves-none = record { before = []; newest = refl; few = omega arith; marks = tt; each = All-nil (λ (i : Issued). IsMove i.one) }
+
+-- with none kept any more
+pub KeepsMoves-wiped : (begun : ℕ) (issued : List Move) → KeepsMoves [] begun issued
+KeepsMoves-wiped begun issued = record { before = issued; newest = sym (append-nil issued); few = omega arith; marks = tt; each = All-nil (λ (i : Issued). IsMove i.one) }

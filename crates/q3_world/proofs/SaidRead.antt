@@ -1,6 +1,6 @@
 -- What a client said is read back by the server.
-use Rattle.std.proofs.Common.{◌≡◌, ℕ, ◌*◌, ◌-◌, ◌^◌, ◌<◌, ◌≤◌, Bool, false, List, [], ◌∷◌, ◌++◌, length, drop, replicate, Result, Ok, refl, sym, ap, ◌∙◌, append_assoc, arith}
-use Rattle.std.proofs.lemmas.Bool.{ltb-false}
+use Rattle.std.proofs.Common.{◌≡◌, ℕ, ◌*◌, ◌-◌, ◌^◌, ◌<◌, ◌≤◌, Bool, false, List, [], ◌∷◌, ◌++◌, length, drop, replicate, Result, Ok, refl, sym, ap, subst, ◌∙◌, inl, inr, append_assoc, arith}
+use Rattle.std.proofs.lemmas.Bool.{cases_Bool, ltb-false}
 use Rattle.q3_bits.specs.Bits.{bits_of, message_bytes, message_length}
 use Rattle.q3_bits.specs.ResultBind.{◌>>=◌}
 use Rattle.q3_bits.specs.Words.{IsCode, row_bits}
@@ -21,7 +21,8 @@ use Rattle.q3_clmsg.specs.Texts.{section_bits, client_text}
 use Rattle.q3_clmsg.specs.Reading.{bits_read, heads_after, heads_at, client_at}
 use Rattle.q3_clmsg.specs.Laws.{WrittenIsRead}
 use Rattle.q3_slot.specs.Slot.{SlotState}
-use Rattle.q3_slot.specs.Taking.{ack_taken, cleared, with_heads, said_under, said_by}
+use Rattle.q3_map.specs.Map.{MapState, is_other}
+use Rattle.q3_slot.specs.Taking.{Came, came_as, ack_taken, cleared, with_heads, said_under, of_map, came_under, said_by}
 use Rattle.q3_client.specs.Sending.{said_bits, said_bytes}
 use Rattle.q3_world.specs.MessageLaws.{SaidIsRead}
 use Rattle.q3_world.proofs.BitFronts.{begins_both}
@@ -55,24 +56,38 @@ longs_are_read put words code id acknowledged command rest fits fits' fits'' = (
 
 -- ---- a message that was begun
 
--- what is read behind what is read of the leading longs, behind the acknowledgement, and by a text
-abbrev by_heads : Profile → SlotState → List ℕ → Result Heads ReadError → Result Message ClientIllegible
-by_heads profile slot bytes found = bits_read found >>= λ heads.
+-- what came, behind what is read of the leading longs, behind the acknowledgement, and by a text
+abbrev by_heads : Profile → MapState → SlotState → List ℕ → Result Heads ReadError → Result Came ClientIllegible
+by_heads profile map slot bytes found = bits_read found >>= λ heads.
     ack_taken heads.command (acknowledge_at slot.issued heads.command).answer >>= λ taken.
-    said_under profile slot.challenge heads (text_at slot.issued heads.command) bytes
+    came_under profile map slot.challenge heads (text_at slot.issued heads.command) bytes
 
-abbrev by_ack : Profile → SlotState → List ℕ → Heads → Result (Unit {0}) BadAck → Result Message ClientIllegible
-by_ack profile slot bytes heads answer = ack_taken heads.command answer >>= λ taken.
-    said_under profile slot.challenge heads (text_at slot.issued heads.command) bytes
+abbrev by_ack : Profile → MapState → SlotState → List ℕ → Heads → Result (Unit {0}) BadAck → Result Came ClientIllegible
+by_ack profile map slot bytes heads answer = ack_taken heads.command answer >>= λ taken.
+    came_under profile map slot.challenge heads (text_at slot.issued heads.command) bytes
 
--- with these heads, it is read where it is read by its text
-read_by : (profile : Profile) (slot : SlotState) (bytes text : List ℕ) (heads : Heads) (message : Message) → heads_at profile.code (bits_of bytes) ≡ Ok heads
+-- with these heads, it came as what it is by its text
+came_by : (profile : Profile) (map : MapState) (slot : SlotState) (bytes text : List ℕ) (heads : Heads) (came : Came) → heads_at profile.code (bits_of bytes) ≡ Ok heads
     → (acknowledge_at slot.issued heads.command).answer ≡ Ok tt → text_at slot.issued heads.command ≡ text
-    → said_under profile slot.challenge heads text bytes ≡ Ok message → said_by profile slot bytes ≡ Ok message
-read_by profile slot bytes text heads message found taken known is =
-    ap (by_heads profile slot bytes) found
-    ∙ (ap (by_ack profile slot bytes heads) taken
-    ∙ (ap (λ (t : List ℕ). said_under profile slot.challenge heads t bytes) known ∙ is))
+    → came_under profile map slot.challenge heads text bytes ≡ Ok came → said_by profile map slot bytes ≡ Ok came
+came_by profile map slot bytes text heads came found taken known is =
+    ap (by_heads profile map slot bytes) found
+    ∙ (ap (by_ack profile map slot bytes heads) taken
+    ∙ (ap (λ (t : List ℕ). came_under profile map slot.challenge heads t bytes) known ∙ is))
+
+-- the leading longs of a message, which took so many bits
+abbrev heads_with : Message → ℕ → Heads
+heads_with message bits = record { id = message.id; acknowledged = message.acknowledged; command = message.command; bits = bits }
+
+-- of another map no more is read; one of the map is read by its feed
+came_is : (profile : Profile) (map : MapState) (challenge bits : ℕ) (text bytes : List ℕ) (message : Message)
+    → (is_other map message.id ≡ false → said_under profile map.feed challenge (heads_with message bits) text bytes ≡ Ok message)
+    → came_under profile map challenge (heads_with message bits) text bytes ≡ Ok (came_as map message)
+came_is profile map challenge bits text bytes message is =
+    elim (cases_Bool (is_other map message.id)) [
+      | inl other ↦ rw other refl
+      | inr own ↦ rw own (ap (λ (r : Result Message ClientIllegible). of_map r) (is own))
+    ]
 
 -- what is read of the bits that a message has once it is cleared
 abbrev by_bits : List (List Bool) → ℕ → Heads → List Bool → Result Message ClientIllegible
@@ -82,10 +97,10 @@ abbrev by_rest : Heads → Result (Message × List Bool) ClientIllegible → Res
 by_rest heads read = (read >>= λ one. Ok one.0) >>= λ message. Ok (with_heads heads message)
 
 pub said_is_read : PutIsRead → MessageHoldsBits → TwiceIsNone → FrontStays → WrittenIsRead → SaidIsRead
-said_is_read put holds twice front written profile codec slot said is taken known =
+said_is_read put holds twice front written profile codec map slot said is taken known feeds =
     let words = profile.code in
     let message = said.message in
-    let key = message_key 0 message.acknowledged said.text in
+    let key = message_key said.feed message.acknowledged said.text in
     let text = said_bits profile said in
     let plain = message_bytes text in
     let bytes = said_bytes profile said in
@@ -95,11 +110,14 @@ said_is_read put holds twice front written profile codec slot said is taken know
     let begins = begins_with_longs words key message rest in
     let left = begins_both 12 row begins.0 plain bytes (omega (arith, few)) ((front 12 said.start said.text plain).1 12 (omega arith)) (holds text ∙ begins.1) in
     let found = longs_are_read put words codec.code message.id message.acknowledged message.command (drop (length row) (bits_of bytes)) is.message.id is.message.acknowledged is.message.command in
-    let heads : Heads = record { id = message.id; acknowledged = message.acknowledged; command = message.command; bits = found.0 } in
+    let heads = heads_with message found.0 in
     let clear : cleared slot.challenge heads said.text bytes ≡ plain =
     ap (λ (start : ℕ). scrambled 12 start said.text bytes) (sym is.start) ∙ twice 12 said.start said.text plain in
-    let fits = message_key_fits message.acknowledged said.text is.message.acknowledged is.text in
-    read_by profile slot bytes said.text heads message (ap (heads_at words) left ∙ found.1) taken known
-    (ap (λ (l : List ℕ). by_bits words key heads (bits_of l)) clear
+    let fits = message_key_fits said.feed message.acknowledged said.text is.feed is.message.acknowledged is.text in
+    let by_feed : said_under profile said.feed slot.challenge heads said.text bytes ≡ Ok message =
+    ap (λ (l : List ℕ). by_bits words key heads (bits_of l)) clear
     ∙ (ap (by_bits words key heads) (holds text)
-    ∙ ap (by_rest heads) (written words key message rest codec.code fits is.message)))
+    ∙ ap (by_rest heads) (written words key message rest codec.code fits is.message)) in
+    came_by profile map slot bytes said.text heads (came_as map message) (ap (heads_at words) left ∙ found.1) taken known
+    (came_is profile map slot.challenge found.0 said.text bytes message
+    (λ own. subst (λ (feed : ℕ). said_under profile feed slot.challenge heads said.text bytes ≡ Ok message) (feeds own) by_feed))

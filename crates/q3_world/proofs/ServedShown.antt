@@ -26,25 +26,26 @@ use Rattle.q3_slot.specs.Slot.{SlotState}
 use Rattle.q3_slot.specs.Emitting.{SlotEmission, next_snapshot, next_frames, built_bits, built_bytes, most_placed, hand_out, emit_slot}
 use Rattle.q3_server.specs.Server.{ServerState, places, slot_at, emission_at, emit_at}
 use Rattle.q3_client.specs.Client.{ClientState}
-use Rattle.q3_world.specs.Ends.{Answered, client_at}
+use Rattle.q3_world.specs.Ends.{client_at}
 use Rattle.q3_world.specs.Kept.{Kept, opening_kept, kept_step, kept_after}
-use Rattle.q3_world.specs.World.{Tag, Whole, History, no_history, no_message, history_at, with_built, built_at, serve, step, after, opening}
+use Rattle.q3_world.specs.World.{Tag, Whole, History, no_history, no_message, history_at, with_built, built_at, serve, step, after, opening, Played}
 use Rattle.q3_world.specs.StandsFor.{IsChecked, snapshot_in, StandsFor}
-use Rattle.q3_world.specs.Schedules.{kept_then, whole_then, history_then, BytesFollowTags, ArePieces, deliveries, serve_and_deliver, built_next, datagrams_of, MayBegin, outcome_of, applied_of, InOrderIsAccepted, AppliedWasBuilt, ServedIsShown}
+use Rattle.q3_world.specs.Schedules.{kept_then, whole_then, history_then, BytesFollowTags, ArePieces, deliveries, serve_and_deliver, built_next, datagrams_of, MayBegin, outcome_of, InOrderIsAccepted, AppliedWasBuilt, ServedIsShown, since_then, applied_then, outcome_in}
 use Rattle.q3_world.proofs.Growth.{noted_same}
 use Rattle.q3_world.proofs.Clients.{slot_begun}
-use Rattle.q3_world.proofs.Holding.{Holds, with_server_of, has_client}
-use Rattle.q3_world.proofs.Begun.{slot_handed, handed_tag}
+use Rattle.q3_world.proofs.Events.{Holds, with_server_of, slot_handed, handed_tag, has_client}
 use Rattle.q3_world.proofs.EverySchedule.{shows}
 use Rattle.q3_world.proofs.InOrder.{reached_none, reached_all, after_both, both_are}
 use Rattle.q3_world.proofs.OnePlace.{set_there}
+use Rattle.q3_world.specs.Games.{accepted_since}
+use Rattle.q3_clstate.specs.declared.applied.SnapOutcome.{SnapOutcome}
 
 -- ---- one datagram more
 
 -- the world behind an emission of a slot that has this piece left: a message was begun, if one was, and the piece has a tag
 abbrev with_handed : Whole → ℕ → SlotState → UnderWay → FramesState → Option Built → Whole
 with_handed whole c slot left frames began =
-    with_server_of whole c (slot_handed slot) frames (with_built (history_at whole.histories c) began) (whole.sent ++ handed_tag c slot left ∷ [])
+    with_server_of whole c (slot_handed slot) whole.ends.server.map frames (with_built (history_at whole.histories c) began) (whole.sent ++ handed_tag c slot left ∷ [])
 
 -- what was sent stays where more is sent
 abbrev some_tag : Tag → Option Tag
@@ -143,7 +144,7 @@ BytesAreMany = (profile : Profile) (built : Built) → length (built_bytes profi
 -- the first datagram of a message
 begins : (profile : Profile) (server : ServerState) (c : ℕ) (slot : SlotState) → BytesAreMany → MayBegin profile server c slot
     → emit_slot profile server.map server.frames c slot slot.sending.under_way
-    ≡ hand_out (slot_begun profile slot (built_next server c slot)) (next_frames server.map server.frames c slot) 0
+    ≡ hand_out (slot_begun profile slot (built_next server c slot)) server.map (next_frames server.map server.frames c slot) 0
     (emitted.Snapshot (slot.sending.number + 1) (number_of (built_next server c slot).base) (message_length (length (built_bits profile (built_next server c slot)))))
     (Some (built_next server c slot))
 begins profile server c slot bytes may =
@@ -153,7 +154,7 @@ begins profile server c slot bytes may =
     let goes : nat_le sequence_end (slot.sending.number + 1) ≡ false = lt-leb sequence_end (slot.sending.number + 1) may.fits in
     let room : nat_lt most_placed server.frames.placed ≡ false = le-ltb most_placed server.frames.placed may.placed in
     let few : nat_lt longest_message (message_length (length bits)) ≡ false = le-ltb longest_message (message_length (length bits)) (omega (arith, count, short)) in
-    rw (may.idle, goes, room, may.clear, few) refl
+    rw (may.idle, goes, room, may.clear, may.plays, few) refl
 
 serves_first : (profile : Profile) (whole : Whole) (c : ℕ) (slot : SlotState) → BytesAreMany → whole.ends.server.profile ≡ profile → slot_at whole.ends.server c ≡ Some slot
     → MayBegin profile whole.ends.server c slot
@@ -171,6 +172,7 @@ serves_first profile whole c slot bytes by found may =
 record Made (c n count first : ℕ) (next : Built) (start now : Whole) : Type 0 where
   clients : now.ends.clients ≡ start.ends.clients
   built : built_at (history_at now.histories c).built n ≡ next
+  games : (history_at now.histories c).games ≡ (history_at start.histories c).games
   accepted : (history_at now.histories c).accepted ≡ (history_at start.histories c).accepted
   pieces : ArePieces now.sent c n 0 (range_with_len first count)
 
@@ -206,6 +208,7 @@ made profile start c count slot bytes lt holds found begun may all =
       clients = rest.clients;
       built = ap (λ (histories : List History). built_at (history_at histories c).built n) rest.histories
           ∙ (ap (λ (h : History). built_at h.built n) there ∙ get_or_push (history_at start.histories c).built next no_message (n - 1) (omega (arith, begun)));
+      games = ap (λ (histories : List History). (history_at histories c).games) rest.histories ∙ ap (λ (h : History). h.games) there;
       accepted = ap (λ (histories : List History). (history_at histories c).accepted) rest.histories ∙ ap (λ (h : History). h.accepted) there;
       pieces = (tag, at, refl, refl, refl, refl, subst (λ (k : ℕ). ArePieces then.sent c n (0 + 1) (range_with_len (k + 1) count)) longer rest.pieces);
     })
@@ -242,7 +245,7 @@ shown : BytesFollowTags → InOrderIsAccepted → AppliedWasBuilt → BytesAreMa
     → AllByRecursion IsReplayEvent (serve_and_deliver c (length (whole_then profile all).sent + 1) (suc t))
     → slot_at (whole_then profile all).ends.server c ≡ Some slot → client_at (whole_then profile all).ends c ≡ Some client
     → MayBegin profile (whole_then profile all).ends.server c slot
-    → outcome_of profile.parse_ring (history_then profile all c).accepted (built_next (whole_then profile all).ends.server c slot).base
+    → outcome_of profile.parse_ring (since_then profile all c) (built_next (whole_then profile all).ends.server c slot).base
     ≡ Accepted (number_of (built_next (whole_then profile all).ends.server c slot).base)
     → 1 + t ≡ piece_count (length (built_bytes profile (built_next (whole_then profile all).ends.server c slot)))
     → (kept_step (kept_then profile (all ++ serve_and_deliver c (length (whole_then profile all).sent + 1) (suc t))) (events.Show c)).answer.snapshot
@@ -289,11 +292,14 @@ shown law accepted applied bytes does profile all c t slot client is are made_so
     let then_is : whole_then profile arrived ≡ after profile mid (deliveries numbers) = after_both profile (opening profile) served (deliveries numbers) in
     let built_is : built_at (history_then profile arrived c).built n ≡ next =
     ap (λ (w : Whole). built_at (history_at w.histories c).built n) then_is ∙ (ap (λ (b : List Built). built_at b n) reached.built ∙ makes.built) in
-    let applied_so : AppliedSo = applied_of profile.parse_ring (history_then profile served c).accepted n (built_at (history_then profile served c).built n) in
+    let applied_so : AppliedSo = applied_then profile served c n in
+    let since_is : since_then profile served c ≡ since_then profile all c =
+    ap (λ (g : List Played). accepted_since g (history_at mid.histories c).accepted) makes.games
+    ∙ ap (λ (a : List Snapshot). accepted_since (history_at start.histories c).games a) makes.accepted in
+    let outcome : List Snapshot → Built → SnapOutcome = λ since b. outcome_in profile.parse_ring since b.base b.message.section in
     let accepts : applied_so.snap ≡ Accepted (number_of next.base) =
-    ap (λ (a : List Snapshot). outcome_of profile.parse_ring a (built_at (history_then profile served c).built n).base) makes.accepted
-    ∙ (ap (λ (b : Built). outcome_of profile.parse_ring (history_at start.histories c).accepted b.base) makes.built ∙ there_base) in
-    let shows_so = (applied profile arrived last c applied_so is arrived_are (ap (λ (a : Answered). a.answer) answer)).3 (number_of next.base) accepts in
+    ap (λ (a : List Snapshot). outcome a (built_at (history_then profile served c).built n)) since_is ∙ (ap (λ (b : Built). outcome (since_then profile all c) b) makes.built ∙ there_base) in
+    let shows_so = (applied profile arrived last c applied_so is arrived_are answer.0).3 (number_of next.base) accepts in
     let snapshot = shows_so.0 in
     let same : snapshot ≡ next_snapshot map slot =
     one_snapshot snapshot (next_snapshot map slot) (sym shows_so.3.2

@@ -40,6 +40,9 @@ few_delivered kept number (Some sent) = few_arrived_at kept number sent sent.dir
 pub few_more : (kept : Kept) (event : Event) → length (kept_step kept event).kept.datagrams ≤ length kept.datagrams + 1
 unfolding kept_step
 few_more kept (events.Client c challenge qport dup address) = omega arith
+few_more kept (events.Map id feed) = omega arith
+few_more kept (events.Baseline state) = omega arith
+few_more kept (events.Config index text) = omega arith
 few_more kept (events.Entity state) = omega arith
 few_more kept (events.Remove number) = omega arith
 few_more kept (events.Player c player) = omega arith

@@ -18,11 +18,11 @@ use Rattle.q3_chan.specs.Senders.{qport_of, QportIsTold}
 use Rattle.q3_chan.specs.Laws.{IsSendable, PiecesComeWhole, FirstComePartial}
 use Rattle.q3_svmsg.specs.declared.error.Illegible.{Illegible}
 use Rattle.q3_clmsg.specs.declared.error.ClientIllegible.{ClientIllegible}
-use Rattle.q3_clmsg.specs.Values.{Message}
+use Rattle.q3_map.specs.Map.{MapState}
 use Rattle.q3_slot.specs.declared.taking.ServerTook.TheVariants.{Partial as SlotPartial}
 use Rattle.q3_slot.specs.Slot.{SlotState, is_of}
 use Rattle.q3_slot.specs.Emitting.{built_bytes}
-use Rattle.q3_slot.specs.Taking.{said_by, run_message}
+use Rattle.q3_slot.specs.Taking.{came_as, said_by, run_read}
 use Rattle.q3_slot.specs.Taking as by_slot
 use Rattle.q3_server.specs.Server.{ServerState, slot_at, with_slot}
 use Rattle.q3_server.specs.Taking.{sender_of, taken_at}
@@ -121,10 +121,10 @@ client_first client number message (suc count) legible does few =
     ∙ ap (λ (x : Gathering). record client { gathering = x }) (sym (gathers_more client.gathering Server 0 number message count)))))
 
 pub built_survives : BuiltIsRead → PiecesComeWhole → FirstComePartial → BuiltSurvives
-built_survives reads whole partial profile codec client number built legible may is of_profile no_line takes same are known =
+built_survives reads whole partial profile codec client number built legible may is of_profile are_lines under takes same are known =
     let message = built_bytes profile built in
     let does = comes whole partial client.gathering Server 0 number message may in
-    let read = reads profile codec client number built is of_profile no_line takes same are known in
+    let read = reads profile codec client number built is of_profile are_lines under takes same are known in
     let last = last_index message in
     let bytes : ℕ → List ℕ = datagram Server 0 number message in
     let gathers : ℕ → Gathering = gathers_first client.gathering Server 0 number message in (
@@ -152,6 +152,7 @@ server_push server from (one ∷ others) last = server_push (hears.take_at serve
 -- the server, where the slot of a client at a place has gathered, and nothing else has changed but its address
 record HasGathered (server now : ServerState) (from : Address) (qport c : ℕ) (slot : SlotState) (g : Gathering) : Type 0 where
   by : now.profile ≡ server.profile
+  map : now.map ≡ server.map
   found : sender_of now from.host qport ≡ Some c
   address : Address
   there : slot_at now c ≡ Some (record slot { address = address; gathering = g })
@@ -181,6 +182,7 @@ found_still server from qport c slot g found there =
     let before : test (get_or server.slots c None) ≡ true = (position-Some test server.slots c None found).1 in
     record {
       by = refl;
+      map = refl;
       found = put_alike test server.slots c (Some now) None (itself ∙ sym before) ∙ found;
       address = from;
       there = get_or-set_same server.slots c (Some now) None is.within;
@@ -190,38 +192,39 @@ found_still server from qport c slot g found there =
 -- a datagram of its client comes to the slot
 comes_to : (server now : ServerState) (from : Address) (qport c : ℕ) (slot : SlotState) (g : Gathering) (bytes : List ℕ) → qport_of bytes ≡ Ok qport
     → (has : HasGathered server now from qport c slot g)
-    → hears.take_at now from bytes ≡ taken_at server c (by_slot.take_slot server.profile c from bytes (record slot { address = has.address; gathering = g }))
+    → hears.take_at now from bytes ≡ taken_at server c (by_slot.take_slot server.profile server.map c from bytes (record slot { address = has.address; gathering = g }))
 unfolding hears.take_at
 comes_to server now from qport c slot g bytes told has =
     let before = record slot { address = has.address; gathering = g } in
     ap (λ (r : Result ℕ NoQport). hears.take_headed now from bytes r) told
     ∙ (ap (λ (o : Option ℕ). hears.take_from now from bytes o) has.found
     ∙ (ap (λ (o : Option SlotState). hears.take_by now c from bytes o) has.there
-    ∙ (ap (λ (p : Profile). taken_at now c (by_slot.take_slot p c from bytes before)) has.by
-    ∙ placed (by_slot.take_slot server.profile c from bytes before))))
+    ∙ (ap (λ (p : Profile). taken_at now c (by_slot.take_slot p now.map c from bytes before)) has.by
+    ∙ (ap (λ (m : MapState). taken_at now c (by_slot.take_slot server.profile m c from bytes before)) has.map
+    ∙ placed (by_slot.take_slot server.profile server.map c from bytes before)))))
   where
     placed : (t : by_slot.SlotTaken) → taken_at now c t ≡ taken_at server c t
-    placed t = ap (λ (s : ServerState). record { server = s; answer = t.answer; commands = t.commands; moves = t.moves }) (has.same t.slot)
+    placed t = ap (λ (s : ServerState). record { server = s; answer = t.answer; commands = t.commands; moves = t.moves; entered = t.entered; owed = t.owed }) (has.same t.slot)
 
 -- a slot takes a piece that is partial
-slot_piece : (profile : Profile) (slot : SlotState) (c : ℕ) (address from : Address) (g : Gathering) (bytes : List ℕ) → (gathered_of g bytes).answer ≡ gathered.Partial
-    → by_slot.take_slot profile c from bytes (record slot { address = address; gathering = g })
+slot_piece : (profile : Profile) (map : MapState) (slot : SlotState) (c : ℕ) (address from : Address) (g : Gathering) (bytes : List ℕ) → (gathered_of g bytes).answer ≡ gathered.Partial
+    → by_slot.take_slot profile map c from bytes (record slot { address = address; gathering = g })
     ≡ by_slot.answers (record slot { address = from; gathering = (gathered_of g bytes).gathering }) (SlotPartial c)
-slot_piece profile slot c address from g bytes partial =
+slot_piece profile map slot c address from g bytes partial =
     let took = gathered_of g bytes in
-    ap (λ (a : Gathered). by_slot.take_answer (record slot { address = from; gathering = took.gathering }) c a (λ n. said_by profile slot took.message)) partial
+    ap (λ (a : Gathered). by_slot.take_answer map (record slot { address = from; gathering = took.gathering }) c a (λ n. said_by profile map slot took.message)) partial
 
 -- and one with which a message comes whole
-slot_whole : (profile : Profile) (slot : SlotState) (c : ℕ) (address from : Address) (g : Gathering) (bytes : List ℕ) (number : ℕ) (message : List ℕ) (value : Message)
-    → Came g number message (gathered_of g bytes) → said_by profile slot message ≡ Ok value
-    → by_slot.take_slot profile c from bytes (record slot { address = address; gathering = g })
-    ≡ run_message (record slot { address = from; gathering = (gathered_of g bytes).gathering }) c number value
-slot_whole profile slot c address from g bytes number message value came read =
+slot_whole : (profile : Profile) (map : MapState) (slot : SlotState) (c : ℕ) (address from : Address) (g : Gathering) (bytes : List ℕ) (number : ℕ) (message : List ℕ) (value : by_slot.Came)
+    → Came g number message (gathered_of g bytes) → said_by profile map slot message ≡ Ok value
+    → by_slot.take_slot profile map c from bytes (record slot { address = address; gathering = g })
+    ≡ run_read map (record slot { address = from; gathering = (gathered_of g bytes).gathering }) c number (Ok value)
+slot_whole profile map slot c address from g bytes number message value came read =
     let took = gathered_of g bytes in
     let then = record slot { address = from; gathering = took.gathering } in
-    ap (λ (a : Gathered). by_slot.take_answer then c a (λ n. said_by profile slot took.message)) came.answer
-    ∙ (ap (λ (m : List ℕ). by_slot.run_read then c number (said_by profile slot m)) came.message_is
-    ∙ ap (λ (r : Result Message ClientIllegible). by_slot.run_read then c number r) read)
+    ap (λ (a : Gathered). by_slot.take_answer map then c a (λ n. said_by profile map slot took.message)) came.answer
+    ∙ (ap (λ (m : List ℕ). run_read map then c number (said_by profile map slot m)) came.message_is
+    ∙ ap (λ (r : Result by_slot.Came ClientIllegible). run_read map then c number r) read)
 
 -- a message's datagrams tell its client's qport
 abbrev AllTell : ℕ → ℕ → List ℕ → Type 0
@@ -236,7 +239,7 @@ server_first : (server : ServerState) (from : Address) (qport c : ℕ) (slot : S
     → HasGathered server (server_after server from (first_datagrams Client qport number message count)) from qport c slot (gathers_first slot.gathering Client qport number message count)
 unfolding server_after gathered_all
 server_first server from qport c slot number message zero found there tells does few =
-    record { by = refl; found = found; address = slot.address; there = there; same = λ other. refl }
+    record { by = refl; map = refl; found = found; address = slot.address; there = there; same = λ other. refl }
 server_first server from qport c slot number message (suc count) found there tells does few =
     let bytes = datagram Client qport number message count in
     let g = gathers_first slot.gathering Client qport number message count in
@@ -246,7 +249,7 @@ server_first server from qport c slot number message (suc count) found there tel
     let next = record slot { address = from; gathering = took.gathering } in
     let taken : hears.take_at now from bytes ≡ taken_at server c (by_slot.answers next (SlotPartial c)) =
     comes_to server now from qport c slot g bytes (tells count (omega (arith, few))) has
-    ∙ ap (taken_at server c) (slot_piece server.profile slot c has.address from g bytes (does.partial count (omega (arith, few)))) in
+    ∙ ap (taken_at server c) (slot_piece server.profile server.map slot c has.address from g bytes (does.partial count (omega (arith, few)))) in
     let after : server_after server from (first_datagrams Client qport number message (suc count)) ≡ with_slot server c next =
     ap (server_after server from) (first_more Client qport number message count)
     ∙ (server_push server from (first_datagrams Client qport number message count) bytes ∙ ap (λ (t : hears.Taken). t.server) taken) in
@@ -255,11 +258,12 @@ server_first server from qport c slot number message (suc count) found there tel
     (found_still server from qport c slot took.gathering found there))
 
 pub said_survives : SaidIsRead → PiecesComeWhole → FirstComePartial → QportIsTold → SaidSurvives
-said_survives hears_back whole partial tells_qport profile codec server from qport c slot number said by short found there may is takes same =
+said_survives hears_back whole partial tells_qport profile codec server from qport c slot number said by short found there may is takes same feeds =
     let message = said_bytes profile said in
     let does = comes whole partial slot.gathering Client qport number message may in
     let tells = all_tell tells_qport qport number message slot.gathering short may in
-    let read : said_by server.profile slot message ≡ Ok said.message = ap (λ (p : Profile). said_by p slot message) by ∙ hears_back profile codec slot said is takes same in
+    let read : said_by server.profile server.map slot message ≡ Ok (came_as server.map said.message) =
+    ap (λ (p : Profile). said_by p server.map slot message) by ∙ hears_back profile codec server.map slot said is takes same feeds in
     let last = last_index message in
     let bytes : ℕ → List ℕ = datagram Client qport number message in
     let gathers : ℕ → Gathering = gathers_first slot.gathering Client qport number message in
@@ -269,12 +273,12 @@ said_survives hears_back whole partial tells_qport profile codec server from qpo
           let has = server_first server from qport c slot number message index found there tells does (omega (arith, before)) in (
             (gathered_of (gathers index) (bytes index)).gathering,
             comes_to server (now index) from qport c slot (gathers index) (bytes index) (tells index (omega (arith, before))) has
-                ∙ ap (taken_at server c) (slot_piece server.profile slot c has.address from (gathers index) (bytes index) (does.partial index before)),
+                ∙ ap (taken_at server c) (slot_piece server.profile server.map slot c has.address from (gathers index) (bytes index) (does.partial index before)),
           ),
       (
         (gathered_of (gathers last) (bytes last)).gathering,
         does.whole.taken,
         comes_to server (now last) from qport c slot (gathers last) (bytes last) (tells last (omega arith)) at_last
-            ∙ ap (taken_at server c) (slot_whole server.profile slot c at_last.address from (gathers last) (bytes last) number message said.message does.whole read),
+            ∙ ap (taken_at server c) (slot_whole server.profile server.map slot c at_last.address from (gathers last) (bytes last) number message (came_as server.map said.message) does.whole read),
       ),
     )

@@ -6,7 +6,6 @@ use Rattle.std.proofs.lemmas.Option.{slice_get-map}
 use Rattle.q3_profile.specs.declared.profile.Profile.{Profile}
 use Rattle.q3_script.specs.declared.event.Event.TheVariants as events
 use Rattle.q3_text.specs.declared.text.Command.{Command}
-use Rattle.q3_clmsg.specs.declared.moves.Move.{Move}
 use Rattle.q3_slot.specs.declared.taking.ServerTook.{ServerTook}
 use Rattle.q3_client.specs.declared.client.ClientTook.{ClientTook}
 use Rattle.q3_world.specs.declared.answer.Answer.TheVariants as answer
@@ -18,18 +17,20 @@ use Rattle.q3_world.specs.World.{Tag, Whole, arrive, deliver, step}
 use Rattle.q3_world.specs.StandsFor.{IsSent, StandsFor, bytes_of}
 use Rattle.q3_world.specs.Layers.{Layers}
 use Rattle.q3_world.specs.Schedules.{kept_then, whole_then, BytesFollowTags, UnknownWasNotMade}
-use Rattle.q3_world.proofs.Holding.{Holds}
+use Rattle.q3_world.proofs.Events.{Holds}
 use Rattle.q3_world.proofs.Arriving.{is_sent, is_for, is_of_client, client_of_tag, slot_of_tag, delivers_agree}
 use Rattle.q3_world.proofs.Agreement.{kept_is}
 use Rattle.q3_world.proofs.EverySchedule.{cited_of}
+use Rattle.q3_clstate.specs.State.{AppliedState}
+use Rattle.q3_server.specs.Report.{Run}
 
-not_delivered : (number c : ℕ) (took : ClientTook) (commands : List Command) → delivered number c took commands ≡ unknown number → ⊥
-not_delivered number c took commands e =
+not_delivered : (number c : ℕ) (state : AppliedState) (took : ClientTook) (commands : List Command) → delivered number c state took commands ≡ unknown number → ⊥
+not_delivered number c state took commands e =
     let same : answer.Deliver number c took ≡ answer.Unknown number = ap (λ (a : Answered). a.answer) e in
     absurd cc
 
-not_ran : (number : ℕ) (took : ServerTook) (commands : List Command) (moves : List Move) → ran number took commands moves ≡ unknown number → ⊥
-not_ran number took commands moves e =
+not_ran : (number : ℕ) (took : ServerTook) (what : Run) → ran number took what ≡ unknown number → ⊥
+not_ran number took what e =
     let same : answer.ToServer number took ≡ answer.Unknown number = ap (λ (a : Answered). a.answer) e in
     absurd cc
 
@@ -38,10 +39,10 @@ known : (profile : Profile) (whole : Whole) (number : ℕ) (tag : Tag) (directio
     → (arrive profile whole number tag direction).answer ≡ unknown number → ⊥
 known profile whole number tag ToClient way is holds =
     let found = client_of_tag profile whole tag (is_for profile whole tag way is) holds in
-    rw found.1 (λ e. not_delivered number tag.client _ _ e)
+    rw found.1 (λ e. not_delivered number tag.client _ _ _ e)
 known profile whole number tag (ToServer from) way is holds =
     let found = slot_of_tag profile whole tag from (is_of_client profile whole tag from way is) holds in
-    rw found.1 (λ e. not_ran number _ _ _ e)
+    rw found.1 (λ e. not_ran number _ _ e)
 
 -- by tags
 unknown_tag : (profile : Profile) (whole : Whole) (number : ℕ) (found : Option Tag) → slice_get whole.sent (number - 1) ≡ found → Holds profile whole

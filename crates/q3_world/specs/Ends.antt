@@ -1,5 +1,5 @@
 -- The two ends of every client, and what the game hands in to them and reads of them.
-use Rattle.std.specs.Prelude.{ℕ, List, [], replicate, Option, Some, None, slice_set, slice_index_or, Result, Ok, Err}
+use Rattle.std.specs.Prelude.{ℕ, false, List, [], replicate, Option, Some, None, slice_set, slice_index_or, Result, Ok, Err}
 use Rattle.q3_profile.specs.declared.profile.Profile.{Profile}
 use Rattle.q3_player.specs.declared.state.PlayerState.{PlayerState}
 use Rattle.arrayvec.specs.ArrayVec.{ArrayVec}
@@ -19,12 +19,15 @@ use Rattle.q3_client.specs.declared.client.MoveError.{MoveError}
 use Rattle.q3_client.specs.declared.client.Sent.{Sent}
 use Rattle.q3_world.specs.declared.answer.Answer.{Answer}
 use Rattle.q3_world.specs.declared.answer.Answer.TheVariants as answers
-use Rattle.q3_world.specs.declared.answer.Answer.TheVariants.{Client, Entity, Remove, Time, Player, Area, Serve, Send, Unknown, Deliver, ToServer, Show}
+use Rattle.q3_world.specs.declared.answer.Answer.TheVariants.{Client, Map, Entity, Remove, Baseline, Config, Time, Player, Area, Serve, Send, Unknown, Deliver, ToServer, Show}
 use Rattle.q3_world.specs.declared.answer.MoveRefused.TheVariants as refused
 use Rattle.q3_world.specs.declared.answer.TypeRefused.TheVariants as untyped
 use Rattle.q3_world.specs.declared.answer.Shown.{Shown}
 use Rattle.q3_world.specs.declared.answer.Shown.TheVariants as shown
-use Rattle.q3_server.specs.Server.{ServerState, places, new_server, add_client_at, set_time_at, set_entity_at, remove_entity_at, set_player_at, set_area_at, say_at}
+use Rattle.q3_server.specs.Report.{Run}
+use Rattle.q3_server.specs.Taking.{Taken}
+use Rattle.q3_clstate.specs.State.{AppliedState}
+use Rattle.q3_server.specs.Server.{ServerState, places, new_server, add_client_at, set_time_at, set_entity_at, remove_entity_at, set_player_at, set_area_at, new_map_at, set_baseline_at, set_config_at, say_at}
 use Rattle.q3_client.specs.Client.{ClientState, new_client, type_at}
 use Rattle.q3_client.specs.Moves.{add_move_at}
 
@@ -54,12 +57,16 @@ address_at ends c = slice_index_or ends.addresses c no_address
 abbrev pub new_ends : Profile → Ends
 new_ends profile = record { server = new_server profile places; clients = replicate places None; addresses = replicate places no_address }
 
--- an answer, and what is printed with it: a snapshot, and the commands and the moves that were executed and run
+-- an answer, and what is printed with it: a snapshot, the state of the client that took a datagram, and what was executed and run
 pub record Answered : Type 0 where
   pub answer : Answer
   pub snapshot : Option Snapshot
-  pub commands : List Command
-  pub moves : List Move
+  pub state : Option AppliedState
+  pub ran : Run
+
+-- where nothing was executed or run
+abbrev pub ran_nothing : Run
+ran_nothing = record { commands = []; entered = None; moves = []; owed = false }
 
 -- the newest snapshot that a client accepted
 abbrev pub newest_of : ClientState → Option Snapshot
@@ -76,11 +83,11 @@ lent ends other = None
 
 -- an answer, with the snapshot that these ends lend for it
 abbrev pub answered : Ends → Answer → Answered
-answered ends answer = record { answer = answer; snapshot = lent ends answer; commands = []; moves = [] }
+answered ends answer = record { answer = answer; snapshot = lent ends answer; state = None; ran = ran_nothing }
 
 -- an answer alone
 abbrev pub alone : Answer → Answered
-alone answer = record { answer = answer; snapshot = None; commands = []; moves = [] }
+alone answer = record { answer = answer; snapshot = None; state = None; ran = ran_nothing }
 
 -- the answers of a `serve` and of a `send`
 abbrev pub served : ℕ → Emitted → ℕ → Answered
@@ -89,12 +96,17 @@ served c emission datagram = alone (Serve c emission datagram)
 abbrev pub sent : ℕ → Result Sent NoClient → ℕ → Answered
 sent c emission datagram = alone (Send c emission datagram)
 
--- the answers of a `deliver`, to a client and to the server, which executed these commands and ran these moves
-abbrev pub delivered : ℕ → ℕ → ClientTook → List Command → Answered
-delivered datagram c took commands = record { answer = Deliver datagram c took; snapshot = None; commands = commands; moves = [] }
+-- the answers of a `deliver`, to a client, which has this state then and executed these commands, and to the server, which ran this
+abbrev pub delivered : ℕ → ℕ → AppliedState → ClientTook → List Command → Answered
+delivered datagram c state took commands =
+    record { answer = Deliver datagram c took; snapshot = None; state = Some state; ran = record ran_nothing { commands = commands } }
 
-abbrev pub ran : ℕ → ServerTook → List Command → List Move → Answered
-ran datagram took commands moves = record { answer = ToServer datagram took; snapshot = None; commands = commands; moves = moves }
+-- what the server ran with a datagram
+abbrev pub ran_of : Taken → Run
+ran_of taken = record { commands = taken.commands; entered = taken.entered; moves = taken.moves; owed = taken.owed }
+
+abbrev pub ran : ℕ → ServerTook → Run → Answered
+ran datagram took what = record { answer = ToServer datagram took; snapshot = None; state = None; ran = what }
 
 -- no datagram of this number was made
 abbrev pub unknown : ℕ → Answered
@@ -136,6 +148,22 @@ abbrev pub set_area : Ends → ℕ → ArrayVec ℕ → EndsStep
 set_area ends c area =
     let given = set_area_at ends.server c area.items in
     record { ends = record ends { server = given.server }; answer = Area c given.answer }
+
+-- a map, a baseline and a config string, as the game hands them in
+abbrev pub new_map : Ends → ℕ → ℕ → EndsStep
+new_map ends id feed =
+    let given = new_map_at ends.server id feed in
+    record { ends = record ends { server = given.server }; answer = Map id given.answer }
+
+abbrev pub set_baseline : Ends → EntityState → EndsStep
+set_baseline ends state =
+    let given = set_baseline_at ends.server state in
+    record { ends = record ends { server = given.server }; answer = Baseline state.number given.answer }
+
+abbrev pub set_config : Ends → ℕ → List ℕ → EndsStep
+set_config ends index text =
+    let given = set_config_at ends.server index text in
+    record { ends = record ends { server = given.server }; answer = Config index given.answer }
 
 -- the server issues a command for a client
 abbrev pub say_command : Ends → ℕ → List ℕ → EndsStep

@@ -10,7 +10,7 @@ use Rattle.q3_client.specs.Client.{ClientState, Taken, take_at}
 use Rattle.q3_client.specs.Sending as speaks
 use Rattle.q3_world.specs.declared.made.Direction.{Direction}
 use Rattle.q3_world.specs.declared.made.Direction.TheVariants.{ToClient, ToServer}
-use Rattle.q3_world.specs.Ends.{Ends, EndsStep, Answered, answered, client_at, with_client, address_at, new_ends, served, sent, unknown, delivered, ran, join, set_time, set_entity, remove_entity, set_player, set_area, say_command, type_command, add_move, show}
+use Rattle.q3_world.specs.Ends.{Ends, EndsStep, Answered, answered, client_at, with_client, address_at, new_ends, served, sent, unknown, delivered, ran, ran_of, join, new_map, set_baseline, set_config, set_time, set_entity, remove_entity, set_player, set_area, say_command, type_command, add_move, show}
 
 -- a datagram that was made: the client that it is for or comes from, which of the two, and its bytes
 pub record SentBytes : Type 0 where
@@ -78,7 +78,7 @@ abbrev pub kept_client_took : Kept → ℕ → ℕ → Taken → KeptStep
 kept_client_took kept number c taken =
     record {
       kept = record kept { ends = with_client kept.ends c taken.client };
-      answer = delivered number c taken.answer taken.heard;
+      answer = delivered number c taken.client.state taken.answer taken.heard;
     }
 
 -- the client that a datagram is for takes it
@@ -89,7 +89,7 @@ kept_to_client kept number sent (Some client) = kept_client_took kept number sen
 -- the server took a datagram
 abbrev pub kept_server_took : Kept → ℕ → hears.Taken → KeptStep
 kept_server_took kept number taken =
-    record { kept = record kept { ends = record kept.ends { server = taken.server } }; answer = ran number taken.answer taken.commands taken.moves }
+    record { kept = record kept { ends = record kept.ends { server = taken.server } }; answer = ran number taken.answer (ran_of taken) }
 
 -- the end that a datagram goes to takes it
 abbrev pub kept_arrive : Kept → ℕ → SentBytes → Direction → KeptStep
@@ -104,6 +104,9 @@ kept_deliver kept number (Some sent) = kept_arrive kept number sent sent.directi
 -- one event
 unfoldable pub kept_step : Kept → Event → KeptStep
 kept_step kept (events.Client c challenge qport dup address) = kept_ends kept (join kept.profile kept.ends c challenge qport dup address)
+kept_step kept (events.Map id feed) = kept_ends kept (new_map kept.ends id feed)
+kept_step kept (events.Baseline state) = kept_ends kept (set_baseline kept.ends state)
+kept_step kept (events.Config index text) = kept_ends kept (set_config kept.ends index text)
 kept_step kept (events.Entity state) = kept_ends kept (set_entity kept.ends state)
 kept_step kept (events.Remove number) = kept_ends kept (remove_entity kept.ends number)
 kept_step kept (events.Player c player) = kept_ends kept (set_player kept.ends c player)

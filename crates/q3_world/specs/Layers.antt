@@ -5,7 +5,8 @@ use Rattle.q3_entity.specs.Laws.{NormalIsNormal as EntityNormalIsNormal}
 use Rattle.q3_chan.specs.Senders.{QportIsTold}
 use Rattle.q3_chan.specs.Laws.{SentIsTagged, TaggedDoes, EndsGather, EndsSend, FrontStays, BytesStayBytes}
 use Rattle.q3_frames.specs.Laws.{HeldWasBuilt, BuildKeeps, BaseIsNear}
-use Rattle.q3_map.specs.Laws.{ListsStayHeld}
+use Rattle.q3_map.specs.Laws.{ListsStayHeld, NewMapsTell}
+use Rattle.q3_config.specs.Laws.{StringsStay, TextsStay, PiecesAreTexts, PiecesMakeChange, SpelledIsRead}
 use Rattle.q3_window.specs.Flow.{FlowLaws}
 use Rattle.q3_window.specs.Laws.{StaysOutgoing}
 use Rattle.q3_rings.specs.Laws.{AcceptedIsHeld, NothingStands, AcceptIsAdded, BaseIsOfList, HeldWasAccepted, NearIsHeldByAge, UsualRingHolds}
@@ -33,6 +34,16 @@ pub record ScramblingLaws : Type 0 where
   pub front : FrontStays
   pub bytes : BytesStayBytes
 
+-- what config strings keep within, that those of a new map tell its id, and that the pieces of a change are texts of commands, which
+-- make the change
+pub record ConfigLaws : Type 0 where
+  pub stay : StringsStay
+  pub texts : TextsStay
+  pub new_map : NewMapsTell
+  pub pieces : PiecesAreTexts
+  pub make : PiecesMakeChange
+  pub read : SpelledIsRead
+
 -- what becomes of commands on their way, and what every window of those issued is
 pub record WindowLaws : Type 0 where
   pub flow : FlowLaws
@@ -40,7 +51,7 @@ pub record WindowLaws : Type 0 where
 
 -- what either end begins is read back, the normal form of a state is normal, what a datagram does and which qport it tells, how
 -- both ends gather and send, how many bytes a message has, what a server and a client hold, what becomes
--- of commands, and what scrambling leaves
+-- of commands, what scrambling leaves, and what config strings keep
 pub record Layers : Type 0 where
   pub reads : BuiltIsRead
   pub hears : SaidIsRead
@@ -57,3 +68,4 @@ pub record Layers : Type 0 where
   pub rings : RingLaws
   pub windows : WindowLaws
   pub scrambles : ScramblingLaws
+  pub configs : ConfigLaws

@@ -5,6 +5,7 @@ pub mod Executed
 pub mod Kept
 pub mod Moves
 pub mod World
+pub mod Games
 pub mod StandsFor
 pub mod Report
 pub mod Outcome

@@ -1,10 +1,10 @@
 -- Laws of the messages that the ends begin.
-use Rattle.std.specs.Prelude.{◌≡◌, ℕ, ◌^◌, ◌<◌, List, [], ◌∷◌, map, Some, None, IfSome, Ok}
+use Rattle.std.specs.Prelude.{◌≡◌, ℕ, ◌^◌, ◌<◌, false, List, [], ◌∷◌, map, Some, None, IfSome, Ok}
 use Rattle.std.specs.List.{range_with_len}
 use Rattle.q3_profile.specs.declared.profile.Profile.{Profile}
 use Rattle.q3_profile.specs.Profile.{IsCodec}
 use Rattle.q3_io.specs.declared.address.Address.{Address}
-use Rattle.q3_entity.specs.Baselines.{no_lines}
+use Rattle.q3_entity.specs.Baselines.{AreLines}
 use Rattle.q3_chan.specs.declared.side.Side.{Side}
 use Rattle.q3_chan.specs.declared.side.Side.TheVariants.{Server, Client}
 use Rattle.q3_chan.specs.Datagrams.{sequence_end, last_index, datagram}
@@ -12,6 +12,7 @@ use Rattle.q3_chan.specs.Gathering.{Gathering}
 use Rattle.q3_chan.specs.Laws.{IsSendable, HoldsFront}
 use Rattle.q3_svmsg.specs.Values as told
 use Rattle.q3_clmsg.specs.Values as client_told
+use Rattle.q3_map.specs.Map.{MapState, is_other}
 use Rattle.q3_ring.specs.Snapshot.{Snapshot}
 use Rattle.q3_rings.specs.Rings.{HeldSnapshots, view_at}
 use Rattle.q3_window.specs.Outgoing.{acknowledge_at, text_at}
@@ -19,7 +20,7 @@ use Rattle.q3_slot.specs.declared.taking.ServerTook.TheVariants.{Partial as Slot
 use Rattle.q3_slot.specs.Built.{Built, IsSnapshot, IsBuilt}
 use Rattle.q3_slot.specs.Slot.{SlotState}
 use Rattle.q3_slot.specs.Emitting.{built_bytes}
-use Rattle.q3_slot.specs.Taking.{said_by, run_message}
+use Rattle.q3_slot.specs.Taking.{came_as, run_read, said_by}
 use Rattle.q3_slot.specs.Taking as by_slot
 use Rattle.q3_server.specs.Server.{ServerState, slot_at}
 use Rattle.q3_server.specs.Taking.{sender_of, taken_at}
@@ -37,21 +38,23 @@ abbrev pub HoldsThis : HeldSnapshots → Snapshot → Type 0
 HoldsThis held base = (snapshot : Snapshot) → view_at held base.head.number ≡ Some snapshot → snapshot ≡ base
 
 -- a message that was built is received from its bytes as its value: where the client joined with the challenge for which it was
--- built, its window takes the acknowledgement and has the text by which the message is scrambled, and what is held lends no other
--- snapshot under the number of its base. It is whole, or as skipped where its base isn't held
+-- built, its window takes the acknowledgement and has the text by which the message is scrambled, and, where the client plays, has
+-- the baselines of its map, and what is held lends no other snapshot under the number of its base. It is whole, or as skipped where
+-- its base isn't held
 abbrev pub BuiltIsRead : Type 0
 BuiltIsRead = (profile : Profile) → IsCodec profile → (client : ClientState) (number : ℕ) (built : Built) → IsBuilt profile client.challenge number built
-    → client.state.profile ≡ profile → client.state.lines ≡ no_lines
+    → client.state.profile ≡ profile → AreLines profile.entity client.state.lines → IfSome built.under (λ game. client.state.lines ≡ built.lines)
     → (acknowledge_at client.issued built.message.ack).answer ≡ Ok tt → text_at client.issued built.message.ack ≡ built.text
     → AreBuilt profile client.state.held → IfSome built.base (λ base. IsSnapshot profile base × HoldsThis client.state.held base)
     → receive_bytes client number (built_bytes profile built) ≡ Ok (receive_message client number built.message)
 
--- a message that a client began is read back by the server, where its slot's window takes the acknowledgement and has the text by
--- which the message is scrambled
+-- a message that a client began is read back by the server as what it is to the map, where its slot's window takes the acknowledgement
+-- and has the text by which the message is scrambled, and, where it is of the map, by the map's feed
 abbrev pub SaidIsRead : Type 0
-SaidIsRead = (profile : Profile) → IsCodec profile → (slot : SlotState) (said : Said) → IsSaid profile slot.challenge said
+SaidIsRead = (profile : Profile) → IsCodec profile → (map : MapState) (slot : SlotState) (said : Said) → IsSaid profile slot.challenge said
     → (acknowledge_at slot.issued said.message.command).answer ≡ Ok tt → text_at slot.issued said.message.command ≡ said.text
-    → said_by profile slot (said_bytes profile said) ≡ Ok said.message
+    → (is_other map said.message.id ≡ false → said.feed ≡ map.feed)
+    → said_by profile map slot (said_bytes profile said) ≡ Ok (came_as map said.message)
 
 -- ---- a message survives the network
 
@@ -92,7 +95,7 @@ AppliesIt client number message taken =
 abbrev pub BuiltSurvives : Type 0
 BuiltSurvives = (profile : Profile) → IsCodec profile → (client : ClientState) (number : ℕ) (built : Built) → client.dropped ≡ None
     → MayCome Server number (built_bytes profile built) client.gathering → IsBuilt profile client.challenge number built
-    → client.state.profile ≡ profile → client.state.lines ≡ no_lines
+    → client.state.profile ≡ profile → AreLines profile.entity client.state.lines → IfSome built.under (λ game. client.state.lines ≡ built.lines)
     → (acknowledge_at client.issued built.message.ack).answer ≡ Ok tt → text_at client.issued built.message.ack ≡ built.text
     → AreBuilt profile client.state.held → IfSome built.base (λ base. IsSnapshot profile base × HoldsThis client.state.held base)
     → ((index : ℕ) → index < last_index (built_bytes profile built)
@@ -115,7 +118,7 @@ SlotGathersMore server c slot from taken =
 -- it took the last, and the message's value is run
 abbrev pub RunsIt : ServerState → ℕ → SlotState → Address → ℕ → client_told.Message → hears.Taken → Type 0
 RunsIt server c slot from number message taken =
-    (g : Gathering) × (g.taken ≡ number) × (taken ≡ taken_at server c (run_message (record slot { address = from; gathering = g }) c number message))
+    (g : Gathering) × (g.taken ≡ number) × (taken ≡ taken_at server c (run_read server.map (record slot { address = from; gathering = g }) c number (Ok (came_as server.map message))))
 
 -- a message that a client began survives the network: where its datagrams come to the server from the client's host, one after the
 -- other, each but the last is partial, and with the last the server runs the message's value. The slot is the one that the server finds by
@@ -125,6 +128,7 @@ SaidSurvives = (profile : Profile) → IsCodec profile → (server : ServerState
     → server.profile ≡ profile → qport < 2 ^ 16 → sender_of server from.host qport ≡ Some c → slot_at server c ≡ Some slot
     → MayCome Client number (said_bytes profile said) slot.gathering → IsSaid profile slot.challenge said
     → (acknowledge_at slot.issued said.message.command).answer ≡ Ok tt → text_at slot.issued said.message.command ≡ said.text
+    → (is_other server.map said.message.id ≡ false → said.feed ≡ server.map.feed)
     → ((index : ℕ) → index < last_index (said_bytes profile said)
     → SlotGathersMore server c slot from
     (hears.take_at (server_after server from (first_datagrams Client qport number (said_bytes profile said) index)) from (datagram Client qport number (said_bytes profile said) index)))

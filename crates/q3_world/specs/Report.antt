@@ -1,12 +1,13 @@
 -- The report of a replay: the lines of each event's answer.
-use Rattle.std.specs.Prelude.{ℕ, List, [], ◌∷◌, codes, decimal, Option, Some, Result, Ok, Err}
+use Rattle.std.specs.Prelude.{ℕ, List, [], ◌∷◌, codes, decimal, Option, Some, None, Result, Ok, Err}
 use Rattle.std.specs.List.{concat, flat_map}
 use Rattle.q3_profile.specs.declared.profile.Profile.{Profile}
 use Rattle.q3_script.specs.declared.event.Event.{Event}
 use Rattle.q3_ring.specs.Snapshot.{Snapshot}
 use Rattle.q3_text.specs.declared.text.Command.{Command}
-use Rattle.q3_clmsg.specs.declared.moves.Move.{Move}
-use Rattle.q3_server.specs.Report.{slot_error_text, no_client_text, say_error_text, serve_text, server_text}
+use Rattle.q3_clstate.specs.State.{AppliedState}
+use Rattle.q3_client.specs.declared.client.ClientTook.{ClientTook}
+use Rattle.q3_server.specs.Report.{Run, slot_error_text, not_later_text, late_text, no_client_text, config_refused_text, say_error_text, serve_text, server_text}
 use Rattle.q3_client.specs.Report.{client_text, window_full_text, move_error_text, send_text}
 use Rattle.q3_world.specs.declared.answer.MoveRefused.{MoveRefused}
 use Rattle.q3_world.specs.declared.answer.MoveRefused.TheVariants as refused
@@ -16,7 +17,7 @@ use Rattle.q3_world.specs.declared.answer.Shown.{Shown}
 use Rattle.q3_world.specs.declared.answer.Shown.TheVariants as shown
 use Rattle.q3_world.specs.declared.answer.Answer.{Answer}
 use Rattle.q3_world.specs.declared.answer.Answer.TheVariants as answers
-use Rattle.q3_world.specs.declared.answer.Answer.TheVariants.{Client, Entity, Remove, Time, Player, Area, Serve, Send, Unknown, Deliver, ToServer, Show}
+use Rattle.q3_world.specs.declared.answer.Answer.TheVariants.{Client, Map, Entity, Remove, Baseline, Config, Time, Player, Area, Serve, Send, Unknown, Deliver, ToServer, Show}
 use Rattle.q3_io.specs.Print.{hex_text}
 use Rattle.q3_player.specs.declared.head.SnapHead.{SnapHead}
 use Rattle.q3_player.specs.Report.{player_text}
@@ -75,28 +76,37 @@ shown_text shown.NoClient lent = codes " noclient\n"
 shown_text shown.Newest (Some snapshot) = snapshot_text snapshot
 shown_text other lent = codes " none\n"
 
--- the lines of an answer, with what is lent to be printed: a snapshot, and the commands and the moves that were executed and run
-unfoldable pub lines_of : Answer → Option Snapshot → List Command → List Move → List ℕ
-lines_of (Client c outcome) lent commands moves = concat (codes "client " ∷ decimal c ∷ handed_in_text slot_error_text outcome ∷ [])
-lines_of (Entity number) lent commands moves = concat (codes "entity " ∷ decimal number ∷ codes " ok\n" ∷ [])
-lines_of (Remove number) lent commands moves = concat (codes "remove " ∷ decimal number ∷ codes " ok\n" ∷ [])
-lines_of Time lent commands moves = codes "time ok\n"
-lines_of (Player c outcome) lent commands moves = concat (codes "player " ∷ decimal c ∷ handed_in_text no_client_text outcome ∷ [])
-lines_of (Area c outcome) lent commands moves = concat (codes "area " ∷ decimal c ∷ handed_in_text no_client_text outcome ∷ [])
-lines_of (answers.Say c outcome) lent commands moves = concat (codes "say " ∷ decimal c ∷ issued_text say_error_text outcome ∷ [])
-lines_of (answers.TypeText c outcome) lent commands moves = concat (codes "type " ∷ decimal c ∷ issued_text type_refused_text outcome ∷ [])
-lines_of (answers.Move c outcome) lent commands moves = concat (codes "move " ∷ decimal c ∷ handed_in_text move_refused_text outcome ∷ [])
-lines_of (Serve c emission datagram) lent commands moves = serve_text c emission datagram
-lines_of (Send c (Ok sent) datagram) lent commands moves = send_text c sent datagram
-lines_of (Send c (Err e) datagram) lent commands moves = concat (codes "send " ∷ decimal c ∷ codes " noclient\n" ∷ [])
-lines_of (Unknown datagram) lent commands moves = concat (codes "deliver " ∷ decimal datagram ∷ codes " unknown\n" ∷ [])
-lines_of (Deliver datagram c took) lent commands moves = concat (codes "deliver " ∷ decimal datagram ∷ client_text c took commands ∷ [])
-lines_of (ToServer datagram took) lent commands moves = concat (codes "deliver " ∷ decimal datagram ∷ server_text took commands moves ∷ [])
-lines_of (Show c what) lent commands moves = concat (codes "show " ∷ decimal c ∷ shown_text what lent ∷ [])
+-- what stands behind `deliver D` where a client took a datagram: what it has then is lent
+abbrev pub client_lines : Option AppliedState → ℕ → ClientTook → List Command → List ℕ
+client_lines None c took commands = []
+client_lines (Some state) c took commands = client_text state c took commands
+
+-- the lines of an answer, with what is lent to be printed: a snapshot, the state of the client that took a datagram, and what was
+-- executed and run
+unfoldable pub lines_of : Answer → Option Snapshot → Option AppliedState → Run → List ℕ
+lines_of (Client c outcome) lent state ran = concat (codes "client " ∷ decimal c ∷ handed_in_text slot_error_text outcome ∷ [])
+lines_of (Map id outcome) lent state ran = concat (codes "map " ∷ decimal id ∷ handed_in_text not_later_text outcome ∷ [])
+lines_of (Entity number) lent state ran = concat (codes "entity " ∷ decimal number ∷ codes " ok\n" ∷ [])
+lines_of (Remove number) lent state ran = concat (codes "remove " ∷ decimal number ∷ codes " ok\n" ∷ [])
+lines_of (Baseline number outcome) lent state ran = concat (codes "baseline " ∷ decimal number ∷ handed_in_text late_text outcome ∷ [])
+lines_of Time lent state ran = codes "time ok\n"
+lines_of (Player c outcome) lent state ran = concat (codes "player " ∷ decimal c ∷ handed_in_text no_client_text outcome ∷ [])
+lines_of (Area c outcome) lent state ran = concat (codes "area " ∷ decimal c ∷ handed_in_text no_client_text outcome ∷ [])
+lines_of (Config index outcome) lent state ran = concat (codes "config " ∷ decimal index ∷ handed_in_text config_refused_text outcome ∷ [])
+lines_of (answers.Say c outcome) lent state ran = concat (codes "say " ∷ decimal c ∷ issued_text say_error_text outcome ∷ [])
+lines_of (answers.TypeText c outcome) lent state ran = concat (codes "type " ∷ decimal c ∷ issued_text type_refused_text outcome ∷ [])
+lines_of (answers.Move c outcome) lent state ran = concat (codes "move " ∷ decimal c ∷ handed_in_text move_refused_text outcome ∷ [])
+lines_of (Serve c emission datagram) lent state ran = serve_text c emission datagram
+lines_of (Send c (Ok sent) datagram) lent state ran = send_text c sent datagram
+lines_of (Send c (Err e) datagram) lent state ran = concat (codes "send " ∷ decimal c ∷ codes " noclient\n" ∷ [])
+lines_of (Unknown datagram) lent state ran = concat (codes "deliver " ∷ decimal datagram ∷ codes " unknown\n" ∷ [])
+lines_of (Deliver datagram c took) lent state ran = concat (codes "deliver " ∷ decimal datagram ∷ client_lines state c took ran.commands ∷ [])
+lines_of (ToServer datagram took) lent state ran = concat (codes "deliver " ∷ decimal datagram ∷ server_text took ran ∷ [])
+lines_of (Show c what) lent state ran = concat (codes "show " ∷ decimal c ∷ shown_text what lent ∷ [])
 
 -- the lines of an answer, with what is printed with it
 abbrev pub answer_text : Answered → List ℕ
-answer_text given = lines_of given.answer given.snapshot given.commands given.moves
+answer_text given = lines_of given.answer given.snapshot given.state given.ran
 
 -- the report of a replay of these events, from the opening world
 unfoldable pub report : Profile → List Event → List ℕ

@@ -1,6 +1,7 @@
 -- Laws over every list of events.
-use Rattle.std.specs.Prelude.{◌≡◌, ◌↔◌, ℕ, ◌+◌, ◌-◌, ◌<◌, if◌then◌else◌, true, false, List, [], ◌∷◌, ◌++◌, length, map, take, replicate, ◌≤◌, All, Contains, Option, Some, None, IfSome, Ok, slice_get, slice_index_or}
+use Rattle.std.specs.Prelude.{◌≡◌, ◌↔◌, ◌⊎◌, ◌||◌, ℕ, ◌+◌, ◌-◌, ◌<◌, if◌then◌else◌, Bool, true, false, List, [], ◌∷◌, ◌++◌, length, map, take, replicate, ◌≤◌, All, Contains, Option, Some, None, IfSome, MatchOption, Ok, slice_get, slice_index_or}
 use Rattle.std.specs.List.{AllByRecursion, last_or, range_with_len}
+use Rattle.q3_clmsg.specs.declared.moves.Move.{Move}
 use Rattle.q3_profile.specs.declared.profile.Profile.{Profile}
 use Rattle.q3_script.specs.declared.event.Event.{Event}
 use Rattle.q3_script.specs.declared.event.Event.TheVariants as events
@@ -11,7 +12,7 @@ use Rattle.q3_rings.specs.Rings.{is_young, held_snapshot, view_at}
 use Rattle.q3_rings.specs.Accepted.{age_of, held_among}
 use Rattle.q3_clstate.specs.declared.applied.Applied.{Applied as AppliedSo}
 use Rattle.q3_clstate.specs.declared.applied.SnapOutcome.{SnapOutcome}
-use Rattle.q3_clstate.specs.declared.applied.SnapOutcome.TheVariants.{Accepted, Skipped, Stale}
+use Rattle.q3_clstate.specs.declared.applied.SnapOutcome.TheVariants.{NoSnap, Accepted, Skipped, Stale}
 use Rattle.q3_client.specs.declared.client.ClientTook.TheVariants.{Runt, Connectionless, BadFragment, Illegible, Dropped, Applied}
 use Rattle.q3_client.specs.declared.client.Sent.TheVariants as sent
 use Rattle.q3_slot.specs.declared.taking.ServerTook.TheVariants as took
@@ -26,19 +27,25 @@ use Rattle.q3_world.specs.declared.made.Direction.TheVariants as direction
 use Rattle.q3_slot.specs.Built.{Built, number_of, IsNear, is_unclear}
 use Rattle.q3_slot.specs.Slot.{SlotState}
 use Rattle.q3_slot.specs.Emitting.{next_snapshot, begun_next, built_bytes, most_placed}
-use Rattle.q3_slot.specs.Taking.{delta_behind, runs}
+use Rattle.q3_map.specs.Map.{is_other}
+use Rattle.q3_slot.specs.Taking.{Playing, asks_game, goes_on, heads_of}
 use Rattle.q3_server.specs.Server.{ServerState, places, slot_at}
 use Rattle.q3_client.specs.Client.{ClientState}
 use Rattle.q3_world.specs.Moves.{TimesRise, StandAmong}
-use Rattle.q3_world.specs.Ends.{Ends, client_at, newest, unknown, delivered, ran}
+use Rattle.q3_world.specs.Ends.{Ends, Answered, client_at, newest, ran_nothing, unknown}
 use Rattle.q3_world.specs.Kept.{SentBytes, Kept, opening_kept, kept_step, kept_after, kept_answers}
 use Rattle.q3_world.specs.declared.made.Direction.{Direction}
 use Rattle.q3_text.specs.declared.text.Command.{Command}
 use Rattle.q3_text.specs.Commands.{numbered}
 use Rattle.q3_window.specs.Incoming.{fresh_of}
 use Rattle.q3_window.specs.Outgoing.{text_at}
+use Rattle.q3_config.specs.Commands.{change_in}
+use Rattle.q3_svmsg.specs.Values as told
+use Rattle.q3_svmsg.specs.Values.{Told}
+use Rattle.q3_server.specs.Report.{Run}
 use Rattle.q3_world.specs.World.{Tag, Whole, History, history_at, built_at, said_at, texts_of, opening, step, after, answers}
 use Rattle.q3_world.specs.StandsFor.{IsChecked, StandsFor, WasBuilt, Rise, WasAccepted}
+use Rattle.q3_world.specs.Games.{Carries, IsOf, IsFresh, last_played, accepted_since}
 
 -- a step by bytes of what stands for a whole world gives what stands for its step by tags, and answers the same
 abbrev pub StepFollows : Type 0
@@ -56,6 +63,14 @@ whole_then profile all = after profile (opening profile) all
 -- the history of a client then
 abbrev pub history_then : Profile → List Event → ℕ → History
 history_then profile all c = history_at (whole_then profile all).histories c
+
+-- the snapshots that it accepted since the last gamestate that it applied
+abbrev pub since_then : Profile → List Event → ℕ → List Snapshot
+since_then profile all c = accepted_since (history_then profile all c).games (history_then profile all c).accepted
+
+-- an answer, and what is printed as executed and run with it
+abbrev pub AnswersSo : Answered → Answer → Run → Type 0
+AnswersSo given answer ran = (given.answer ≡ answer) × (given.ran ≡ ran)
 
 -- in a replay what is kept after the events, where each datagram is taken by its bytes, stands for the whole world after
 -- them, where each is taken by its tag; and each event answers the same
@@ -136,7 +151,7 @@ KeysAgree = (profile : Profile) (all : List Event) (c : ℕ) (slot : SlotState) 
 abbrev pub ExecutedGoesOn : Type 0
 ExecutedGoesOn = (profile : Profile) (all : List Event) (number : ℕ) (tag : Tag) → IsChecked profile → AllByRecursion IsReplayEvent all
     → IsReplayEvent (events.Deliver number) → slice_get (whole_then profile all).sent (number - 1) ≡ Some tag
-    → GoesOn (kept_step (kept_then profile all) (events.Deliver number)).answer.commands
+    → GoesOn (kept_step (kept_then profile all) (events.Deliver number)).answer.ran.commands
     (history_then profile all tag.client) (history_then profile (all ++ events.Deliver number ∷ []) tag.client) tag.direction
 
 -- each snapshot that a client accepted is the one that the server built for it under that number, and the numbers rise
@@ -152,16 +167,16 @@ ShownWasBuilt = (profile : Profile) (all : List Event) (c : ℕ) (snapshot : Sna
     → (kept_step (kept_then profile all) (events.Show c)).answer.snapshot ≡ Some snapshot
     → WasBuilt (history_then profile all c).built snapshot
 
--- what a show prints is the newest snapshot that the client accepted, if it accepted one
+-- what a show prints is the newest snapshot that the client accepted since the last gamestate that it applied, if it accepted one
 abbrev pub ShownIsNewest : Type 0
 ShownIsNewest = (profile : Profile) (all : List Event) (c : ℕ) → IsChecked profile → AllByRecursion IsReplayEvent all → c < places
-    → (kept_step (kept_then profile all) (events.Show c)).answer.snapshot ≡ last_or None (history_then profile all c).accepted
+    → (kept_step (kept_then profile all) (events.Show c)).answer.snapshot ≡ last_or None (since_then profile all c)
 
--- a client asks for deltas exactly where the snapshot of the newest message that it took was accepted
+-- a client asks for deltas exactly where the snapshot of the newest message that it took was accepted, and no gamestate was applied since
 abbrev pub AsksForAccepted : Type 0
 AsksForAccepted = (profile : Profile) (all : List Event) (c : ℕ) (client : ClientState) → IsChecked profile → AllByRecursion IsReplayEvent all
     → c < places → client_at (kept_then profile all).ends c ≡ Some client
-    → (client.delta ≡ true) ↔ WasAccepted (history_then profile all c).accepted client.gathering.taken
+    → (client.delta ≡ true) ↔ WasAccepted (since_then profile all c) client.gathering.taken
 
 -- each base against which a message was built is below it, at most by 28, was built itself and was accepted by the client
 abbrev pub BasesWereAccepted : Type 0
@@ -170,12 +185,12 @@ BasesWereAccepted = (profile : Profile) (all : List Event) (c k : ℕ) (d : Buil
     → IfSome (slice_index_or (history_then profile all c).built k d).base
     (λ base. IsNear (k + 1) base × WasBuilt (history_then profile all c).built base × Contains (history_then profile all c).accepted base)
 
--- what a client holds is told by all that it accepted: under a number exactly the snapshot accepted under it, as long as no later one
+-- what a client holds is told by all that it accepted since the last gamestate that it applied: under a number exactly the snapshot accepted under it, as long as no later one
 -- stands in its place and its entities are there
 abbrev pub HeldIsAccepted : Type 0
 HeldIsAccepted = (profile : Profile) (all : List Event) (c number : ℕ) (client : ClientState) → IsChecked profile → AllByRecursion IsReplayEvent all
     → c < places → client_at (kept_then profile all).ends c ≡ Some client
-    → held_snapshot client.state.held number ≡ held_among profile.parse_ring (history_then profile all c).accepted number
+    → held_snapshot client.state.held number ≡ held_among profile.parse_ring (since_then profile all c) number
 
 -- so a client lends under a number the snapshot that the server built for it under that number, or none
 abbrev pub ViewsWereBuilt : Type 0
@@ -191,9 +206,24 @@ outcome_of ring accepted (Some base) =
     if is_young ring (age_of accepted base.head.number) then Accepted base.head.number
     else Skipped base.head.number (EntitiesGone (age_of accepted base.head.number))
 
+-- and of its section: a gamestate has no snapshot
+abbrev pub outcome_in : ℕ → List Snapshot → Option Snapshot → Told → SnapOutcome
+outcome_in ring accepted base (told.Snap number head entities) = outcome_of ring accepted base
+outcome_in ring accepted base other = NoSnap
+
+-- whether a section is a gamestate
+abbrev pub is_game : Told → Bool
+is_game (told.Game game) = true
+is_game other = false
+
 -- and what is answered of it, under its number
 abbrev pub applied_of : ℕ → List Snapshot → ℕ → Built → AppliedSo
-applied_of ring accepted n built = record { number = n; game = false; snap = outcome_of ring accepted built.base }
+applied_of ring accepted n built =
+    record { number = n; game = is_game built.message.section; snap = outcome_in ring accepted built.base built.message.section }
+
+-- what is answered where a client takes the last of a message that was built for it, by what it accepted since its last gamestate
+abbrev pub applied_then : Profile → List Event → ℕ → ℕ → AppliedSo
+applied_then profile all c n = applied_of profile.parse_ring (since_then profile all c) n (built_at (history_then profile all c).built n)
 
 -- the commands that a client executes of the message under a number: those above all that it executed before
 abbrev pub heard_of : History → ℕ → List Command
@@ -209,53 +239,86 @@ Shows ends c n built = (snapshot : Snapshot) × (newest (client_at ends c) ≡ S
 
 -- where a client that takes datagrams by their bytes applies one, the datagram was made for it, of a message whose number is above
 -- every number that it took before; what it answers is told by the message that was built under that number and by what it accepted;
--- and where it accepts the snapshot, its newest is the one that the server built for it under that number
+-- where it accepts the snapshot, its newest is the one that the server built for it under that number; and behind the delivery the
+-- client there has that number
 abbrev pub AppliedWasBuilt : Type 0
 AppliedWasBuilt = (profile : Profile) (all : List Event) (number c : ℕ) (applied : AppliedSo) → IsChecked profile → AllByRecursion IsReplayEvent all
     → (kept_step (kept_then profile all) (events.Deliver number)).answer.answer ≡ Deliver number c (Applied applied)
     → ((client : ClientState) × (client_at (kept_then profile all).ends c ≡ Some client) × (client.gathering.taken < applied.number))
-    × (applied ≡ applied_of profile.parse_ring (history_then profile all c).accepted applied.number (built_at (history_then profile all c).built applied.number))
+    × (applied ≡ applied_then profile all c applied.number)
     × ((tag : Tag) × (slice_get (whole_then profile all).sent (number - 1) ≡ Some tag) × (tag.direction ≡ direction.ToClient) × (tag.client ≡ c) × (tag.number ≡ applied.number))
     × ((base : ℕ) → applied.snap ≡ Accepted base
     → Shows (kept_step (kept_then profile all) (events.Deliver number)).kept.ends c applied.number (history_then profile all c).built)
+    × ((after : ClientState) × (client_at (kept_step (kept_then profile all) (events.Deliver number)).kept.ends c ≡ Some after) × (after.state.number ≡ applied.number))
 
--- where the bytes of a datagram bring a message whole to a client, it is applied: its snapshot is accepted exactly where it has no
--- base, or the entities of its base are there
+-- where the bytes of a datagram bring a message whole to a client, it is applied: a gamestate always, and a snapshot is accepted
+-- exactly where it has no base, or the entities of its base are there
 abbrev pub NewerIsAccepted : Type 0
 NewerIsAccepted = (profile : Profile) (all : List Event) (number n count : ℕ) (sent : SentBytes) (client : ClientState) → IsChecked profile
     → AllByRecursion IsReplayEvent all
     → slice_get (kept_then profile all).datagrams (number - 1) ≡ Some sent → sent.direction ≡ direction.ToClient
     → client_at (kept_then profile all).ends sent.client ≡ Some client
     → (gathered client.gathering sent.bytes).answer ≡ CameWhole n count
-    → (kept_step (kept_then profile all) (events.Deliver number)).answer
-    ≡ delivered number sent.client (Applied (applied_of profile.parse_ring (history_then profile all sent.client).accepted n
-    (built_at (history_then profile all sent.client).built n))) (heard_of (history_then profile all sent.client) n)
+    → AnswersSo (kept_step (kept_then profile all) (events.Deliver number)).answer
+    (Deliver number sent.client (Applied (applied_then profile all sent.client n)))
+    (record ran_nothing { commands = heard_of (history_then profile all sent.client) n })
 
 -- with a ring that has the usual room for 8,192 entities, or more, no snapshot is skipped
 abbrev pub UsualNeverSkips : Type 0
 UsualNeverSkips = (profile : Profile) (all : List Event) (number c : ℕ) (applied : AppliedSo) → IsChecked profile → AllByRecursion IsReplayEvent all
     → 8192 ≤ profile.parse_ring → (kept_step (kept_then profile all) (events.Deliver number)).answer.answer ≡ Deliver number c (Applied applied)
-    → (base : ℕ) × (applied.snap ≡ Accepted base)
+    → (applied.snap ≡ NoSnap) ⊎ ((base : ℕ) × (applied.snap ≡ Accepted base))
 
--- where the bytes of a client's datagram bring a message whole to its slot, it is run: of its moves those that are later than
--- the last one that was run; and from then on the slot writes against the snapshot that the message asks for
+-- what the moves do of the message that a client began under a number
+abbrev pub playing_of : SlotState → History → ℕ → Playing
+playing_of slot history n = goes_on slot (said_at history.said n).message (said_at history.said n).message.moves
+
+-- the slot of a client goes on as the moves of a message say
+abbrev pub GoesOnPlaying : Option SlotState → Playing → Type 0
+GoesOnPlaying after playing = IfSome after (λ slot. (slot.stage ≡ playing.stage) × (slot.delta ≡ playing.delta) × (slot.last_run ≡ playing.last_run))
+
+-- where the bytes of a client's datagram bring a message whole to its slot, and the message is of the map, it is run: its commands
+-- above the last one executed, and its moves as the slot stands. Of one of another map nothing is run, and a gamestate may be owed
 abbrev pub NewerIsRun : Type 0
 NewerIsRun = (profile : Profile) (all : List Event) (number n count : ℕ) (sent : SentBytes) (from : Address) (slot : SlotState) → IsChecked profile
     → AllByRecursion IsReplayEvent all
     → slice_get (kept_then profile all).datagrams (number - 1) ≡ Some sent → sent.direction ≡ direction.ToServer from
     → slot_at (kept_then profile all).ends.server sent.client ≡ Some slot
     → (gathered slot.gathering sent.bytes).answer ≡ CameWhole n count
-    → (kept_step (kept_then profile all) (events.Deliver number)).answer
-    ≡ ran number (took.Ran sent.client n) (run_of (history_then profile all sent.client) n)
-    (runs slot.last_run (said_at (history_then profile all sent.client).said n).message.moves)
-    × ((after : SlotState) × (slot_at (kept_step (kept_then profile all) (events.Deliver number)).kept.ends.server sent.client ≡ Some after)
-    × (after.delta ≡ delta_behind slot.delta (said_at (history_then profile all sent.client).said n).message))
+    → (is_other (kept_then profile all).ends.server.map (said_at (history_then profile all sent.client).said n).message.id ≡ false
+    → AnswersSo (kept_step (kept_then profile all) (events.Deliver number)).answer (ToServer number (took.Ran sent.client n))
+    (record {
+      commands = run_of (history_then profile all sent.client) n;
+      entered = (playing_of slot (history_then profile all sent.client) n).entered;
+      moves = (playing_of slot (history_then profile all sent.client) n).moves;
+      owed = slot.owed;
+    })
+    × GoesOnPlaying (slot_at (kept_step (kept_then profile all) (events.Deliver number)).kept.ends.server sent.client)
+    (playing_of slot (history_then profile all sent.client) n))
+    × (is_other (kept_then profile all).ends.server.map (said_at (history_then profile all sent.client).said n).message.id ≡ true
+    → AnswersSo (kept_step (kept_then profile all) (events.Deliver number)).answer
+    (ToServer number (took.Ignored sent.client (said_at (history_then profile all sent.client).said n).message.id))
+    (record ran_nothing {
+      owed = slot.owed || asks_game (kept_then profile all).ends.server.map slot (heads_of (said_at (history_then profile all sent.client).said n).message);
+    }))
 
 -- the moves of a client that the server ran stand among those that the client issued, each once and in their order, and their
 -- times rise
 abbrev pub MovesWereIssued : Type 0
 MovesWereIssued = (profile : Profile) (all : List Event) (c : ℕ) → IsChecked profile → AllByRecursion IsReplayEvent all → c < places
     → StandAmong (history_then profile all c).run (history_then profile all c).issued × TimesRise 0 (history_then profile all c).run
+
+-- a move with which a client enters a map isn't among those that are run: all that were run before it are earlier, and all that
+-- are run later are later
+abbrev pub EnteringIsNotRun : Type 0
+EnteringIsNotRun = (profile : Profile) (before rest : List Event) (c number n time : ℕ) → IsChecked profile
+    → AllByRecursion IsReplayEvent (before ++ events.Deliver number ∷ rest) → c < places
+    → (kept_step (kept_then profile before) (events.Deliver number)).answer.answer ≡ ToServer number (took.Ran c n)
+    → (kept_step (kept_then profile before) (events.Deliver number)).answer.ran.entered ≡ Some time
+    → All (λ (one : Move). one.time < time) (history_then profile before c).run
+    × ((later : List Move)
+    × ((history_then profile (before ++ events.Deliver number ∷ rest) c).run ≡ (history_then profile before c).run ++ later)
+    × All (λ (one : Move). time < one.time) later)
 
 -- the datagrams of these numbers have the pieces of the message under a number for a client, from an index on
 abbrev pub ArePieces : List Tag → ℕ → ℕ → ℕ → List ℕ → Type 0
@@ -276,9 +339,8 @@ InOrderIsAccepted = (profile : Profile) (all : List Event) (c n last : ℕ) (num
     → client_at (whole_then profile all).ends c ≡ Some client → client.gathering.taken < n
     → ArePieces (whole_then profile all).sent c n 0 (numbers ++ last ∷ [])
     → length numbers ≡ last_index (built_bytes profile (built_at (history_then profile all c).built n))
-    → (kept_step (kept_then profile (all ++ deliveries numbers)) (events.Deliver last)).answer
-    ≡ delivered last c (Applied (applied_of profile.parse_ring (history_then profile all c).accepted n (built_at (history_then profile all c).built n)))
-    (heard_of (history_then profile all c) n)
+    → AnswersSo (kept_step (kept_then profile (all ++ deliveries numbers)) (events.Deliver last)).answer
+    (Deliver last c (Applied (applied_then profile all c n))) (record ran_nothing { commands = heard_of (history_then profile all c) n })
 
 -- so many datagrams of a message are made for a client, and delivered in the order in which they are made, from a number on
 abbrev pub serve_and_deliver : ℕ → ℕ → ℕ → List Event
@@ -292,9 +354,11 @@ built_next server c slot = begun_next server.map server.frames c slot
 abbrev pub datagrams_of : Profile → ServerState → ℕ → SlotState → ℕ
 datagrams_of profile server c slot = piece_count (length (built_bytes profile (built_next server c slot)))
 
--- a message may be begun for a client: nothing is under way to it, numbers haven't ended, and the message isn't too long
+-- a snapshot may be begun for a client: nothing is under way to it and no gamestate is owed, numbers haven't ended, and the message
+-- isn't too long
 pub record MayBegin (profile : Profile) (server : ServerState) (c : ℕ) (slot : SlotState) : Type 0 where
   pub idle : IsIdle slot.sending
+  pub plays : slot.owed ≡ false
   pub fits : slot.sending.number + 1 < sequence_end
   pub placed : server.frames.placed ≤ most_placed
   pub clear : is_unclear profile slot.executed.executed ≡ false
@@ -308,8 +372,36 @@ ServedIsShown = (profile : Profile) (all : List Event) (c : ℕ) (slot : SlotSta
     → AllByRecursion IsReplayEvent (serve_and_deliver c (length (whole_then profile all).sent + 1) (datagrams_of profile (whole_then profile all).ends.server c slot))
     → slot_at (whole_then profile all).ends.server c ≡ Some slot → client_at (whole_then profile all).ends c ≡ Some client
     → MayBegin profile (whole_then profile all).ends.server c slot
-    → outcome_of profile.parse_ring (history_then profile all c).accepted (built_next (whole_then profile all).ends.server c slot).base
+    → outcome_of profile.parse_ring (since_then profile all c) (built_next (whole_then profile all).ends.server c slot).base
     ≡ Accepted (number_of (built_next (whole_then profile all).ends.server c slot).base)
     → (kept_step (kept_then profile (all ++ serve_and_deliver c (length (whole_then profile all).sent + 1)
     (datagrams_of profile (whole_then profile all).ends.server c slot))) (events.Show c)).answer.snapshot
     ≡ Some (next_snapshot (whole_then profile all).ends.server.map slot)
+
+-- ---- config strings follow the server
+
+-- a client's strings, baselines, id, slot and feed are those of the last gamestate that it applied, which was built for it, with the
+-- changes that the texts tell which it executed since; before one its id, slot and feed are 0, it has no baselines, and its
+-- strings tell no id
+abbrev pub StateIsOfGame : Type 0
+StateIsOfGame = (profile : Profile) (all : List Event) (c : ℕ) (client : ClientState) → IsChecked profile → AllByRecursion IsReplayEvent all
+    → c < places → client_at (kept_then profile all).ends c ≡ Some client
+    → MatchOption (last_played (history_then profile all c).games)
+    (IsFresh client.state)
+    (λ played. Carries (history_then profile all c).built played.number played.game × IsOf client.state played (history_then profile all c).client_executed)
+
+-- the game says no text that has the shape of a config change
+abbrev pub SaysNoChange : Event → Type 0
+SaysNoChange (events.Say c text) = change_in text ≡ None
+SaysNoChange other = Unit {0}
+
+-- where the game says no such text, and the last message that a client applied was begun by a `serve` under the client's own map, its
+-- strings are those that the server had then
+abbrev pub StringsFollow : Type 0
+StringsFollow = (profile : Profile) (before rest : List Event) (c : ℕ) (client : ClientState) → IsChecked profile
+    → AllByRecursion IsReplayEvent (before ++ events.Serve c ∷ rest) → AllByRecursion SaysNoChange (before ++ events.Serve c ∷ rest) → c < places
+    → length (history_then profile (before ++ events.Serve c ∷ []) c).built ≡ length (history_then profile before c).built + 1
+    → client_at (kept_then profile (before ++ events.Serve c ∷ rest)).ends c ≡ Some client → client.state.has_game ≡ true
+    → client.state.number ≡ length (history_then profile before c).built + 1
+    → client.state.id ≡ (kept_then profile before).ends.server.map.id
+    → client.state.strings ≡ (kept_then profile before).ends.server.map.strings

@@ -1,6 +1,6 @@
 -- What is kept stands for a whole world: both ends are the same, and each datagram's bytes are those of the message
 -- that its tag names.
-use Rattle.std.specs.Prelude.{◌≡◌, ℕ, zero, suc, ◌+◌, ◌^◌, ◌<◌, ◌≤◌, ◌⊎◌, ◌↔◌, true, List, [], ◌∷◌, ◌++◌, length, map, All, Contains, Option, Some, None, IfSome, slice_index_or}
+use Rattle.std.specs.Prelude.{◌≡◌, ◌≢◌, ℕ, zero, suc, ◌+◌, ◌^◌, ◌<◌, ◌≤◌, ◌⊎◌, ◌↔◌, true, false, List, [], ◌∷◌, ◌++◌, length, map, All, Contains, Option, Some, None, IfSome, slice_index_or}
 use Rattle.std.specs.List.{last_or}
 use Rattle.q3_profile.specs.declared.profile.Profile.{Profile}
 use Rattle.q3_profile.specs.Profile.{IsCodec, IsProfile}
@@ -13,17 +13,19 @@ use Rattle.q3_chan.specs.Laws.{IsSendable, Gathers, Sends}
 use Rattle.q3_text.specs.declared.text.Command.{Command}
 use Rattle.q3_text.specs.Texts.{IsText}
 use Rattle.q3_window.specs.Outgoing.{IsOutgoing}
-use Rattle.q3_window.specs.Flow.{Flow}
+use Rattle.q3_window.specs.Flow.{Carriage, Flow}
+use Rattle.q3_text.specs.Texts.{IsTextByte}
+use Rattle.q3_config.specs.Strings.{AreStrings, server_id}
 use Rattle.q3_clmsg.specs.declared.moves.Move.{Move}
 use Rattle.q3_clmsg.specs.Moves.{IsMove}
-use Rattle.q3_entity.specs.Baselines.{no_lines}
+use Rattle.q3_entity.specs.Baselines.{AreLines}
 use Rattle.q3_svmsg.specs.Values as told
 use Rattle.q3_svmsg.specs.Values.{Told}
 use Rattle.q3_ring.specs.Snapshot.{Snapshot}
 use Rattle.q3_frames.specs.Frames.{FramesState, AreFrames, held_frame}
 use Rattle.q3_rings.specs.Rings.{view_at}
 use Rattle.q3_rings.specs.Accepted.{SnapshotsStandFor}
-use Rattle.q3_map.specs.Map.{AreHeld}
+use Rattle.q3_map.specs.Map.{MapState, AreHeld}
 use Rattle.q3_slot.specs.Built.{Built, IsHeld, IsArea, IsBuilt}
 use Rattle.q3_slot.specs.Slot.{SlotState}
 use Rattle.q3_slot.specs.Emitting.{built_bytes}
@@ -40,6 +42,8 @@ use Rattle.q3_world.specs.Ends.{client_at, address_at}
 use Rattle.q3_world.specs.Kept.{SentBytes, Kept}
 use Rattle.q3_world.specs.World.{Tag, History, Whole, no_history, history_at, built_at, said_at}
 use Rattle.q3_world.specs.Moves.{TimesRise, AreConsecutive}
+use Rattle.q3_world.specs.Games.{accepted_since, standing_of, AreSince, AreMapped}
+use Rattle.q3_slot.specs.Slots.{changes_own}
 
 -- a profile that passed its check
 pub record IsChecked (profile : Profile) : Type 0 where
@@ -78,14 +82,19 @@ WasBuilt built snapshot =
     (1 ≤ snapshot.head.number) × (snapshot.head.number ≤ length built)
     × (snapshot_in (built_at built snapshot.head.number).message.section ≡ Some snapshot)
 
--- the frames that a slot holds under numbers of messages that were begun are what was built under them; behind the last such
--- number one may be left of a message that proved too long
+-- a snapshot was built under a number
+abbrev pub HasSnapshot : List Built → ℕ → Type 0
+HasSnapshot built number = (snapshot : Snapshot) × (snapshot_in (built_at built number).message.section ≡ Some snapshot)
+
+-- the frames that a slot holds under numbers of messages that were begun with a snapshot are what was built under them; under the
+-- number of a gamestate, and behind the last number, one may be left of a message that proved too long
 abbrev pub AreOfBuilt : FramesState → ℕ → List Built → Type 0
-AreOfBuilt frames c began = (number : ℕ) (snapshot : Snapshot) → held_frame frames c number ≡ Some snapshot → 1 ≤ number → number ≤ length began
+AreOfBuilt frames c began = (number : ℕ) (snapshot : Snapshot) → held_frame frames c number ≡ Some snapshot → 1 ≤ number → number ≤ length began → HasSnapshot began number
     → (snapshot.head.number ≡ number) × WasBuilt began snapshot
 
 -- what the server keeps of a client that joined with this qport from this host, what it built for it, each against a base that
--- was built before, the moves of it that it ran: their times rise, and it keeps the last; and the commands that it issued for it
+-- was built before, the moves of it that it ran: their times rise, up to the one that it keeps; and the commands that it issued for it,
+-- none of which changes the map's id
 pub record KeepsSlot (profile : Profile) (slot : SlotState) (of_qport of_host : ℕ) (began : List Built) (ran : List Move) (commands : List (List ℕ)) : Type 0 where
   pub qport : slot.qport ≡ of_qport
   pub host : slot.address.host ≡ of_host
@@ -95,10 +104,11 @@ pub record KeepsSlot (profile : Profile) (slot : SlotState) (of_qport of_host : 
   pub built : (k : ℕ) (d : Built) → k < length began → IsBuilt profile slot.challenge (k + 1) (slice_index_or began k d)
   pub bases : All (λ (built : Built). IfSome built.base (WasBuilt began)) began
   pub from : slot.gathering.side ≡ Client
-  pub last : slot.last_run ≡ last_time 0 ran
+  pub last : last_time 0 ran ≤ slot.last_run
   pub rise : TimesRise 0 ran
   pub window : IsOutgoing slot.issued
   pub texts : All IsText commands
+  pub own : All (λ text. changes_own text ≡ false) commands
 
 -- of each move, how many messages were begun before it: that doesn't fall, and is at most as many as were begun
 abbrev pub MarksRise : ℕ → ℕ → List Issued → Type 0
@@ -166,6 +176,19 @@ pub record KeepsFrames (frames : FramesState) (histories : List History) : Type 
   pub count : length frames.slots ≡ places
   pub each : (c : ℕ) → c < places → AreOfBuilt frames c (history_at histories c).built
 
+-- the map as the game handed it in: the strings are ones that a gamestate may carry, the first tells the map's id, and the baselines and
+-- entities are in normal form
+pub record IsMap (profile : Profile) (map : MapState) : Type 0 where
+  pub id : map.id < 2 ^ 31
+  pub feed : map.feed < 2 ^ 32
+  pub time : map.time < 2 ^ 32
+  pub strings : AreStrings map.strings
+  pub texts : All (All IsTextByte) map.strings.texts
+  pub pending : map.strings.pending ≡ None
+  pub tells : map.id ≢ 0 → server_id map.strings ≡ Some map.id
+  pub lines : AreLines profile.entity map.lines
+  pub entities : AreHeld profile.entity map.entities
+
 -- what holds of the whole world: its parts have a place for each client, what the game handed in is as the server holds it, each
 -- client is at both ends or at none, the server finds it by its host and its qport, and each tag and each frame is so
 pub record Facts (profile : Profile) (whole : Whole) : Type 0 where
@@ -175,8 +198,7 @@ pub record Facts (profile : Profile) (whole : Whole) : Type 0 where
   pub clients : length whole.ends.clients ≡ places
   pub addresses : length whole.ends.addresses ≡ places
   pub histories : length whole.histories ≡ places
-  pub time : whole.ends.server.map.time < 2 ^ 32
-  pub entities : AreHeld profile.entity whole.ends.server.map.entities
+  pub map : IsMap profile whole.ends.server.map
   pub each : (c : ℕ) → c < places
       → IsClient profile (slot_at whole.ends.server c) (client_at whole.ends c) (address_at whole.ends c) (history_at whole.histories c)
   pub found : (c : ℕ) (slot : SlotState) → slot_at whole.ends.server c ≡ Some slot
@@ -196,16 +218,16 @@ abbrev pub WasAccepted : List Snapshot → ℕ → Type 0
 WasAccepted accepted number = (snapshot : Snapshot) × Contains accepted snapshot × (snapshot.head.number ≡ number)
 
 -- a client takes and gathers only what was built for it, so it wasn't dropped; each snapshot that it accepted was built, their
--- numbers rise, what it holds is what it accepted, and the newest that it lends is the last; none is above the newest number
--- taken, and it asks for deltas exactly where the snapshot of that number was accepted. There are no baselines
-pub record TakesBuilt (profile : Profile) (client : ClientState) (began : List Built) (took : List Snapshot) : Type 0 where
+-- numbers rise, what it holds is what it accepted since the last gamestate, and the newest that it lends is the last; none is above the
+-- newest number taken, and it asks for deltas exactly where the snapshot of that number was accepted since
+pub record TakesBuilt (profile : Profile) (client : ClientState) (began : List Built) (took since : List Snapshot) : Type 0 where
   pub accepted : All (WasBuilt began) took
   pub rise : Rise took
-  pub stands : SnapshotsStandFor took client.state.held
-  pub shows : view_at client.state.held client.state.held.newest ≡ last_or None took
-  pub lines : client.state.lines ≡ no_lines
+  pub stands : SnapshotsStandFor since client.state.held
+  pub shows : view_at client.state.held client.state.held.newest ≡ last_or None since
   pub below : client.state.held.newest ≤ client.gathering.taken
-  pub asks : (client.delta ≡ true) ↔ WasAccepted took client.gathering.taken
+  pub most : All (λ (snapshot : Snapshot). snapshot.head.number ≤ client.gathering.taken) took
+  pub asks : (client.delta ≡ true) ↔ WasAccepted since client.gathering.taken
   pub gathers : Gathers (messages_of profile began) (length began) client.gathering
   pub legible : client.dropped ≡ None
 
@@ -221,15 +243,15 @@ pub record AreAsked (slot : SlotState) (said : List Said) (began : List Built) (
   pub delta : (slot.delta ≡ 0) ⊎ WasAccepted accepted slot.delta
   pub bases : All (λ (built : Built). IfSome built.base (Contains accepted)) began
 
--- the commands that each message carries, and what it acknowledges: of those built, and of those said
-abbrev pub carried_built : List Built → List (List Command)
-carried_built began = map (λ (b : Built). b.message.commands) began
+-- what each message carries, and what it acknowledges: of those built, and of those said
+abbrev pub carried_built : List Built → List Carriage
+carried_built began = map (λ (b : Built). record { last = b.last; commands = b.message.commands }) began
 
 abbrev pub acks_built : List Built → List Command
 acks_built began = map (λ (b : Built). record { number = b.message.ack; text = b.text }) began
 
-abbrev pub carried_said : List Said → List (List Command)
-carried_said began = map (λ (s : Said). s.message.commands) began
+abbrev pub carried_said : List Said → List Carriage
+carried_said began = map (λ (s : Said). record { last = s.last; commands = s.message.commands }) began
 
 abbrev pub acks_said : List Said → List Command
 acks_said began = map (λ (s : Said). record { number = s.message.command; text = s.text }) began
@@ -238,26 +260,29 @@ acks_said began = map (λ (s : Said). record { number = s.message.command; text 
 -- of what the other issued, and each window has the texts by which the messages to come are scrambled
 pub record AreCommanded (slot : SlotState) (client : ClientState) (history : History) : Type 0 where
   pub to_client : Flow slot.issued client.state.executed history.server_commands history.client_executed (carried_built history.built)
-      (acks_said history.said) slot.gathering.taken
+      (acks_said history.said) slot.gathering.taken client.gathering.taken
   pub to_server : Flow client.issued slot.executed history.client_commands history.server_executed (carried_said history.said)
-      (acks_built history.built) client.gathering.taken
+      (acks_built history.built) client.gathering.taken slot.gathering.taken
 
 -- what joins the two ends of a client
-pub record AreJoined (profile : Profile) (slot : SlotState) (client : ClientState) (history : History) : Type 0 where
-  pub of_client : TakesBuilt profile client history.built history.accepted
+pub record AreJoined (profile : Profile) (map : MapState) (slot : SlotState) (client : ClientState) (history : History) : Type 0 where
+  pub of_client : TakesBuilt profile client history.built history.accepted (accepted_since history.games history.accepted)
   pub of_slot : TakesSaid profile slot history.said history.issued history.run
   pub asked : AreAsked slot history.said history.built history.accepted
   pub commanded : AreCommanded slot client history
+  pub mapped : AreMapped map (standing_of slot) client.state client.gathering.taken client.last_time history.built history.games history.said history.accepted
+      history.client_executed
+  pub since : AreSince history.games client.moves
 
 -- of a client that is at both ends
-abbrev pub IsJoined : Profile → Option SlotState → Option ClientState → History → Type 0
-IsJoined profile (Some slot) (Some client) history = AreJoined profile slot client history
-IsJoined profile slot client history = Unit {0}
+abbrev pub IsJoined : Profile → MapState → Option SlotState → Option ClientState → History → Type 0
+IsJoined profile map (Some slot) (Some client) history = AreJoined profile map slot client history
+IsJoined profile map slot client history = Unit {0}
 
 -- of every client
 abbrev pub AllJoined : Profile → Whole → Type 0
 AllJoined profile whole = (c : ℕ) → c < places
-    → IsJoined profile (slot_at whole.ends.server c) (client_at whole.ends c) (history_at whole.histories c)
+    → IsJoined profile whole.ends.server.map (slot_at whole.ends.server c) (client_at whole.ends c) (history_at whole.histories c)
 
 -- ---- the two worlds
 

@@ -1,6 +1,6 @@
 -- The whole world: both ends, and what nothing wipes. A step delivers a datagram by its tag:
 -- what arrives is the message that was begun under its number.
-use Rattle.std.specs.Prelude.{ℕ, ◌+◌, ◌-◌, List, [], ◌∷◌, ◌++◌, length, map, replicate, Option, Some, None, Ok, Err, slice_get, slice_set, slice_index_or}
+use Rattle.std.specs.Prelude.{ℕ, ◌+◌, ◌-◌, if◌then◌else◌, List, [], ◌∷◌, ◌++◌, length, map, replicate, Option, Some, None, Ok, Err, slice_get, slice_set, slice_index_or}
 use Rattle.q3_profile.specs.declared.profile.Profile.{Profile}
 use Rattle.q3_io.specs.declared.address.Address.{Address}
 use Rattle.q3_player.specs.Heads.{empty_head}
@@ -17,7 +17,18 @@ use Rattle.q3_slot.specs.declared.taking.ServerTook.TheVariants.{Stranger}
 use Rattle.q3_slot.specs.Built.{Built, built_of}
 use Rattle.q3_slot.specs.Slot.{SlotState}
 use Rattle.q3_slot.specs.Emitting.{built_bytes}
-use Rattle.q3_server.specs.Server.{Emission, places, slot_at, emit_at}
+use Rattle.std.specs.List.{range_with_len}
+use Rattle.q3_entity.specs.Baselines.{no_lines}
+use Rattle.q3_config.specs.Laws.{piece_texts}
+use Rattle.q3_gamestate.specs.Values.{Gamestate}
+use Rattle.q3_svmsg.specs.Values as told
+use Rattle.q3_svmsg.specs.Values.{Told}
+use Rattle.q3_slot.specs.Slot.{is_connected}
+use Rattle.q3_slot.specs.Taking.{came_as}
+use Rattle.q3_client.specs.declared.client.ClientTook.{ClientTook}
+use Rattle.q3_client.specs.declared.client.ClientTook.TheVariants as took
+use Rattle.q3_server.specs.Report.{Run}
+use Rattle.q3_server.specs.Server.{ServerState, Emission, places, slot_at, emit_at, is_same}
 use Rattle.q3_slot.specs.Taking as by_slot
 use Rattle.q3_server.specs.Taking as hears
 use Rattle.q3_client.specs.Client.{ClientState, Taken, receive_message, take_gathered}
@@ -27,7 +38,7 @@ use Rattle.q3_world.specs.declared.answer.Answer.{Answer}
 use Rattle.q3_world.specs.declared.answer.Answer.TheVariants as answer
 use Rattle.q3_world.specs.declared.made.Direction.{Direction}
 use Rattle.q3_world.specs.declared.made.Direction.TheVariants.{ToClient, ToServer}
-use Rattle.q3_world.specs.Ends.{Ends, EndsStep, Answered, answered, client_at, with_client, address_at, new_ends, served, sent, unknown, delivered, ran, join, set_time, set_entity, remove_entity, set_player, set_area, say_command, type_command, add_move, show}
+use Rattle.q3_world.specs.Ends.{Ends, EndsStep, Answered, answered, client_at, with_client, address_at, new_ends, served, sent, unknown, delivered, ran, ran_of, join, new_map, set_baseline, set_config, set_time, set_entity, remove_entity, set_player, set_area, say_command, type_command, add_move, show}
 
 -- a datagram that was made: the client that it is for or comes from, which of the two, its message's number, which of its
 -- pieces it carries, and its bytes
@@ -38,14 +49,24 @@ pub record Tag : Type 0 where
   pub index : ℕ
   pub bytes : List ℕ
 
+-- a gamestate that a client applied: the number of its message, what it says, how many snapshots the client had accepted and how many
+-- commands it had executed by then, and the time of the last move that it had issued
+pub record Played : Type 0 where
+  pub number : ℕ
+  pub game : Gamestate
+  pub accepted : ℕ
+  pub executed : ℕ
+  pub time : ℕ
+
 -- of one client: the qport and the host that it joined with, the messages that the server began for it, the one under number
--- 1 first, the snapshots that it accepted, the messages that it began, the moves that it issued, and those that the server ran; the
--- commands that the server issued for it, those of them that it executed, the commands that it issued, and those of them that the
--- server executed
+-- 1 first, the gamestates that it applied, the snapshots that it accepted, the messages that it began, the moves that it issued, and
+-- those that the server ran; the commands that the server issued for it, those of them that it executed, the commands that it issued,
+-- and those of them that the server executed
 pub record History : Type 0 where
   pub qport : ℕ
   pub host : ℕ
   pub built : List Built
+  pub games : List Played
   pub accepted : List Snapshot
   pub said : List Said
   pub issued : List Move
@@ -72,6 +93,7 @@ no_history = record {
   qport = 0;
   host = 0;
   built = [];
+  games = [];
   accepted = [];
   said = [];
   issued = [];
@@ -92,11 +114,11 @@ with_history histories c history = slice_set histories c history
 
 -- what stands where no message was built
 abbrev pub no_message : Built
-no_message = built_of (record { ack = no_command; commands = []; start = 0 }) None (record { head = empty_head; entities = [] })
+no_message = built_of (record { ack = no_command; commands = []; last = 0; under = None; start = 0 }) no_lines None (record { head = empty_head; entities = [] })
 
 -- and where none was said
 abbrev pub no_said : Said
-no_said = record { message = empty_message; start = 0; text = [] }
+no_said = record { message = empty_message; last = 0; feed = 0; start = 0; text = [] }
 
 -- the message that was built under a number, and the one that a client began under it
 abbrev pub built_at : List Built → ℕ → Built
@@ -131,10 +153,39 @@ abbrev pub with_heard : History → Option Snapshot → List Command → History
 with_heard history snapshot commands =
     record (with_accepted history snapshot) { client_executed = history.client_executed ++ texts_of commands }
 
+-- and a gamestate that it applied with the message of a number, if it did
+abbrev pub with_game : History → ℕ → ℕ → Option Gamestate → History
+with_game history number time None = history
+with_game history number time (Some game) = record history {
+  games = history.games ++ record {
+    number = number;
+    game = game;
+    accepted = length history.accepted;
+    executed = length history.client_executed;
+    time = time;
+  } ∷ [];
+}
+
 -- a command that the server issued for it, if it did
 abbrev pub with_spoken : History → List ℕ → Answer → History
 with_spoken history text (answer.Say c (Ok number)) = record history { server_commands = history.server_commands ++ text ∷ [] }
 with_spoken history text other = history
+
+-- the commands of a config change that the client in a slot is told, if there is one
+abbrev pub texts_told : List (List ℕ) → Option SlotState → List (List ℕ)
+texts_told texts None = []
+texts_told texts (Some slot) = if is_connected slot.stage then [] else texts
+
+-- what the server issued for each client by one
+abbrev pub with_texts_told : ServerState → List (List ℕ) → List History → List History
+with_texts_told server texts histories =
+    map (λ c. record (history_at histories c) { server_commands = (history_at histories c).server_commands ++ texts_told texts (slot_at server c) }) (range_with_len 0 places)
+
+-- if it did; a change to the text that was there issues nothing
+abbrev pub with_told : ServerState → ℕ → List ℕ → Answer → List History → List History
+with_told server index text (answer.Config i (Ok x)) histories =
+    if is_same server.map index text then histories else with_texts_told server (piece_texts index text) histories
+with_told server index text other histories = histories
 
 -- a command that it issued, if it did
 abbrev pub with_typed : History → List ℕ → Answer → History
@@ -152,9 +203,9 @@ with_issued history one (answer.Move c (Ok x)) = record history { issued = histo
 with_issued history one other = history
 
 -- the commands that the server executed, and the moves that it ran
-abbrev pub with_run : History → List Command → List Move → History
-with_run history commands moves =
-    record history { run = history.run ++ moves; server_executed = history.server_executed ++ texts_of commands }
+abbrev pub with_run : History → Run → History
+with_run history ran =
+    record history { run = history.run ++ ran.moves; server_executed = history.server_executed ++ texts_of ran.commands }
 
 -- ---- events
 
@@ -173,6 +224,11 @@ with_noted whole c step note =
       whole = record whole { ends = step.ends; histories = with_history whole.histories c (note step.answer) };
       answer = answered step.ends step.answer;
     }
+
+-- and what is noted of every client with it
+abbrev pub with_all : Whole → EndsStep → (Answer → List History → List History) → Step
+with_all whole step note =
+    record { whole = record whole { ends = step.ends; histories = note step.answer whole.histories }; answer = answered step.ends step.answer }
 
 -- the tags, and behind them that of what an emission for a client, or of a client, hands out
 abbrev pub sent_after : List Tag → ℕ → Direction → Option Piece → List Tag
@@ -213,23 +269,33 @@ send whole c (Some from) = say whole c (speaks.emit_at from)
 abbrev pub named : List History → Tag → Built
 named histories tag = built_at (history_at histories tag.client).built tag.number
 
--- a client took a datagram, and what it accepted and executed is noted
-abbrev pub client_took : Whole → ℕ → ℕ → Taken → Step
-client_took whole number c taken =
+-- the gamestate of a message that a client applied, if it has one
+abbrev pub game_in : ClientTook → Told → Option Gamestate
+game_in (took.Applied applied) (told.Game game) = Some game
+game_in other section = None
+
+-- what is noted of a client that took a datagram of a message: what it accepted and executed, and behind that its gamestate
+abbrev pub with_taken : History → ℕ → Told → Taken → History
+with_taken history number section taken =
+    with_game (with_heard history taken.accepted taken.heard) number taken.client.last_time (game_in taken.answer section)
+
+-- a client took a datagram of the message under a number, which has this section
+abbrev pub client_took : Whole → ℕ → ℕ → ℕ → Told → Taken → Step
+client_took whole datagram c number section taken =
     record {
       whole = record whole {
         ends = with_client whole.ends c taken.client;
-        histories = with_history whole.histories c (with_heard (history_at whole.histories c) taken.accepted taken.heard);
+        histories = with_history whole.histories c (with_taken (history_at whole.histories c) number section taken);
       };
-      answer = delivered number c taken.answer taken.heard;
+      answer = delivered datagram c taken.client.state taken.answer taken.heard;
     }
 
 -- a datagram arrives at its client, by its tag: the number and the piece decide what it does, and of a message that comes
 -- whole the client applies the value that was built
 abbrev pub to_client : Profile → Whole → ℕ → Tag → Option ClientState → Step
-to_client profile whole number tag None = record { whole = whole; answer = unknown number }
-to_client profile whole number tag (Some client) =
-    client_took whole number tag.client
+to_client profile whole datagram tag None = record { whole = whole; answer = unknown datagram }
+to_client profile whole datagram tag (Some client) =
+    client_took whole datagram tag.client tag.number (named whole.histories tag).message.section
     (take_gathered client (tagged client.gathering tag.number (built_bytes profile (named whole.histories tag)) tag.index)
     (λ n. Ok (receive_message client n (named whole.histories tag).message)))
 
@@ -243,9 +309,9 @@ server_took whole number c taken =
     record {
       whole = record whole {
         ends = record whole.ends { server = taken.server };
-        histories = with_history whole.histories c (with_run (history_at whole.histories c) taken.commands taken.moves);
+        histories = with_history whole.histories c (with_run (history_at whole.histories c) (ran_of taken));
       };
-      answer = ran number taken.answer taken.commands taken.moves;
+      answer = ran number taken.answer (ran_of taken);
     }
 
 -- a client's datagram comes to its slot, from an address, by its tag: of a message that comes whole the slot runs the value
@@ -255,9 +321,9 @@ to_server profile whole number tag from None = server_took whole number tag.clie
 to_server profile whole number tag from (Some slot) =
     server_took whole number tag.client
     (hears.taken_at whole.ends.server tag.client
-    (by_slot.take_gathered (record slot { address = from }) tag.client
+    (by_slot.take_gathered whole.ends.server.map (record slot { address = from }) tag.client
     (tagged slot.gathering tag.number (said_bytes profile (said_under whole.histories tag)) tag.index)
-    (λ n. Ok (said_under whole.histories tag).message)))
+    (λ n. Ok (came_as whole.ends.server.map (said_under whole.histories tag).message))))
 
 -- a datagram arrives at the end that it goes to
 abbrev pub arrive : Profile → Whole → ℕ → Tag → Direction → Step
@@ -273,6 +339,9 @@ deliver profile whole number (Some tag) = arrive profile whole number tag tag.di
 unfoldable pub step : Profile → Whole → Event → Step
 step profile whole (events.Client c challenge qport dup address) =
     with_noted whole c (join profile whole.ends c challenge qport dup address) (with_joined (history_at whole.histories c) qport address)
+step profile whole (events.Map id feed) = with_ends whole (new_map whole.ends id feed)
+step profile whole (events.Baseline state) = with_ends whole (set_baseline whole.ends state)
+step profile whole (events.Config index text) = with_all whole (set_config whole.ends index text) (with_told whole.ends.server index text)
 step profile whole (events.Entity state) = with_ends whole (set_entity whole.ends state)
 step profile whole (events.Remove number) = with_ends whole (remove_entity whole.ends number)
 step profile whole (events.Player c player) = with_ends whole (set_player whole.ends c player)

@@ -1,14 +1,15 @@
 //! What each event answered.
 
 use q3_client::{ClientTook, MoveError, Sent};
-use q3_server::{Emitted, NoClient, SayError, ServerTook, SlotError};
+use q3_map::{Late, NotLater};
+use q3_server::{ConfigRefused, Emitted, NoClient, SayError, ServerTook, SlotError};
 
 /// What a client shows.
 #[derive(Clone, Copy, Debug, PartialEq, Eq)]
 pub enum Shown {
     /// No such client was added.
     NoClient,
-    /// It has accepted no snapshot.
+    /// It has accepted no snapshot since its last gamestate.
     Nothing,
     /// The newest snapshot that it accepted, which is lent to be printed.
     Newest,
@@ -39,6 +40,11 @@ pub enum Answer {
         c: u8,
         outcome: Result<(), SlotError>,
     },
+    /// The map of this id is played from now on, unless it was refused.
+    Map {
+        id: u32,
+        outcome: Result<(), NotLater>,
+    },
     /// The state of the entity of this number was taken over.
     Entity {
         number: u16,
@@ -46,6 +52,16 @@ pub enum Answer {
     /// There is no entity of this number any more.
     Remove {
         number: u16,
+    },
+    /// The baseline of this number was taken over, unless it was refused.
+    Baseline {
+        number: u16,
+        outcome: Result<(), Late>,
+    },
+    /// The config string of this index has the text, unless it was refused.
+    Config {
+        index: u32,
+        outcome: Result<(), ConfigRefused>,
     },
     Player {
         c: u8,

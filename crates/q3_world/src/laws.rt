@@ -2,11 +2,12 @@
 
 ghost use Rattle.q3_world.specs.MessageLaws.{BuiltIsRead, SaidIsRead, BuiltSurvives, SaidSurvives};
 ghost use Rattle.q3_world.specs.Layers.{Layers};
-ghost use Rattle.q3_world.specs.Schedules.{StepFollows, BytesFollowTags, AlwaysLegible, UnknownWasNotMade, CommandsArePrefixes, KeysAgree, ExecutedGoesOn, AcceptedWereBuilt, ShownWasBuilt, ShownIsNewest, AsksForAccepted, BasesWereAccepted, HeldIsAccepted, ViewsWereBuilt, AppliedWasBuilt, NewerIsAccepted, UsualNeverSkips, NewerIsRun, MovesWereIssued, InOrderIsAccepted, ServedIsShown};
+ghost use Rattle.q3_world.specs.Schedules.{StepFollows, BytesFollowTags, AlwaysLegible, UnknownWasNotMade, CommandsArePrefixes, KeysAgree, ExecutedGoesOn, AcceptedWereBuilt, ShownWasBuilt, ShownIsNewest, AsksForAccepted, BasesWereAccepted, HeldIsAccepted, ViewsWereBuilt, AppliedWasBuilt, NewerIsAccepted, UsualNeverSkips, NewerIsRun, MovesWereIssued, EnteringIsNotRun, InOrderIsAccepted, ServedIsShown, StateIsOfGame, StringsFollow};
 
 use q3_bits::laws as bits;
 use q3_chan::laws as chan;
 use q3_clmsg::laws as clmsg;
+use q3_config::laws as config;
 use q3_entity::laws as entity;
 use q3_frames::laws as frames;
 use q3_map::laws as map;
@@ -55,7 +56,7 @@ pub fn said_survives()
 }
 
 /// What the laws over schedules use of the layers below.
-fn layers()
+pub(crate) fn layers()
     ensures { Layers }
 {
     built_is_read();
@@ -71,6 +72,12 @@ fn layers()
     chan::scrambled_twice();
     bits::message_holds_bits();
     map::lists_stay_held();
+    map::new_maps_tell();
+    config::strings_stay();
+    config::texts_stay();
+    config::pieces_are_texts();
+    config::pieces_make_change();
+    config::spelled_is_read();
     frames::held_was_built();
     frames::build_keeps();
     frames::base_is_near();
@@ -99,6 +106,7 @@ pub fn bytes_follow_tags()
     ensures { BytesFollowTags }
 {
     step_follows();
+    layers();
 }
 
 /// In a replay no end ever gets what it can't read, no acknowledgement is refused, no command leaves a gap, the server finds each
@@ -156,14 +164,15 @@ pub fn shown_was_built()
     layers();
 }
 
-/// What a show prints is the newest snapshot that the client accepted, if it accepted one.
+/// What a show prints is the newest snapshot that the client accepted since the last gamestate that it applied, if it accepted one.
 pub fn shown_is_newest()
     ensures { ShownIsNewest }
 {
     bytes_follow_tags();
 }
 
-/// A client asks for deltas exactly where the snapshot of the newest message that it took was accepted.
+/// A client asks for deltas exactly where the snapshot of the newest message that it took was accepted, and no gamestate was
+/// applied since.
 pub fn asks_for_accepted()
     ensures { AsksForAccepted }
 {
@@ -177,8 +186,8 @@ pub fn bases_were_accepted()
     bytes_follow_tags();
 }
 
-/// What a client holds is told by all that it accepted: under a number exactly the snapshot accepted under it, as long as no later
-/// one stands in its place and its entities are there.
+/// What a client holds is told by all that it accepted since the last gamestate that it applied: under a number exactly the
+/// snapshot accepted under it, as long as no later one stands in its place and its entities are there.
 pub fn held_is_accepted()
     ensures { HeldIsAccepted }
 {
@@ -195,7 +204,8 @@ pub fn views_were_built()
 }
 
 /// Whatever came before, where a client applies a datagram, its answer is told by the message that was built under its number
-/// and by what it accepted, and where it accepts the snapshot, its newest is the one that the server built for it.
+/// and by what it accepted; where it accepts the snapshot, its newest is the one that the server built for it; and behind the
+/// delivery the client has that number.
 pub fn applied_was_built()
     ensures { AppliedWasBuilt }
 {
@@ -203,8 +213,8 @@ pub fn applied_was_built()
     layers();
 }
 
-/// Whatever came before, where the bytes of a datagram bring a message whole, its snapshot is accepted, unless it has a base
-/// whose entities are gone.
+/// Whatever came before, where the bytes of a datagram bring a message whole, it is applied: its gamestate, or its snapshot,
+/// unless that has a base whose entities are gone.
 pub fn newer_is_accepted()
     ensures { NewerIsAccepted }
 {
@@ -221,8 +231,8 @@ pub fn usual_never_skips()
     applied_was_built();
 }
 
-/// Whatever came before, where the bytes of a client's datagram bring a message whole to its slot, it is run, and the slot writes
-/// against the snapshot that it asks for from then on.
+/// Whatever came before, where the bytes of a client's datagram bring a message whole to its slot, it is run if it is of the map,
+/// and the slot goes on as its moves say; of a message of another map nothing is run.
 pub fn newer_is_run()
     ensures { NewerIsRun }
 {
@@ -238,8 +248,18 @@ pub fn moves_were_issued()
     bytes_follow_tags();
 }
 
+/// A move with which a client enters a map isn't run: all moves of it that were run before are earlier, and all that are run later
+/// are later.
+pub fn entering_is_not_run()
+    ensures { EnteringIsNotRun }
+{
+    bytes_follow_tags();
+    layers();
+}
+
 /// Whatever came before, where all pieces of a message arrive in order, with nothing between them, whose number is above
-/// every number that its client has taken, with the last its snapshot is accepted, unless it has a base whose entities are gone.
+/// every number that its client has taken, with the last it is applied: its gamestate, or its snapshot, unless that has a base
+/// whose entities are gone.
 pub fn in_order_is_accepted()
     ensures { InOrderIsAccepted }
 {
@@ -259,4 +279,22 @@ pub fn served_is_shown()
     bits::message_holds_bits();
     chan::scrambled_twice();
     chan::tagged_does();
+}
+
+/// A client's strings, baselines, id, slot and feed are those of the last gamestate that it applied, with the changes that it
+/// executed since.
+pub fn state_is_of_game()
+    ensures { StateIsOfGame }
+{
+    bytes_follow_tags();
+    layers();
+}
+
+/// Where the game says no text of a config change, a client has the server's config strings as they were when the last message that
+/// it applied was begun, if that was under its own map.
+pub fn strings_follow()
+    ensures { StringsFollow }
+{
+    bytes_follow_tags();
+    layers();
 }

@@ -1,15 +1,16 @@
 //! Both ends of every client and the datagrams that were made, and what an event does to them.
 
-ghost use Rattle.std.specs.Prelude.{◌≡◌, ◌+◌, ◌-◌, ◌<◌, ◌≤◌, length, slice_get, option_map, IfOk, OnOk, OnErr};
+ghost use Rattle.std.specs.Prelude.{◌≡◌, ◌+◌, ◌-◌, ◌^◌, ◌<◌, ◌≤◌, length, slice_get, option_map, IfOk, OnOk, OnErr};
 ghost use Rattle.q3_profile.specs.Profile.{IsProfile, IsCodec};
 ghost use Rattle.q3_script.specs.Grammar.{IsReplayEvent};
+ghost use Rattle.q3_entity.specs.Baselines.{most_lines};
 ghost use Rattle.q3_map.specs.Map.{most_numbers};
 ghost use Rattle.q3_server.specs.Server.{places, emit_at};
 ghost use Rattle.q3_rings.specs.Loans.{snapshot_of};
 ghost use Rattle.q3_clstate.specs.declared.applied.Log.{Log as LogValue};
 ghost use Rattle.q3_slot.specs.declared.taking.Heard.{Heard as HeardValue};
-ghost use Rattle.q3_world.specs.Ends.{lent, newest_of, newest, client_at, shown_of, join, set_time, set_entity, remove_entity, set_player, set_area, say_command, type_command, add_move};
-ghost use Rattle.q3_world.specs.Executed.{answered_with};
+ghost use Rattle.q3_world.specs.Ends.{lent, newest_of, newest, client_at, shown_of, join, new_map, set_baseline, set_config, set_time, set_entity, remove_entity, set_player, set_area, say_command, type_command, add_move};
+ghost use Rattle.q3_world.specs.Executed.{answered_with, state_with};
 ghost use Rattle.q3_world.specs.Kept.{most_datagrams, opening_kept, kept_step, kept_ends, kept_serve, kept_send, kept_deliver};
 ghost use Rattle.q3_world.specs.Outcome.{TakesMemory};
 
@@ -27,7 +28,7 @@ use q3_io::Address;
 use q3_player::PlayerState;
 use q3_profile::Profile;
 use q3_rings::SnapView;
-use q3_script::Event;
+use q3_script::{Bytes, Event};
 use q3_server::{Heard, MOST_SLOTS, NoClient, Server};
 use q3_text::Text;
 use q3_window::WindowFull;
@@ -102,6 +103,9 @@ impl Replay {
                 dup,
                 address,
             } => self.join(*c, *challenge, *qport, *dup, *address),
+            Event::Map { id, feed } => Ok(self.new_map(*id, *feed)),
+            Event::Baseline { state } => Ok(self.set_baseline(state)),
+            Event::Config { index, text } => Ok(self.set_config(*index, text)),
             Event::Entity { state } => Ok(self.set_entity(state)),
             Event::Remove { number } => Ok(self.remove_entity(*number)),
             Event::Player { c, player } => Ok(self.set_player(*c, player)),
@@ -141,6 +145,42 @@ impl Replay {
         self.clients[c as usize] = Some(client);
         self.addresses[c as usize] = address;
         Ok(Answer::Client { c, outcome: Ok(()) })
+    }
+
+    /// A new map.
+    fn new_map(&mut self, id: u32, feed: u32) -> Answer
+        requires { id < 2 ^ 31 }
+        ensures { (log : LogValue) (heard : HeardValue) → kept_ends self.old (new_map self.old.ends id feed)
+            ≡ record { kept = self.new; answer = answered_with self.new.ends result log heard } }
+    {
+        Answer::Map {
+            id,
+            outcome: self.server.new_map(id, feed),
+        }
+    }
+
+    /// The baseline of an entity.
+    fn set_baseline(&mut self, state: &EntityState) -> Answer
+        requires some { 1 ≤ state.now.number }
+        requires most { state.now.number < most_lines }
+        ensures { (log : LogValue) (heard : HeardValue) → kept_ends self.old (set_baseline self.old.ends state.now)
+            ≡ record { kept = self.new; answer = answered_with self.new.ends result log heard } }
+    {
+        Answer::Baseline {
+            number: state.number,
+            outcome: self.server.set_baseline(state),
+        }
+    }
+
+    /// A config string changes to a text.
+    fn set_config(&mut self, index: u32, text: &Bytes) -> Answer
+        ensures { (log : LogValue) (heard : HeardValue) → kept_ends self.old (set_config self.old.ends index text.now)
+            ≡ record { kept = self.new; answer = answered_with self.new.ends result log heard } }
+    {
+        Answer::Config {
+            index,
+            outcome: self.server.set_config(index, text.bytes()),
+        }
     }
 
     fn set_entity(&mut self, state: &EntityState) -> Answer
@@ -341,6 +381,16 @@ impl Replay {
     {
         match answer {
             Answer::Show { c, .. } => self.newest(c),
+            _ => None,
+        }
+    }
+
+    /// The client that took a datagram, which is printed with the answer.
+    pub fn taker(&self, answer: Answer) -> Option<&Client>
+        ensures { option_map (λ client. client.now.state) result ≡ state_with self.now.ends answer }
+    {
+        match answer {
+            Answer::Deliver { c, .. } => self.clients.get(c as usize)?.as_ref(),
             _ => None,
         }
     }

@@ -4,41 +4,43 @@ ghost use Rattle.std.specs.Prelude.{◌≡◌, [], ◌∷◌, codes, decimal, op
 ghost use Rattle.std.specs.List.{concat, flat_map};
 ghost use Rattle.q3_io.specs.Faults.{HasCause};
 ghost use Rattle.q3_io.specs.Written.{Adds, NothingWaits};
-ghost use Rattle.q3_server.specs.Report.{slot_error_text, no_client_text, say_error_text, server_text};
+ghost use Rattle.q3_server.specs.Report.{slot_error_text, not_later_text, late_text, config_refused_text, no_client_text, say_error_text, run_of as what_ran, server_text};
 ghost use Rattle.q3_client.specs.Report.{client_text, move_error_text};
-ghost use Rattle.q3_world.specs.Executed.{commands_with, moves_with};
-ghost use Rattle.q3_world.specs.Report.{lines_of, handed_in_text, issued_text, type_refused_text, move_refused_text, area_text, start_text, entity_text, shown_text, head_text, snapshot_text};
+ghost use Rattle.q3_world.specs.Executed.{ran_with};
+ghost use Rattle.q3_world.specs.Report.{lines_of, client_lines, handed_in_text, issued_text, type_refused_text, move_refused_text, area_text, start_text, entity_text, shown_text, head_text, snapshot_text};
 ghost use Rattle.q3_rings.specs.Loans.{snapshot_of};
 ghost use Rattle.q3_entity.specs.Entities.{run_of};
 
 use crate::answer::{Answer, MoveRefused, Shown, TypeRefused};
-use q3_client::{ClientTook, MoveError, print_move_error, print_sent, print_took};
+use q3_client::{Client, ClientTook, MoveError, print_move_error, print_sent, print_took};
 use q3_clstate::Log;
 use q3_entity::{EntityState, Run, print_fields};
 use q3_io::{Failed, Piece, Sink, laws, print_all, print_hex};
+use q3_map::{Late, NotLater};
 use q3_player::print_words;
 use q3_rings::SnapView;
 use q3_server::{
-    Heard, NoClient, SayError, ServerTook, SlotError, print_emitted, print_say_error,
-    print_slot_error,
+    ConfigRefused, Heard, NoClient, SayError, ServerTook, SlotError, print_config_refused,
+    print_emitted, print_late, print_not_later, print_say_error, print_slot_error,
 };
 
-/// Prints the lines of an answer, with what is lent for it: a snapshot, and what a client, or the server, executed and ran. It
-/// hands them on, or a front of them and answers `Failed`.
+/// Prints the lines of an answer, with what is lent for it: a snapshot, the client that took a datagram, and what it, or the
+/// server, executed and ran. It hands them on, or a front of them and answers `Failed`.
 pub(crate) fn print_answer<O: Sink>(
     answer: &Answer,
     lent: Option<SnapView>,
+    taker: Option<&Client>,
     log: &Log,
     heard: &Heard,
     out: &mut O,
 ) -> Result<(), Failed>
     ensures adds { Adds (O.written out.old) (O.written out.new)
-        (lines_of answer.now (option_map snapshot_of lent.entry) (commands_with answer.now log.now heard.now) (moves_with answer.now heard.now)) result }
+        (lines_of answer.now (option_map snapshot_of lent.entry) (option_map (λ client. client.now.state) taker.entry) (ran_with answer.now log.now heard.now)) result }
     ensures flushed { OnOk result (NothingWaits (O.written out.new)) }
     ensures cause { HasCause (O.faults out.old) (O.faults out.new) result }
 {
     laws::texts_follow();
-    print_lines(answer, lent, log, heard, out)?;
+    print_lines(answer, lent, taker, log, heard, out)?;
     out.flush()
 }
 
@@ -47,18 +49,22 @@ pub(crate) fn print_answer<O: Sink>(
 fn print_lines<O: Sink>(
     answer: &Answer,
     lent: Option<SnapView>,
+    taker: Option<&Client>,
     log: &Log,
     heard: &Heard,
     out: &mut O,
 ) -> Result<(), Failed>
     ensures adds { Adds (O.written out.old) (O.written out.new)
-        (lines_of answer.now (option_map snapshot_of lent.entry) (commands_with answer.now log.now heard.now) (moves_with answer.now heard.now)) result }
+        (lines_of answer.now (option_map snapshot_of lent.entry) (option_map (λ client. client.now.state) taker.entry) (ran_with answer.now log.now heard.now)) result }
     ensures cause { HasCause (O.faults out.old) (O.faults out.new) result }
 {
     match answer {
         Answer::Client { c, outcome } => print_joined(*c, *outcome, out),
+        Answer::Map { id, outcome } => print_mapped(*id, *outcome, out),
         Answer::Entity { number } => print_line(b"entity ", u32::from(*number), b" ok\n", out),
         Answer::Remove { number } => print_line(b"remove ", u32::from(*number), b" ok\n", out),
+        Answer::Baseline { number, outcome } => print_baseline(*number, *outcome, out),
+        Answer::Config { index, outcome } => print_config(*index, *outcome, out),
         Answer::Player { c, outcome } => {
             print_line(b"player ", u32::from(*c), given(*outcome), out)
         }
@@ -83,7 +89,9 @@ fn print_lines<O: Sink>(
             sent: Err(NoClient),
             ..
         } => print_line(b"send ", u32::from(*c), b" noclient\n", out),
-        Answer::Deliver { datagram, c, took } => print_delivered(*datagram, *c, took, log, out),
+        Answer::Deliver { datagram, c, took } => {
+            print_arrived(*datagram, *c, took, taker, log, out)
+        }
         Answer::ToServer { datagram, took } => print_heard(*datagram, took, heard, out),
         Answer::Show { c, shown } => print_shown(*c, *shown, lent, out),
     }
@@ -116,12 +124,89 @@ fn print_joined<O: Sink>(c: u8, outcome: Result<(), SlotError>, out: &mut O) -> 
 {
     match outcome {
         Ok(()) => print_line(b"client ", u32::from(c), b" ok\n", out),
-        Err(error) => print_refused(c, error, out),
+        Err(error) => print_refused(u32::from(c), error, out),
     }
 }
 
+/// Prints the line of a map.
+fn print_mapped<O: Sink>(id: u32, outcome: Result<(), NotLater>, out: &mut O) -> Result<(), Failed>
+    ensures adds { Adds (O.written out.old) (O.written out.new) (concat (codes "map " ∷ decimal id ∷ handed_in_text not_later_text outcome ∷ [])) result }
+    ensures cause { HasCause (O.faults out.old) (O.faults out.new) result }
+{
+    match outcome {
+        Ok(()) => print_line(b"map ", id, b" ok\n", out),
+        Err(refusal) => print_map_refused(id, refusal, out),
+    }
+}
+
+/// Prints the line of a map that isn't later than the last.
+fn print_map_refused<O: Sink>(id: u32, refusal: NotLater, out: &mut O) -> Result<(), Failed>
+    ensures adds { Adds (O.written out.old) (O.written out.new)
+        (concat (codes "map " ∷ decimal id ∷ concat (codes " refused " ∷ not_later_text refusal ∷ codes "\n" ∷ []) ∷ [])) result }
+    ensures cause { HasCause (O.faults out.old) (O.faults out.new) result }
+{
+    laws::texts_follow();
+    print_refusal(b"map ", id, out)?;
+    print_not_later(refusal, out)?;
+    out.write_all(b"\n")
+}
+
+/// Prints the line of a baseline.
+fn print_baseline<O: Sink>(
+    number: u16,
+    outcome: Result<(), Late>,
+    out: &mut O,
+) -> Result<(), Failed>
+    ensures adds { Adds (O.written out.old) (O.written out.new) (concat (codes "baseline " ∷ decimal number ∷ handed_in_text late_text outcome ∷ [])) result }
+    ensures cause { HasCause (O.faults out.old) (O.faults out.new) result }
+{
+    match outcome {
+        Ok(()) => print_line(b"baseline ", u32::from(number), b" ok\n", out),
+        Err(refusal) => print_baseline_refused(u32::from(number), refusal, out),
+    }
+}
+
+/// Prints the line of a baseline that comes too late.
+fn print_baseline_refused<O: Sink>(number: u32, refusal: Late, out: &mut O) -> Result<(), Failed>
+    ensures adds { Adds (O.written out.old) (O.written out.new)
+        (concat (codes "baseline " ∷ decimal number ∷ concat (codes " refused " ∷ late_text refusal ∷ codes "\n" ∷ []) ∷ [])) result }
+    ensures cause { HasCause (O.faults out.old) (O.faults out.new) result }
+{
+    laws::texts_follow();
+    print_refusal(b"baseline ", number, out)?;
+    print_late(refusal, out)?;
+    out.write_all(b"\n")
+}
+
+/// Prints the line of a config string.
+fn print_config<O: Sink>(
+    index: u32,
+    outcome: Result<(), ConfigRefused>,
+    out: &mut O,
+) -> Result<(), Failed>
+    ensures adds { Adds (O.written out.old) (O.written out.new) (concat (codes "config " ∷ decimal index ∷ handed_in_text config_refused_text outcome ∷ [])) result }
+    ensures cause { HasCause (O.faults out.old) (O.faults out.new) result }
+{
+    match outcome {
+        Ok(()) => print_line(b"config ", index, b" ok\n", out),
+        Err(refusal) => print_unchanged(index, refusal, out),
+    }
+}
+
+/// Prints the line of a config string that isn't changed.
+fn print_unchanged<O: Sink>(index: u32, refusal: ConfigRefused, out: &mut O) -> Result<(), Failed>
+    ensures adds { Adds (O.written out.old) (O.written out.new)
+        (concat (codes "config " ∷ decimal index ∷ concat (codes " refused " ∷ config_refused_text refusal ∷ codes "\n" ∷ []) ∷ [])) result }
+    ensures cause { HasCause (O.faults out.old) (O.faults out.new) result }
+{
+    laws::texts_follow();
+    print_refusal(b"config ", index, out)?;
+    print_config_refused(refusal, out)?;
+    out.write_all(b"\n")
+}
+
 /// Prints the line of a client that can't join.
-fn print_refused<O: Sink>(c: u8, error: SlotError, out: &mut O) -> Result<(), Failed>
+fn print_refused<O: Sink>(c: u32, error: SlotError, out: &mut O) -> Result<(), Failed>
     ensures adds { Adds (O.written out.old) (O.written out.new)
         (concat (codes "client " ∷ decimal c ∷ concat (codes " refused " ∷ slot_error_text error ∷ codes "\n" ∷ []) ∷ [])) result }
     ensures cause { HasCause (O.faults out.old) (O.faults out.new) result }
@@ -133,11 +218,11 @@ fn print_refused<O: Sink>(c: u8, error: SlotError, out: &mut O) -> Result<(), Fa
 }
 
 /// Prints what stands in front of the reason.
-fn print_refusal<O: Sink>(line: &[u8], c: u8, out: &mut O) -> Result<(), Failed>
-    ensures adds { Adds (O.written out.old) (O.written out.new) (concat (line.now ∷ decimal c ∷ codes " refused " ∷ [])) result }
+fn print_refusal<O: Sink>(line: &[u8], number: u32, out: &mut O) -> Result<(), Failed>
+    ensures adds { Adds (O.written out.old) (O.written out.new) (concat (line.now ∷ decimal number ∷ codes " refused " ∷ [])) result }
     ensures cause { HasCause (O.faults out.old) (O.faults out.new) result }
 {
-    print_line(line, u32::from(c), b" refused ", out)
+    print_line(line, number, b" refused ", out)
 }
 
 /// Prints the line of a command that the server issues.
@@ -147,7 +232,7 @@ fn print_said<O: Sink>(c: u8, outcome: Result<u32, SayError>, out: &mut O) -> Re
 {
     match outcome {
         Ok(number) => print_issued(b"say ", c, number, out),
-        Err(error) => print_say_refused(c, error, out),
+        Err(error) => print_say_refused(u32::from(c), error, out),
     }
 }
 
@@ -170,7 +255,7 @@ fn print_issued<O: Sink>(line: &[u8], c: u8, number: u32, out: &mut O) -> Result
 }
 
 /// Prints the line of a command that the server doesn't issue.
-fn print_say_refused<O: Sink>(c: u8, error: SayError, out: &mut O) -> Result<(), Failed>
+fn print_say_refused<O: Sink>(c: u32, error: SayError, out: &mut O) -> Result<(), Failed>
     ensures adds { Adds (O.written out.old) (O.written out.new)
         (concat (codes "say " ∷ decimal c ∷ concat (codes " refused " ∷ say_error_text error ∷ codes "\n" ∷ []) ∷ [])) result }
     ensures cause { HasCause (O.faults out.old) (O.faults out.new) result }
@@ -202,13 +287,13 @@ fn print_moved<O: Sink>(c: u8, outcome: Result<(), MoveRefused>, out: &mut O) ->
     let word: &[u8] = match outcome {
         Ok(()) => b" ok\n",
         Err(MoveRefused::NoClient) => b" refused noclient\n",
-        Err(MoveRefused::Error(error)) => return print_move_refused(c, error, out),
+        Err(MoveRefused::Error(error)) => return print_move_refused(u32::from(c), error, out),
     };
     print_line(b"move ", u32::from(c), word, out)
 }
 
 /// Prints the line of a move that the client's end refuses.
-fn print_move_refused<O: Sink>(c: u8, error: MoveError, out: &mut O) -> Result<(), Failed>
+fn print_move_refused<O: Sink>(c: u32, error: MoveError, out: &mut O) -> Result<(), Failed>
     ensures adds { Adds (O.written out.old) (O.written out.new)
         (concat (codes "move " ∷ decimal c ∷ concat (codes " refused " ∷ move_error_text error ∷ codes "\n" ∷ []) ∷ [])) result }
     ensures cause { HasCause (O.faults out.old) (O.faults out.new) result }
@@ -226,7 +311,7 @@ fn print_heard<O: Sink>(
     heard: &Heard,
     out: &mut O,
 ) -> Result<(), Failed>
-    ensures adds { Adds (O.written out.old) (O.written out.new) (concat (codes "deliver " ∷ decimal datagram ∷ server_text took.now heard.now.commands.items heard.now.moves.items ∷ [])) result }
+    ensures adds { Adds (O.written out.old) (O.written out.new) (concat (codes "deliver " ∷ decimal datagram ∷ server_text took.now (what_ran heard.now) ∷ [])) result }
     ensures cause { HasCause (O.faults out.old) (O.faults out.new) result }
 {
     laws::texts_follow();
@@ -234,20 +319,41 @@ fn print_heard<O: Sink>(
     q3_server::print_took(took, heard, out)
 }
 
-/// Prints the lines of a delivery to a client.
+/// Prints the lines of a delivery to a client, which is lent.
+fn print_arrived<O: Sink>(
+    datagram: u32,
+    c: u8,
+    took: &ClientTook,
+    taker: Option<&Client>,
+    log: &Log,
+    out: &mut O,
+) -> Result<(), Failed>
+    ensures adds { Adds (O.written out.old) (O.written out.new)
+        (concat (codes "deliver " ∷ decimal datagram ∷ client_lines (option_map (λ client. client.now.state) taker.entry) c took.now log.now.commands.items ∷ [])) result }
+    ensures cause { HasCause (O.faults out.old) (O.faults out.new) result }
+{
+    match taker {
+        Some(client) => print_delivered(datagram, client, c, took, log, out),
+        None => print_deliver(datagram, out),
+    }
+}
+
+/// Prints the lines of a delivery to a client that is there.
 fn print_delivered<O: Sink>(
     datagram: u32,
+    client: &Client,
     c: u8,
     took: &ClientTook,
     log: &Log,
     out: &mut O,
 ) -> Result<(), Failed>
-    ensures adds { Adds (O.written out.old) (O.written out.new) (concat (codes "deliver " ∷ decimal datagram ∷ client_text c took.now log.now.commands.items ∷ [])) result }
+    ensures adds { Adds (O.written out.old) (O.written out.new)
+        (concat (codes "deliver " ∷ decimal datagram ∷ client_text client.now.state c took.now log.now.commands.items ∷ [])) result }
     ensures cause { HasCause (O.faults out.old) (O.faults out.new) result }
 {
     laws::texts_follow();
     print_deliver(datagram, out)?;
-    print_took(c, took, log, out)
+    print_took(client, c, took, log, out)
 }
 
 /// Prints what stands in front of the client.

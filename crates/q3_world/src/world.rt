@@ -56,6 +56,7 @@ impl World {
         requires { IsProfile profile.now }
         ensures stands { IfOk result (λ world. StandsFor profile.now world (opening profile.now)) }
     {
+        laws::layers();
         Ok(World {
             replay: Replay::new(alloc, profile)?,
             log: Box::new(
@@ -100,7 +101,8 @@ impl World {
             return Err(StepError::NoMemory);
         };
         let snapshot = self.replay.lent(answer);
-        match print_answer(&answer, snapshot, &self.log, &self.heard, out) {
+        let taker = self.replay.taker(answer);
+        match print_answer(&answer, snapshot, taker, &self.log, &self.heard, out) {
             Ok(()) => Ok(()),
             Err(Failed) => Err(StepError::WriteFault),
         }

@@ -2,4 +2,4 @@ use Rattle.q3_world.proofs.EverySchedule.{bytes_follow_tags}
 use Rattle.q3_world.proofs.laws.bytes_follow_tags.Goals as goal
 
 pub returns : goal.returns
-returns c = bytes_follow_tags c.step_follows.ensures
+returns c = bytes_follow_tags c.step_follows.ensures c.layers.ensures

@@ -30,4 +30,12 @@ returns c = record {
     by_age = c.near_is_held_by_age.ensures;
     usual = c.usual_ring_holds.ensures;
   };
+  configs = record {
+    stay = c.strings_stay.ensures;
+    texts = c.texts_stay.ensures;
+    new_map = c.new_maps_tell.ensures;
+    pieces = c.pieces_are_texts.ensures;
+    make = c.pieces_make_change.ensures;
+    read = c.spelled_is_read.ensures;
+  };
 }
