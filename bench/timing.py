@@ -59,6 +59,13 @@ def profile(words, player):
             f'entity = [0, 8, -16]\nplayer = {player}\ncode = [{code}]\n')
 
 
+def entering(lines):
+    """The client joins; then there is a map with what these lines hand in, and the client enters it at the time 10. Four
+    datagrams are made by then."""
+    return ['client 0 1567508447 5000 0 10.0.0.1:27960', 'map 1 77', *lines, 'serve 0', 'deliver 1', 'send 0', 'deliver 2',
+            'serve 0', 'deliver 3', 'move 0 10 0 0 0 0 0 0 0 0', 'send 0', 'deliver 4']
+
+
 def replay(program, folder, profile, lines):
     """Writes a profile and a script into the folder: the command that replays these lines."""
     (folder / 'profile').write_text(profile)

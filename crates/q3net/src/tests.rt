@@ -5,10 +5,11 @@ use q3_io::Line;
 use q3_memory::{MemFiles, MemSink};
 use std::alloc::{AllocError, Global};
 
-/// A client is asked for before anything was delivered to it. Each event is one write.
-const SCRIPT: &[u8] = b"client 0 17 5000 1 10.0.0.1:27960\ntime 1000\nshow 0\n";
+/// A map that isn't later than the last is refused, and a client is asked for before anything was delivered to it. Each event
+/// is one write.
+const SCRIPT: &[u8] = b"client 0 17 5000 1 10.0.0.1:27960\nmap 1 77\nmap 1 5\nshow 0\n";
 
-const REPORT: &[u8] = b"client 0 ok\ntime ok\nshow 0 none\n";
+const REPORT: &[u8] = b"client 0 ok\nmap 1 ok\nmap 1 refused notlater 1\nshow 0 none\n";
 
 /// A profile with the plain code: the word of a byte is its eight bits, least first.
 const PROFILE: &[u8] = br#"protocol = 68
@@ -110,10 +111,10 @@ fn each_status(rt: HostRuntime) {
         &rt,
         alloc,
         "replay p s",
-        b"time\n",
+        b"map 0 77\n",
         (0, 0),
         6,
-        b"script: line 1: count\n",
+        b"script: line 1: number\n",
     );
 }
 
@@ -139,7 +140,7 @@ fn faults_of_the_outside(rt: HostRuntime) {
         SCRIPT,
         (0, 3),
         4,
-        b"client 0 ok\ntime ok\n",
+        b"client 0 ok\nmap 1 ok\n",
     );
     wants(&rt, alloc, "replay p s", SCRIPT, (2, 0), 3, b"read fault\n");
     wants(&rt, alloc, "replay p s", SCRIPT, (5, 0), 3, b"read fault\n");
