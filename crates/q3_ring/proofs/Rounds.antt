@@ -1,15 +1,16 @@
--- A list read round its end, and what is put into it round its end.
-use Rattle.std.proofs.Common.{◌≡◌, ℕ, ◌+◌, ◌-◌, ◌%◌, ◌<◌, ◌≤◌, List, [], ◌++◌, length, take, drop, refl, sym, ap, ◌∙◌, subst, append_assoc, arith, inl, inr}
+-- A list read round its end, what is put into it round its end, and what it has where nothing was put.
+use Rattle.std.proofs.Common.{◌≡◌, ℕ, ◌+◌, ◌-◌, ◌%◌, ◌<◌, ◌≤◌, min, List, [], ◌++◌, length, take, drop, replicate, refl, sym, ap, ◌∙◌, append_assoc, arith, inl, inr}
 use Rattle.std.proofs.Math.Nat.{mod-add-mod, add-mod_right, mod-eq_of_lt, mod-eq-sub-mod, mod-lt, mod_self}
 use Rattle.std.proofs.Math.Seq.{drop-append-add, take-append-add, take-length, drop-length}
 use Rattle.std.proofs.Math.ListN.{drop_of_length-le}
 use Rattle.std.proofs.lemmas.Bool.{cases_lt}
-use Rattle.std.proofs.lemmas.List.{length-append, length-take, length-take-le, length-drop, append-nil, take_at, drop_at, take_rest, drop-append-le, take-append-le, take-take, drop-take, drop-drop}
+use Rattle.std.proofs.lemmas.List.{length-append, length-take, length-take-le, length-drop, append-nil, take_at, drop_at, take_rest, drop-append-le, take-append-le, take-take, drop-take, drop-drop, drop_all, length-replicate, drop-replicate}
 use Rattle.q3_entity.specs.declared.state.EntityState.{EntityState}
+use Rattle.q3_entity.specs.Entities.{zero_entity}
 use Rattle.q3_ring.specs.declared.ring.Ring.TheInside.{Inside}
-use Rattle.q3_ring.specs.Turned.{turned}
+use Rattle.q3_ring.specs.Turned.{turned, filled}
 use Rattle.q3_ring.specs.Ring.{RingState, with_entities, entities_from}
-use Rattle.q3_ring.specs.Cells.{ring_in}
+use Rattle.q3_ring.specs.Cells.{ring_in, IsRing}
 
 -- ---- `take` and `drop` over two lists
 
@@ -120,18 +121,63 @@ put_past {X = X} start n xs first rest es middle new count below parts end some 
     ∙ drop-append-le at (take start xs) es (omega arith) in
     ap (λ (k : ℕ). turned k new) round ∙ left ∙ sym right
 
+-- ---- a list that is filled up
+
+pub length-filled : {X : Type 0} (empty : X) (room : ℕ) (xs : List X) → length xs ≤ room → length (filled empty room xs) ≡ room
+length-filled empty room xs most =
+    omega (arith, length-append xs (replicate (room - length xs) empty), length-replicate (room - length xs) empty)
+
+-- one that is full
+filled_whole : {X : Type 0} (empty : X) (room : ℕ) (xs : List X) → length xs ≡ room → filled empty room xs ≡ xs
+filled_whole empty room xs whole =
+    let none : room - length xs ≡ 0 = omega arith in
+    ap (λ (k : ℕ). xs ++ replicate k empty) none ∙ append-nil xs
+
+-- what is put where something stood, or right behind that: how long the list is then
+pub length-put : {X : Type 0} (place : ℕ) (xs es new : List X) → place ≤ length xs → new ≡ take place xs ++ es ++ drop (place + length es) xs
+    → length new ≡ place + length es + (length xs - (place + length es))
+length-put place xs es new within is = ap length is
+    ∙ omega (arith, length-append (take place xs ++ es) (drop (place + length es) xs), length-append (take place xs) es, length-take-le place xs within, length-drop (place + length es) xs)
+
+-- and that it is put so into the list that is filled up
+pub filled_put : {X : Type 0} (empty : X) (room place : ℕ) (xs es new : List X) → place ≤ length xs → length xs ≤ room → place + length es ≤ room
+    → new ≡ take place xs ++ es ++ drop (place + length es) xs
+    → filled empty room new ≡ take place (filled empty room xs) ++ es ++ drop (place + length es) (filled empty room xs)
+filled_put {X = X} empty room place xs es new within most few is =
+    let end : ℕ = place + length es in
+    let others : List X = replicate (room - length xs) empty in
+    let left : room - length new ≡ room - length xs - (end - length xs) = omega (arith, length-put place xs es new within is) in
+    let behind : drop end (xs ++ others) ≡ drop end xs ++ replicate (room - length new) empty = elim (cases_lt (length xs) end) [
+      | inl past ↦
+          drop_past end xs others (omega arith) ∙ drop-replicate (end - length xs) (room - length xs) empty
+          ∙ ap (λ (k : ℕ). replicate k empty) (sym left)
+          ∙ sym (ap (λ (ys : List X). ys ++ replicate (room - length new) empty) (drop_all end xs (omega arith)))
+      | inr here ↦
+          drop-append-le end xs others here
+          ∙ ap (λ (k : ℕ). drop end xs ++ replicate k empty) (let e : room - length xs ≡ room - length new = omega arith in e)
+    ] in
+    ap (λ (ys : List X). ys ++ replicate (room - length new) empty) is
+    ∙ append_assoc (take place xs ++ es) (drop end xs) (replicate (room - length new) empty)
+    ∙ sym (ap (λ (ys : List X). ys ++ es ++ drop end (xs ++ others)) (take-append-le place xs others within)
+    ∙ ap (λ (ys : List X). take place xs ++ es ++ ys) behind)
+
 -- ---- a ring
 
-pub placed_round : (placed n : ℕ) (cells new entities : List EntityState) → length new ≡ n
-    → turned ((placed % n + length entities) % n) new ≡ drop (length entities) (turned (placed % n) cells ++ entities)
-    → record { placed = placed + length entities; recent = turned ((placed + length entities) % length new) new }
-    ≡ with_entities (record { placed = placed; recent = turned (placed % n) cells }) entities
-placed_round placed n cells new entities count is =
-    let at : (placed + length entities) % length new ≡ (placed % n + length entities) % n =
-    ap (λ (k : ℕ). (placed + length entities) % k) count ∙ sym (mod-add-mod placed n (length entities)) in
-    ap (λ (recent : List EntityState). record { placed = placed + length entities; recent = recent }) (ap (λ (k : ℕ). turned k new) at ∙ is)
+pub placed_round : (placed room : ℕ) (cells new entities : List EntityState)
+    → turned ((placed % room + length entities) % room) new ≡ drop (length entities) (turned (placed % room) cells ++ entities)
+    → record { placed = placed + length entities; recent = turned ((placed + length entities) % room) new }
+    ≡ with_entities (record { placed = placed; recent = turned (placed % room) cells }) entities
+placed_round placed room cells new entities is =
+    ap (λ (recent : List EntityState). record { placed = placed + length entities; recent = recent })
+    (ap (λ (k : ℕ). turned k new) (sym (mod-add-mod placed room (length entities))) ∙ is)
 
-pub lent_round : (placed n first count : ℕ) (cells : List EntityState) → length cells ≡ n → 0 < n → first + count ≤ placed → placed ≤ first + n
+-- the room of the ring's value
+room_of : (r : Inside) (ring : RingState) → IsRing r → ring_in r ≡ ring → length ring.recent ≡ r.room
+room_of r ring is view =
+    ap (λ (ring : RingState). length ring.recent) (sym view)
+    ∙ length-turned (r.placed % r.room) (filled (zero_entity 0) r.room r.cells.items) ∙ length-filled (zero_entity 0) r.room r.cells.items is.2
+
+lent_round : (placed n first count : ℕ) (cells : List EntityState) → length cells ≡ n → 0 < n → first + count ≤ placed → placed ≤ first + n
     → take count (turned (first % n) cells) ≡ entities_from (record { placed = placed; recent = turned (placed % n) cells }) first count
 lent_round placed n first count cells whole some were there =
     let more : ℕ = first + n - placed in
@@ -144,34 +190,72 @@ lent_round placed n first count cells whole some were there =
     ∙ ap (λ (k : ℕ). take count (turned k cells)) at)
 
 -- the same of the ring's value
-pub lent_of : (r : Inside) (ring : RingState) (first count n : ℕ) → ring_in r ≡ ring → length r.cells.items ≡ n → 0 < n
+lent_of : (r : Inside) (ring : RingState) (first count : ℕ) → IsRing r → ring_in r ≡ ring
     → first + count ≤ ring.placed → ring.placed ≤ first + length ring.recent
-    → take count (turned (first % n) r.cells.items) ≡ entities_from ring first count
-lent_of r ring first count n view whole some were there =
-    let cells = r.cells.items in
+    → take count (turned (first % r.room) (filled (zero_entity 0) r.room r.cells.items)) ≡ entities_from ring first count
+lent_of r ring first count is view were there =
+    let cells = filled (zero_entity 0) r.room r.cells.items in
+    let whole : length cells ≡ r.room = length-filled (zero_entity 0) r.room r.cells.items is.2 in
     let placed : ring.placed ≡ r.placed = ap (λ (ring : RingState). ring.placed) (sym view) in
-    let room : length ring.recent ≡ n = ap (λ (ring : RingState). length ring.recent) (sym view) ∙ length-turned (r.placed % length cells) cells ∙ whole in
-    let lent = lent_round r.placed n first count cells whole some (omega arith) (omega arith) in
-    let same : record { placed = r.placed; recent = turned (r.placed % n) cells } ≡ ring =
-    ap (λ (k : ℕ). record { placed = r.placed; recent = turned (r.placed % k) cells }) (sym whole) ∙ view in
-    subst (λ (ring : RingState). take count (turned (first % n) cells) ≡ entities_from ring first count) same lent
+    let room : length ring.recent ≡ r.room = room_of r ring is view in
+    lent_round r.placed r.room first count cells whole is.0 (omega arith) (omega arith)
+    ∙ ap (λ (ring : RingState). entities_from ring first count) view
+
+-- what is lent was written
+lies_within : (first count placed room n : ℕ) → 0 < room → first + count ≤ placed → placed ≤ first + room → min placed room ≤ n → n ≤ room
+    → count ≤ room - first % room → first % room + count ≤ n
+lies_within first count placed room n some were there written most few = elim (cases_lt placed room) [
+  | inl fresh ↦ elim (cases_lt first room) [
+    | inl below ↦ let same : first % room ≡ first = mod-eq_of_lt {n = first} {m = room} below in omega arith
+    | inr past ↦ omega arith
+  ]
+  | inr full ↦ let below : first % room < room = mod-lt first {m = room} some in omega arith
+]
+
+-- and what is lent round the end only where all was written
+is_full : (first count placed room n : ℕ) → 0 < room → first + count ≤ placed → min placed room ≤ n → n ≤ room
+    → room - first % room < count → n ≡ room
+is_full first count placed room n some were written most past = elim (cases_lt placed room) [
+  | inl fresh ↦ let same : first % room ≡ first = mod-eq_of_lt {n = first} {m = room} (omega arith) in omega arith
+  | inr full ↦ omega arith
+]
 
 -- the entities of one piece, where the slice that is lent from is told by an equation
-pub lent_within : {X : Type 0} (start count n : ℕ) (cells lent : List X) → lent ≡ cells → length cells ≡ n → start < n → count ≤ n - start
-    → take count (take (length lent - start) (drop start lent)) ++ [] ≡ take count (turned start cells)
-lent_within {X = X} start count n cells lent is whole below within =
+pub lent_within : (r : Inside) (ring : RingState) (first count : ℕ) (lent : List EntityState) → IsRing r → ring_in r ≡ ring
+    → first + count ≤ ring.placed → ring.placed ≤ first + length ring.recent → count ≤ r.room - first % r.room → lent ≡ r.cells.items
+    → take count (take (length lent - first % r.room) (drop (first % r.room) lent)) ++ [] ≡ entities_from ring first count
+lent_within r ring first count lent ring_is view were there few is =
+    let start : ℕ = first % r.room in
+    let cells = r.cells.items in
+    let others : List EntityState = replicate (r.room - length cells) (zero_entity 0) in
+    let placed : ring.placed ≡ r.placed = ap (λ (ring : RingState). ring.placed) (sym view) in
+    let room : length ring.recent ≡ r.room = room_of r ring ring_is view in
+    let within : start + count ≤ length cells = lies_within first count r.placed r.room (length cells) ring_is.0 (omega arith) (omega arith) ring_is.1 ring_is.2 few in
+    let behind : drop start (cells ++ others) ≡ drop start cells ++ others = drop-append-le start cells others (omega arith) in
     append-nil (take count (take (length lent - start) (drop start lent)))
     ∙ ap (take count) (take_rest lent start ∙ ap (drop start) is)
-    ∙ sym (take-append-le count (drop start cells) (take start cells) (omega (arith, length-drop start cells)))
+    ∙ sym (ap (λ (ys : List EntityState). take count (ys ++ take start (cells ++ others))) behind
+    ∙ ap (take count) (append_assoc (drop start cells) others (take start (cells ++ others)))
+    ∙ take-append-le count (drop start cells) (others ++ take start (cells ++ others)) (omega (arith, length-drop start cells)))
+    ∙ lent_of r ring first count ring_is view were there
 
 -- and of two
-pub lent_past : {X : Type 0} (start count n : ℕ) (cells lent other : List X) → lent ≡ cells → other ≡ cells → length cells ≡ n → start < n
-    → n - start < count → count ≤ n
-    → take (length lent - start) (drop start lent) ++ take (count - (n - start)) other ≡ take count (turned start cells)
-lent_past {X = X} start count n cells lent other is other_is whole below past few =
-    let behind : length (drop start cells) ≡ n - start = omega (arith, length-drop start cells) in
-    ap (λ (ys : List X). ys ++ take (count - (n - start)) other) (take_rest lent start ∙ ap (drop start) is)
-    ∙ ap (λ (ys : List X). drop start cells ++ take (count - (n - start)) ys) other_is
-    ∙ sym (take_past count (drop start cells) (take start cells) (omega arith)
-    ∙ ap (λ (ys : List X). drop start cells ++ ys)
-    (ap (λ (k : ℕ). take (count - k) (take start cells)) behind ∙ take-take (count - (n - start)) start cells (omega arith)))
+pub lent_past : (r : Inside) (ring : RingState) (first count : ℕ) (lent other : List EntityState) → IsRing r → ring_in r ≡ ring
+    → first + count ≤ ring.placed → ring.placed ≤ first + length ring.recent → r.room - first % r.room < count → lent ≡ r.cells.items → other ≡ r.cells.items
+    → take (length lent - first % r.room) (drop (first % r.room) lent) ++ take (count - (r.room - first % r.room)) other ≡ entities_from ring first count
+lent_past r ring first count lent other ring_is view were there past is other_is =
+    let start : ℕ = first % r.room in
+    let behind : ℕ = r.room - start in
+    let cells = r.cells.items in
+    let placed : ring.placed ≡ r.placed = ap (λ (ring : RingState). ring.placed) (sym view) in
+    let room : length ring.recent ≡ r.room = room_of r ring ring_is view in
+    let whole : length cells ≡ r.room = is_full first count r.placed r.room (length cells) ring_is.0 (omega arith) ring_is.1 ring_is.2 past in
+    let below : start < r.room = mod-lt first {m = r.room} ring_is.0 in
+    let left : length (drop start cells) ≡ behind = omega (arith, length-drop start cells) in
+    ap (λ (ys : List EntityState). ys ++ take (count - behind) other) (take_rest lent start ∙ ap (drop start) is)
+    ∙ ap (λ (ys : List EntityState). drop start cells ++ take (count - behind) ys) other_is
+    ∙ sym (ap (λ (ys : List EntityState). take count (turned start ys)) (filled_whole (zero_entity 0) r.room cells whole)
+    ∙ take_past count (drop start cells) (take start cells) (omega arith)
+    ∙ ap (λ (ys : List EntityState). drop start cells ++ ys)
+    (ap (λ (k : ℕ). take (count - k) (take start cells)) left ∙ take-take (count - behind) start cells (omega arith)))
+    ∙ lent_of r ring first count ring_is view were there

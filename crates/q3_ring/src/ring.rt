@@ -1,20 +1,23 @@
 //! Entities in one ring. Keeps the rules "server frames and their shared entity ring" and "held snapshots of a client", the
 //! engine's `svs.snapshotEntities` (sv_snapshot.c) and `cl.parseEntities` (cl_parse.c).
 
-ghost use Rattle.std.specs.Prelude.{◌≡◌, ◌+◌, ◌-◌, ◌%◌, ◌^◌, ◌<◌, ◌≤◌, ◌++◌, length, take, drop, min, IfOk};
-ghost use Rattle.q3_entity.specs.Entities.{run_of};
+ghost use Rattle.std.specs.Prelude.{◌≡◌, ◌+◌, ◌-◌, ◌%◌, ◌^◌, ◌<◌, ◌≤◌, ◌++◌, length, take, drop, min, vec_capacity, IfOk};
+ghost use Rattle.q3_entity.specs.Entities.{zero_entity, run_of};
 ghost use Rattle.q3_ring.specs.Ring.{new_ring, with_entities, entities_from};
-ghost use Rattle.q3_ring.specs.Turned.{turned};
+ghost use Rattle.q3_ring.specs.Turned.{turned, filled};
 
 use q3_entity::{EntityState, Run};
 use std::alloc::{AllocError as NoMemory, Global};
 use std::marker::Model;
 
 /// Entities, in as many places as there is room for: the one that was placed k-th of all, counted from 0, lies in the
-/// place k modulo their number. It has memory of its own, which `new` takes and no other call does.
+/// place k modulo their number. It has memory of its own, which `new` takes and no other call does. A place is written when
+/// the first entity comes to it, and not before.
 #[derive(Drop)]
 pub struct Ring {
+    /// The places that were ever written: they are the first ones.
     cells: Vec<EntityState>,
+    room: usize,
     placed: u64,
 }
 
@@ -37,7 +40,8 @@ impl Ring {
         ensures { IfOk result (λ ring. ring ≡ new_ring room) }
     {
         Ok(Ring {
-            cells: vec![in alloc; EntityState::zero(0); room as usize]?,
+            cells: Vec::with_capacity(alloc, room as usize)?,
+            room: room as usize,
             placed: 0,
         })
     }
@@ -54,7 +58,7 @@ impl Ring {
         ensures room { result ≡ length self.now.recent }
         ensures some { 0 < result }
     {
-        self.cells.len()
+        self.room
     }
 
     /// Places entities behind all others. Each takes the place of the one that was placed `room` before it.
@@ -63,8 +67,8 @@ impl Ring {
         requires count { self.old.placed + length entities.now < 2 ^ 64 }
         ensures { self.new ≡ with_entities self.old entities.now }
     {
-        let start = (self.placed % self.cells.len() as u64) as usize;
-        put_round(&mut self.cells, start, entities);
+        let start = (self.placed % self.room as u64) as usize;
+        put_round(&mut self.cells, self.room, start, entities);
         self.placed += entities.len() as u64;
     }
 
@@ -77,8 +81,8 @@ impl Ring {
         ensures entities { run_of result ≡ entities_from self.now first count }
         ensures head { length result.head.now ≡ min count (length self.now.recent - first % length self.now.recent) }
     {
-        let start = (first % self.cells.len() as u64) as usize;
-        let behind = self.cells.len() - start;
+        let start = (first % self.room as u64) as usize;
+        let behind = self.room - start;
         if count <= behind {
             return Run {
                 head: &self.cells[start..][..count],
@@ -100,15 +104,21 @@ impl Ring {
     }
 }
 
-/// Puts entities into the places from one on, and behind the last place into those from the first.
-fn put_round(cells: &mut Vec<EntityState>, start: usize, entities: &[EntityState])
-    requires within { start < length cells.old.items }
-    requires few { length entities.now ≤ length cells.old.items }
-    ensures count { length cells.new.items ≡ length cells.old.items }
-    ensures cells { turned ((start + length entities.now) % length cells.old.items) cells.new.items
-        ≡ drop (length entities.now) (turned start cells.old.items ++ entities.now) }
+/// Puts entities into the places from one on, and behind the last of so many into those from the first.
+fn put_round(cells: &mut Vec<EntityState>, room: usize, start: usize, entities: &[EntityState])
+    requires within { start < room }
+    requires written { start ≤ length cells.old.items }
+    requires most { length cells.old.items ≤ room }
+    requires capacity { room ≤ vec_capacity cells.old }
+    requires few { length entities.now ≤ room }
+    ensures most { length cells.new.items ≤ room }
+    ensures same { length cells.old.items ≤ length cells.new.items }
+    ensures written { min (start + length entities.now) room ≤ length cells.new.items }
+    ensures capacity { room ≤ vec_capacity cells.new }
+    ensures cells { turned ((start + length entities.now) % room) (filled (zero_entity 0) room cells.new.items)
+        ≡ drop (length entities.now) (turned start (filled (zero_entity 0) room cells.old.items) ++ entities.now) }
 {
-    let behind = cells.len() - start;
+    let behind = room - start;
     if entities.len() <= behind {
         put_at(cells, start, entities);
         return;
@@ -117,10 +127,23 @@ fn put_round(cells: &mut Vec<EntityState>, start: usize, entities: &[EntityState
     put_at(cells, 0, &entities[behind..]);
 }
 
-/// Puts entities into the places from one on.
+/// Puts entities into the places from one on, as far as they were written, and the others behind all of these.
 fn put_at(cells: &mut Vec<EntityState>, place: usize, entities: &[EntityState])
+    requires within { place ≤ length cells.old.items }
+    requires room { place + length entities.now ≤ vec_capacity cells.old }
+    ensures cells { cells.new.items ≡ take place cells.old.items ++ entities.now ++ drop (place + length entities.now) cells.old.items }
+    ensures room { vec_capacity cells.old ≤ vec_capacity cells.new }
+{
+    let inside = entities.len().min(cells.len() - place);
+    put_over(cells, place, &entities[..inside]);
+    cells.extend_from_slice(&entities[inside..]).unwrap();
+}
+
+/// Puts entities into the places from one on, all of which were written.
+fn put_over(cells: &mut Vec<EntityState>, place: usize, entities: &[EntityState])
     requires within { place + length entities.now ≤ length cells.old.items }
-    ensures { cells.new.items ≡ take place cells.old.items ++ entities.now ++ drop (place + length entities.now) cells.old.items }
+    ensures cells { cells.new.items ≡ take place cells.old.items ++ entities.now ++ drop (place + length entities.now) cells.old.items }
+    ensures room { vec_capacity cells.new ≡ vec_capacity cells.old }
 {
     cells[place..place + entities.len()].copy_from_slice(entities);
 }
