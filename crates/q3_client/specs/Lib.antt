@@ -1,6 +1,6 @@
 pub mod Client
 pub mod Moves
 pub mod Sending
-pub mod Report
 pub mod Receiving
 pub mod Saying
+pub mod Standing

@@ -11,11 +11,13 @@ ghost use Rattle.q3_rings.specs.Loans.{snapshot_of};
 ghost use Rattle.q3_rings.specs.Rings.{view_at};
 ghost use Rattle.q3_client.specs.Client.{new_client, type_at, take_at, is_accepted, moves_behind};
 ghost use Rattle.q3_client.specs.Moves.{add_move_at};
-ghost use Rattle.q3_client.specs.Sending.{emit_at};
+ghost use Rattle.q3_client.specs.Sending.{emit_at, IsSaid};
+ghost use Rattle.q3_client.specs.Standing.{IsClient};
 
 use crate::moves::{Issued, MOST_MOVES, carry, is_issuable};
 use crate::receiving::{gather, receive_front};
 use crate::saying::{is_unclear, write_scrambled};
+use crate::standing::{longs_fit, move_fits};
 use arrayvec::ArrayVec;
 use circular_buffer::HeapCircularBuffer;
 use q3_bits::NoMemory;
@@ -108,6 +110,7 @@ impl Model for Client {
     ghost use Rattle.q3_chan.specs.Datagrams.{longest_message, sequence_end};
     ghost use Rattle.q3_client.specs.Client.{ClientState};
     ghost use Rattle.q3_client.specs.Moves.{most_moves};
+    ghost use Rattle.q3_client.specs.Standing.{AreMoves};
 
     ghost Value = { ClientState };
 
@@ -126,12 +129,13 @@ impl Model for Client {
     } };
 
     ghost invariant = { λ c. (length c.whole.items ≡ longest_message) × (length c.buffer.items ≡ longest_message) × (c.sender.number < sequence_end)
-        × (c.moves.capacity ≡ most_moves) };
+        × (c.moves.capacity ≡ most_moves) × AreMoves c.moves.items };
 }
 
 impl Client {
     /// A client that has taken nothing. Each message repeats the moves of `dup` messages before it. The profile's ring for a
     /// client's entities has 512 to 65,536 places. `Err` is want of memory.
+    #[tactic(auto, using(crate::proofs::Begins::no_moves))]
     pub fn new(
         alloc: Global,
         profile: &Profile,
@@ -205,6 +209,7 @@ impl Client {
 
     /// Notes of a message that was applied whether its snapshot was accepted. A gamestate wipes the moves, and keeps the time of
     /// the last one.
+    #[tactic(auto, using(crate::proofs::Begins::no_moves))]
     fn note(&mut self, applied: &Applied)
         ensures { self.new ≡ record self.old { delta = is_accepted applied.now.snap; moves = moves_behind applied.now.game self.old.moves } }
     {
@@ -229,6 +234,7 @@ impl Client {
         if !is_issuable(one) {
             return Err(MoveError::Range);
         }
+        move_fits(one);
         self.moves.push_back(Issued {
             begun: self.sender.number(),
             one: *one,
@@ -252,14 +258,28 @@ impl Client {
         self.outgoing.issued()
     }
 
+    /// What every client is, which nothing at run time asks.
+    fn stand(&self)
+        ensures { IsClient self.now }
+    {
+        longs_fit(self.state.id(), self.state.feed());
+        longs_fit(self.gatherer.taken(), self.state.executed());
+        let _last = self.state.last_text().bytes();
+        let _issued = self.outgoing.issued();
+        // a ring holds no more than it has room for
+        prove!(self.moves.len() <= MOST_MOVES);
+    }
+
     /// Makes the next datagram for the server: it is empty where nothing is handed out. `Dropped` comes exactly where the
-    /// client was dropped.
-    #[tactic(auto, unfolding(crate::specs::Sending::emit_at))]
+    /// client was dropped. A message that it begins is well formed, whatever the client took before.
+    #[tactic(auto, unfolding(crate::specs::Sending::emit_at), using(crate::proofs::Begins::begins))]
     pub fn emit(&mut self, out: &mut Datagram) -> Sent
         ensures client { self.new ≡ (emit_at self.old).client }
         ensures answer { result ≡ (emit_at self.old).answer }
         ensures piece { HandsOut (emit_at self.old).piece out.new.items }
+        ensures began { IfSome (emit_at self.old).began (IsSaid self.old.state.profile self.old.challenge) }
     {
+        self.stand();
         out.clear();
         if let Some(cause) = self.dropped {
             return Sent::Dropped(cause);

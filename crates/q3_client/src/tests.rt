@@ -1,5 +1,5 @@
 //! What a client takes and sends, with bytes worked by hand, by the plain code, entity widths 0, 8, -16 and player widths
-//! 0, 16, and what is printed of its answers. The challenge is 17, and where no command is acknowledged each byte of server message
+//! 0, 16. The challenge is 17, and where no command is acknowledged each byte of server message
 //! n is scrambled by 17 xor n, and of a client's message by 17 xor the map's id xor the number that it acknowledges.
 
 use super::*;
@@ -9,11 +9,10 @@ use q3_chan::Datagram;
 use q3_clmsg::Move;
 use q3_clstate::{Applied, Log, SnapOutcome};
 use q3_fields::Table;
-use q3_memory::MemSink;
 use q3_profile::Profile;
 use q3_rings::NoBase;
 use q3_svmsg::Illegible;
-use q3_text::{Command, Text};
+use q3_text::Text;
 use q3_window::WindowFull;
 use std::alloc::Global;
 use std::process::Abort;
@@ -113,14 +112,6 @@ fn new_log() -> Log {
     Log {
         commands: ArrayVec::new(),
     }
-}
-
-/// One command that was executed.
-fn log_of(rt: &impl Abort, number: u32, text: &[u8]) -> Log {
-    let mut commands = ArrayVec::new();
-    let text = Text::of(text).expect(rt, "a text");
-    commands.push(Command { number, text });
-    Log { commands }
 }
 
 /// Takes a datagram, whatever it executes.
@@ -437,87 +428,4 @@ fn hostile_datagrams_are_refused(rt: HostRuntime) -> Result<(), Fail> {
         assert_eq!(rt; take(&mut client, &datagram), answer);
     }
     Ok(())
-}
-
-/// Prints what a client answered to a datagram, which gives this text.
-fn took_prints(rt: &impl Abort, alloc: Global, c: u8, took: ClientTook, text: &[u8]) {
-    let client = playing(rt, alloc, 0).expect(rt, "a client");
-    let mut out = MemSink::new(alloc, 128, &[]).expect(rt, "memory");
-    assert_eq!(rt; print_took(&client, c, &took, &new_log(), &mut out), Ok(()));
-    assert_eq!(rt; out.bytes(), text);
-}
-
-#[test]
-fn takes_are_printed(rt: HostRuntime) {
-    let alloc = rt.alloc();
-    let dropped = ClientTook::Dropped(Illegible::BadOp(9));
-    took_prints(&rt, alloc, 3, dropped, b" client 3 dropped\n");
-    let old = ClientTook::Old;
-    took_prints(&rt, alloc, 0, old, b" client 0 old\n");
-    let op = ClientTook::Illegible(Illegible::BadOp(255));
-    took_prints(&rt, alloc, 15, op, b" client 15 illegible op 255\n");
-    let end = ClientTook::Illegible(Illegible::Bits(ReadError::End));
-    took_prints(&rt, alloc, 1, end, b" client 1 illegible end\n");
-    let ack = ClientTook::Illegible(Illegible::Ack(5));
-    took_prints(&rt, alloc, 0, ack, b" client 0 illegible ack 5\n");
-    let nothing = applied(2, SnapOutcome::NoSnap);
-    took_prints(&rt, alloc, 0, nothing, b" client 0 applied 2\n");
-    let lines = b" client 1 applied 2\n+ gamestate id 1 slot 0 feed 77\n";
-    took_prints(&rt, alloc, 1, started(2), lines);
-    let accepted = applied(40, SnapOutcome::Accepted { base: 39 });
-    let lines = b" client 7 applied 40\n+ accepted 40 base 39\n";
-    took_prints(&rt, alloc, 7, accepted, lines);
-    let cause = NoBase::EntitiesGone(300);
-    let skipped = applied(40, SnapOutcome::Skipped { base: 8, cause });
-    let lines = b" client 0 applied 40\n+ skipped 40 base 8 entitiesgone 300\n";
-    took_prints(&rt, alloc, 0, skipped, lines);
-}
-
-#[test]
-fn executed_commands_are_printed(rt: HostRuntime) -> Result<(), Fail> {
-    let client = client(&rt, rt.alloc(), 0)?;
-    let log = log_of(&rt, 1, b"cp \"hi\"");
-    let accepted = applied(2, SnapOutcome::Accepted { base: 1 });
-    let mut out = MemSink::new(rt.alloc(), 128, &[]).expect(&rt, "memory");
-    let printed = print_took(&client, 0, &accepted, &log, &mut out);
-    assert_eq!(rt; printed, Ok(()));
-    let lines = b" client 0 applied 2\n+ command 1 \"cp \\\"hi\\\"\"\n+ accepted 2 base 1\n";
-    assert_eq!(rt; out.bytes(), lines.as_slice());
-    Ok(())
-}
-
-/// Prints what a client answered to a `send`, which gives this text.
-fn sent_prints(rt: &impl Abort, alloc: Global, sent: Sent, datagram: u32, text: &[u8]) {
-    let mut out = MemSink::new(alloc, 128, &[]).expect(rt, "memory");
-    assert_eq!(rt; print_sent(3, &sent, datagram, &mut out), Ok(()));
-    assert_eq!(rt; out.bytes(), text);
-}
-
-/// Prints why a move can't be issued, which gives this text.
-fn error_prints(rt: &impl Abort, alloc: Global, error: MoveError, text: &[u8]) {
-    let mut out = MemSink::new(alloc, 128, &[]).expect(rt, "memory");
-    assert_eq!(rt; print_move_error(error, &mut out), Ok(()));
-    assert_eq!(rt; out.bytes(), text);
-}
-
-#[test]
-fn sends_and_move_errors_are_printed(rt: HostRuntime) {
-    let alloc = rt.alloc();
-    let message = Sent::Message {
-        number: 2,
-        bytes: 22,
-    };
-    let line = b"send 3 message 2 bytes 22 datagram 5\n";
-    sent_prints(&rt, alloc, message, 5, line);
-    let fragment = Sent::Fragment { number: 7 };
-    let line = b"send 3 fragment 7 datagram 12\n";
-    sent_prints(&rt, alloc, fragment, 12, line);
-    let dropped = Sent::Dropped(Illegible::BadOp(9));
-    sent_prints(&rt, alloc, dropped, 0, b"send 3 dropped\n");
-    sent_prints(&rt, alloc, Sent::SequenceEnd, 0, b"send 3 sequenceend\n");
-    sent_prints(&rt, alloc, Sent::Unclear, 0, b"send 3 unclear\n");
-    sent_prints(&rt, alloc, Sent::Overlong, 0, b"send 3 overlong\n");
-    error_prints(&rt, alloc, MoveError::NoGame, b"nogame");
-    error_prints(&rt, alloc, MoveError::NotLater(530), b"notlater 530");
-    error_prints(&rt, alloc, MoveError::Range, b"range");
 }

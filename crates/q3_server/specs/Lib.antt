@@ -1,3 +1,3 @@
 pub mod Server
 pub mod Taking
-pub mod Report
+pub mod Standing

@@ -21,8 +21,8 @@ use Rattle.q3_slot.specs.declared.answer.Emitted.TheVariants as emitted
 use Rattle.q3_slot.specs.declared.answer.NoClient.{NoClient}
 use Rattle.q3_slot.specs.declared.answer.SayError.{SayError}
 use Rattle.q3_slot.specs.declared.answer.SayError.TheVariants as refused
-use Rattle.q3_slot.specs.Built.{Built}
-use Rattle.q3_slot.specs.Slot.{SlotState, new_slot, on_new_map, is_of, with_player, with_area}
+use Rattle.q3_built.specs.Built.{Built}
+use Rattle.q3_slot.specs.Slot.{SlotState, new_slot, on_new_map, is_of, sending_of, with_player, with_area, with_delayed}
 use Rattle.q3_slot.specs.Slots.{lacks_room, say_slot, tells}
 use Rattle.q3_slot.specs.Emitting.{SlotEmission, emit_slot}
 use Rattle.q3_server.specs.declared.server.SlotError.{SlotError}
@@ -171,6 +171,14 @@ set_player_at server c player = give server c (λ slot. with_player server.profi
 -- the area bytes of a client
 abbrev pub set_area_at : ServerState → ℕ → List ℕ → Handed NoClient
 set_area_at server c area = give server c (λ slot. with_area slot area) (slot_at server c)
+
+-- whether the snapshots of a client are delayed by rate control
+abbrev pub set_delayed_at : ServerState → ℕ → Bool → Handed NoClient
+set_delayed_at server c on = give server c (λ slot. with_delayed slot on) (slot_at server c)
+
+-- the number of the message to a client of which pieces are left, if there is one
+abbrev pub sending_at : ServerState → ℕ → Option ℕ
+sending_at server c = sending_of (slot_at server c)
 
 -- the server after a command, and its number, or why it wasn't issued
 pub record Saying : Type 0 where

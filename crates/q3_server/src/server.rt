@@ -11,10 +11,13 @@ ghost use Rattle.q3_map.specs.Map.{most_numbers};
 ghost use Rattle.q3_entity.specs.Baselines.{most_lines};
 ghost use Rattle.q3_slot.specs.Slot.{is_of};
 ghost use Rattle.q3_slot.specs.Slots.{HoldLists};
-ghost use Rattle.q3_server.specs.Server.{places, new_server, add_client_at, new_map_at, set_time_at, set_entity_at, remove_entity_at, set_baseline_at, refused_for, set_config_at, set_player_at, set_area_at, say_at, emit_at, slot_at};
+ghost use Rattle.q3_chan.specs.Datagrams.{longest_message};
+ghost use Rattle.q3_server.specs.Standing.{BeginsBuilt, IsServer};
+ghost use Rattle.q3_server.specs.Server.{places, new_server, add_client_at, new_map_at, set_time_at, set_entity_at, remove_entity_at, set_baseline_at, refused_for, set_config_at, set_player_at, set_area_at, set_delayed_at, sending_at, say_at, emit_at, slot_at};
 ghost use Rattle.q3_server.specs.Taking.{take_at};
 
 use crate::slots::{begin_map, first_without_room, is_kept, tell_all};
+use crate::standing::{below, entity_fits, long_fits, player_fits};
 use q3_bits::NoMemory;
 use q3_chan::{Datagram, LONGEST_MESSAGE, NoQport, qport_of};
 use q3_clmsg::ClientMessage;
@@ -85,6 +88,7 @@ impl Model for Server {
     ghost use Rattle.std.specs.Prelude.{◌≡◌, ◌≤◌, length};
     ghost use Rattle.q3_chan.specs.Datagrams.{longest_message};
     ghost use Rattle.q3_server.specs.Server.{ServerState, places};
+    ghost use Rattle.q3_server.specs.Standing.{IsServer};
     ghost use Rattle.q3_slot.specs.Slots.{HoldLists};
 
     ghost Value = { ServerState };
@@ -92,7 +96,7 @@ impl Model for Server {
     ghost view = { λ s. record { profile = s.profile; map = s.map; slots = s.slots.items; frames = s.frames } };
 
     ghost invariant = { λ s. (length s.slots.items ≤ places) × (length s.frames.slots ≡ length s.slots.items) × HoldLists s.frames
-        × (length s.buffer.items ≡ longest_message) × (length s.whole.items ≡ longest_message) };
+        × (length s.buffer.items ≡ longest_message) × (length s.whole.items ≡ longest_message) × IsServer s.profile s.map s.slots.items };
 }
 
 impl Server {
@@ -105,16 +109,15 @@ impl Server {
         requires ring_most { profile.now.server_ring ≤ 262144 }
         ensures { IfOk result (λ server. server ≡ new_server profile.now slots) }
     {
-        Ok(Server {
-            profile: profile.copy()?,
-            map: Map::new(alloc)?,
-            slots: empty_slots(alloc, slots)?,
-            frames: empty_frames(alloc, slots, profile.server_ring)?,
-            head: SnapHead::new(),
-            buffer: vec![in alloc; 0; LONGEST_MESSAGE]?,
-            said: ClientMessage::new(alloc)?,
-            whole: vec![in alloc; 0; LONGEST_MESSAGE]?,
-        })
+        below();
+        let copy = profile.copy()?;
+        let map = Map::new(alloc)?;
+        let empty = empty_slots(alloc, slots)?;
+        let frames = empty_frames(alloc, slots, profile.server_ring)?;
+        let buffer = vec![in alloc; 0; LONGEST_MESSAGE]?;
+        let whole = vec![in alloc; 0; LONGEST_MESSAGE]?;
+        let said = ClientMessage::new(alloc)?;
+        Ok(of_parts(copy, map, empty, frames, buffer, said, whole))
     }
 
     /// Whether the server has such a slot.
@@ -127,6 +130,7 @@ impl Server {
     /// A client joins in a slot, from an address. In this order, `Range` comes exactly where the server has no such slot,
     /// `Taken` exactly where the slot has a client, and `Twin` exactly where a client has this host and qport; it carries
     /// the least slot of such a client.
+    #[tactic(auto, using(crate::proofs::KeepsClients::server_joined))]
     pub fn add_client(
         &mut self,
         slot: u8,
@@ -136,6 +140,7 @@ impl Server {
     ) -> Result<(), SlotError>
         ensures { add_client_at self.old slot challenge qport from ≡ record { server = self.new; answer = result } }
     {
+        below();
         if !self.has(slot) {
             return Err(SlotError::Range);
         }
@@ -150,13 +155,15 @@ impl Server {
     }
 
     /// A new map begins, with a checksum feed: each client is connected to it. Entities, baselines, players, areas and config strings
-    /// are none then, but for the config string that tells its id; the time stays, and so does the time of each client's last
-    /// move that was run. `NotLater` comes exactly where the id isn't above the last one, 0 where there was none, and nothing
-    /// changes then.
+    /// are none then, but for the config string that tells its id; the time stays, and so does each client's time of the last
+    /// move that was run, and whether its snapshots are delayed. `NotLater` comes exactly where the id isn't above the last one, 0
+    /// where there was none, and nothing changes then.
     pub fn new_map(&mut self, id: u32, feed: u32) -> Result<(), NotLater>
         requires { id < 2 ^ 31 }
         ensures { new_map_at self.old id feed ≡ record { server = self.new; answer = result } }
     {
+        below();
+        long_fits(feed);
         self.map.new_map(id, feed)?;
         begin_map(&mut self.slots);
         Ok(())
@@ -169,6 +176,8 @@ impl Server {
         requires most { state.now.number < most_lines }
         ensures { set_baseline_at self.old state.now ≡ record { server = self.new; answer = result } }
     {
+        below();
+        entity_fits(state);
         self.map.set_baseline(&self.profile.entity, state)
     }
 
@@ -185,6 +194,7 @@ impl Server {
     pub fn set_config(&mut self, index: u32, text: &[u8]) -> Result<(), ConfigRefused>
         ensures { set_config_at self.old index text.now ≡ record { server = self.new; answer = result } }
     {
+        below();
         if index == OWN_STRING {
             return Err(ConfigRefused::Own);
         }
@@ -206,6 +216,7 @@ impl Server {
     pub fn set_time(&mut self, time: u32)
         ensures { self.new ≡ set_time_at self.old time }
     {
+        long_fits(time);
         self.map.set_time(time);
     }
 
@@ -214,6 +225,8 @@ impl Server {
         requires { state.now.number < most_numbers }
         ensures { self.new ≡ set_entity_at self.old state.now }
     {
+        below();
+        entity_fits(state);
         self.map.set_entity(&self.profile.entity, state);
     }
 
@@ -221,6 +234,7 @@ impl Server {
     pub fn remove_entity(&mut self, number: u16)
         ensures { self.new ≡ remove_entity_at self.old number }
     {
+        below();
         self.map.remove_entity(number);
     }
 
@@ -228,6 +242,8 @@ impl Server {
     pub fn set_player(&mut self, slot: u8, player: &PlayerState) -> Result<(), NoClient>
         ensures { set_player_at self.old slot player.now ≡ record { server = self.new; answer = result } }
     {
+        below();
+        player_fits(player);
         if !self.has(slot) {
             return Err(NoClient);
         }
@@ -235,6 +251,7 @@ impl Server {
     }
 
     /// Takes over the area bytes of a client, at most 32. `NoClient` comes exactly where no client was added in the slot.
+    #[tactic(auto, using(crate::proofs::KeepsClients::server_area))]
     pub fn set_area(&mut self, slot: u8, area: &[u8]) -> Result<(), NoClient>
         requires { length area.now ≤ 32 }
         ensures { set_area_at self.old slot area.now ≡ record { server = self.new; answer = result } }
@@ -243,6 +260,29 @@ impl Server {
             return Err(NoClient);
         }
         self.slots[slot as usize].set_area(area)
+    }
+
+    /// The snapshots of a client are delayed by rate control from now on, or aren't; as long as they are, each has a flag for it.
+    /// `NoClient` comes exactly where no client was added in the slot.
+    #[tactic(auto, using(crate::proofs::KeepsClients::server_delayed))]
+    pub fn set_delayed(&mut self, slot: u8, on: bool) -> Result<(), NoClient>
+        ensures { set_delayed_at self.old slot on ≡ record { server = self.new; answer = result } }
+    {
+        if !self.has(slot) {
+            return Err(NoClient);
+        }
+        self.slots[slot as usize].set_delayed(on)
+    }
+
+    /// The number of the message to a client of which pieces are left: `None` exactly where none are, and where no client was
+    /// added in the slot.
+    pub fn sending(&self, slot: u8) -> Option<u32>
+        ensures { result ≡ sending_at self.now slot }
+    {
+        if !self.has(slot) {
+            return None;
+        }
+        self.slots[slot as usize].sending()
     }
 
     /// Issues a command to a client, whose number is the answer: the messages that are begun for it next carry the command, until
@@ -313,17 +353,21 @@ impl Server {
     /// where no client was added in the slot; `Fragment` where pieces of a message are left; `SequenceEnd` where message
     /// numbers have ended or more than 2^62 entities were placed; `Unclear` where the next message's leading long takes more than
     /// 32 bits; `Overlong` where the next message has more than 16,384 bytes: nothing changes then, but that the frames keep the one
-    /// of a snapshot; else `Game` where a gamestate is owed to the client, and `Snapshot` where none is.
-    #[tactic(auto, unfolding(crate::specs::Server::emit_at))]
+    /// of a snapshot; else `Game` where a gamestate is owed to the client, and `Snapshot` where none is. A message that it begins is
+    /// well formed, whatever the server took before.
+    #[tactic(auto, unfolding(crate::specs::Server::emit_at), using(crate::proofs::Begins::begins, crate::proofs::Begins::begins_nothing))]
     pub fn emit(&mut self, slot: u8, out: &mut Datagram) -> Emitted
         ensures server { self.new ≡ (emit_at self.old slot).server }
         ensures answer { result ≡ (emit_at self.old slot).answer }
         ensures piece { HandsOut (emit_at self.old slot).piece out.new.items }
+        ensures began { BeginsBuilt self.old slot }
     {
+        below();
         out.clear();
         if !self.has(slot) {
             return Emitted::NoClient;
         }
+        self.slots[slot as usize].stand();
         self.slots[slot as usize].emit(
             slot,
             &self.profile,
@@ -333,6 +377,36 @@ impl Server {
             &mut self.buffer,
             out,
         )
+    }
+}
+
+/// A server of these parts, with a place for the head of a snapshot.
+fn of_parts(
+    profile: Profile,
+    map: Map,
+    slots: Vec<Slot>,
+    frames: Frames,
+    buffer: Vec<u8>,
+    said: ClientMessage,
+    whole: Vec<u8>,
+) -> Server
+    requires slots { length slots.items ≤ places }
+    requires frames { length frames.slots ≡ length slots.items }
+    requires lists { HoldLists frames }
+    requires buffer { length buffer.items ≡ longest_message }
+    requires whole { length whole.items ≡ longest_message }
+    requires stands { IsServer profile map slots.items }
+    ensures { result ≡ record { profile = profile; map = map; slots = slots.items; frames = frames } }
+{
+    Server {
+        profile,
+        map,
+        slots,
+        frames,
+        head: SnapHead::new(),
+        buffer,
+        said,
+        whole,
     }
 }
 

@@ -3,14 +3,12 @@
 ghost use Rattle.std.specs.Prelude.{◌<◌, ◌≤◌, length};
 
 use super::*;
-use q3_bits::{Code, NoMemory, ReadError};
+use q3_bits::{Code, NoMemory};
 use q3_chan::Datagram;
 use q3_clmsg::{ClientIllegible, Move};
 use q3_entity::EntityState;
 use q3_fields::Table;
 use q3_io::Address;
-use q3_memory::MemSink;
-use q3_player::PlayerState;
 use q3_profile::Profile;
 use q3_text::{Command, Text};
 use std::alloc::Global;
@@ -18,7 +16,7 @@ use std::process::Abort;
 use std::test::*;
 
 /// A server with three slots, by a profile with the plain code.
-fn server(alloc: Global, entity: Table, player: Table) -> Result<Server, NoMemory> {
+pub(crate) fn server(alloc: Global, entity: Table, player: Table) -> Result<Server, NoMemory> {
     server_of(alloc, entity, player, 4096)
 }
 
@@ -45,7 +43,13 @@ fn server_of(
 }
 
 /// A client asks for a slot, from a host and a port.
-fn join(server: &mut Server, slot: u8, qport: u16, host: u32, port: u16) -> Result<(), SlotError> {
+pub(crate) fn join(
+    server: &mut Server,
+    slot: u8,
+    qport: u16,
+    host: u32,
+    port: u16,
+) -> Result<(), SlotError> {
     server.add_client(slot, 7, qport, Address { host, port })
 }
 
@@ -102,7 +106,7 @@ fn take(
 }
 
 /// The client at host 1 with the qport 5000 says a message, which gives this answer, and whether a gamestate is owed then.
-fn says(
+pub(crate) fn says(
     rt: &impl Abort,
     server: &mut Server,
     longs: (u8, u8, u8),
@@ -123,7 +127,13 @@ fn says(
 }
 
 /// The client in slot 1 plays a message.
-fn plays(rt: &impl Abort, server: &mut Server, number: u8, acknowledged: u8, operations: &[u8]) {
+pub(crate) fn plays(
+    rt: &impl Abort,
+    server: &mut Server,
+    number: u8,
+    acknowledged: u8,
+    operations: &[u8],
+) {
     let ran = ServerTook::Ran {
         slot: 1,
         number: u32::from(number),
@@ -139,7 +149,7 @@ fn plays(rt: &impl Abort, server: &mut Server, number: u8, acknowledged: u8, ope
 }
 
 /// The client in slot 1 says a message of another map.
-fn strays(rt: &impl Abort, server: &mut Server, longs: (u8, u8, u8), owed: bool) {
+pub(crate) fn strays(rt: &impl Abort, server: &mut Server, longs: (u8, u8, u8), owed: bool) {
     let ignored = ServerTook::Ignored {
         slot: 1,
         id: u32::from(longs.1),
@@ -149,7 +159,7 @@ fn strays(rt: &impl Abort, server: &mut Server, longs: (u8, u8, u8), owed: bool)
 
 /// Map 1 begins, and the client in slot 1 enters it: it says a message of another map, which makes a gamestate owed, gets that as
 /// message 1, and says a move at the time 4.
-fn enters(rt: &impl Abort, server: &mut Server, out: &mut Datagram) {
+pub(crate) fn enters(rt: &impl Abort, server: &mut Server, out: &mut Datagram) {
     assert_eq!(rt; server.new_map(1, 0), Ok(()));
     strays(rt, server, (1, 0, 0), true);
     let game = Emitted::Game {
@@ -175,7 +185,7 @@ fn emits(rt: &impl Abort, server: &mut Server, out: &mut Datagram, number: u32, 
 }
 
 /// The server begins a snapshot without a base for the client in slot 1, with so many bytes.
-fn emits_bytes(
+pub(crate) fn emits_bytes(
     rt: &impl Abort,
     server: &mut Server,
     out: &mut Datagram,
@@ -191,14 +201,20 @@ fn emits_bytes(
 }
 
 /// The server begins a gamestate for the client in slot 1.
-fn emits_game(rt: &impl Abort, server: &mut Server, out: &mut Datagram, number: u32, bytes: usize) {
+pub(crate) fn emits_game(
+    rt: &impl Abort,
+    server: &mut Server,
+    out: &mut Datagram,
+    number: u32,
+    bytes: usize,
+) {
     assert_eq!(rt; server.emit(1, out), Emitted::Game { number, bytes });
 }
 
 /// A move at the time 4; one at the time 5, that asks for deltas, and that asks for none; and no move.
-const FIRST_MOVE: &[u8] = &[0x03, 0x01, 0x09, 0x14, 0x00];
+pub(crate) const FIRST_MOVE: &[u8] = &[0x03, 0x01, 0x09, 0x14, 0x00];
 
-const DELTA: &[u8] = &[0x02, 0x01, 0x0b, 0x14, 0x00];
+pub(crate) const DELTA: &[u8] = &[0x02, 0x01, 0x0b, 0x14, 0x00];
 
 const NO_DELTA: &[u8] = &[0x03, 0x01, 0x0b, 0x14, 0x00];
 
@@ -279,7 +295,7 @@ fn makes(
 }
 
 /// A snapshot that is begun.
-fn snapshot(number: u32, base: u32, bytes: usize) -> Emitted {
+pub(crate) fn snapshot(number: u32, base: u32, bytes: usize) -> Emitted {
     Emitted::Snapshot {
         number,
         base,
@@ -380,62 +396,6 @@ fn first_frame_over_one_client(rt: HostRuntime) -> Result<(), Fail> {
     Ok(())
 }
 
-/// Prints an answer and what was heard, which gives this text.
-fn prints(rt: &impl Abort, alloc: Global, took: ServerTook, heard: &Heard, text: &[u8]) {
-    let mut out = MemSink::new(alloc, 256, &[]).expect(rt, "memory");
-    assert_eq!(rt; print_took(&took, heard, &mut out), Ok(()));
-    assert_eq!(rt; out.bytes(), text);
-}
-
-#[test]
-fn answers_are_printed(rt: HostRuntime) {
-    let alloc = rt.alloc();
-    let mut heard = Heard::new();
-    let mut one = Move::none();
-    one.time = 500;
-    one.forward = 10;
-    let text = Text::of(b"go").expect(&rt, "a text");
-    heard.commands.push(Command { number: 1, text });
-    heard.moves.push(one);
-    heard.moves.push(other_move());
-    let ran = ServerTook::Ran { slot: 0, number: 2 };
-    let lines =
-        b" server 0 ran 2\n+ command 1 \"go\"\n+ move 500 0 0 0 10 0 0 0 0\n+ move 510 1 65535 0 -127 127 -1 16 255\n";
-    prints(&rt, alloc, ran, &heard, lines);
-    let moves = ServerTook::Illegible(15, ClientIllegible::MoveCount(33));
-    let line = b" server 15 illegible moves 33\n";
-    prints(&rt, alloc, moves, &heard, line);
-    let gap = ServerTook::Gap { slot: 2, number: 9 };
-    prints(&rt, alloc, gap, &heard, b" server 2 gap 9\n");
-    let ack = ServerTook::Illegible(1, ClientIllegible::Ack(70));
-    prints(&rt, alloc, ack, &heard, b" server 1 illegible ack 70\n");
-    let end = ServerTook::Illegible(1, ClientIllegible::Bits(ReadError::End));
-    prints(&rt, alloc, end, &heard, b" server 1 illegible end\n");
-    prints(
-        &rt,
-        alloc,
-        ServerTook::Stranger,
-        &heard,
-        b" server stranger\n",
-    );
-}
-
-#[test]
-fn stages_are_printed(rt: HostRuntime) {
-    let alloc = rt.alloc();
-    let mut heard = Heard::new();
-    let ran = ServerTook::Ran { slot: 0, number: 2 };
-    let ignored = ServerTook::Ignored { slot: 3, id: 7 };
-    prints(&rt, alloc, ignored, &heard, b" server 3 ignored 7\n");
-    heard.owed = true;
-    let lines = b" server 3 ignored 7\n+ owed\n";
-    prints(&rt, alloc, ignored, &heard, lines);
-    // a client that plays while one is owed to it
-    heard.entered = Some(500);
-    let lines = b" server 0 ran 2\n+ entered 500\n";
-    prints(&rt, alloc, ran, &heard, lines);
-}
-
 #[test]
 fn base_is_the_one_that_a_move_names(rt: HostRuntime) -> Result<(), Fail> {
     let mut server = server(
@@ -461,7 +421,7 @@ fn base_is_the_one_that_a_move_names(rt: HostRuntime) -> Result<(), Fail> {
 }
 
 /// The game hands in an entity, with this in each word.
-fn hand_in(server: &mut Server, number: u16, word: u32)
+pub(crate) fn hand_in(server: &mut Server, number: u16, word: u32)
     requires { number < 1023 }
 {
     let words = [word; 64];
@@ -622,239 +582,5 @@ fn commands_go_both_ways(rt: HostRuntime) -> Result<(), Fail> {
     let text = Text::of(b"go").expect(&rt, "a text");
     assert_eq!(rt; heard.commands.last(), Some(&Command { number: 1, text }));
     makes(&rt, server, snapshot(3, 0, 16), BEHIND_GO, out);
-    Ok(())
-}
-
-/// The game hands in an entity, and a player and area bytes for the client in slot 1.
-fn hand_in_all(rt: &impl Abort, server: &mut Server) {
-    hand_in(server, 5, 1);
-    let mut player = PlayerState::zero();
-    player.words[1] = 7;
-    assert_eq!(rt; server.set_player(1, &player), Ok(()));
-    assert_eq!(rt; server.set_area(1, &[9]), Ok(()));
-}
-
-/// A snapshot for a client that isn't active, with no flag but that, in message 2, scrambled by 7 xor 2.
-const ON_MAP_2: &[u8] = &[
-    0x02, 0x00, 0x00, 0x00, 0x00, 0x00, 0x00, 0x00, 0x02, 0x05, 0x05, 0x05, 0x05, 0x05, 0x07, 0x05,
-    0x05, 0xfb, 0x42, 0x05,
-];
-
-#[test]
-fn lost_gamestate_is_owed_again(rt: HostRuntime) -> Result<(), Fail> {
-    let mut server = server(
-        rt.alloc(),
-        Table::of(&[0, 8, -16]).expect(&rt, "a table"),
-        Table::of(&[0, 16]).expect(&rt, "a table"),
-    )?;
-    assert_eq!(rt; join(&mut server, 1, 5000, 1, 27960), Ok(()));
-    let mut out = Datagram::new();
-    let (server, out) = (&mut server, &mut out);
-    enters(&rt, server, out);
-    strays(&rt, server, (3, 0, 200), false);
-    assert_eq!(rt; server.new_map(1, 78), Err(NotLater { last: 1 }));
-    assert_eq!(rt; server.new_map(2, 78), Ok(()));
-    hand_in_all(&rt, server);
-    emits_bytes(&rt, server, out, 2, 16);
-    assert_eq!(rt; out.as_slice(), ON_MAP_2);
-    strays(&rt, server, (4, 1, 2), true);
-    emits_game(&rt, server, out, 3, 38);
-    emits_bytes(&rt, server, out, 4, 16);
-    // the gamestate may still come, until a later message came
-    strays(&rt, server, (5, 1, 3), false);
-    strays(&rt, server, (6, 1, 4), true);
-    // it enters the map all the same, and the gamestate makes it primed again
-    let ran = ServerTook::Ran { slot: 1, number: 7 };
-    says(&rt, server, (7, 2, 4), DELTA, ran, true);
-    emits_game(&rt, server, out, 5, 38);
-    strays(&rt, server, (8, 1, 6), true);
-    Ok(())
-}
-
-/// The game hands in a baseline, with 1 in each word.
-fn hand_in_line(server: &mut Server, number: u16) -> Result<(), Late>
-    requires some { 1 ≤ number }
-    requires most { number < 1023 }
-{
-    let words = [1; 64];
-    server.set_baseline(&EntityState { number, words })
-}
-
-/// The game hands in the baselines 1 to 120.
-fn hand_in_lines(rt: &impl Abort, server: &mut Server) {
-    for number in 1..121 {
-        assert_eq!(rt; hand_in_line(server, number), Ok(()));
-    }
-}
-
-#[test]
-fn overlong_gamestate_stays_owed(rt: HostRuntime) -> Result<(), Fail> {
-    let mut server = server(
-        rt.alloc(),
-        Table::of(&[32; 32]).expect(&rt, "a table"),
-        Table::of(&[0, 16]).expect(&rt, "a table"),
-    )?;
-    assert_eq!(rt; join(&mut server, 1, 5000, 1, 27960), Ok(()));
-    let mut out = Datagram::new();
-    let (server, out) = (&mut server, &mut out);
-    assert_eq!(rt; server.new_map(1, 0), Ok(()));
-    // 120 baselines of 1,116 bits are more than 16,384 bytes
-    hand_in_lines(&rt, server);
-    strays(&rt, server, (1, 0, 0), true);
-    assert_eq!(rt; server.emit(1, out), Emitted::Overlong);
-    assert!(rt; out.is_empty());
-    assert_eq!(rt; hand_in_line(server, 121), Ok(()));
-    assert_eq!(rt; server.emit(1, out), Emitted::Overlong);
-    // the client is connected to the next map, and nothing is owed to it
-    assert_eq!(rt; server.new_map(2, 0), Ok(()));
-    emits_bytes(&rt, server, out, 1, 16);
-    strays(&rt, server, (2, 1, 0), true);
-    emits_game(&rt, server, out, 2, 38);
-    assert_eq!(rt; hand_in_line(server, 1), Err(Late));
-    Ok(())
-}
-
-/// A text of so many bytes, of which the last is this one and the others are `a`.
-fn text_of(rt: &impl Abort, alloc: Global, count: usize, last: u8) -> Vec<u8> {
-    let mut text = vec![in alloc; b'a'; count].expect(rt, "memory");
-    if let Some(byte) = text.last_mut() {
-        *byte = last;
-    }
-    text
-}
-
-/// A config string is changed to such a text.
-fn change(
-    rt: &impl Abort,
-    alloc: Global,
-    server: &mut Server,
-    index: u32,
-    count: usize,
-    last: u8,
-) -> Result<(), ConfigRefused> {
-    server.set_config(index, &text_of(rt, alloc, count, last))
-}
-
-#[test]
-fn config_changes_are_told(rt: HostRuntime) -> Result<(), Fail> {
-    let alloc = rt.alloc();
-    let mut server = server(
-        alloc,
-        Table::of(&[0, 8, -16]).expect(&rt, "a table"),
-        Table::of(&[0, 16]).expect(&rt, "a table"),
-    )?;
-    assert_eq!(rt; join(&mut server, 1, 5000, 1, 27960), Ok(()));
-    assert_eq!(rt; join(&mut server, 2, 5001, 1, 27960), Ok(()));
-    let mut out = Datagram::new();
-    let (server, out) = (&mut server, &mut out);
-    assert_eq!(rt; server.new_map(1, 0), Ok(()));
-    assert_eq!(rt; change(&rt, alloc, server, 2, 1, b'a'), Ok(()));
-    strays(&rt, server, (1, 0, 0), true);
-    emits_game(&rt, server, out, 1, 43);
-    // it is primed: command 1, `cs 2 "b"` and a newline
-    assert_eq!(rt; change(&rt, alloc, server, 2, 1, b'b'), Ok(()));
-    emits_bytes(&rt, server, out, 2, 31);
-    plays(&rt, server, 2, 1, FIRST_MOVE);
-    // it is active, and what is there already isn't told
-    assert_eq!(rt; change(&rt, alloc, server, 2, 1, b'b'), Ok(()));
-    assert_eq!(rt; change(&rt, alloc, server, 2, 1, b'%'), Ok(()));
-    assert_eq!(rt; change(&rt, alloc, server, 2, 1, b'.'), Ok(()));
-    emits_bytes(&rt, server, out, 3, 46);
-    // in two pieces, of 1,009 and 11 bytes
-    assert_eq!(rt; change(&rt, alloc, server, 3, 1_000, b'a'), Ok(()));
-    emits_bytes(&rt, server, out, 4, 1_078);
-    // the one that is connected isn't told
-    assert_eq!(rt; server.emit(2, out), snapshot(1, 0, 16));
-    Ok(())
-}
-
-/// Changes that are refused, where there is no room: an index, how many bytes, and the last of them.
-fn refused() -> [(u32, usize, u8, ConfigRefused); 9] {
-    [
-        (1024, 8_192, b'"', ConfigRefused::Index),
-        (1, 8_192, b'"', ConfigRefused::Own),
-        (5, 8_192, b'"', ConfigRefused::Chars(34)),
-        (5, 1, 31, ConfigRefused::Chars(31)),
-        (5, 1, 127, ConfigRefused::Chars(127)),
-        (5, 8_192, b'a', ConfigRefused::Long),
-        (5, 8_191, b'a', ConfigRefused::Full),
-        (5, 1, b'a', ConfigRefused::WindowFull(1)),
-        (4, 8_000, b'b', ConfigRefused::WindowFull(1)),
-    ]
-}
-
-/// The game says commands until so many wait.
-fn fill_window(rt: &impl Abort, server: &mut Server, first: u32) {
-    let text = Text::of(b"a").expect(rt, "a text");
-    for number in first..64u32 {
-        assert_eq!(rt; server.say(1, &text), Ok(number));
-    }
-    assert_eq!(rt; server.say(1, &text), Err(SayError::WindowFull));
-}
-
-#[test]
-fn config_changes_are_refused(rt: HostRuntime) -> Result<(), Fail> {
-    let alloc = rt.alloc();
-    let mut server = server(
-        alloc,
-        Table::of(&[0, 8, -16]).expect(&rt, "a table"),
-        Table::of(&[0, 16]).expect(&rt, "a table"),
-    )?;
-    assert_eq!(rt; join(&mut server, 1, 5000, 1, 27960), Ok(()));
-    let mut out = Datagram::new();
-    enters(&rt, &mut server, &mut out);
-    // nine commands
-    assert_eq!(rt; change(&rt, alloc, &mut server, 4, 8_000, b'a'), Ok(()));
-    fill_window(&rt, &mut server, 10);
-    for (index, count, last, refusal) in refused() {
-        assert_eq!(rt;
-            change(&rt, alloc, &mut server, index, count, last),
-            Err(refusal)
-        );
-    }
-    // what is there already takes no room
-    assert_eq!(rt; change(&rt, alloc, &mut server, 4, 8_000, b'a'), Ok(()));
-    assert!(rt; server.configs().get(5).is_empty());
-    Ok(())
-}
-
-/// Prints why a config string can't be changed.
-fn refusal_prints(rt: &impl Abort, alloc: Global, refusal: ConfigRefused, text: &[u8]) {
-    let mut out = MemSink::new(alloc, 64, &[]).expect(rt, "memory");
-    assert_eq!(rt; print_config_refused(refusal, &mut out), Ok(()));
-    assert_eq!(rt; out.bytes(), text);
-}
-
-#[test]
-fn config_refusals_are_printed(rt: HostRuntime) {
-    let alloc = rt.alloc();
-    refusal_prints(&rt, alloc, ConfigRefused::Index, b"index");
-    refusal_prints(&rt, alloc, ConfigRefused::Own, b"own");
-    refusal_prints(&rt, alloc, ConfigRefused::Chars(34), b"chars 34");
-    refusal_prints(&rt, alloc, ConfigRefused::Long, b"long");
-    refusal_prints(&rt, alloc, ConfigRefused::Full, b"full");
-    let window = ConfigRefused::WindowFull(3);
-    refusal_prints(&rt, alloc, window, b"windowfull 3");
-}
-
-#[test]
-fn refusals_are_printed(rt: HostRuntime) -> Result<(), Fail> {
-    let mut out = MemSink::new(rt.alloc(), 128, &[])?;
-    assert_eq!(rt; print_emitted(3, &Emitted::Unclear, 0, &mut out), Ok(()));
-    let game = Emitted::Game {
-        number: 2,
-        bytes: 38,
-    };
-    assert_eq!(rt; print_emitted(3, &game, 7, &mut out), Ok(()));
-    assert_eq!(rt; print_say_error(SayError::NoClient, &mut out), Ok(()));
-    assert_eq!(rt; print_say_error(SayError::Own, &mut out), Ok(()));
-    assert_eq!(rt; print_say_error(SayError::NotPrimed, &mut out), Ok(()));
-    assert_eq!(rt; print_say_error(SayError::WindowFull, &mut out), Ok(()));
-    assert_eq!(rt; print_not_later(NotLater { last: 2 }, &mut out), Ok(()));
-    assert_eq!(rt; print_late(Late, &mut out), Ok(()));
-    assert_eq!(rt;
-        out.bytes(),
-        b"serve 3 unclear\nserve 3 gamestate 2 bytes 38 datagram 7\nnoclientownnotprimedwindowfullnotlater 2late".as_slice()
-    );
     Ok(())
 }

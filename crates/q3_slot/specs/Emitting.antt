@@ -18,25 +18,26 @@ use Rattle.q3_frames.specs.Frames.{FramesState, base_of, build_at}
 use Rattle.q3_map.specs.Map.{MapState, begins_game}
 use Rattle.q3_slot.specs.declared.answer.Emitted.{Emitted}
 use Rattle.q3_slot.specs.declared.answer.Emitted.TheVariants as emitted
-use Rattle.q3_slot.specs.Built.{Built, Telling, number_of, built_of, game_built_of, is_unclear}
+use Rattle.q3_built.specs.Built.{Built, Telling, number_of, built_of, built_bits, game_built_of, is_unclear}
 use Rattle.q3_slot.specs.declared.stage.ClientStage.{ClientStage}
 use Rattle.q3_slot.specs.Slot.{SlotState, is_active, plays_under, asked, primed}
 
--- the flags of a client's snapshots: 2 where it doesn't play, and 4 where the count bit is set
-abbrev pub snapshot_flags : Bool → ClientStage → ℕ
-snapshot_flags count stage = (if is_active stage then 0 else 2) + (if count then 4 else 0)
+-- the flags of a client's snapshots: 1 where they are delayed by rate control, 2 where it doesn't play, and 4 where the count bit is
+-- set
+abbrev pub snapshot_flags : Bool → Bool → ClientStage → ℕ
+snapshot_flags count delayed stage = (if delayed then 1 else 0) + (if is_active stage then 0 else 2) + (if count then 4 else 0)
 
 -- the snapshot of a client that plays: of more than 256 entities those of the lowest numbers
 abbrev pub played_snapshot : MapState → SlotState → Snapshot
 played_snapshot map slot = record {
-  head = record { number = slot.sending.number + 1; time = map.time; flags = snapshot_flags map.count slot.stage; area = slot.area; player = slot.player };
+  head = record { number = slot.sending.number + 1; time = map.time; flags = snapshot_flags map.count slot.delayed slot.stage; area = slot.area; player = slot.player };
   entities = take most_entities map.entities;
 }
 
 -- and that of one that doesn't, in which nothing is
 abbrev pub waiting_snapshot : MapState → SlotState → Snapshot
 waiting_snapshot map slot = record {
-  head = record { number = slot.sending.number + 1; time = map.time; flags = snapshot_flags map.count slot.stage; area = record { items = [] }; player = zero_player };
+  head = record { number = slot.sending.number + 1; time = map.time; flags = snapshot_flags map.count slot.delayed slot.stage; area = record { items = [] }; player = zero_player };
   entities = [];
 }
 
@@ -79,14 +80,6 @@ next_game map c slot = record {
 -- and the message with it
 abbrev pub next_game_built : MapState → ℕ → SlotState → Built
 next_game_built map c slot = game_built_of (telling_of slot) map.lines (next_game map c slot)
-
--- the bits of a message
-abbrev pub built_bits : Profile → Built → List Bool
-built_bits profile built = message_text profile built.lines (option_map base_from built.base) built.message
-
--- and its bytes, scrambled behind the leading long
-abbrev pub built_bytes : Profile → Built → List ℕ
-built_bytes profile built = scrambled 4 built.start built.text (message_bytes (built_bits profile built))
 
 -- what an emit of a slot gives: the slot after it, the map and the frames, the answer, the message that it began, and the datagram
 -- that it hands out

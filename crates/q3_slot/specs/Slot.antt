@@ -1,5 +1,5 @@
 -- A client's slot: what is kept of it, and what the game hands in for it alone.
-use Rattle.std.specs.Prelude.{ℕ, ◌==◌, ◌&&◌, if◌then◌else◌, Bool, true, false, List, [], Option, Some, None}
+use Rattle.std.specs.Prelude.{ℕ, ◌==◌, ◌&&◌, if◌then◌else◌, Bool, true, false, List, [], Option, Some, None, option_map}
 use Rattle.arrayvec.specs.ArrayVec.{ArrayVec}
 use Rattle.q3_io.specs.declared.address.Address.{Address}
 use Rattle.q3_chan.specs.declared.side.Side.TheVariants.{Server, Client}
@@ -26,7 +26,8 @@ is_connected other = false
 -- a client at the server: how it joined and from where, how far it came on the map, the number of the last gamestate of the map
 -- that was begun for it, if one was, and whether one is owed; what is being sent to it, what was gathered of what it sends, the
 -- commands that were issued to it, and those of its own that were executed; the number of the snapshot that it asks to write the
--- next one against, 0 for none, the time of its last move that was run, 0 for none, its player in normal form, and its area bytes
+-- next one against, 0 for none, the time of its last move that was run, 0 for none, its player in normal form, its area bytes, and whether
+-- its snapshots are delayed by rate control
 pub record SlotState : Type 0 where
   pub challenge : ℕ
   pub address : Address
@@ -42,6 +43,7 @@ pub record SlotState : Type 0 where
   pub last_run : ℕ
   pub player : PlayerState
   pub area : ArrayVec ℕ
+  pub delayed : Bool
 
 -- a client that just joined
 abbrev pub new_slot : ℕ → ℕ → Address → SlotState
@@ -60,6 +62,7 @@ new_slot challenge qport address = record {
   last_run = 0;
   player = zero_player;
   area = record { items = [] };
+  delayed = false;
 }
 
 -- whether a slot's client has this host and qport
@@ -75,7 +78,17 @@ with_player profile slot player = record slot { player = normal_player profile.p
 abbrev pub with_area : SlotState → List ℕ → SlotState
 with_area slot area = record slot { area = record { items = area } }
 
--- the slot on a new map: its client is connected, and nothing of the last map stays but the time of its last move that was run
+-- the slot whose snapshots are delayed by rate control, or aren't
+abbrev pub with_delayed : SlotState → Bool → SlotState
+with_delayed slot on = record slot { delayed = on }
+
+-- the number of the message of which pieces are left, if there is one
+abbrev pub sending_of : Option SlotState → Option ℕ
+sending_of None = None
+sending_of (Some slot) = option_map (λ left. slot.sending.number) slot.sending.under_way
+
+-- the slot on a new map: its client is connected, and nothing of the last map stays but the time of its last move that was run, and
+-- whether its snapshots are delayed
 abbrev pub on_new_map : SlotState → SlotState
 on_new_map slot = record slot {
   stage = Connected;

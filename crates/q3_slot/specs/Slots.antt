@@ -35,9 +35,9 @@ use Rattle.q3_slot.specs.declared.taking.ServerTook.{ServerTook}
 use Rattle.q3_slot.specs.declared.taking.ServerTook.TheVariants as took
 use Rattle.q3_slot.specs.declared.taking.Origin.{Origin}
 use Rattle.q3_slot.specs.declared.taking.Origin.TheVariants as origins
-use Rattle.q3_slot.specs.Built.{Built, Telling, number_of, built_of}
+use Rattle.q3_built.specs.Built.{Telling}
 use Rattle.q3_slot.specs.Slot.{SlotState, is_active, is_connected, plays_under}
-use Rattle.q3_slot.specs.Emitting.{SlotEmission, built_bits, built_bytes, next_frames, begun_next, next_game_built, emit_built, emit_game, emit_slot}
+use Rattle.q3_slot.specs.Emitting.{SlotEmission, next_frames, begun_next, next_game_built, emit_built, emit_game, emit_slot}
 use Rattle.q3_slot.specs.Taking.{Came, OfMap, OfOther, Leading, Playing, ack_taken, came_under, goes_on, is_behind_game, leading_of, take_slot}
 
 -- what is being sent to a client, what was gathered of what it sends, which commands were issued to it, and what is kept of it
@@ -58,6 +58,7 @@ slot_of sending gathering issued client = record {
   last_run = client.last_run;
   player = client.player;
   area = client.area;
+  delayed = client.delayed;
 }
 
 -- every frame that a slot holds has such entities
@@ -69,55 +70,9 @@ abbrev pub told_under : OutgoingState → Joined → ℕ → Telling
 told_under issued client number =
     record { ack = acknowledgement_of client.executed; commands = carried issued; last = issued_of issued; under = plays_under client.stage client.game; start = server_start client.challenge number }
 
--- what a buffer has behind a snapshot that is written against a base, and the base's number and the count of bytes that are
--- answered
-pub record WritesAgainst (profile : Profile) (telling : Telling) (lines : Lines) (base : Option Snapshot) (snapshot : Snapshot) (new : List ℕ) (answer : Result (ℕ × ℕ) Overflow) : Type 0 where
-  pub named : IfOk answer (λ told. told.0 ≡ number_of base)
-  pub refused : IsErr answer ↔ (longest_message < message_length (length (built_bits profile (built_of telling lines base snapshot))))
-  pub count : IfOk answer (λ told. told.1 ≡ message_length (length (built_bits profile (built_of telling lines base snapshot))))
-  pub bytes : IfOk answer (λ told. take told.1 new ≡ message_bytes (built_bits profile (built_of telling lines base snapshot)))
-  pub long : length new ≡ longest_message
-
--- what a buffer has behind a message with a snapshot that was scrambled, and the base's number and the count of bytes that are
--- answered
-pub record Scrambles (profile : Profile) (built : Built) (new : List ℕ) (answer : Result (ℕ × ℕ) Overflow) : Type 0 where
-  pub named : IfOk answer (λ told. told.0 ≡ number_of built.base)
-  pub refused : IsErr answer ↔ (longest_message < message_length (length (built_bits profile built)))
-  pub count : IfOk answer (λ told. told.1 ≡ message_length (length (built_bits profile built)))
-  pub bytes : IfOk answer (λ told. take told.1 new ≡ built_bytes profile built)
-  pub long : length new ≡ longest_message
-
 -- the snapshot against which the next one for a client may be written
 abbrev pub asked_by : Joined → ℕ
 asked_by client = if is_active client.stage then client.delta else 0
-
--- the gamestate of a map for the client in a slot, by the commands that were issued to it
-abbrev pub game_under : OutgoingState → MapState → ℕ → Gamestate
-game_under issued map c = record {
-  command = issued_of issued;
-  strings = map.strings;
-  lines = map.lines;
-  slot = c;
-  feed = map.feed;
-}
-
--- the message with it
-abbrev pub game_message : OutgoingState → Joined → MapState → ℕ → told.Message
-game_message issued client map c = record { ack = client.executed.executed; commands = carried issued; section = Game (game_under issued map c) }
-
--- what a buffer has behind a message of these bits, and the count of bytes that is answered
-pub record WritesBits (bits : List Bool) (new : List ℕ) (answer : Result ℕ Overflow) : Type 0 where
-  pub refused : IsErr answer ↔ (longest_message < message_length (length bits))
-  pub count : IfOk answer (λ count. count ≡ message_length (length bits))
-  pub bytes : IfOk answer (λ count. take count new ≡ message_bytes bits)
-  pub long : length new ≡ longest_message
-
--- the same where the message is scrambled then
-pub record ScramblesGame (profile : Profile) (built : Built) (new : List ℕ) (answer : Result ℕ Overflow) : Type 0 where
-  pub refused : IsErr answer ↔ (longest_message < message_length (length (built_bits profile built)))
-  pub count : IfOk answer (λ count. count ≡ message_length (length (built_bits profile built)))
-  pub bytes : IfOk answer (λ count. take count new ≡ built_bytes profile built)
-  pub long : length new ≡ longest_message
 
 -- what is answered where something is handed in for the client of a slot
 abbrev pub given : Option SlotState → Result (Unit {0}) NoClient

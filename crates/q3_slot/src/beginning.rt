@@ -11,8 +11,9 @@ ghost use Rattle.q3_slot.specs.Emitting.{most_placed};
 ghost use Rattle.q3_slot.specs.Slots.{HoldLists, game_emission, slot_of, snapshot_emission};
 
 use crate::answer::Emitted;
-use crate::emitting::{write_game_scrambled, write_next};
+use crate::emitting::{Recipient, write_next};
 use crate::joined::Joined;
+use q3_built::{TellingParts, Written, write_game};
 use q3_chan::{Datagram, Sender};
 use q3_frames::Frames;
 use q3_map::Map;
@@ -48,8 +49,14 @@ pub(crate) fn begin_game(
     ensures buffer { length buffer.new ≡ longest_message }
 {
     let number = sender.number() + 1;
-    let written = write_game_scrambled(slot, number, client, issued, profile, map, buffer);
-    let Ok(bytes) = written else {
+    let telling = TellingParts {
+        executed: &client.executed,
+        issued,
+        challenge: client.challenge,
+        number,
+    };
+    let written = write_game(profile, map, telling, slot, buffer);
+    let Ok(Written { bytes, .. }) = written else {
         return Emitted::Overlong;
     };
     client.prime(number);
@@ -63,9 +70,7 @@ pub(crate) fn begin_game(
 /// if that is there. `Overlong` comes exactly where it has more than 16,384 bytes, and nothing changes then but the frames.
 pub(crate) fn begin_snapshot(
     sender: &mut Sender,
-    issued: &Outgoing,
-    client: &Joined,
-    slot: u8,
+    to: Recipient,
     profile: &Profile,
     map: &Map,
     frames: &mut Frames,
@@ -75,30 +80,28 @@ pub(crate) fn begin_snapshot(
 ) -> Emitted
     requires idle { IsIdle sender.old }
     requires number { sender.old.number + 1 < sequence_end }
-    requires slot { slot < length frames.old.slots }
+    requires slot { to.slot < length frames.old.slots }
     requires placed { frames.old.placed ≤ most_placed }
     requires lists { HoldLists frames.old }
     requires buffer { length buffer.old ≡ longest_message }
     requires out { out.old.items ≡ [] }
-    ensures slot { (gathering : Gathering) → slot_of sender.new gathering issued.now client.now
-        ≡ (snapshot_emission profile.now map.now frames.old slot (slot_of sender.old gathering issued.now client.now)).slot }
+    ensures slot { (gathering : Gathering) → slot_of sender.new gathering to.entry.issued.now to.entry.client.now
+        ≡ (snapshot_emission profile.now map.now frames.old to.entry.slot (slot_of sender.old gathering to.entry.issued.now to.entry.client.now)).slot }
     ensures map { (gathering : Gathering) → map.now
-        ≡ (snapshot_emission profile.now map.now frames.old slot (slot_of sender.old gathering issued.now client.now)).map }
+        ≡ (snapshot_emission profile.now map.now frames.old to.entry.slot (slot_of sender.old gathering to.entry.issued.now to.entry.client.now)).map }
     ensures frames { (gathering : Gathering) → frames.new
-        ≡ (snapshot_emission profile.now map.now frames.old slot (slot_of sender.old gathering issued.now client.now)).frames }
+        ≡ (snapshot_emission profile.now map.now frames.old to.entry.slot (slot_of sender.old gathering to.entry.issued.now to.entry.client.now)).frames }
     ensures answer { (gathering : Gathering) → result
-        ≡ (snapshot_emission profile.now map.now frames.old slot (slot_of sender.old gathering issued.now client.now)).answer }
+        ≡ (snapshot_emission profile.now map.now frames.old to.entry.slot (slot_of sender.old gathering to.entry.issued.now to.entry.client.now)).answer }
     ensures piece { (gathering : Gathering)
-        → HandsOut (snapshot_emission profile.now map.now frames.old slot (slot_of sender.old gathering issued.now client.now)).piece out.new.items }
+        → HandsOut (snapshot_emission profile.now map.now frames.old to.entry.slot (slot_of sender.old gathering to.entry.issued.now to.entry.client.now)).piece out.new.items }
     ensures slots { length frames.new.slots ≡ length frames.old.slots }
     ensures lists { HoldLists frames.new }
     ensures number { sender.new.number < sequence_end }
     ensures buffer { length buffer.new ≡ longest_message }
 {
-    let written = write_next(
-        sender, issued, client, slot, profile, map, frames, head, buffer,
-    );
-    let Ok((base, bytes)) = written else {
+    let written = write_next(sender, to, profile, map, frames, head, buffer);
+    let Ok(Written { base, bytes }) = written else {
         return Emitted::Overlong;
     };
     sender.start(&buffer[..bytes]);

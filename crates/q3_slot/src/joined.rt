@@ -32,6 +32,9 @@ use q3_player::{PlayerState, SnapHead};
 use q3_profile::Profile;
 use q3_window::{Incoming, Outgoing};
 
+/// The flag of a snapshot that rate control delayed, the engine's `SNAPFLAG_RATE_DELAYED` (q_shared.h).
+const RATE_DELAYED: u8 = 1;
+
 /// The flag of a snapshot for a client that isn't active, the engine's `SNAPFLAG_NOT_ACTIVE` (q_shared.h).
 const NOT_ACTIVE: u8 = 2;
 
@@ -40,7 +43,8 @@ const SERVER_COUNT: u8 = 4;
 
 /// How a client joined and from where, how far it came on the map, the number of the last gamestate of the map that was begun
 /// for it, if one was, and whether one is owed; which of its commands were executed, the number of the snapshot that it asks to
-/// write the next one against, 0 for none, the time of its last move that was run, and what the game handed in for it alone.
+/// write the next one against, 0 for none, the time of its last move that was run, what the game handed in for it alone, and
+/// whether its snapshots are delayed by rate control.
 #[derive(Drop)]
 pub(crate) struct Joined {
     pub challenge: u32,
@@ -54,6 +58,7 @@ pub(crate) struct Joined {
     pub last_run: u32,
     pub player: PlayerState,
     pub area: ArrayVec<u8, 32>,
+    pub delayed: bool,
 }
 
 impl Joined {
@@ -72,7 +77,15 @@ impl Joined {
         copy_area(area, &mut self.area);
     }
 
-    /// A new map begins: the client is connected to it, and of the last one the time of the last move run alone stays.
+    /// The client's snapshots are delayed by rate control from now on, or aren't.
+    pub fn set_delayed(&mut self, on: bool)
+        ensures { self.new ≡ record self.old { delayed = on } }
+    {
+        self.delayed = on;
+    }
+
+    /// A new map begins: the client is connected to it, and of the last one stays alone the time of the last move run, and
+    /// whether snapshots are delayed.
     pub fn begin_map(&mut self)
         ensures { self.new ≡ record self.old {
           stage = Connected;
@@ -297,7 +310,7 @@ impl Joined {
     {
         head.number = sender.number() + 1;
         head.time = map.time();
-        head.flags = flags_of(map.count(), self.stage);
+        head.flags = flags_of(map.count(), self.delayed, self.stage);
         if !self.stage.is_active() {
             head.area.clear();
             head.player = PlayerState::zero();
@@ -334,11 +347,12 @@ impl Joined {
 }
 
 /// The flags of a client's snapshots.
-fn flags_of(count: bool, stage: ClientStage) -> u8
-    ensures { result ≡ snapshot_flags count stage }
+fn flags_of(count: bool, delayed: bool, stage: ClientStage) -> u8
+    ensures { result ≡ snapshot_flags count delayed stage }
 {
+    let late = if delayed { RATE_DELAYED } else { 0 };
     let waiting = if stage.is_active() { 0 } else { NOT_ACTIVE };
-    waiting + if count { SERVER_COUNT } else { 0 }
+    late + waiting + if count { SERVER_COUNT } else { 0 }
 }
 
 fn copy_area(from: &[u8], into: &mut ArrayVec<u8, 32>)

@@ -9,19 +9,21 @@ ghost use Rattle.q3_chan.specs.Sending.{HandsOut, IsIdle};
 ghost use Rattle.q3_frames.specs.Frames.{FramesState};
 ghost use Rattle.q3_config.specs.Strings.{is_config_byte, places};
 ghost use Rattle.q3_config.specs.Laws.{piece_texts};
-ghost use Rattle.q3_window.specs.Outgoing.{fits, total_of};
-ghost use Rattle.q3_window.specs.Outgoing.{with_texts};
-ghost use Rattle.q3_slot.specs.Slot.{SlotState, is_of, new_slot, on_new_map, with_player, with_area};
+ghost use Rattle.q3_window.specs.Outgoing.{fits, total_of, with_texts};
+ghost use Rattle.q3_slot.specs.Slot.{SlotState, is_of, new_slot, on_new_map, sending_of, with_area, with_delayed, with_player};
+ghost use Rattle.q3_slot.specs.Standing.{IsSlot};
 ghost use Rattle.q3_slot.specs.Slots.{HoldLists, game_emission, given, changes_own, slot_saying, said_of_slot, lacks_places, lacks_room, tells, slot_after, map_after, frames_after, answer_of, piece_of, slot_behind, taken_of};
 
 use crate::answer::{Emitted, NoClient, SayError};
 use crate::beginning::{begin_game, begin_snapshot};
-use crate::emitting::{has_ended, is_unclear};
+use crate::emitting::{Recipient, has_ended};
 use crate::joined::Joined;
 use crate::stage::ClientStage;
+use crate::standing::types_tell;
 use crate::taking::{Heard, ServerTook};
 use arrayvec::ArrayVec;
 use q3_bits::NoMemory;
+use q3_built::is_unclear;
 use q3_chan::{Datagram, Gathered, Gatherer, Sender, Side};
 use q3_clmsg::ClientMessage;
 use q3_config::{piece, pieces, shape};
@@ -113,6 +115,7 @@ impl Slot {
             last_run: 0,
             player: PlayerState::zero(),
             area: ArrayVec::new(),
+            delayed: false,
         });
     }
 
@@ -148,7 +151,30 @@ impl Slot {
         Ok(())
     }
 
-    /// A new map begins: the client is connected to it, and of the last one the time of the last move run alone stays.
+    /// The client's snapshots are delayed by rate control from now on, or aren't; as long as they are, each has a flag for it.
+    pub fn set_delayed(&mut self, on: bool) -> Result<(), NoClient>
+        ensures slot { self.new ≡ option_map (λ slot. with_delayed slot on) self.old }
+        ensures answer { result ≡ given self.old }
+    {
+        let Some(client) = &mut self.client else {
+            return Err(NoClient);
+        };
+        client.set_delayed(on);
+        Ok(())
+    }
+
+    /// The number of the message of which pieces are left: `None` exactly where none are, and where there is no client.
+    pub fn sending(&self) -> Option<u32>
+        ensures { result ≡ sending_of self.now }
+    {
+        if !self.is_taken() || self.sender.idle() {
+            return None;
+        }
+        Some(self.sender.number())
+    }
+
+    /// A new map begins: the client is connected to it, and of the last one stays alone the time of the last move run, and
+    /// whether snapshots are delayed.
     pub fn on_new_map(&mut self)
         ensures { self.new ≡ option_map on_new_map self.old }
     {
@@ -205,6 +231,20 @@ impl Slot {
         if !client.stage.is_connected() {
             issue_pieces(&mut self.issued, index, text);
         }
+    }
+
+    /// What the types of its parts tell of the slot, which nothing at run time asks.
+    pub fn stand(&self)
+        ensures { IfSome self.now IsSlot }
+    {
+        let Some(client) = &self.client else {
+            return;
+        };
+        let _issued = self.issued.issued();
+        let _last = client.executed.last().bytes();
+        types_tell(client.executed.executed(), &client.area);
+        // there is room for no more
+        prove!(client.area.len() <= 32);
     }
 
     /// Takes a datagram of the client in this slot, from an address, which it takes over. A message that came whole is
@@ -295,11 +335,15 @@ impl Slot {
         if client.owed {
             return self.begin_owed(slot, profile, map, buffer, out);
         }
+        let issued = &self.issued;
+        let to = Recipient {
+            slot,
+            client,
+            issued,
+        };
         begin_snapshot(
             &mut self.sender,
-            &self.issued,
-            client,
-            slot,
+            to,
             profile,
             map,
             frames,

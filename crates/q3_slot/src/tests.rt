@@ -11,16 +11,17 @@ use q3_io::Address;
 use q3_map::Map;
 use q3_profile::Profile;
 use q3_text::Text;
-use std::alloc::{AllocError, Global};
+use std::alloc::Global;
 use std::process::Abort;
 use std::test::*;
 
-/// A profile with the plain code.
-fn profile(alloc: Global, entity: Table, player: Table) -> Result<Profile, NoMemory> {
+/// A profile with the plain code, and with few fields.
+fn profile(rt: &impl Abort, alloc: Global) -> Result<Profile, NoMemory> {
+    let (entity, player) = (Table::of(&[0, 8, -16]), Table::of(&[0, 16]));
     Ok(Profile {
         code: Code::plain(alloc)?,
-        entity,
-        player,
+        entity: entity.expect(rt, "a table"),
+        player: player.expect(rt, "a table"),
         server_ring: 4096,
         parse_ring: 8192,
         protocol: 68,
@@ -47,10 +48,8 @@ fn take(
     heard: &mut Heard,
 ) -> ServerTook {
     let mut whole = [0; LONGEST_MESSAGE];
-    let from = Address {
-        host: 1,
-        port: 27960,
-    };
+    let (host, port) = (1, 27960);
+    let from = Address { host, port };
     heard.clear();
     slot.take(profile, map, 1, from, datagram, &mut whole, said, heard)
 }
@@ -118,6 +117,9 @@ const NOTHING: &[u8] = &[0x05, 0x00];
 /// A move at the time 5, that asks for deltas.
 const AT_5: &[u8] = &[0x02, 0x01, 0x0b, 0x14, 0x00];
 
+/// The command 2, `a`.
+const COMMAND_2: &[u8] = &[0x04, 0x02, 0x00, 0x00, 0x00, 0x61, 0x00, 0x05, 0x00];
+
 /// Message 3, of map 3, before there is a map.
 fn before_the_first_map() -> [Row; 1] {
     let ignored = ServerTook::Ignored { slot: 1, id: 3 };
@@ -128,28 +130,17 @@ fn before_the_first_map() -> [Row; 1] {
 fn on_the_first_map() -> [Row; 6] {
     let bad = ServerTook::Illegible(1, ClientIllegible::BadOp(9));
     let none = ServerTook::Illegible(1, ClientIllegible::MoveCount(0));
+    let ran = ServerTook::Ran { slot: 1, number: 4 };
+    let gap = ServerTook::Gap { slot: 1, number: 2 };
+    let ignored = ServerTook::Ignored { slot: 1, id: 0 };
     [
         // no gamestate was begun, and the message is of the map
-        (4, 1, 0, AT_5, ServerTook::Ran { slot: 1, number: 4 }, false),
+        (4, 1, 0, AT_5, ran, false),
         (4, 0, 0, NOTHING, ServerTook::Old(1), false),
         (5, 1, 0, &[0x09, 0x00], bad, false),
-        (
-            6,
-            1,
-            0,
-            &[0x04, 0x02, 0x00, 0x00, 0x00, 0x61, 0x00, 0x05, 0x00],
-            ServerTook::Gap { slot: 1, number: 2 },
-            false,
-        ),
+        (6, 1, 0, COMMAND_2, gap, false),
         // of another map, also where what is behind the longs isn't legible
-        (
-            7,
-            0,
-            0,
-            &[0x09, 0x00],
-            ServerTook::Ignored { slot: 1, id: 0 },
-            true,
-        ),
+        (7, 0, 0, &[0x09, 0x00], ignored, true),
         (8, 1, 0, &[0x03, 0x00, 0x05, 0x00], none, true),
     ]
 }
@@ -166,11 +157,7 @@ fn on_the_next_map() -> [Row; 2] {
 
 #[test]
 fn connected_client_waits_for_a_gamestate(rt: HostRuntime) -> Result<(), Fail> {
-    let profile = profile(
-        rt.alloc(),
-        Table::of(&[0, 8, -16]).expect(&rt, "a table"),
-        Table::of(&[0, 16]).expect(&rt, "a table"),
-    )?;
+    let profile = profile(&rt, rt.alloc())?;
     let mut slot = joined(rt.alloc())?;
     let mut map = Map::new(rt.alloc())?;
     let mut said = ClientMessage::new(rt.alloc())?;
@@ -197,7 +184,9 @@ fn commands_are_refused(rt: HostRuntime) -> Result<(), Fail> {
         Err(SayError::NoClient)
     );
     assert_eq!(rt; empty.set_area(&[1]), Err(NoClient));
+    assert_eq!(rt; empty.set_delayed(true), Err(NoClient));
     assert_eq!(rt; empty.address(), None);
+    assert_eq!(rt; empty.sending(), None);
     let mut slot = joined(rt.alloc())?;
     let own: [&[u8]; 2] = [b"cs 1 \"a\"\n", b"bcs2 1 \"\""];
     for text in own {
@@ -209,70 +198,7 @@ fn commands_are_refused(rt: HostRuntime) -> Result<(), Fail> {
         assert_eq!(rt; said(&rt, &mut slot, text), Err(SayError::NotPrimed));
     }
     assert_eq!(rt; slot.set_area(&[1]), Ok(()));
-    Ok(())
-}
-
-/// A piece of message 1 from the qport 5000 that has as many bytes as it says: nops, behind the id 1 and two longs that are 0
-/// where it is the first.
-fn piece(alloc: Global, start: u16, length: u16) -> Result<Vec<u8>, AllocError> {
-    let mut piece = Vec::new(alloc);
-    piece.extend_from_slice(&[0x01, 0x00, 0x00, 0x80, 0x88, 0x13])?;
-    piece.extend_from_slice(&start.to_le_bytes())?;
-    piece.extend_from_slice(&length.to_le_bytes())?;
-    for place in 0..length {
-        piece.push(if start == 0 && 0 < place && place < 12 {
-            0
-        } else {
-            1
-        })?;
-    }
-    Ok(piece)
-}
-
-/// The slot takes a datagram, which gives this answer, and so many commands run.
-fn takes(
-    rt: &impl Abort,
-    slot: &mut Slot,
-    by: (&Profile, &Map),
-    datagram: &[u8],
-    said: &mut ClientMessage,
-    answer: ServerTook,
-    commands: usize,
-) {
-    let mut heard = Heard::new();
-    assert_eq!(rt; take(slot, by.0, by.1, datagram, said, &mut heard), answer);
-    assert_eq!(rt; heard.commands.len(), commands);
-}
-
-#[test]
-fn a_message_comes_in_two_pieces(rt: HostRuntime) -> Result<(), Fail> {
-    let alloc = rt.alloc();
-    let profile = profile(
-        alloc,
-        Table::of(&[0, 8, -16]).expect(&rt, "a table"),
-        Table::of(&[0, 16]).expect(&rt, "a table"),
-    )?;
-    let mut slot = joined(alloc)?;
-    let mut map = Map::new(alloc)?;
-    assert_eq!(rt; map.new_map(1, 77), Ok(()));
-    let mut said = ClientMessage::new(alloc)?;
-    let first = piece(alloc, 0, 1_300)?;
-    let behind_a_gap = piece(alloc, 1_301, 5)?;
-    let long = piece(alloc, 1_300, 1_301)?;
-    // it begins at 1,300 and has nine bytes: the command 1, `a`
-    let last = [
-        0x01, 0x00, 0x00, 0x80, 0x88, 0x13, 0x14, 0x05, 0x09, 0x00, 0x04, 0x01, 0x00, 0x00, 0x00,
-        0x61, 0x00, 0x05, 0x00,
-    ];
-    let ran = ServerTook::Ran { slot: 1, number: 1 };
-    let gap = ServerTook::OutOfOrder(1);
-    let bad = ServerTook::BadFragment(1);
-    let (slot, by, said) = (&mut slot, (&profile, &map), &mut said);
-    takes(&rt, slot, by, &first, said, ServerTook::Partial(1), 0);
-    takes(&rt, slot, by, &behind_a_gap, said, gap, 0);
-    takes(&rt, slot, by, &long, said, bad, 0);
-    takes(&rt, slot, by, &last[..18], said, bad, 0);
-    takes(&rt, slot, by, &last, said, ran, 1);
-    takes(&rt, slot, by, &last, said, ServerTook::Old(1), 0);
+    assert_eq!(rt; slot.set_delayed(true), Ok(()));
+    assert_eq!(rt; slot.sending(), None);
     Ok(())
 }

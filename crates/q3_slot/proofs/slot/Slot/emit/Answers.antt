@@ -2,7 +2,7 @@ use Rattle.std.proofs.Common.{◌≡◌, ◌∙◌, Option, Some, None, false, s
 use Rattle.std.specs.Prelude.{◌||◌, ◌+◌, nat_le, nat_lt}
 use Rattle.q3_chan.specs.Datagrams.{sequence_end}
 use Rattle.q3_chan.specs.Sending.{Piece, HandsOut}
-use Rattle.q3_slot.specs.Built.{is_unclear}
+use Rattle.q3_built.specs.Built.{is_unclear}
 use Rattle.q3_slot.specs.Slot.{SlotState}
 use Rattle.q3_slot.specs.Emitting.{SlotEmission, most_placed}
 use Rattle.q3_slot.specs.Slots.{emission_of, snapshot_emission, slot_of, slot_after, map_after, frames_after, answer_of, piece_of}

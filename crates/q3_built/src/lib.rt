@@ -1,0 +1,8 @@
+//! The messages that a server builds for a client: written and scrambled.
+#![tactic(auto)]
+
+pub mod parts;
+pub mod writing;
+
+pub use parts::{SnapshotParts, TellingParts, Written};
+pub use writing::{is_unclear, write_game, write_snapshot};

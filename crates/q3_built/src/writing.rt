@@ -1,0 +1,139 @@
+//! Writes the message with a client's next snapshot, or with its gamestate, and scrambles it. Keeps the rules "what the server
+//! sends" and "scrambling", by q3_svmsg and q3_chan: the engine's `SV_SendClientSnapshot` (sv_snapshot.c),
+//! `SV_SendClientGameState` (sv_client.c) and `SV_Netchan_Encode` (sv_net_chan.c). That no message is begun whose leading long
+//! would be scrambled is this project's own.
+
+ghost use Rattle.std.specs.Prelude.{◌≡◌, ◌≤◌, length, option_map, take, None};
+ghost use Rattle.q3_chan.specs.Datagrams.{longest_message};
+ghost use Rattle.q3_chan.specs.Keys.{server_start};
+ghost use Rattle.q3_chan.specs.Scrambling.{scrambled};
+ghost use Rattle.q3_map.specs.Map.{AreListed};
+ghost use Rattle.q3_svmsg.specs.Values.{base_entities, base_viewed, IsNamed};
+ghost use Rattle.q3_svmsg.specs.Texts.{message_text};
+ghost use Rattle.q3_built.specs.Built.{is_unclear};
+ghost use Rattle.q3_built.specs.Writing.{HoldsMessage, HoldsScrambled, game_message_in, snapshot_in};
+
+use crate::parts::{SnapshotParts, TellingParts, Written};
+use q3_bits::Overflow;
+use q3_chan::{scramble, server_start};
+use q3_gamestate::Numbers;
+use q3_map::Map;
+use q3_profile::Profile;
+use q3_svmsg::{GameParts, SnapParts, write_game_parts, write_parts};
+
+/// A server's message is scrambled from this byte on, behind its leading long.
+const CLEAR: usize = 4;
+
+/// How many bits of a message stay clear.
+const CLEAR_BITS: usize = 32;
+
+/// Whether a leading long takes more bits than stay clear.
+pub fn is_unclear(profile: &Profile, ack: u32) -> bool
+    ensures { result ≡ is_unclear profile.now ack }
+{
+    profile.code.row_length(&[(ack, 32)]) > CLEAR_BITS
+}
+
+/// Writes a message with a snapshot, whose entities lie in the map, against its base, if it names one, with the commands that
+/// wait for the client's acknowledgement, and scrambles it. `Overflow` comes exactly where it has more than 16,384 bytes.
+pub fn write_snapshot(
+    profile: &Profile,
+    map: &Map,
+    telling: TellingParts,
+    snapshot: SnapshotParts,
+    buffer: &mut [u8],
+) -> Result<Written, Overflow>
+    requires named { IsNamed (option_map base_viewed snapshot.against) snapshot.head.now.number snapshot.base }
+    requires against { AreListed (base_entities (option_map base_viewed snapshot.against)) }
+    requires listed { AreListed snapshot.entities.now }
+    requires buffer { length buffer.old ≡ longest_message }
+    ensures { HoldsScrambled snapshot.entry.base (server_start telling.entry.challenge telling.entry.number) telling.entry.executed.now.last
+        (message_text profile.now map.now.lines (option_map base_viewed snapshot.entry.against) (snapshot_in telling.entry snapshot.entry)) buffer.new result }
+{
+    let bytes = write_clear(profile, map, telling, snapshot, buffer)?;
+    scramble_front(buffer, bytes, telling);
+    Ok(Written {
+        base: snapshot.base,
+        bytes,
+    })
+}
+
+/// Writes a message with a snapshot, as `write_snapshot` does, and answers its length. It isn't scrambled.
+fn write_clear(
+    profile: &Profile,
+    map: &Map,
+    telling: TellingParts,
+    snapshot: SnapshotParts,
+    buffer: &mut [u8],
+) -> Result<usize, Overflow>
+    requires named { IsNamed (option_map base_viewed snapshot.against) snapshot.head.now.number snapshot.base }
+    requires against { AreListed (base_entities (option_map base_viewed snapshot.against)) }
+    requires listed { AreListed snapshot.entities.now }
+    requires buffer { length buffer.old ≡ longest_message }
+    ensures { HoldsMessage (message_text profile.now map.now.lines (option_map base_viewed snapshot.entry.against) (snapshot_in telling.entry snapshot.entry)) buffer.new result }
+{
+    let parts = SnapParts {
+        ack: telling.executed.executed(),
+        commands: telling.issued.waiting(),
+        base: snapshot.base,
+        head: snapshot.head,
+        entities: snapshot.entities,
+    };
+    // the entities' numbers are below the end mark
+    prove!(profile.entity.end() == 1023);
+    write_parts(profile, parts, map.baselines(), snapshot.against, buffer)
+}
+
+/// Writes a message with the gamestate of the map for the client in a slot, with the commands that wait for the client's
+/// acknowledgement, and scrambles it. `Overflow` comes exactly where it has more than 16,384 bytes.
+pub fn write_game(
+    profile: &Profile,
+    map: &Map,
+    telling: TellingParts,
+    slot: u8,
+    buffer: &mut [u8],
+) -> Result<Written, Overflow>
+    requires { length buffer.old ≡ longest_message }
+    ensures { HoldsScrambled 0 (server_start telling.entry.challenge telling.entry.number) telling.entry.executed.now.last
+        (message_text profile.now map.now.lines None (game_message_in telling.entry map.now slot)) buffer.new result }
+{
+    let bytes = write_clear_game(profile, map, telling, slot, buffer)?;
+    scramble_front(buffer, bytes, telling);
+    Ok(Written { base: 0, bytes })
+}
+
+/// Writes a message with a gamestate, as `write_game` does, and answers its length. It isn't scrambled.
+fn write_clear_game(
+    profile: &Profile,
+    map: &Map,
+    telling: TellingParts,
+    slot: u8,
+    buffer: &mut [u8],
+) -> Result<usize, Overflow>
+    requires { length buffer.old ≡ longest_message }
+    ensures { HoldsMessage (message_text profile.now map.now.lines None (game_message_in telling.entry map.now slot)) buffer.new result }
+{
+    let parts = GameParts {
+        ack: telling.executed.executed(),
+        commands: telling.issued.waiting(),
+        numbers: Numbers {
+            command: telling.issued.issued(),
+            slot: u32::from(slot),
+            feed: map.feed(),
+        },
+        configs: map.configs(),
+        baselines: map.baselines(),
+    };
+    write_game_parts(profile, parts, buffer)
+}
+
+/// Scrambles the message that stands in the first bytes of a buffer, by what it tells.
+fn scramble_front(buffer: &mut [u8], bytes: usize, telling: TellingParts)
+    requires { bytes ≤ length buffer.old }
+    ensures scrambled { take bytes buffer.new
+        ≡ scrambled 4 (server_start telling.entry.challenge telling.entry.number) telling.entry.executed.now.last (take bytes buffer.old) }
+    ensures long { length buffer.new ≡ length buffer.old }
+{
+    let start = server_start(telling.challenge, telling.number);
+    scramble(&mut buffer[..bytes], CLEAR, start, telling.executed.last());
+}

@@ -1,0 +1,128 @@
+-- What a client begins is a message that it may begin.
+use Rattle.std.proofs.Common.{◌≡◌, ℕ, suc, ◌+◌, ◌-◌, ◌^◌, ◌<◌, ◌≤◌, true, false, List, [], ◌∷◌, ◌++◌, length, drop, Option, Some, None, ℤ, refl, sym, ap, subst, inl, inr, arith}
+use Rattle.std.specs.Prelude.{Bool, All, IfSome, filter, nat_lt, nat_le}
+use Rattle.std.proofs.lemmas.List.{length-map}
+use Rattle.std.proofs.lemmas.List.Elements.{All-nil, All-cons, All-head, All-tail, All-push, All-drop, All-map, All-filter}
+use Rattle.std.proofs.lemmas.Bool.{cases_Bool}
+use Rattle.circular_buffer.specs.Buffer.{keep_last}
+use Rattle.q3_text.specs.declared.text.Command.{Command}
+use Rattle.q3_text.specs.Commands.{numbered}
+use Rattle.q3_text.specs.Texts.{IsText}
+use Rattle.q3_strings.specs.Laws.{IsCommand}
+use Rattle.q3_window.specs.Outgoing.{OutgoingState, IsOutgoing, carried as waiting_of}
+use Rattle.q3_chan.specs.Datagrams.{sequence_end, longest_message}
+use Rattle.q3_chan.specs.Sending.{UnderWay}
+use Rattle.q3_bits.specs.Bits.{message_length}
+use Rattle.q3_clmsg.specs.declared.moves.Move.{Move}
+use Rattle.q3_clmsg.specs.Moves.{IsMove}
+use Rattle.q3_clmsg.specs.Laws.{IsMessage}
+use Rattle.q3_svmsg.specs.declared.error.Illegible.{Illegible}
+use Rattle.q3_client.specs.declared.moves.Issued.{Issued}
+use Rattle.q3_client.specs.Client.{ClientState, moves_behind}
+use Rattle.q3_client.specs.Moves.{most_moves, is_carried, carried, asks_delta}
+use Rattle.q3_client.specs.Sending.{Said, IsSaid, Emission, next_message, next_said, said_bits, is_unclear, emit_bits, emit_new, emit_left, emit_unless, emit_at}
+use Rattle.q3_client.specs.Standing.{AreMoves, IsClient}
+
+-- ---- moves
+
+-- none was issued
+pub no_moves : AreMoves []
+no_moves = record { each = All-nil (λ (issued : Issued). IsMove issued.one) }
+
+-- one is issued, and the newest stay
+pub moves_pushed : (moves now : List Issued) (room : ℕ) (issued : Issued) → now ≡ keep_last room (moves ++ issued ∷ []) → IsMove issued.one → AreMoves moves → AreMoves now
+moves_pushed moves now room issued after is are =
+    let more : List Issued = moves ++ issued ∷ [] in
+    let all = All-push (λ (issued : Issued). IsMove issued.one) moves issued are.each is in
+    subst AreMoves (sym after) (record { each = All-drop (λ (issued : Issued). IsMove issued.one) (length more - room) more all })
+
+-- a gamestate wipes them
+pub moves_wiped : (game : Bool) (moves : List Issued) → AreMoves moves → AreMoves (moves_behind game moves)
+moves_wiped true moves are = no_moves
+moves_wiped false moves are = are
+
+abbrev one_of : Issued → Move
+one_of issued = issued.one
+
+few_pass : (test : Issued → Bool) (moves : List Issued) → length (filter test moves) ≤ length moves
+few_pass test [] = omega arith
+few_pass test (issued ∷ moves) =
+    let few = few_pass test moves in
+    elim (cases_Bool (test issued)) [
+      | inl goes ↦ rw goes (omega (arith, few))
+      | inr stays ↦ rw stays (omega (arith, few))
+    ]
+
+-- ---- commands
+
+-- texts by number are commands
+numbered_are : (first : ℕ) (texts : List (List ℕ)) → first + length texts ≤ 2 ^ 32 → All IsText texts → All IsCommand (numbered first texts)
+unfolding numbered
+numbered_are first [] few are = All-nil IsCommand
+numbered_are first (text ∷ texts) few are =
+    All-cons IsCommand (record { number = first; text = text }) (numbered (first + 1) texts)
+    (record { number = omega (arith, few); text = All-head IsText text texts are })
+    (numbered_are (first + 1) texts (omega (arith, few)) (All-tail IsText text texts are))
+
+numbered_count : (first : ℕ) (texts : List (List ℕ)) → length (numbered first texts) ≡ length texts
+unfolding numbered
+numbered_count first [] = refl
+numbered_count first (text ∷ texts) = ap suc (numbered_count (first + 1) texts)
+
+-- ---- what a client begins
+
+-- the next message is one that an end may send
+next_is_message : (client : ClientState) → IsClient client → IsMessage (next_message client)
+next_is_message client is =
+    let number = client.sending.number + 1 in
+    let those = filter (is_carried number client.dup) client.moves in
+    let first = client.issued.acknowledged + 1 in
+    let numbers : client.issued.acknowledged + length client.issued.waiting ≤ 2 ^ 31 - 1 = is.window.numbers in
+    let waiting = is.window.few in
+    let few = is.few in
+    record {
+      id = is.id;
+      acknowledged = is.taken;
+      command = is.executed;
+      few = omega (arith, waiting, numbered_count first client.issued.waiting);
+      commands = numbered_are first client.issued.waiting (omega (arith, numbers)) is.window.texts;
+      few_moves = omega (arith, few, few_pass (is_carried number client.dup) client.moves, length-map those one_of);
+      moves = All-map IsMove one_of those (All-filter (is_carried number client.dup) (λ (issued : Issued). IsMove issued.one) client.moves is.moves.each);
+      whole = λ none. none_asked (carried number client.dup client.moves) none;
+    }
+  where
+    none_asked : (moves : List Move) → moves ≡ [] → asks_delta client.delta moves ≡ false
+    none_asked [] none = refl
+    none_asked (one ∷ moves) none = let long : length (one ∷ moves) ≡ 0 = ap (λ (l : List Move). length l) none in absurd (omega (arith, long))
+
+-- what was begun, if anything was
+abbrev Begins : ClientState → Emission → Type 0
+Begins client emission = IfSome emission.began (IsSaid client.state.profile client.challenge)
+
+begins_new : (client : ClientState) → IsClient client → Begins client (emit_new client)
+begins_new client is =
+    let next = next_said client in
+    let bits = said_bits client.state.profile next in
+    elim (cases_Bool (nat_le sequence_end (client.sending.number + 1))) [
+      | inl ended ↦ rw ended tt
+      | inr goes ↦ elim (cases_Bool (is_unclear client.state.profile (next_message client))) [
+        | inl hidden ↦ rw (goes, hidden) tt
+        | inr clear ↦ elim (cases_Bool (nat_lt longest_message (message_length (length bits)))) [
+          | inl long ↦ rw (goes, clear, long) tt
+          | inr short ↦ rw (goes, clear, short) (record { message = next_is_message client is; feed = is.feed; start = refl; text = is.last; clear = clear })
+        ]
+      ]
+    ]
+
+begins_left : (client : ClientState) (left : Option UnderWay) → IsClient client → Begins client (emit_left client left)
+begins_left client None is = begins_new client is
+begins_left client (Some left) is = tt
+
+begins_unless : (client : ClientState) (cause : Option Illegible) → IsClient client → Begins client (emit_unless client cause)
+begins_unless client None is = begins_left client client.sending.under_way is
+begins_unless client (Some cause) is = tt
+
+-- whatever it keeps
+pub begins : (client : ClientState) → IsClient client → IfSome (emit_at client).began (IsSaid client.state.profile client.challenge)
+unfolding emit_at
+begins client is = begins_unless client client.dropped is

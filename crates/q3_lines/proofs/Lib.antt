@@ -1,0 +1,2 @@
+mod MoveLines
+mod Delivered

@@ -1,0 +1,2 @@
+pub mod ServerLines
+pub mod ClientLines

@@ -1,0 +1,12 @@
+use Rattle.std.proofs.Common.{take, Ok, true}
+use Rattle.std.specs.List.{flat_map}
+use Rattle.q3_io.specs.Faults.{HasCause}
+use Rattle.q3_io.specs.Written.{Wrote}
+use Rattle.q3_io.specs.declared.sink.Failed.{Failed}
+use Rattle.q3_report.specs.AnswerLines.{entity_text}
+use Rattle.q3_report.proofs.report.print_entities.Given as goal
+
+abbrev pub invariant-loop-entity : goal.invariant-loop-entity
+invariant-loop-entity g l =
+    Wrote (g.O.Sink.written l.initial.out) (g.O.Sink.written l.out) (flat_map entity_text (take l.entity-index l.entities)) true
+    × HasCause {T = Unit {0}} {E = Failed} (g.O.Sink.faults l.initial.out) (g.O.Sink.faults l.out) (Ok tt)

@@ -1,0 +1,12 @@
+//! What each event answered, and the lines that it prints. The texts stand in `specs/`, and every printing function adds the text
+//! of its answer, to the letter, or a front of it where the sink failed.
+#![tactic(auto)]
+
+pub mod answer;
+mod refusals;
+mod report;
+#[cfg(test)]
+mod tests;
+
+pub use answer::{Answer, MoveRefused, Shown, TypeRefused};
+pub use report::print_answer;

@@ -1,0 +1,235 @@
+-- What a server begins is a message as a server builds it.
+use Rattle.std.proofs.Common.{◌≡◌, ℕ, suc, ◌+◌, ◌^◌, ◌<◌, ◌≤◌, Bool, true, false, List, [], ◌∷◌, length, get_or, Option, Some, None, refl, sym, ap, subst, ◌∙◌, inl, inr, arith, lit<, is_some}
+use Rattle.std.specs.Prelude.{◌||◌, nat_le, nat_lt, if◌then◌else◌, All, IfSome, ◌⊎◌, ◌-◌}
+use Rattle.std.proofs.lemmas.Bool.{cases_Bool, cond_both, leb-false, both_ways}
+use Rattle.std.proofs.lemmas.List.{get_or_past}
+use Rattle.std.proofs.lemmas.List.Elements.{All-nil, All-cons, All-head, All-tail}
+use Rattle.q3_text.specs.declared.text.Command.{Command}
+use Rattle.q3_text.specs.Commands.{numbered}
+use Rattle.q3_text.specs.Texts.{IsText}
+use Rattle.q3_strings.specs.Laws.{IsCommand}
+use Rattle.q3_window.specs.Outgoing.{OutgoingState, IsOutgoing, carried}
+use Rattle.q3_profile.specs.declared.profile.Profile.{Profile}
+use Rattle.q3_player.specs.State.{zero_player}
+use Rattle.q3_chan.specs.Datagrams.{sequence_end}
+use Rattle.q3_chan.specs.Sending.{UnderWay}
+use Rattle.q3_gamestate.specs.Laws.{IsGamestate}
+use Rattle.q3_ring.specs.Snapshot.{Snapshot}
+use Rattle.q3_frames.specs.Frames.{FramesState, base_of}
+use Rattle.q3_map.specs.Map.{MapState}
+use Rattle.q3_slot.specs.declared.stage.ClientStage.{ClientStage}
+use Rattle.q3_slot.specs.declared.stage.ClientStage.TheVariants.{Connected, Primed, Active}
+use Rattle.q3_built.specs.Built.{Built, IsHeld, IsArea, IsSnapshot, IsNear, IsTelling, IsBuilt, is_unclear, built_bits}
+use Rattle.q3_slot.specs.Slot.{SlotState, is_active, plays_under, asked}
+use Rattle.q3_slot.specs.Emitting.{SlotEmission, snapshot_flags, played_snapshot, waiting_snapshot, next_snapshot, next_frames, telling_of, begun_next, next_game, next_game_built, is_overlong, most_placed, emit_built, emit_game, emit_new, emit_slot}
+use Rattle.q3_slot.specs.Standing.{IsSlot}
+use Rattle.q3_server.specs.Server.{ServerState, slot_at, emission_at, emit_from, emit_at}
+use Rattle.q3_server.specs.Standing.{IsMap, IsJoined, IsServer, BeginsBuilt, Below}
+use Rattle.q3_server.proofs.KeepsMap.{none_held}
+use Rattle.q3_server.proofs.KeepsClients.{zero_held, at_place}
+
+-- ---- commands
+
+-- texts by number are commands
+numbered_are : (first : ℕ) (texts : List (List ℕ)) → first + length texts ≤ 2 ^ 32 → All IsText texts → All IsCommand (numbered first texts)
+unfolding numbered
+numbered_are first [] few are = All-nil IsCommand
+numbered_are first (text ∷ texts) few are =
+    All-cons IsCommand (record { number = first; text = text }) (numbered (first + 1) texts)
+    (record { number = omega (arith, few); text = All-head IsText text texts are })
+    (numbered_are (first + 1) texts (omega (arith, few)) (All-tail IsText text texts are))
+
+numbered_count : (first : ℕ) (texts : List (List ℕ)) → length (numbered first texts) ≡ length texts
+unfolding numbered
+numbered_count first [] = refl
+numbered_count first (text ∷ texts) = ap suc (numbered_count (first + 1) texts)
+
+-- ---- the next message
+
+-- no area bytes
+no_area : IsArea []
+no_area = record { bytes = All-nil (λ (byte : ℕ). byte < 256); short = omega arith }
+
+-- flags are a byte
+flags_fit : (count delayed : Bool) (stage : ClientStage) → snapshot_flags count delayed stage < 2 ^ 8
+flags_fit false false Connected = lit< tt
+flags_fit true false Connected = lit< tt
+flags_fit false true Connected = lit< tt
+flags_fit true true Connected = lit< tt
+flags_fit false false Primed = lit< tt
+flags_fit true false Primed = lit< tt
+flags_fit false true Primed = lit< tt
+flags_fit true true Primed = lit< tt
+flags_fit false false Active = lit< tt
+flags_fit true false Active = lit< tt
+flags_fit false true Active = lit< tt
+flags_fit true true Active = lit< tt
+
+module _ (below : Below) (profile : Profile) (map : MapState) (slot : SlotState) (is_map : IsMap profile map) (zero_is : IsHeld profile zero_player) (is : IsSlot slot)
+    (joined : IsJoined profile map.id slot) where
+  next_tells : is_unclear profile slot.executed.executed ≡ false → IsTelling profile slot.challenge (slot.sending.number + 1) (telling_of slot)
+  next_tells clear =
+      let first = slot.issued.acknowledged + 1 in
+      let numbers : slot.issued.acknowledged + length slot.issued.waiting ≤ 2 ^ 31 - 1 = is.window.numbers in
+      let few = is.window.few in
+      record {
+        ack = is.executed;
+        text = is.last;
+        few = omega (arith, few, numbered_count first slot.issued.waiting);
+        commands = numbered_are first slot.issued.waiting (omega (arith, numbers)) is.window.texts;
+        start = refl;
+        clear = clear;
+      }
+
+  next_is_snapshot : slot.sending.number + 1 < sequence_end → IsSnapshot profile (next_snapshot map slot)
+  next_is_snapshot fits = of_active (is_active slot.stage)
+    where
+      of_active : (active : Bool) → IsSnapshot profile (if active then played_snapshot map slot else waiting_snapshot map slot)
+      of_active true = record {
+        number = fits;
+        time = is_map.time;
+        flags = flags_fit map.count slot.delayed slot.stage;
+        area = is.area;
+        player = joined.player;
+        entities = below.lists.lowest profile.entity map.entities is_map.entities;
+        few = below.lists.few map.entities;
+      }
+      of_active false = record {
+        number = fits;
+        time = is_map.time;
+        flags = flags_fit map.count slot.delayed slot.stage;
+        area = no_area;
+        player = zero_is;
+        entities = none_held profile.entity;
+        few = omega arith;
+      }
+
+  next_number : (next_snapshot map slot).head.number ≡ slot.sending.number + 1
+  next_number = of_active (is_active slot.stage)
+    where
+      of_active : (active : Bool) → (if active then played_snapshot map slot else waiting_snapshot map slot).head.number ≡ slot.sending.number + 1
+      of_active true = refl
+      of_active false = refl
+
+  -- a client that doesn't play gets a snapshot of nothing, against none
+  waits_empty : (frames : FramesState) (c : ℕ) → plays_under slot.stage slot.game ≡ None → ((next_snapshot map slot).entities ≡ []) × ((begun_next map frames c slot).base ≡ None)
+  waits_empty frames c under = of_stage (is_active slot.stage) refl
+    where
+      of_stage : (active : Bool) → is_active slot.stage ≡ active → ((next_snapshot map slot).entities ≡ []) × ((begun_next map frames c slot).base ≡ None)
+      of_stage false still = (
+        ap (λ (a : Bool). (if a then played_snapshot map slot else waiting_snapshot map slot).entities) still,
+        ap (λ (a : Bool). base_of (next_frames map frames c slot) c (slot.sending.number + 1) (if a then slot.delta else 0)) still,
+      )
+      of_stage true yes_it_is =
+          let none : slot.game ≡ None = ap (λ (a : Bool). if a then slot.game else None) (sym yes_it_is) ∙ under in
+          let connected : is_active slot.stage ≡ false = ap is_active (joined.begun none) in
+          absurd (both_ways (is_active slot.stage) connected yes_it_is)
+
+  -- a base is near
+  base_is : (frames : FramesState) (c n delta : ℕ) → IfSome (base_of frames c n delta) (IsNear n)
+  base_is frames c n delta = of_base (base_of frames c n delta) refl
+    where
+      of_base : (base : Option Snapshot) → base_of frames c n delta ≡ base → IfSome base (IsNear n)
+      of_base None found = tt
+      of_base (Some base) found =
+          let near = below.near frames c n delta base found in
+          let some = near.0 in
+          let under = near.1 in
+          let within = near.2 in
+          let same = near.3 in
+          record { some = omega (arith, some, same); below = omega (arith, under, same); near = omega (arith, within, same) }
+
+  next_is_built : (frames : FramesState) (c : ℕ) → slot.sending.number + 1 < sequence_end → is_unclear profile slot.executed.executed ≡ false
+      → IsBuilt profile slot.challenge (slot.sending.number + 1) (begun_next map frames c slot)
+  next_is_built frames c fits clear =
+      record {
+        telling = telling_of slot;
+        tells = next_tells clear;
+        lines = is_map.lines;
+        section = inl (record {
+          snapshot = next_snapshot map slot;
+          is = refl;
+          number = next_number;
+          are = next_is_snapshot fits;
+          waits = waits_empty frames c;
+          base_is = base_is (next_frames map frames c slot) c (slot.sending.number + 1) (asked slot);
+        });
+      }
+
+  game_is_built : (c : ℕ) → c < 2 ^ 32 → slot.owed ≡ true → is_unclear profile slot.executed.executed ≡ false
+      → IsBuilt profile slot.challenge (slot.sending.number + 1) (next_game_built map c slot)
+  game_is_built c lt owed clear =
+      let numbers : slot.issued.acknowledged + length slot.issued.waiting ≤ 2 ^ 31 - 1 = is.window.numbers in
+      let game : IsGamestate profile (next_game map c slot) = record {
+        command = omega (arith, numbers);
+        slot = lt;
+        feed = is_map.feed;
+        strings = is_map.strings;
+        texts = is_map.texts;
+        pending = is_map.pending;
+        lines = is_map.lines;
+        id = ap is_some (is_map.tells (joined.owed owed));
+      } in
+      record {
+        telling = telling_of slot;
+        tells = next_tells clear;
+        lines = is_map.lines;
+        section = inr (record { game = next_game map c slot; is = refl; last = refl; lines = refl; are = game });
+      }
+
+  -- ---- what is begun, if anything is
+
+  abbrev Begun : SlotEmission → Type 0
+  Begun emission = IfSome emission.began (IsBuilt profile slot.challenge (slot.sending.number + 1))
+
+  begun_built : (made : FramesState) (built : Built) → IsBuilt profile slot.challenge (slot.sending.number + 1) built → Begun (emit_built profile slot map made built)
+  begun_built made built is_built =
+      elim (cases_Bool (is_overlong (built_bits profile built))) [
+        | inl long ↦ rw long tt
+        | inr short ↦ rw short is_built
+      ]
+
+  begun_game : (frames : FramesState) (built : Built) → IsBuilt profile slot.challenge (slot.sending.number + 1) built → Begun (emit_game profile slot map frames built)
+  begun_game frames built is_built =
+      elim (cases_Bool (is_overlong (built_bits profile built))) [
+        | inl long ↦ rw long tt
+        | inr short ↦ rw short is_built
+      ]
+
+  begun_new : (frames : FramesState) (c : ℕ) → c < 2 ^ 32 → Begun (emit_new profile map frames c slot)
+  begun_new frames c lt =
+      elim (cases_Bool (nat_le sequence_end (slot.sending.number + 1))) [
+        | inl ended ↦ rw ended tt
+        | inr goes ↦ elim (cases_Bool (nat_lt most_placed frames.placed)) [
+          | inl full ↦ rw (goes, full) tt
+          | inr room ↦ elim (cases_Bool (is_unclear profile slot.executed.executed)) [
+            | inl hidden ↦ rw (goes, room, hidden) tt
+            | inr clear ↦ rw (goes, room, clear) (cond_both slot.owed (emit_game profile slot map frames (next_game_built map c slot))
+                (emit_built profile slot map (next_frames map frames c slot) (begun_next map frames c slot)) Begun
+                (λ owed. begun_game frames (next_game_built map c slot) (game_is_built c lt owed clear))
+                (λ none. begun_built (next_frames map frames c slot) (begun_next map frames c slot)
+                (next_is_built frames c (leb-false sequence_end (slot.sending.number + 1) goes) clear)))
+          ]
+        ]
+      ]
+
+  begun_slot : (frames : FramesState) (c : ℕ) (left : Option UnderWay) → c < 2 ^ 32 → Begun (emit_slot profile map frames c slot left)
+  begun_slot frames c None lt = begun_new frames c lt
+  begun_slot frames c (Some left) lt = tt
+
+-- whatever the server keeps
+pub begins : Below → (server : ServerState) (c : ℕ) → c < 2 ^ 32 → IfSome (slot_at server c) IsSlot → IsServer server.profile server.map server.slots → BeginsBuilt server c
+unfolding emit_at
+begins below server c lt here is = of_slot (slot_at server c) here (at_place server.profile server.map.id server.slots c is.clients)
+  where
+    of_slot : (found : Option SlotState) → IfSome found IsSlot → IfSome found (IsJoined server.profile server.map.id)
+        → IfSome found (λ slot. IfSome (emit_from server c found).began (IsBuilt server.profile slot.challenge (slot.sending.number + 1)))
+    of_slot None here joined = tt
+    of_slot (Some slot) here joined =
+        begun_slot below server.profile server.map slot is.is_map (zero_held below server.profile is.codec) here joined server.frames c slot.sending.under_way lt
+
+-- and where it has no such slot
+pub begins_nothing : (server : ServerState) (c : ℕ) → length server.slots ≤ c → BeginsBuilt server c
+begins_nothing server c past =
+    subst (λ (found : Option SlotState). IfSome found (λ slot. IfSome (emit_at server c).began (IsBuilt server.profile slot.challenge (slot.sending.number + 1))))
+    (sym (get_or_past server.slots c None past)) tt

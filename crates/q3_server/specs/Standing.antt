@@ -1,0 +1,64 @@
+-- What every server keeps, whatever was handed in and whatever came, so that what it begins is well formed.
+use Rattle.std.specs.Prelude.{◌≡◌, ◌≢◌, ℕ, ◌+◌, ◌^◌, ◌<◌, true, List, All, Option, Some, None, IfSome}
+use Rattle.q3_profile.specs.declared.profile.Profile.{Profile}
+use Rattle.q3_profile.specs.Profile.{IsCodec}
+use Rattle.q3_text.specs.Texts.{IsTextByte}
+use Rattle.q3_config.specs.Strings.{AreStrings, server_id}
+use Rattle.q3_config.specs.Laws.{StringsStay, TextsStay}
+use Rattle.q3_player.specs.Laws.{NormalIsNormal, ZeroIsNormal}
+use Rattle.q3_entity.specs.Laws.{NormalIsNormal as EntityNormalIsNormal, NoLinesAreLines, LineIsAdded}
+use Rattle.q3_entity.specs.Baselines.{AreLines}
+use Rattle.q3_frames.specs.Laws.{BaseIsNear}
+use Rattle.q3_map.specs.Laws.{ListsStayHeld, NewMapsTell}
+use Rattle.q3_map.specs.Map.{MapState, AreHeld}
+use Rattle.q3_slot.specs.declared.stage.ClientStage.TheVariants.{Connected}
+use Rattle.q3_built.specs.Built.{IsHeld, IsBuilt}
+use Rattle.q3_slot.specs.Slot.{SlotState}
+use Rattle.q3_server.specs.Server.{ServerState, slot_at, emit_at}
+
+-- the map as the game handed it in: the strings are ones that a gamestate may carry, the first tells the map's id, and the baselines and
+-- entities are in normal form
+pub record IsMap (profile : Profile) (map : MapState) : Type 0 where
+  pub feed : map.feed < 2 ^ 32
+  pub time : map.time < 2 ^ 32
+  pub strings : AreStrings map.strings
+  pub texts : All (All IsTextByte) map.strings.texts
+  pub pending : map.strings.pending ≡ None
+  pub tells : map.id ≢ 0 → server_id map.strings ≡ Some map.id
+  pub lines : AreLines profile.entity map.lines
+  pub entities : AreHeld profile.entity map.entities
+
+-- a client on a map of this id: its player is in normal form, one for which no gamestate was begun is connected, and one is owed on a
+-- map alone
+pub record IsJoined (profile : Profile) (id : ℕ) (slot : SlotState) : Type 0 where
+  pub player : IsHeld profile slot.player
+  pub begun : slot.game ≡ None → slot.stage ≡ Connected
+  pub owed : slot.owed ≡ true → id ≢ 0
+
+-- each client is so
+pub record AreJoined (profile : Profile) (id : ℕ) (slots : List (Option SlotState)) : Type 0 where
+  pub each : All (λ (found : Option SlotState). IfSome found (IsJoined profile id)) slots
+
+-- a server: its profile has a code and tables, and the map and each client are so
+pub record IsServer (profile : Profile) (map : MapState) (slots : List (Option SlotState)) : Type 0 where
+  pub codec : IsCodec profile
+  pub is_map : IsMap profile map
+  pub clients : AreJoined profile map.id slots
+
+-- what is begun for the client in a slot is a message as a server builds it
+abbrev pub BeginsBuilt : ServerState → ℕ → Type 0
+BeginsBuilt server c =
+    IfSome (slot_at server c) (λ slot. IfSome (emit_at server c).began (IsBuilt server.profile slot.challenge (slot.sending.number + 1)))
+
+-- the laws of lower crates on which that rests
+pub record Below : Type 0 where
+  pub entity : EntityNormalIsNormal
+  pub no_lines : NoLinesAreLines
+  pub line : LineIsAdded
+  pub player : NormalIsNormal
+  pub zero : ZeroIsNormal
+  pub lists : ListsStayHeld
+  pub maps : NewMapsTell
+  pub strings : StringsStay
+  pub texts : TextsStay
+  pub near : BaseIsNear
