@@ -1,6 +1,6 @@
 -- Bytes in hex against their grammar: what is read was spelled so, and what is spelled so is read.
-use Rattle.std.proofs.Common.{◌≡◌, ℕ, zero, suc, ◌/◌, ◌%◌, ◌<◌, ◌≤◌, true, false, cond, leb, eqb, is_err, take, drop, List, [], ◌∷◌, length, Option, Some, None, Result, Ok, Err, inl, inr, refl, sym, ap, ◌∙◌, arith}
-use Rattle.std.specs.Prelude.{◌||◌, codes, All, MatchResult}
+use Rattle.std.proofs.Common.{◌≡◌, ℕ, zero, suc, ◌/◌, ◌%◌, ◌<◌, ◌≤◌, true, false, cond, leb, eqb, is_err, take, drop, List, [], ◌∷◌, length, Option, Some, None, Result, Ok, Err, inl, inr, refl, sym, ap, subst, ◌∙◌, arith}
+use Rattle.std.specs.Prelude.{◌||◌, codes, option_map, All, MatchResult}
 use Rattle.std.specs.List.{list_any, refill}
 use Rattle.std.specs.Result.{result_ok}
 use Rattle.std.specs.Str.{bytes_eq}
@@ -15,14 +15,14 @@ use Rattle.hex.specs.Hex.{lower_digits, encode_lower, decode_of, decode_sized, I
 use Rattle.hex.proofs.HexLemmas.{length-encode_with, decode_of-encode_lower, decode_of-even, decode_of-ok, decode_of-odd, decode_sized-twice, decode_sized-odd, decode_sized-ok}
 use Rattle.arrayvec.specs.ArrayVec.{ArrayVec}
 use Rattle.q3_bits.specs.OptionBind.{◌>>=◌}
-use Rattle.q3_script.specs.Hex.{hex_text, is_capital, hex_at, most_area, area_at}
+use Rattle.q3_script.specs.Hex.{hex_text, is_capital, hex_at, hex_within, most_area, area_at}
 use Rattle.q3_script.specs.Grammar.{SpellsHex}
 use Rattle.q3_script.proofs.Addresses.{bind_some}
 use Rattle.q3_script.proofs.Digits.{pairs_spelled, pairs_small}
 
 -- ---- words
 
-abbrev some_bytes : List ℕ → Option (List ℕ)
+abbrev pub some_bytes : List ℕ → Option (List ℕ)
 some_bytes bytes = Some bytes
 
 abbrev no_bytes : Option (List ℕ)
@@ -81,42 +81,61 @@ hex_at-again (byte ∷ bytes) each =
     let small = pairs_small (byte ∷ bytes) are in
     rw (other, some, small, decode_of-encode_lower (byte ∷ bytes) are) refl
 
--- ---- area bytes
+-- ---- bytes up to a limit
 
-abbrev pub some_area : List ℕ → Option (ArrayVec ℕ)
-some_area bytes = Some (record { items = bytes })
-
-abbrev pub no_area : Option (ArrayVec ℕ)
-no_area = None
-
--- area bytes that a word spells
-pub record WereArea (word : List ℕ) (area : ArrayVec ℕ) : Type 0 where
-  pub spelled : SpellsHex word area.items
-  pub few : length area.items ≤ most_area
-  pub each : All (λ byte. byte < 256) area.items
+-- few enough bytes that a word spells
+pub record WereFew (limit : ℕ) (word bytes : List ℕ) : Type 0 where
+  pub spelled : SpellsHex word bytes
+  pub few : length bytes ≤ limit
+  pub each : All (λ byte. byte < 256) bytes
 
 -- were spelled so
-pub area_at-spelled : (word : List ℕ) (area : ArrayVec ℕ) → area_at word ≡ Some area → WereArea word area
+pub hex_within-spelled : (limit : ℕ) (word bytes : List ℕ) → hex_within limit word ≡ Some bytes → WereFew limit word bytes
+unfolding hex_within
+hex_within-spelled limit word bytes e =
+    let read = bind_some (hex_at word) (λ bytes. cond (leb (length bytes) limit) (some_bytes bytes) no_bytes) bytes e in
+    let both = cond_some (leb (length read.0) limit) read.0 bytes read.2 in
+    let were = hex_at-spelled word read.0 read.1 in
+    subst (λ (x : List ℕ). WereFew limit word x) both.1 (record { spelled = were.spelled; few = leb-true (length read.0) limit both.0; each = were.each })
+
+-- and what is spelled so is read
+pub hex_within-again : (limit : ℕ) (word bytes : List ℕ) → SpellsHex word bytes → length bytes ≤ limit → All (λ byte. byte < 256) bytes → hex_within limit word ≡ Some bytes
+unfolding hex_within
+hex_within-again limit word bytes spelled few each =
+    let fits : leb (length bytes) limit ≡ true = le-leb _ _ few in
+    ap (hex_within limit) spelled ∙ rw (hex_at-again bytes each, fits) refl
+
+-- ---- area bytes
+
+abbrev some_area : List ℕ → Option (ArrayVec ℕ)
+some_area bytes = Some (record { items = bytes })
+
+-- what is read of area bytes was spelled so
+pub area_at-spelled : (word : List ℕ) (area : ArrayVec ℕ) → area_at word ≡ Some area → WereFew most_area word area.items
 unfolding area_at
 area_at-spelled word area e =
-    let bytes = bind_some (hex_at word) (λ bytes. cond (leb (length bytes) most_area) (some_area bytes) no_area) area e in
-    let both = cond_some (leb (length bytes.0) most_area) (record { items = bytes.0 }) area bytes.2 in
-    let were = hex_at-spelled word bytes.0 bytes.1 in
-    rw (← both.1) (record { spelled = were.spelled; few = leb-true (length bytes.0) most_area both.0; each = were.each })
+    let bytes = bind_some (hex_within most_area word) some_area area e in
+    subst (λ (x : ArrayVec ℕ). WereFew most_area word x.items) (same_Some (record { items = bytes.0 }) area bytes.2) (hex_within-spelled most_area word bytes.0 bytes.1)
 
 -- and what is spelled so is read
 pub area_at-again : (word : List ℕ) (area : ArrayVec ℕ) → SpellsHex word area.items → length area.items ≤ most_area → All (λ byte. byte < 256) area.items → area_at word ≡ Some area
 unfolding area_at
-area_at-again word area spelled few each =
-    let fits : leb (length area.items) most_area ≡ true = le-leb _ _ few in
-    ap area_at spelled ∙ rw (hex_at-again area.items each, fits) refl
+area_at-again word area spelled few each = rw (hex_within-again most_area word area.items spelled few each) refl
 
--- ---- the steps of reading area bytes
+-- area bytes are those of the word
+pub area_within : (word : List ℕ) (area : Option (ArrayVec ℕ)) → option_map (λ bytes. bytes.items) area ≡ hex_within most_area word → area ≡ area_at word
+unfolding area_at
+area_within word (Some area) e = rw (← e) refl
+area_within word None e = rw (← e) refl
+
+-- ---- the steps of reading bytes up to a limit
 
 -- a `-` is none
-pub dash_is_none : (word : List ℕ) (area : ArrayVec ℕ) → bytes_eq (codes "-") word ≡ true → area.items ≡ [] → some_area area.items ≡ area_at word
-unfolding area_at hex_at
-dash_is_none word area dash none = rw (dash, none) refl
+pub dash_is_none : (limit : ℕ) (word bytes : List ℕ) → bytes_eq (codes "-") word ≡ true → bytes ≡ [] → some_bytes bytes ≡ hex_within limit word
+unfolding hex_within hex_at
+dash_is_none limit word bytes dash none =
+    let fits : leb 0 limit ≡ true = le-leb 0 limit (omega arith) in
+    rw (dash, none, fits) refl
 
 -- a word that may be some: it is no `-`, it isn't empty, and has no capital
 pub record MaySpell (word : List ℕ) : Type 0 where
@@ -124,43 +143,43 @@ pub record MaySpell (word : List ℕ) : Type 0 where
   pub some : 0 < length word
   pub small : list_any is_capital word ≡ false
 
--- the area bytes of what was decoded
-abbrev area_of : Result (List ℕ) FromHexError → Option (ArrayVec ℕ)
-area_of answer = result_ok answer >>= λ bytes. cond (leb (length bytes) most_area) (some_area bytes) no_area
+-- what was decoded, if it is few enough
+abbrev few_of : ℕ → Result (List ℕ) FromHexError → Option (List ℕ)
+few_of limit answer = result_ok answer >>= λ bytes. cond (leb (length bytes) limit) (some_bytes bytes) no_bytes
 
 -- is what it decodes to
-area_is : (word : List ℕ) → MaySpell word → area_at word ≡ area_of (decode_of word)
-unfolding area_at hex_at
-area_is word may =
+few_is : (limit : ℕ) (word : List ℕ) → MaySpell word → hex_within limit word ≡ few_of limit (decode_of word)
+unfolding hex_within hex_at
+few_is limit word may =
     let some : eqb (length word) 0 ≡ false = ne_eqb (length word) 0 (λ none. (let more = may.some in absurd (omega arith))) in
     rw (may.other, some, may.small) refl
 
 -- the empty word is none
-pub none_empty : (word : List ℕ) → bytes_eq (codes "-") word ≡ false → length word ≡ 0 → no_area ≡ area_at word
-unfolding area_at hex_at
-none_empty word other none = let empty : eqb (length word) 0 ≡ true = eq-eqb (length word) 0 none in rw (other, empty) refl
+pub none_empty : (limit : ℕ) (word : List ℕ) → bytes_eq (codes "-") word ≡ false → length word ≡ 0 → no_bytes ≡ hex_within limit word
+unfolding hex_within hex_at
+none_empty limit word other none = let empty : eqb (length word) 0 ≡ true = eq-eqb (length word) 0 none in rw (other, empty) refl
 
 -- nor is one with a capital
-pub none_capital : (word : List ℕ) → bytes_eq (codes "-") word ≡ false → list_any is_capital word ≡ true → no_area ≡ area_at word
-unfolding area_at hex_at
-none_capital word other capital =
+pub none_capital : (limit : ℕ) (word : List ℕ) → bytes_eq (codes "-") word ≡ false → list_any is_capital word ≡ true → no_bytes ≡ hex_within limit word
+unfolding hex_within hex_at
+none_capital limit word other capital =
     let refused : (eqb (length word) 0 || list_any is_capital word) ≡ true = or_right _ _ capital in
     rw (other, refused) refl
 
 -- nor a word of too many pairs
-pub none_above : (word : List ℕ) → MaySpell word → most_area < length word / 2 → no_area ≡ area_at word
-none_above word may above = rw (area_is word may) (of_answer (decode_of word) (λ bytes e. (let size = (decode_of-ok word bytes e).2 in lt-leb _ _ (omega arith))))
+pub none_above : (limit : ℕ) (word : List ℕ) → MaySpell word → limit < length word / 2 → no_bytes ≡ hex_within limit word
+none_above limit word may above = rw (few_is limit word may) (of_answer (decode_of word) (λ bytes e. (let size = (decode_of-ok word bytes e).2 in lt-leb _ _ (omega arith))))
   where
-    of_answer : (r : Result (List ℕ) FromHexError) → ((bytes : List ℕ) → r ≡ Ok bytes → leb (length bytes) most_area ≡ false) → no_area ≡ area_of r
+    of_answer : (r : Result (List ℕ) FromHexError) → ((bytes : List ℕ) → r ≡ Ok bytes → leb (length bytes) limit ≡ false) → no_bytes ≡ few_of limit r
     of_answer (Ok bytes) above = rw (above bytes refl) refl
     of_answer (Err fault) above = refl
 
 -- decoded to half as many places as it has digits
-sized : (word : List ℕ) (n : ℕ) → MaySpell word → n ≡ length word / 2 → area_at word ≡ area_of (decode_sized word n)
-sized word n may half =
-    area_is word may ∙ elim (cases_eq (length word % 2) 1) [
+sized : (limit : ℕ) (word : List ℕ) (n : ℕ) → MaySpell word → n ≡ length word / 2 → hex_within limit word ≡ few_of limit (decode_sized word n)
+sized limit word n may half =
+    few_is limit word may ∙ elim (cases_eq (length word % 2) 1) [
       | inl odd ↦ rw (decode_of-odd word odd, decode_sized-odd word n odd) refl
-      | inr even ↦ ap area_of (sym (decode_sized-twice word n (omega arith)))
+      | inr even ↦ ap (few_of limit) (sym (decode_sized-twice word n (omega arith)))
     ]
 
 size_is : (word : List ℕ) (n : ℕ) (bytes : List ℕ) → decode_sized word n ≡ Ok bytes → length bytes ≡ n
@@ -173,30 +192,30 @@ size_is word n bytes e =
 abbrev IsLeft : Result Unit FromHexError → List ℕ → Result (List ℕ) FromHexError → Type 0
 IsLeft answer out decoded = MatchResult decoded (λ bytes. (answer ≡ Ok tt) × (out ≡ bytes)) (λ fault. answer ≡ Err fault)
 
-none_left : (area : Option (ArrayVec ℕ)) (decoded : Result (List ℕ) FromHexError) (answer : Result Unit FromHexError) (out : List ℕ) → area ≡ area_of decoded → IsLeft answer out decoded → is_err answer ≡ true → no_area ≡ area
-none_left area (Ok bytes) answer out is left refused = let nothing : false ≡ true = rw left.0 at refused in absurd cc
-none_left area (Err fault) answer out is left refused = sym is
+none_left : (limit : ℕ) (few : Option (List ℕ)) (decoded : Result (List ℕ) FromHexError) (answer : Result Unit FromHexError) (out : List ℕ) → few ≡ few_of limit decoded → IsLeft answer out decoded → is_err answer ≡ true → no_bytes ≡ few
+none_left limit few (Ok bytes) answer out is left refused = let nothing : false ≡ true = rw left.0 at refused in absurd cc
+none_left limit few (Err fault) answer out is left refused = sym is
 
 -- a word that isn't decoded spells none
-pub none_refused : (word : List ℕ) (n : ℕ) (answer : Result Unit FromHexError) (out : List ℕ) → MaySpell word → n ≡ length word / 2 → IsLeft answer out (decode_sized word n) → is_err answer ≡ true → no_area ≡ area_at word
-none_refused word n answer out may half left refused = none_left (area_at word) (decode_sized word n) answer out (sized word n may half) left refused
+pub none_refused : (limit : ℕ) (word : List ℕ) (n : ℕ) (answer : Result Unit FromHexError) (out : List ℕ) → MaySpell word → n ≡ length word / 2 → IsLeft answer out (decode_sized word n) → is_err answer ≡ true → no_bytes ≡ hex_within limit word
+none_refused limit word n answer out may half left refused = none_left limit (hex_within limit word) (decode_sized word n) answer out (sized limit word n may half) left refused
 
 -- and one that is decoded spells what is left in the places
-pub record WasDecoded (word : List ℕ) (n : ℕ) (out : List ℕ) : Type 0 where
-  pub is : some_area out ≡ area_at word
+pub record WasDecoded (limit : ℕ) (word : List ℕ) (n : ℕ) (out : List ℕ) : Type 0 where
+  pub is : some_bytes out ≡ hex_within limit word
   pub size : length out ≡ n
 
-some_left : (area : Option (ArrayVec ℕ)) (decoded : Result (List ℕ) FromHexError) (answer : Result Unit FromHexError) (out : List ℕ) (n : ℕ) → n ≤ most_area → ((bytes : List ℕ) → decoded ≡ Ok bytes → length bytes ≡ n)
-    → area ≡ area_of decoded → IsLeft answer out decoded → is_err answer ≡ false → (some_area out ≡ area) × (length out ≡ n)
-some_left area (Ok bytes) answer out n few size is left taken =
+some_left : (limit : ℕ) (found : Option (List ℕ)) (decoded : Result (List ℕ) FromHexError) (answer : Result Unit FromHexError) (out : List ℕ) (n : ℕ) → n ≤ limit → ((bytes : List ℕ) → decoded ≡ Ok bytes → length bytes ≡ n)
+    → found ≡ few_of limit decoded → IsLeft answer out decoded → is_err answer ≡ false → (some_bytes out ≡ found) × (length out ≡ n)
+some_left limit found (Ok bytes) answer out n few size is left taken =
     let same = size bytes refl in
-    let fits : leb (length bytes) most_area ≡ true = le-leb _ _ (omega arith) in
+    let fits : leb (length bytes) limit ≡ true = le-leb _ _ (omega arith) in
     (rw (left.1, is, fits) refl, rw left.1 same)
-some_left area (Err fault) answer out n few size is left taken = let nothing : true ≡ false = rw left at taken in absurd cc
+some_left limit found (Err fault) answer out n few size is left taken = let nothing : true ≡ false = rw left at taken in absurd cc
 
-pub some_decoded : (word : List ℕ) (n : ℕ) (answer : Result Unit FromHexError) (out : List ℕ) → MaySpell word → n ≡ length word / 2 → n ≤ most_area → IsLeft answer out (decode_sized word n) → is_err answer ≡ false → WasDecoded word n out
-some_decoded word n answer out may half few left taken =
-    let both = some_left (area_at word) (decode_sized word n) answer out n few (size_is word n) (sized word n may half) left taken in
+pub some_decoded : (limit : ℕ) (word : List ℕ) (n : ℕ) (answer : Result Unit FromHexError) (out : List ℕ) → MaySpell word → n ≡ length word / 2 → n ≤ limit → IsLeft answer out (decode_sized word n) → is_err answer ≡ false → WasDecoded limit word n out
+some_decoded limit word n answer out may half few left taken =
+    let both = some_left limit (hex_within limit word) (decode_sized word n) answer out n few (size_is word n) (sized limit word n may half) left taken in
     record { is = both.0; size = both.1 }
 
 -- so many places hold what was put into all of them

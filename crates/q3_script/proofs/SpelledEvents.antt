@@ -1,5 +1,5 @@
 -- The words of a line against the grammar of events: what is read was spelled so, and what is spelled so is read.
-use Rattle.std.proofs.Common.{◌≡◌, ℕ, ◌^◌, ◌%◌, ◌<◌, Bool, true, false, cond, List, [], ◌∷◌, length, set, replicate, slice_index_or, take, drop, Some, Result, Ok, Err, inl, inr, refl, sym, ap, subst, ◌∙◌, arith}
+use Rattle.std.proofs.Common.{◌≡◌, ℕ, ◌^◌, ◌%◌, ◌<◌, ◌≤◌, Bool, true, false, cond, List, [], ◌∷◌, length, set, replicate, slice_index_or, take, drop, Some, Result, Ok, Err, inl, inr, refl, sym, ap, subst, ◌∙◌, arith}
 use Rattle.std.specs.Prelude.{codes, All}
 use Rattle.std.specs.Fmt.{decimal}
 use Rattle.std.specs.List.{position_or_len}
@@ -20,21 +20,21 @@ use Rattle.q3_entity.specs.declared.state.EntityState.{EntityState}
 use Rattle.q3_player.specs.declared.state.PlayerState.{PlayerState}
 use Rattle.q3_io.specs.declared.address.Address.{Address}
 use Rattle.q3_script.specs.declared.event.Event.{Event}
-use Rattle.q3_script.specs.declared.event.Event.TheVariants.{Client, Map, Entity, Remove, Baseline, Player, Area, Time, Config, Say, TypeText, Move, Serve, Send, Deliver, Show}
+use Rattle.q3_script.specs.declared.event.Event.TheVariants.{Client, Port, Map, Entity, Remove, Baseline, Player, Area, Time, Config, Say, TypeText, Move, Serve, Send, Deliver, Show, Bytes, Toclient, Toserver}
 use Rattle.q3_script.specs.declared.cause.LineCause.{LineCause}
 use Rattle.q3_script.specs.declared.cause.LineCause.TheVariants as causes
 use Rattle.q3_bits.specs.ResultBind.{◌>>=◌, bind_ok}
 use Rattle.q3_script.specs.Words.{words_of, words_left}
 use Rattle.q3_script.specs.Addresses.{address_at}
-use Rattle.q3_script.specs.Hex.{area_at}
+use Rattle.q3_script.specs.Hex.{most_handed, area_at, handed_at}
 use Rattle.q3_script.specs.Fields.{values_of, player_of, entity_at, player_at}
-use Rattle.q3_script.specs.Lines.{last_entity, last_datagram, number_word, entity_word, client_word, client_line, map_line, entity_line, remove_line, baseline_line, player_line, area_line, time_line, config_line, say_line, type_line, move_line, serve_line, send_line, deliver_line, show_line, Table, replay_lines, line_in, line_at}
-use Rattle.q3_script.specs.Grammar.{AreFields, SpellsEntity, SpellsPlayer, SpellsEvent}
+use Rattle.q3_script.specs.Lines.{last_client, last_entity, last_datagram, number_word, entity_word, client_word, client_line, port_line, map_line, entity_line, remove_line, baseline_line, player_line, area_line, time_line, config_line, say_line, type_line, move_line, serve_line, send_line, deliver_line, show_line, bytes_line, hand_at, toclient_line, toserver_line, Table, replay_lines, line_in, line_at}
+use Rattle.q3_script.specs.Grammar.{AreFields, SpellsAddress, SpellsHex, SpellsEntity, SpellsPlayer, SpellsEvent}
 use Rattle.q3_script.proofs.Spaces.{is_space, words_at_space, AreLeft}
 use Rattle.q3_script.proofs.NumberWords.{done, ok_is, ok_or-ok, number_word-spelled, number_word-again}
 use Rattle.q3_script.proofs.Addresses.{address_at-spelled, address_at-again}
 use Rattle.q3_script.proofs.FieldWords.{entity_at-spelled, entity_at-again, player_at-spelled, player_at-again}
-use Rattle.q3_script.proofs.HexWords.{area_at-spelled, area_at-again}
+use Rattle.q3_script.proofs.HexWords.{hex_within-spelled, hex_within-again, area_at-spelled, area_at-again}
 use Rattle.q3_script.proofs.SpelledCommands.{config_line-spelled, config_at-again, command_at-again, say_line-spelled, type_line-spelled}
 use Rattle.q3_script.proofs.SpelledMoves.{move_line-spelled, move_line-again}
 
@@ -101,17 +101,28 @@ is_state words player spelled =
 
 -- ---- lines
 
+-- the host of an address that is spelled has 32 bits
+host_small : (word : List ℕ) (address : Address) → SpellsAddress word address → address.host < 2 ^ 32
+host_small word address spelled =
+    let bytes = spelled.bytes in
+    let host = spelled.host in
+    let a = bytes.0 in
+    let b = bytes.1 in
+    let c = bytes.2 in
+    let d = bytes.3 in
+    omega arith
+
 -- the five words of a client, each read
 client_from : (c challenge qport dup last : List ℕ) (c' challenge' qport' dup' : ℕ) (address : Address) → client_word c ≡ Ok c' → number_word 0 4294967295 challenge ≡ Ok challenge' → number_word 0 65535 qport ≡ Ok qport' → number_word 0 5 dup ≡ Ok dup' → address_at last ≡ Some address
     → SpellsEvent (codes "client" ∷ c ∷ challenge ∷ qport ∷ dup ∷ last ∷ []) (Client c' challenge' qport' dup' address)
 client_from c challenge qport dup last c' challenge' qport' dup' address c_read challenge_read qport_read dup_read address_read =
-    let c_is = number_word-spelled 0 0 c c' (omega arith) c_read in
+    let c_is = number_word-spelled 0 last_client c c' (omega arith) c_read in
     let challenge_is = number_word-spelled 0 4294967295 challenge challenge' (omega arith) challenge_read in
     let qport_is = number_word-spelled 0 65535 qport qport' (omega arith) qport_read in
     let dup_is = number_word-spelled 0 5 dup dup' (omega arith) dup_read in
     let address_is = address_at-spelled last address address_read in
     record {
-      event_of_replay = (omega arith, omega arith, omega arith, omega arith, address_is.least, address_is.most);
+      event_of_replay = (omega arith, omega arith, omega arith, omega arith, address_is.least, address_is.most, host_small last address address_is.spelled);
       whole = (last, address_is.spelled, rw (c_is.2, challenge_is.2, qport_is.2, dup_is.2) refl);
     }
 
@@ -132,6 +143,23 @@ client_line-spelled (c ∷ challenge ∷ qport ∷ dup ∷ last ∷ []) event e 
     subst (λ (x : Event). SpellsEvent (codes "client" ∷ c ∷ challenge ∷ qport ∷ dup ∷ last ∷ []) x) (ok_is (Client c'.0 challenge'.0 qport'.0 dup'.0 address.0) event address.2)
     (client_from c challenge qport dup last c'.0 challenge'.0 qport'.0 dup'.0 address.0 c'.1 challenge'.1 qport'.1 dup'.1 (ok_or-ok (address_at last) causes.Address address.0 address.1))
 client_line-spelled (c ∷ challenge ∷ qport ∷ dup ∷ address ∷ other ∷ others) event e = absurd cc
+
+-- the two words of a port, each read
+port_from : (word last : List ℕ) (c port : ℕ) → client_word word ≡ Ok c → number_word 1 65535 last ≡ Ok port → SpellsEvent (codes "port" ∷ word ∷ last ∷ []) (Port c port)
+port_from word last c port c_read port_read =
+    let c_is = number_word-spelled 0 last_client word c (omega arith) c_read in
+    let port_is = number_word-spelled 1 65535 last port (omega arith) port_read in
+    record { event_of_replay = (c_is.1, port_is.0, omega arith); whole = rw (c_is.2, port_is.2) refl }
+
+port_line-spelled : (words : List (List ℕ)) (event : Event) → port_line words ≡ Ok event → SpellsEvent (codes "port" ∷ words) event
+unfolding port_line
+port_line-spelled [] event e = absurd cc
+port_line-spelled (word ∷ []) event e = absurd cc
+port_line-spelled (word ∷ last ∷ []) event e =
+    let c = bind_ok (client_word word) (λ c. number_word 1 65535 last >>= λ port. Ok (Port c port)) event e in
+    let port = bind_ok (number_word 1 65535 last) (λ port. Ok (Port c.0 port)) event c.2 in
+    subst (λ (x : Event). SpellsEvent (codes "port" ∷ word ∷ last ∷ []) x) (ok_is (Port c.0 port.0) event port.2) (port_from word last c.0 port.0 c.1 port.1)
+port_line-spelled (word ∷ last ∷ other ∷ others) event e = absurd cc
 
 -- the two words of a map, each read
 map_from : (word last : List ℕ) (id feed : ℕ) → number_word 1 2147483647 word ≡ Ok id → number_word 0 4294967295 last ≡ Ok feed → SpellsEvent (codes "map" ∷ word ∷ last ∷ []) (Map id feed)
@@ -189,7 +217,7 @@ player_line-spelled [] event e = absurd cc
 player_line-spelled (word ∷ words) event e =
     let c = bind_ok (client_word word) (λ c. player_at words >>= λ player. Ok (Player c player)) event e in
     let player = bind_ok (player_at words) (λ player. Ok (Player c.0 player)) event c.2 in
-    let is = number_word-spelled 0 0 word c.0 (omega arith) c.1 in
+    let is = number_word-spelled 0 last_client word c.0 (omega arith) c.1 in
     let spelled = player_at-spelled words player.0 player.1 in
     subst (λ (x : Event). SpellsEvent (codes "player" ∷ word ∷ words) x) (ok_is (Player c.0 player.0) event player.2)
     (record { event_of_replay = (omega arith, is_state words player.0 spelled); whole = (words, spelled, ap (λ (w : List ℕ). codes "player" ∷ w ∷ words) is.2) })
@@ -201,7 +229,7 @@ area_line-spelled (word ∷ []) event e = absurd cc
 area_line-spelled (word ∷ last ∷ []) event e =
     let c = bind_ok (client_word word) (λ c. ok_or (area_at last) causes.Number >>= λ area. Ok (Area c area)) event e in
     let area = bind_ok (ok_or (area_at last) causes.Number) (λ area. Ok (Area c.0 area)) event c.2 in
-    let is = number_word-spelled 0 0 word c.0 (omega arith) c.1 in
+    let is = number_word-spelled 0 last_client word c.0 (omega arith) c.1 in
     let were = area_at-spelled last area.0 (ok_or-ok (area_at last) causes.Number area.0 area.1) in
     subst (λ (x : Event). SpellsEvent (codes "area" ∷ word ∷ last ∷ []) x) (ok_is (Area c.0 area.0) event area.2)
     (record { event_of_replay = (omega arith, were.few, were.each); whole = (last, were.spelled, ap (λ (w : List ℕ). codes "area" ∷ w ∷ last ∷ []) is.2) })
@@ -221,7 +249,7 @@ unfolding serve_line
 serve_line-spelled [] event e = absurd cc
 serve_line-spelled (word ∷ []) event e =
     let c = bind_ok (client_word word) (λ c. Ok (Serve c)) event e in
-    let is = number_word-spelled 0 0 word c.0 (omega arith) c.1 in
+    let is = number_word-spelled 0 last_client word c.0 (omega arith) c.1 in
     subst (λ (x : Event). SpellsEvent (codes "serve" ∷ word ∷ []) x) (ok_is (Serve c.0) event c.2) (record { event_of_replay = omega arith; whole = ap (λ (w : List ℕ). codes "serve" ∷ w ∷ []) is.2 })
 serve_line-spelled (word ∷ other ∷ others) event e = absurd cc
 
@@ -230,7 +258,7 @@ unfolding send_line
 send_line-spelled [] event e = absurd cc
 send_line-spelled (word ∷ []) event e =
     let c = bind_ok (client_word word) (λ c. Ok (Send c)) event e in
-    let is = number_word-spelled 0 0 word c.0 (omega arith) c.1 in
+    let is = number_word-spelled 0 last_client word c.0 (omega arith) c.1 in
     subst (λ (x : Event). SpellsEvent (codes "send" ∷ word ∷ []) x) (ok_is (Send c.0) event c.2) (record { event_of_replay = omega arith; whole = ap (λ (w : List ℕ). codes "send" ∷ w ∷ []) is.2 })
 send_line-spelled (word ∷ other ∷ others) event e = absurd cc
 
@@ -248,9 +276,64 @@ unfolding show_line
 show_line-spelled [] event e = absurd cc
 show_line-spelled (word ∷ []) event e =
     let c = bind_ok (client_word word) (λ c. Ok (Show c)) event e in
-    let is = number_word-spelled 0 0 word c.0 (omega arith) c.1 in
+    let is = number_word-spelled 0 last_client word c.0 (omega arith) c.1 in
     subst (λ (x : Event). SpellsEvent (codes "show" ∷ word ∷ []) x) (ok_is (Show c.0) event c.2) (record { event_of_replay = omega arith; whole = ap (λ (w : List ℕ). codes "show" ∷ w ∷ []) is.2 })
 show_line-spelled (word ∷ other ∷ others) event e = absurd cc
+
+bytes_line-spelled : (words : List (List ℕ)) (event : Event) → bytes_line words ≡ Ok event → SpellsEvent (codes "bytes" ∷ words) event
+unfolding bytes_line
+bytes_line-spelled [] event e = absurd cc
+bytes_line-spelled (word ∷ []) event e =
+    let datagram = bind_ok (number_word 1 last_datagram word) (λ datagram. Ok (Bytes datagram)) event e in
+    let is = number_word-spelled 1 last_datagram word datagram.0 (omega arith) datagram.1 in
+    subst (λ (x : Event). SpellsEvent (codes "bytes" ∷ word ∷ []) x) (ok_is (Bytes datagram.0) event datagram.2) (record { event_of_replay = (is.0, is.1); whole = ap (λ (w : List ℕ). codes "bytes" ∷ w ∷ []) is.2 })
+bytes_line-spelled (word ∷ other ∷ others) event e = absurd cc
+
+-- bytes that are handed in, and whose they are
+record WasHand (words : List (List ℕ)) (c : ℕ) (bytes : List ℕ) : Type 0 where
+  small : c ≤ last_client
+  few : length bytes ≤ most_handed
+  each : All (λ byte. byte < 256) bytes
+  last : List ℕ
+  spelled : SpellsHex last bytes
+  whole : words ≡ decimal c ∷ last ∷ []
+
+hand_from : (word last : List ℕ) (c : ℕ) (bytes : List ℕ) → client_word word ≡ Ok c → handed_at last ≡ Some bytes → WasHand (word ∷ last ∷ []) c bytes
+hand_from word last c bytes c_read bytes_read =
+    let is = number_word-spelled 0 last_client word c (omega arith) c_read in
+    let were = hex_within-spelled most_handed last bytes bytes_read in
+    record { small = is.1; few = were.few; each = were.each; last = last; spelled = were.spelled; whole = ap (λ (w : List ℕ). w ∷ last ∷ []) is.2 }
+
+hand_at-spelled : (words : List (List ℕ)) (hand : ℕ × List ℕ) → hand_at words ≡ Ok hand → WasHand words hand.0 hand.1
+unfolding hand_at
+hand_at-spelled [] hand e = absurd cc
+hand_at-spelled (word ∷ []) hand e = absurd cc
+hand_at-spelled (word ∷ last ∷ []) hand e =
+    let c = bind_ok (client_word word) (λ c. ok_or (handed_at last) causes.Number >>= λ bytes. Ok (c, bytes)) hand e in
+    let bytes = bind_ok (ok_or (handed_at last) causes.Number) (λ bytes. Ok (c.0, bytes)) hand c.2 in
+    subst (λ (x : ℕ × List ℕ). WasHand (word ∷ last ∷ []) x.0 x.1) (ok_is (c.0, bytes.0) hand bytes.2) (hand_from word last c.0 bytes.0 c.1 (ok_or-ok (handed_at last) causes.Number bytes.0 bytes.1))
+hand_at-spelled (word ∷ last ∷ other ∷ others) hand e = absurd cc
+
+toclient_line-spelled : (words : List (List ℕ)) (event : Event) → toclient_line words ≡ Ok event → SpellsEvent (codes "toclient" ∷ words) event
+unfolding toclient_line
+toclient_line-spelled words event e =
+    let hand = bind_ok (hand_at words) (λ hand. Ok (Toclient hand.0 hand.1)) event e in
+    let was = hand_at-spelled words hand.0 hand.1 in
+    subst (λ (x : Event). SpellsEvent (codes "toclient" ∷ words) x) (ok_is (Toclient hand.0.0 hand.0.1) event hand.2)
+    (record { event_of_replay = (was.small, was.few, was.each); whole = (was.last, was.spelled, ap (λ (others : List (List ℕ)). codes "toclient" ∷ others) was.whole) })
+
+toserver_line-spelled : (words : List (List ℕ)) (event : Event) → toserver_line words ≡ Ok event → SpellsEvent (codes "toserver" ∷ words) event
+unfolding toserver_line
+toserver_line-spelled words event e =
+    let hand = bind_ok (hand_at words) (λ hand. Ok (Toserver hand.0 hand.1)) event e in
+    let was = hand_at-spelled words hand.0 hand.1 in
+    subst (λ (x : Event). SpellsEvent (codes "toserver" ∷ words) x) (ok_is (Toserver hand.0.0 hand.0.1) event hand.2)
+    (record { event_of_replay = (was.small, was.few, was.each); whole = (was.last, was.spelled, ap (λ (others : List (List ℕ)). codes "toserver" ∷ others) was.whole) })
+
+-- bytes to hand in that are spelled so are read
+hand_at-again : (c : ℕ) (bytes last : List ℕ) → c ≤ last_client → length bytes ≤ most_handed → All (λ byte. byte < 256) bytes → SpellsHex last bytes → hand_at (decimal c ∷ last ∷ []) ≡ Ok (c, bytes)
+unfolding hand_at
+hand_at-again c bytes last small few each spelled = rw (number_word-again 0 last_client c (omega arith) (omega arith) (omega arith), hex_within-again most_handed last bytes spelled few each) refl
 
 -- a word that passed the test is that word
 word_is : (word text : List ℕ) (others : List (List ℕ)) (event : Event) → bytes_eq text word ≡ true → SpellsEvent (text ∷ others) event → SpellsEvent (word ∷ others) event
@@ -284,36 +367,48 @@ others_spelled word others event left e =
     found replay_lines word others event (
       of_any (codes "client") client_line client_line-spelled,
       (
-        of_any (codes "map") map_line map_line-spelled,
+        of_any (codes "port") port_line port_line-spelled,
         (
-          of_any (codes "entity") entity_line entity_line-spelled,
+          of_any (codes "toclient") toclient_line toclient_line-spelled,
           (
-            of_any (codes "remove") remove_line remove_line-spelled,
+            of_any (codes "toserver") toserver_line toserver_line-spelled,
             (
-              of_any (codes "baseline") baseline_line baseline_line-spelled,
+              of_any (codes "map") map_line map_line-spelled,
               (
-                of_any (codes "player") player_line player_line-spelled,
+                of_any (codes "entity") entity_line entity_line-spelled,
                 (
-                  of_any (codes "area") area_line area_line-spelled,
+                  of_any (codes "remove") remove_line remove_line-spelled,
                   (
-                    of_any (codes "time") time_line time_line-spelled,
+                    of_any (codes "baseline") baseline_line baseline_line-spelled,
                     (
-                      config_line-spelled,
+                      of_any (codes "player") player_line player_line-spelled,
                       (
-                        say_line-spelled,
+                        of_any (codes "area") area_line area_line-spelled,
                         (
-                          type_line-spelled,
+                          of_any (codes "time") time_line time_line-spelled,
                           (
-                            of_any (codes "move") move_line move_line-spelled,
+                            config_line-spelled,
                             (
-                              of_any (codes "serve") serve_line serve_line-spelled,
+                              say_line-spelled,
                               (
-                                of_any (codes "send") send_line send_line-spelled,
+                                type_line-spelled,
                                 (
-                                  of_any (codes "deliver") deliver_line deliver_line-spelled,
+                                  of_any (codes "move") move_line move_line-spelled,
                                   (
-                                    of_any (codes "show") show_line show_line-spelled,
-                                    tt,
+                                    of_any (codes "serve") serve_line serve_line-spelled,
+                                    (
+                                      of_any (codes "send") send_line send_line-spelled,
+                                      (
+                                        of_any (codes "deliver") deliver_line deliver_line-spelled,
+                                        (
+                                          of_any (codes "show") show_line show_line-spelled,
+                                          (
+                                            of_any (codes "bytes") bytes_line bytes_line-spelled,
+                                            tt,
+                                          ),
+                                        ),
+                                      ),
+                                    ),
                                   ),
                                 ),
                               ),
@@ -341,16 +436,19 @@ line_at-spelled line event e =
 
 -- and what is spelled so is read
 pub line_at-again : (words : List (List ℕ)) (event : Event) → SpellsEvent words event → line_at words ≡ Ok event
-unfolding line_at client_line map_line entity_line remove_line baseline_line player_line area_line time_line config_line say_line type_line serve_line send_line deliver_line show_line
+unfolding line_at client_line port_line map_line entity_line remove_line baseline_line player_line area_line time_line config_line say_line type_line serve_line send_line deliver_line show_line bytes_line toclient_line toserver_line
 line_at-again words (Client c challenge qport dup address) spelled =
     let is = spelled.event_of_replay in
     ap line_at spelled.whole.2 ∙ rw (
-      number_word-again 0 0 c (omega arith) (omega arith) (omega arith),
+      number_word-again 0 last_client c (omega arith) (omega arith) (omega arith),
       number_word-again 0 4294967295 challenge (omega arith) (omega arith) (omega arith),
       number_word-again 0 65535 qport (omega arith) (omega arith) (omega arith),
       number_word-again 0 5 dup (omega arith) (omega arith) is.3,
       address_at-again spelled.whole.0 address spelled.whole.1 is.4 is.5,
     ) refl
+line_at-again words (Port c port) spelled =
+    let is = spelled.event_of_replay in
+    ap line_at spelled.whole ∙ rw (number_word-again 0 last_client c (omega arith) (omega arith) (omega arith), number_word-again 1 65535 port (omega arith) is.1 (omega arith)) refl
 line_at-again words (Map id feed) spelled =
     let is = spelled.event_of_replay in
     ap line_at spelled.whole ∙ rw (number_word-again 1 2147483647 id (omega arith) is.0 (omega arith), number_word-again 0 4294967295 feed (omega arith) (omega arith) (omega arith)) refl
@@ -363,10 +461,10 @@ line_at-again words (Baseline state) spelled =
     ap line_at spelled.whole.2 ∙ rw (number_word-again 1 last_entity state.number (omega arith) is.0 is.1, entity_at-again spelled.whole.0 state spelled.whole.1) refl
 line_at-again words (Player c player) spelled =
     let is = spelled.event_of_replay in
-    ap line_at spelled.whole.2 ∙ rw (number_word-again 0 0 c (omega arith) (omega arith) (omega arith), player_at-again spelled.whole.0 player spelled.whole.1) refl
+    ap line_at spelled.whole.2 ∙ rw (number_word-again 0 last_client c (omega arith) (omega arith) (omega arith), player_at-again spelled.whole.0 player spelled.whole.1) refl
 line_at-again words (Area c area) spelled =
     let is = spelled.event_of_replay in
-    ap line_at spelled.whole.2 ∙ rw (number_word-again 0 0 c (omega arith) (omega arith) (omega arith), area_at-again spelled.whole.0 area spelled.whole.1 is.1 is.2) refl
+    ap line_at spelled.whole.2 ∙ rw (number_word-again 0 last_client c (omega arith) (omega arith) (omega arith), area_at-again spelled.whole.0 area spelled.whole.1 is.1 is.2) refl
 line_at-again words (Time time) spelled = let is = spelled.event_of_replay in ap line_at spelled.whole ∙ rw (number_word-again 0 4294967295 time (omega arith) (omega arith) (omega arith)) refl
 line_at-again words (Config index text) spelled =
     let is = spelled.event_of_replay in
@@ -374,7 +472,10 @@ line_at-again words (Config index text) spelled =
 line_at-again words (Say c text) spelled = let is = spelled.event_of_replay in ap line_at spelled.whole.2 ∙ rw (command_at-again c text spelled.whole.0 is.0 spelled.whole.1) refl
 line_at-again words (TypeText c text) spelled = let is = spelled.event_of_replay in ap line_at spelled.whole.2 ∙ rw (command_at-again c text spelled.whole.0 is.0 spelled.whole.1) refl
 line_at-again words (Move c one) spelled = let is = spelled.event_of_replay in ap line_at spelled.whole ∙ move_line-again c one is.0 is.1
-line_at-again words (Serve c) spelled = let is = spelled.event_of_replay in ap line_at spelled.whole ∙ rw (number_word-again 0 0 c (omega arith) (omega arith) (omega arith)) refl
-line_at-again words (Send c) spelled = let is = spelled.event_of_replay in ap line_at spelled.whole ∙ rw (number_word-again 0 0 c (omega arith) (omega arith) (omega arith)) refl
+line_at-again words (Serve c) spelled = let is = spelled.event_of_replay in ap line_at spelled.whole ∙ rw (number_word-again 0 last_client c (omega arith) (omega arith) (omega arith)) refl
+line_at-again words (Send c) spelled = let is = spelled.event_of_replay in ap line_at spelled.whole ∙ rw (number_word-again 0 last_client c (omega arith) (omega arith) (omega arith)) refl
 line_at-again words (Deliver datagram) spelled = let is = spelled.event_of_replay in ap line_at spelled.whole ∙ rw (number_word-again 1 last_datagram datagram (omega arith) is.0 is.1) refl
-line_at-again words (Show c) spelled = let is = spelled.event_of_replay in ap line_at spelled.whole ∙ rw (number_word-again 0 0 c (omega arith) (omega arith) (omega arith)) refl
+line_at-again words (Show c) spelled = let is = spelled.event_of_replay in ap line_at spelled.whole ∙ rw (number_word-again 0 last_client c (omega arith) (omega arith) (omega arith)) refl
+line_at-again words (Bytes datagram) spelled = let is = spelled.event_of_replay in ap line_at spelled.whole ∙ rw (number_word-again 1 last_datagram datagram (omega arith) is.0 is.1) refl
+line_at-again words (Toclient c bytes) spelled = let is = spelled.event_of_replay in ap line_at spelled.whole.2 ∙ rw (hand_at-again c bytes spelled.whole.0 is.0 is.1 is.2 spelled.whole.1) refl
+line_at-again words (Toserver c bytes) spelled = let is = spelled.event_of_replay in ap line_at spelled.whole.2 ∙ rw (hand_at-again c bytes spelled.whole.0 is.0 is.1 is.2 spelled.whole.1) refl

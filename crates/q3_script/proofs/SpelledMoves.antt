@@ -1,5 +1,5 @@
 -- The words of a move against its grammar: what is read was spelled so, and what is spelled so is read.
-use Rattle.std.proofs.Common.{◌≡◌, ℕ, ◌^◌, ◌<◌, List, [], ◌∷◌, ◌++◌, length, Ok, refl, ap, subst, arith}
+use Rattle.std.proofs.Common.{◌≡◌, ℕ, ◌^◌, ◌<◌, ◌≤◌, List, [], ◌∷◌, ◌++◌, length, Ok, refl, ap, subst, arith}
 use Rattle.std.specs.Prelude.{codes, All, ℤ, map}
 use Rattle.std.specs.Fmt.{decimal, signed_decimal}
 use Rattle.std.proofs.lemmas.List.Elements.{All-head, All-tail, All-from_recursion}
@@ -8,7 +8,7 @@ use Rattle.q3_clmsg.specs.declared.moves.Move.{Move as MoveValue}
 use Rattle.q3_clmsg.specs.Report.{move_words}
 use Rattle.q3_script.specs.declared.event.Event.{Event}
 use Rattle.q3_script.specs.declared.event.Event.TheVariants.{Move}
-use Rattle.q3_script.specs.Lines.{number_word, client_word, signed_byte_word, angles_at, steps_at, move_with, move_line}
+use Rattle.q3_script.specs.Lines.{last_client, number_word, client_word, signed_byte_word, angles_at, steps_at, move_with, move_line}
 use Rattle.q3_script.specs.Grammar.{IsSignedByte, IsHeldMove, SpellsEvent}
 use Rattle.q3_script.proofs.NumberWords.{ok_is, number_word-spelled, number_word-again, SpellsSignedByte, signed_byte_word-spelled, signed_byte_word-again}
 
@@ -70,7 +70,7 @@ move_from : (c time pitch yaw roll forward right up buttons weapon : List ℕ) (
     → client_word c ≡ Ok c' → number_word 0 4294967295 time ≡ Ok time' → angles_at pitch yaw roll ≡ Ok angles' → steps_at forward right up ≡ Ok steps' → number_word 0 65535 buttons ≡ Ok buttons' → number_word 0 255 weapon ≡ Ok weapon'
     → SpellsEvent (codes "move" ∷ c ∷ time ∷ pitch ∷ yaw ∷ roll ∷ forward ∷ right ∷ up ∷ buttons ∷ weapon ∷ []) (Move c' (move_with time' angles' steps' buttons' weapon'))
 move_from c time pitch yaw roll forward right up buttons weapon c' time' angles' steps' buttons' weapon' c_read time_read angles_read steps_read buttons_read weapon_read =
-    let c_is = number_word-spelled 0 0 c c' (omega arith) c_read in
+    let c_is = number_word-spelled 0 last_client c c' (omega arith) c_read in
     let time_is = number_word-spelled 0 4294967295 time time' (omega arith) time_read in
     let angles_are = angles_at-spelled pitch yaw roll angles' angles_read in
     let steps_are = steps_at-spelled forward right up steps' steps_read in
@@ -138,7 +138,7 @@ steps_at-again : (forward right up : ℤ) → IsSignedByte forward → IsSignedB
 steps_at-again forward right up first second third = rw (signed_byte_word-again forward first, signed_byte_word-again right second, signed_byte_word-again up third) refl
 
 -- a move of three angles that is spelled is read
-again_from : (c time a b d : ℕ) (forward right up : ℤ) (buttons weapon : ℕ) → c ≡ 0 → IsHeldMove (move_with time (a ∷ b ∷ d ∷ []) (forward, right, up) buttons weapon)
+again_from : (c time a b d : ℕ) (forward right up : ℤ) (buttons weapon : ℕ) → c ≤ last_client → IsHeldMove (move_with time (a ∷ b ∷ d ∷ []) (forward, right, up) buttons weapon)
     → move_line (decimal c ∷ decimal time ∷ decimal a ∷ decimal b ∷ decimal d ∷ signed_decimal forward ∷ signed_decimal right ∷ signed_decimal up ∷ decimal buttons ∷ decimal weapon ∷ []) ≡ Ok (Move c (move_with time (a ∷ b ∷ d ∷ []) (forward, right, up) buttons weapon))
 unfolding move_line
 again_from c time a b d forward right up buttons weapon first held =
@@ -146,7 +146,7 @@ again_from c time a b d forward right up buttons weapon first held =
     let buttons_fit : buttons < 2 ^ 16 = held.buttons in
     let weapon_fits : weapon < 2 ^ 8 = held.weapon in
     rw (
-      number_word-again 0 0 c (omega arith) (omega arith) (omega arith),
+      number_word-again 0 last_client c (omega arith) (omega arith) (omega arith),
       number_word-again 0 4294967295 time (omega arith) (omega arith) (omega arith),
       angles_at-again a b d held.angles,
       steps_at-again forward right up held.forward held.right held.up,
@@ -155,7 +155,7 @@ again_from c time a b d forward right up buttons weapon first held =
     ) refl
 
 -- and so is every move
-again_with : (c time : ℕ) (angles : List ℕ) (steps : ℤ × ℤ × ℤ) (buttons weapon : ℕ) → c ≡ 0 → IsHeldMove (move_with time angles steps buttons weapon)
+again_with : (c time : ℕ) (angles : List ℕ) (steps : ℤ × ℤ × ℤ) (buttons weapon : ℕ) → c ≤ last_client → IsHeldMove (move_with time angles steps buttons weapon)
     → move_line (decimal c ∷ move_words (move_with time angles steps buttons weapon)) ≡ Ok (Move c (move_with time angles steps buttons weapon))
 again_with c time [] steps buttons weapon first held = let three = held.three in absurd cc
 again_with c time (a ∷ []) steps buttons weapon first held = let three = held.three in absurd cc
@@ -164,5 +164,5 @@ again_with c time (a ∷ b ∷ d ∷ []) steps buttons weapon first held = again
 again_with c time (a ∷ b ∷ d ∷ other ∷ others) steps buttons weapon first held = let three = held.three in absurd (omega arith)
 
 -- what is spelled so is read
-pub move_line-again : (c : ℕ) (one : MoveValue) → c ≡ 0 → IsHeldMove one → move_line (decimal c ∷ move_words one) ≡ Ok (Move c one)
+pub move_line-again : (c : ℕ) (one : MoveValue) → c ≤ last_client → IsHeldMove one → move_line (decimal c ∷ move_words one) ≡ Ok (Move c one)
 move_line-again c one first held = again_with c one.time one.angles (one.forward, one.right, one.up) one.buttons one.weapon first held

@@ -1,15 +1,15 @@
 -- Each line in the steps by which it is read.
 use Rattle.std.proofs.Common.{◌≡◌, ℕ, List, [], ◌∷◌, Ok, refl}
 use Rattle.std.specs.Option.{ok_or}
-use Rattle.q3_script.specs.declared.event.Event.TheVariants.{Client, Map, Entity, Remove, Baseline, Player, Area, Time, Move, Serve, Send, Deliver, Show}
+use Rattle.q3_script.specs.declared.event.Event.TheVariants.{Client, Port, Map, Entity, Remove, Baseline, Player, Area, Time, Move, Serve, Send, Deliver, Show, Bytes}
 use Rattle.q3_script.specs.declared.cause.LineCause.TheVariants.{Address, Count, Number}
 use Rattle.q3_bits.specs.ResultBind.{◌>>=◌}
 use Rattle.q3_script.specs.Words.{next_of, three_of, only_of, text_from}
 use Rattle.q3_script.specs.Addresses.{address_at}
-use Rattle.q3_script.specs.Hex.{area_at}
+use Rattle.q3_script.specs.Hex.{area_at, handed_at}
 use Rattle.q3_script.specs.Quotes.{bytes_word, text_word}
 use Rattle.q3_script.specs.Fields.{entity_at, player_at}
-use Rattle.q3_script.specs.Lines.{last_datagram, last_entity, most_config, number_word, entity_word, client_word, angles_at, steps_at, move_with, client_line, map_line, entity_line, remove_line, baseline_line, player_line, area_line, time_line, config_at, command_at, move_line, serve_line, send_line, deliver_line, show_line}
+use Rattle.q3_script.specs.Lines.{last_datagram, last_entity, most_config, number_word, entity_word, client_word, angles_at, steps_at, move_with, client_line, port_line, map_line, entity_line, remove_line, baseline_line, player_line, area_line, time_line, config_at, command_at, move_line, serve_line, send_line, deliver_line, show_line, bytes_line, hand_at}
 
 -- a client: four words and the last, then each of them
 pub client_steps : (words : List (List ℕ)) → client_line words ≡ (ok_or (next_of words) Count >>= λ c. ok_or (next_of c.1) Count >>= λ challenge. ok_or (next_of challenge.1) Count >>= λ qport. ok_or (next_of qport.1) Count >>= λ dup. ok_or (only_of dup.1) Count >>= λ address.
@@ -23,6 +23,14 @@ client_steps (c ∷ challenge ∷ qport ∷ []) = refl
 client_steps (c ∷ challenge ∷ qport ∷ dup ∷ []) = refl
 client_steps (c ∷ challenge ∷ qport ∷ dup ∷ address ∷ []) = refl
 client_steps (c ∷ challenge ∷ qport ∷ dup ∷ address ∷ other ∷ others) = refl
+
+-- a port: a word and the last, then each of them
+pub port_steps : (words : List (List ℕ)) → port_line words ≡ (ok_or (next_of words) Count >>= λ c. ok_or (only_of c.1) Count >>= λ port. client_word c.0 >>= λ c. number_word 1 65535 port >>= λ port. Ok (Port c port))
+unfolding port_line
+port_steps [] = refl
+port_steps (c ∷ []) = refl
+port_steps (c ∷ port ∷ []) = refl
+port_steps (c ∷ port ∷ other ∷ others) = refl
 
 -- a map: a word and the last, then each of them
 pub map_steps : (words : List (List ℕ)) → map_line words ≡ (ok_or (next_of words) Count >>= λ id. ok_or (only_of id.1) Count >>= λ feed. number_word 1 2147483647 id.0 >>= λ id. number_word 0 4294967295 feed >>= λ feed. Ok (Map id feed))
@@ -131,3 +139,18 @@ unfolding show_line
 show_steps [] = refl
 show_steps (c ∷ []) = refl
 show_steps (c ∷ other ∷ others) = refl
+
+-- a look at bytes: the only word is the number of a datagram
+pub bytes_steps : (words : List (List ℕ)) → bytes_line words ≡ (ok_or (only_of words) Count >>= λ word. number_word 1 last_datagram word >>= λ datagram. Ok (Bytes datagram))
+unfolding bytes_line
+bytes_steps [] = refl
+bytes_steps (datagram ∷ []) = refl
+bytes_steps (datagram ∷ other ∷ others) = refl
+
+-- bytes that are handed in: a word and the last, then each of them
+pub hand_steps : (words : List (List ℕ)) → hand_at words ≡ (ok_or (next_of words) Count >>= λ c. ok_or (only_of c.1) Count >>= λ bytes. client_word c.0 >>= λ c. ok_or (handed_at bytes) Number >>= λ bytes. Ok (c, bytes))
+unfolding hand_at
+hand_steps [] = refl
+hand_steps (c ∷ []) = refl
+hand_steps (c ∷ bytes ∷ []) = refl
+hand_steps (c ∷ bytes ∷ other ∷ others) = refl

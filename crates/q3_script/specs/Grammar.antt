@@ -12,12 +12,12 @@ use Rattle.q3_io.specs.Quoted.{quoted}
 use Rattle.q3_io.specs.declared.address.Address.{Address}
 use Rattle.q3_text.specs.Texts.{IsText, text_of}
 use Rattle.q3_script.specs.declared.event.Event.{Event}
-use Rattle.q3_script.specs.declared.event.Event.TheVariants.{Client, Map, Entity, Remove, Baseline, Player, Area, Time, Config, Say, TypeText, Move, Serve, Send, Deliver, Show}
+use Rattle.q3_script.specs.declared.event.Event.TheVariants.{Client, Port, Map, Entity, Remove, Baseline, Player, Area, Time, Config, Say, TypeText, Move, Serve, Send, Deliver, Show, Bytes, Toclient, Toserver}
 use Rattle.q3_script.specs.Words.{words_of}
 use Rattle.q3_script.specs.Addresses.{host_of}
-use Rattle.q3_script.specs.Hex.{hex_text, most_area}
+use Rattle.q3_script.specs.Hex.{hex_text, most_area, most_handed}
 use Rattle.q3_script.specs.Fields.{values_of, player_of}
-use Rattle.q3_script.specs.Lines.{last_entity, last_datagram, most_config}
+use Rattle.q3_script.specs.Lines.{last_client, last_entity, last_datagram, most_config}
 use Rattle.q3_script.specs.Script.{is_passed_over, lines_of, longest_script, most_events}
 
 -- a signed value of 8 bits
@@ -35,25 +35,29 @@ pub record IsHeldMove (one : MoveValue) : Type 0 where
   pub buttons : one.buttons < 2 ^ 16
   pub weapon : one.weapon < 2 ^ 8
 
--- an event that a replay's script may have: the one client has the number 0
+-- an event that a replay's script may have
 abbrev pub IsReplayEvent : Event → Type 0
 IsReplayEvent (Client c challenge qport dup address) =
-    (c ≡ 0) × (challenge < 2 ^ 32) × (qport < 2 ^ 16) × (dup ≤ 5) × (1 ≤ address.port) × (address.port < 2 ^ 16)
+    (c ≤ last_client) × (challenge < 2 ^ 32) × (qport < 2 ^ 16) × (dup ≤ 5) × (1 ≤ address.port) × (address.port < 2 ^ 16) × (address.host < 2 ^ 32)
+IsReplayEvent (Port c port) = (c ≤ last_client) × (1 ≤ port) × (port < 2 ^ 16)
 IsReplayEvent (Map id feed) = (1 ≤ id) × (id < 2 ^ 31) × (feed < 2 ^ 32)
 IsReplayEvent (Entity state) = (state.number ≤ last_entity) × AreWords 64 state.words
 IsReplayEvent (Remove number) = number ≤ last_entity
 IsReplayEvent (Baseline state) = (1 ≤ state.number) × (state.number ≤ last_entity) × AreWords 64 state.words
-IsReplayEvent (Player c player) = (c ≡ 0) × IsState player
-IsReplayEvent (Area c area) = (c ≡ 0) × (length area.items ≤ most_area) × All (λ byte. byte < 256) area.items
+IsReplayEvent (Player c player) = (c ≤ last_client) × IsState player
+IsReplayEvent (Area c area) = (c ≤ last_client) × (length area.items ≤ most_area) × All (λ byte. byte < 256) area.items
 IsReplayEvent (Time time) = time < 2 ^ 32
 IsReplayEvent (Config index text) = (index < 2 ^ 32) × (length text ≤ most_config) × All (λ byte. (0 < byte) × (byte < 256)) text
-IsReplayEvent (Say c text) = (c ≡ 0) × IsText text
-IsReplayEvent (TypeText c text) = (c ≡ 0) × IsText text
-IsReplayEvent (Move c one) = (c ≡ 0) × IsHeldMove one
-IsReplayEvent (Serve c) = c ≡ 0
-IsReplayEvent (Send c) = c ≡ 0
+IsReplayEvent (Say c text) = (c ≤ last_client) × IsText text
+IsReplayEvent (TypeText c text) = (c ≤ last_client) × IsText text
+IsReplayEvent (Move c one) = (c ≤ last_client) × IsHeldMove one
+IsReplayEvent (Serve c) = c ≤ last_client
+IsReplayEvent (Send c) = c ≤ last_client
 IsReplayEvent (Deliver datagram) = (1 ≤ datagram) × (datagram ≤ last_datagram)
-IsReplayEvent (Show c) = c ≡ 0
+IsReplayEvent (Show c) = c ≤ last_client
+IsReplayEvent (Bytes datagram) = (1 ≤ datagram) × (datagram ≤ last_datagram)
+IsReplayEvent (Toclient c bytes) = (c ≤ last_client) × (length bytes ≤ most_handed) × All (λ byte. byte < 256) bytes
+IsReplayEvent (Toserver c bytes) = (c ≤ last_client) × (length bytes ≤ most_handed) × All (λ byte. byte < 256) bytes
 
 -- an address: four numbers with dots between them, a colon and a port
 pub record SpellsAddress (word : List ℕ) (address : Address) : Type 0 where
@@ -121,6 +125,7 @@ pub record SpellsText (words : List (List ℕ)) (text : List ℕ) : Type 0 where
 abbrev pub HasWords : List (List ℕ) → Event → Type 0
 HasWords words (Client c challenge qport dup address) =
     (last : List ℕ) × SpellsAddress last address × (words ≡ codes "client" ∷ decimal c ∷ decimal challenge ∷ decimal qport ∷ decimal dup ∷ last ∷ [])
+HasWords words (Port c port) = words ≡ codes "port" ∷ decimal c ∷ decimal port ∷ []
 HasWords words (Map id feed) = words ≡ codes "map" ∷ decimal id ∷ decimal feed ∷ []
 HasWords words (Entity state) = (fields : List (List ℕ)) × SpellsEntity fields state × (words ≡ codes "entity" ∷ decimal state.number ∷ fields)
 HasWords words (Remove number) = words ≡ codes "remove" ∷ decimal number ∷ []
@@ -136,6 +141,9 @@ HasWords words (Serve c) = words ≡ codes "serve" ∷ decimal c ∷ []
 HasWords words (Send c) = words ≡ codes "send" ∷ decimal c ∷ []
 HasWords words (Deliver datagram) = words ≡ codes "deliver" ∷ decimal datagram ∷ []
 HasWords words (Show c) = words ≡ codes "show" ∷ decimal c ∷ []
+HasWords words (Bytes datagram) = words ≡ codes "bytes" ∷ decimal datagram ∷ []
+HasWords words (Toclient c bytes) = (last : List ℕ) × SpellsHex last bytes × (words ≡ codes "toclient" ∷ decimal c ∷ last ∷ [])
+HasWords words (Toserver c bytes) = (last : List ℕ) × SpellsHex last bytes × (words ≡ codes "toserver" ∷ decimal c ∷ last ∷ [])
 
 -- the words of a line spell an event
 pub record SpellsEvent (words : List (List ℕ)) (event : Event) : Type 0 where

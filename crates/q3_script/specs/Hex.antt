@@ -1,4 +1,4 @@
--- Bytes in hex, and the area bytes that a word spells.
+-- Bytes in hex, and the bytes that a word spells.
 use Rattle.std.specs.Prelude.{ℕ, ◌==◌, ◌&&◌, ◌||◌, Bool, if◌then◌else◌, List, [], ◌∷◌, length, codes, nat_le, Option, Some, None}
 use Rattle.std.specs.List.{list_any}
 use Rattle.std.specs.Result.{result_ok}
@@ -26,8 +26,22 @@ hex_at word =
 abbrev pub most_area : ℕ
 most_area = 32
 
--- the area bytes that a word spells, if they aren't too many
+-- the bytes that a word spells, if they are at most so many
+unfoldable pub hex_within : ℕ → List ℕ → Option (List ℕ)
+hex_within most word = do
+  bytes ← hex_at word
+  if nat_le (length bytes) most then Some bytes else None
+
+-- the area bytes that a word spells
 unfoldable pub area_at : List ℕ → Option (ArrayVec ℕ)
 area_at word = do
-  bytes ← hex_at word
-  if nat_le (length bytes) most_area then Some (record { items = bytes }) else None
+  bytes ← hex_within most_area word
+  Some (record { items = bytes })
+
+-- the most bytes that are handed to an end
+abbrev pub most_handed : ℕ
+most_handed = 16400
+
+-- the bytes that a word spells to be handed to an end
+abbrev pub handed_at : List ℕ → Option (List ℕ)
+handed_at word = hex_within most_handed word

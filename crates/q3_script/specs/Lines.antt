@@ -6,14 +6,14 @@ use Rattle.std.specs.Map.{lookup}
 use Rattle.std.specs.Str.{bytes_eq}
 use Rattle.q3_clmsg.specs.declared.moves.Move.{Move as MoveValue}
 use Rattle.q3_script.specs.declared.event.Event.{Event}
-use Rattle.q3_script.specs.declared.event.Event.TheVariants.{Client, Map, Entity, Remove, Baseline, Player, Area, Time, Config, Say, TypeText, Move, Serve, Send, Deliver, Show}
+use Rattle.q3_script.specs.declared.event.Event.TheVariants.{Client, Port, Map, Entity, Remove, Baseline, Player, Area, Time, Config, Say, TypeText, Move, Serve, Send, Deliver, Show, Bytes, Toclient, Toserver}
 use Rattle.q3_script.specs.declared.cause.LineCause.{LineCause}
 use Rattle.q3_script.specs.declared.cause.LineCause.TheVariants as causes
 use Rattle.q3_bits.specs.ResultBind.{◌>>=◌}
 use Rattle.q3_text.specs.Decimals.{number_at}
 use Rattle.q3_script.specs.Words.{behind}
 use Rattle.q3_script.specs.Addresses.{address_at}
-use Rattle.q3_script.specs.Hex.{area_at}
+use Rattle.q3_script.specs.Hex.{area_at, handed_at}
 use Rattle.q3_script.specs.Quotes.{bytes_word, text_word}
 use Rattle.q3_script.specs.Fields.{entity_at, player_at}
 
@@ -24,6 +24,10 @@ last_datagram = 65536
 -- the greatest number of an entity
 abbrev pub last_entity : ℕ
 last_entity = 1022
+
+-- the greatest number of a client
+abbrev pub last_client : ℕ
+last_client = 15
 
 -- the most bytes of the text of a config string in a script
 abbrev pub most_config : ℕ
@@ -37,9 +41,9 @@ number_word low high word = ok_or (number_at low high word) causes.Number
 abbrev pub entity_word : List ℕ → Result ℕ LineCause
 entity_word word = number_word 0 last_entity word
 
--- the one client's number
+-- the number of a client
 abbrev pub client_word : List ℕ → Result ℕ LineCause
-client_word word = number_word 0 0 word
+client_word word = number_word 0 last_client word
 
 -- a number from -128 to 127, with a `-` in front where it is below 0
 unfoldable pub signed_byte_at : List ℕ → Option ℤ
@@ -60,6 +64,13 @@ client_line (c ∷ challenge ∷ qport ∷ dup ∷ address ∷ []) = do
   address ← ok_or (address_at address) causes.Address
   Ok (Client c challenge qport dup address)
 client_line words = Err causes.Count
+
+unfoldable pub port_line : List (List ℕ) → Result Event LineCause
+port_line (c ∷ port ∷ []) = do
+  c ← client_word c
+  port ← number_word 1 65535 port
+  Ok (Port c port)
+port_line words = Err causes.Count
 
 unfoldable pub map_line : List (List ℕ) → Result Event LineCause
 map_line (id ∷ feed ∷ []) = do
@@ -202,6 +213,30 @@ show_line (c ∷ []) = do
   Ok (Show c)
 show_line words = Err causes.Count
 
+unfoldable pub bytes_line : List (List ℕ) → Result Event LineCause
+bytes_line (datagram ∷ []) = do
+  datagram ← number_word 1 last_datagram datagram
+  Ok (Bytes datagram)
+bytes_line words = Err causes.Count
+
+-- a client and the bytes that are handed to it, or to the server from it
+unfoldable pub hand_at : List (List ℕ) → Result (ℕ × List ℕ) LineCause
+hand_at (c ∷ bytes ∷ []) = do
+  c ← client_word c
+  bytes ← ok_or (handed_at bytes) causes.Number
+  Ok (c, bytes)
+hand_at words = Err causes.Count
+
+unfoldable pub toclient_line : List (List ℕ) → Result Event LineCause
+toclient_line words = do
+  hand ← hand_at words
+  Ok (Toclient hand.0 hand.1)
+
+unfoldable pub toserver_line : List (List ℕ) → Result Event LineCause
+toserver_line words = do
+  hand ← hand_at words
+  Ok (Toserver hand.0 hand.1)
+
 -- lines by their first words, each with what reads the others
 abbrev pub Table : Type 0
 Table = List (List ℕ × (List (List ℕ) → Result Event LineCause))
@@ -214,6 +249,9 @@ line_in lines word others = option_map_or (λ line. line others) (lookup (λ tex
 abbrev pub replay_lines : Table
 replay_lines =
     (codes "client", client_line)
+    ∷ (codes "port", port_line)
+    ∷ (codes "toclient", toclient_line)
+    ∷ (codes "toserver", toserver_line)
     ∷ (codes "map", map_line)
     ∷ (codes "entity", entity_line)
     ∷ (codes "remove", remove_line)
@@ -229,6 +267,7 @@ replay_lines =
     ∷ (codes "send", send_line)
     ∷ (codes "deliver", deliver_line)
     ∷ (codes "show", show_line)
+    ∷ (codes "bytes", bytes_line)
     ∷ []
 
 unfoldable pub line_at : List (List ℕ) → Result Event LineCause

@@ -1,8 +1,8 @@
-//! Area bytes in a line.
+//! Bytes in hex in a line.
 
-ghost use Rattle.std.specs.Prelude.{◌≡◌};
+ghost use Rattle.std.specs.Prelude.{◌≡◌, option_map};
 ghost use Rattle.std.specs.List.{list_any};
-ghost use Rattle.q3_script.specs.Hex.{is_capital, area_at};
+ghost use Rattle.q3_script.specs.Hex.{is_capital, hex_within, area_at};
 
 use crate::words::is;
 use arrayvec::ArrayVec;
@@ -17,10 +17,10 @@ pub fn has_capital(word: &[u8]) -> bool
     word.iter().any(|byte| byte.is_ascii_uppercase())
 }
 
-/// The area bytes that a word spells: 1 to 32 of them in hex with small letters, or none as `-`.
+/// The bytes that a word spells, if they are at most `MOST`: some in hex with small letters, or none as `-`.
 #[tactic(auto, using(crate::proofs::HexWords::none_empty, crate::proofs::HexWords::none_capital))]
-pub fn area_bytes(word: &[u8]) -> Option<ArrayVec<u8, MOST_AREA>>
-    ensures { result ≡ area_at word.now }
+pub fn hex_bytes<const MOST: usize>(word: &[u8]) -> Option<ArrayVec<u8, MOST>>
+    ensures { option_map (λ bytes. bytes.items) result ≡ hex_within MOST word.now }
 {
     if is(word, b"-") {
         return Some(ArrayVec::new());
@@ -29,13 +29,20 @@ pub fn area_bytes(word: &[u8]) -> Option<ArrayVec<u8, MOST_AREA>>
         return None;
     }
     let count = word.len() / 2;
-    if count > MOST_AREA {
+    if count > MOST {
         return None;
     }
-    let mut area = ArrayVec::from([0; MOST_AREA]);
-    area.truncate(count);
-    if hex::decode_to_slice(word, area.as_mut_slice()).is_err() {
+    let mut bytes = ArrayVec::from([0; MOST]);
+    bytes.truncate(count);
+    if hex::decode_to_slice(word, bytes.as_mut_slice()).is_err() {
         return None;
     }
-    Some(area)
+    Some(bytes)
+}
+
+/// The area bytes that a word spells.
+pub fn area_bytes(word: &[u8]) -> Option<ArrayVec<u8, MOST_AREA>>
+    ensures { result ≡ area_at word.now }
+{
+    hex_bytes::<MOST_AREA>(word)
 }

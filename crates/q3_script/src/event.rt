@@ -9,7 +9,7 @@ use q3_player::PlayerState;
 use q3_text::Text;
 
 /// What one line of a script says: one call of one end, or something that the game hands in.
-/// `c` is the number of a client, of which there is one at this stage, 0.
+/// `c` is the number of a client, 0 to 15.
 #[derive(Debug, Drop, PartialEq, Eq)]
 pub enum Event {
     /// A client joins, with its challenge, its qport, of how many messages before it each message repeats the moves, and its
@@ -20,6 +20,11 @@ pub enum Event {
         qport: u16,
         dup: u8,
         address: Address,
+    },
+    /// A client's later datagrams come from this port.
+    Port {
+        c: u8,
+        port: u16,
     },
     /// A new map, with its id and its checksum feed.
     Map {
@@ -87,5 +92,19 @@ pub enum Event {
     /// The client's newest accepted snapshot is printed.
     Show {
         c: u8,
+    },
+    /// The bytes of the datagram of this number are printed.
+    Bytes {
+        datagram: u32,
+    },
+    /// These bytes arrive at a client.
+    Toclient {
+        c: u8,
+        bytes: Bytes,
+    },
+    /// These bytes arrive at the server, from a client's address.
+    Toserver {
+        c: u8,
+        bytes: Bytes,
     },
 }

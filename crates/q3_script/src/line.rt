@@ -3,10 +3,10 @@
 ghost use Rattle.std.specs.Prelude.{◌≡◌, ◌∷◌, IfOk};
 ghost use Rattle.std.specs.Result.{result_map_both};
 ghost use Rattle.q3_script.specs.Words.{words_of, words_left};
-ghost use Rattle.q3_script.specs.Lines.{client_line, map_line, entity_line, remove_line, baseline_line, player_line, area_line, time_line, config_at, config_line, command_at, say_line, type_line, serve_line, send_line, deliver_line, show_line, line_at};
+ghost use Rattle.q3_script.specs.Lines.{client_line, port_line, map_line, entity_line, remove_line, baseline_line, player_line, area_line, time_line, config_at, config_line, command_at, say_line, type_line, serve_line, send_line, deliver_line, show_line, bytes_line, hand_at, toclient_line, toserver_line, line_at};
 
 use crate::address::address;
-use crate::area::area_bytes;
+use crate::area::{area_bytes, hex_bytes};
 use crate::bytes::Bytes;
 use crate::cause::LineCause;
 use crate::event::Event;
@@ -23,6 +23,9 @@ use std::alloc::Global;
 /// The most bytes of the text of a config string in a script.
 const MOST_CONFIG: usize = 9_000;
 
+/// The most bytes that are handed to an end.
+const MOST_HANDED: usize = 16_400;
+
 #[tactic(auto, using(crate::proofs::Steps::client_steps))]
 fn client(left: &[u8]) -> Result<Event, LineCause>
     ensures { result ≡ client_line (words_left left.now) }
@@ -38,6 +41,18 @@ fn client(left: &[u8]) -> Result<Event, LineCause>
         qport: number_word(qport, 0, 65_535)? as u16,
         dup: number_word(dup, 0, 5)? as u8,
         address: address(host).ok_or(LineCause::Address)?,
+    })
+}
+
+#[tactic(auto, using(crate::proofs::Steps::port_steps))]
+fn port(left: &[u8]) -> Result<Event, LineCause>
+    ensures { result ≡ port_line (words_left left.now) }
+{
+    let (c, left) = next_word(left).ok_or(LineCause::Count)?;
+    let port = only_word(left).ok_or(LineCause::Count)?;
+    Ok(Event::Port {
+        c: client_word(c)?,
+        port: number_word(port, 1, 65_535)? as u16,
     })
 }
 
@@ -211,6 +226,56 @@ fn show(left: &[u8]) -> Result<Event, LineCause>
     })
 }
 
+#[tactic(auto, using(crate::proofs::Steps::bytes_steps))]
+fn bytes(left: &[u8]) -> Result<Event, LineCause>
+    ensures { result ≡ bytes_line (words_left left.now) }
+{
+    let word = only_word(left).ok_or(LineCause::Count)?;
+    Ok(Event::Bytes {
+        datagram: number_word(word, 1, 65_536)?,
+    })
+}
+
+/// A client, and the bytes that are handed to it, or to the server from it.
+#[tactic(auto, using(crate::proofs::Steps::hand_steps))]
+fn hand(left: &[u8]) -> Result<(u8, ArrayVec<u8, MOST_HANDED>), LineCause>
+    ensures { result_map_both (λ hand. (hand.0, hand.1.items)) (λ cause. cause) result ≡ hand_at (words_left left.now) }
+{
+    let (c, left) = next_word(left).ok_or(LineCause::Count)?;
+    let word = only_word(left).ok_or(LineCause::Count)?;
+    Ok((
+        client_word(c)?,
+        hex_bytes::<MOST_HANDED>(word).ok_or(LineCause::Number)?,
+    ))
+}
+
+/// The bytes are kept in memory of their own.
+#[tactic(auto, unfolding(crate::specs::Lines::toclient_line))]
+fn toclient(alloc: Global, left: &[u8]) -> Result<Result<Event, LineCause>, NoMemory>
+    ensures { IfOk result (λ answer. answer ≡ toclient_line (words_left left.now)) }
+{
+    match hand(left) {
+        Ok((c, bytes)) => Ok(Ok(Event::Toclient {
+            c,
+            bytes: Bytes::of(alloc, &bytes)?,
+        })),
+        Err(cause) => Ok(Err(cause)),
+    }
+}
+
+#[tactic(auto, unfolding(crate::specs::Lines::toserver_line))]
+fn toserver(alloc: Global, left: &[u8]) -> Result<Result<Event, LineCause>, NoMemory>
+    ensures { IfOk result (λ answer. answer ≡ toserver_line (words_left left.now)) }
+{
+    match hand(left) {
+        Ok((c, bytes)) => Ok(Ok(Event::Toserver {
+            c,
+            bytes: Bytes::of(alloc, &bytes)?,
+        })),
+        Err(cause) => Ok(Err(cause)),
+    }
+}
+
 /// The event of the line that begins with this word. `Err` is want of memory.
 #[tactic(auto, unfolding(crate::specs::Lines::line_at))]
 fn event(alloc: Global, word: &[u8], left: &[u8]) -> Result<Result<Event, LineCause>, NoMemory>
@@ -218,6 +283,12 @@ fn event(alloc: Global, word: &[u8], left: &[u8]) -> Result<Result<Event, LineCa
 {
     if is(word, b"client") {
         Ok(client(left))
+    } else if is(word, b"port") {
+        Ok(port(left))
+    } else if is(word, b"toclient") {
+        toclient(alloc, left)
+    } else if is(word, b"toserver") {
+        toserver(alloc, left)
     } else if is(word, b"map") {
         Ok(map(left))
     } else if is(word, b"entity") {
@@ -248,6 +319,8 @@ fn event(alloc: Global, word: &[u8], left: &[u8]) -> Result<Result<Event, LineCa
         Ok(deliver(left))
     } else if is(word, b"show") {
         Ok(show(left))
+    } else if is(word, b"bytes") {
+        Ok(bytes(left))
     } else {
         Ok(Err(LineCause::Word))
     }

@@ -26,7 +26,7 @@ pub fn entity_word(word: &[u8]) -> Result<u16, LineCause>
 pub fn client_word(word: &[u8]) -> Result<u8, LineCause>
     ensures { result ≡ client_word word.now }
 {
-    Ok(number_word(word, 0, 0)? as u8)
+    Ok(number_word(word, 0, 15)? as u8)
 }
 
 /// The number so far below 0.

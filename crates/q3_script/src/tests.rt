@@ -118,6 +118,65 @@ fn maps_baselines_and_config_strings(rt: HostRuntime) -> Result<(), Fail> {
     Ok(())
 }
 
+/// The least and the greatest numbers of clients and ports, and bytes that are handed in.
+#[test]
+fn ports_and_bytes(rt: HostRuntime) -> Result<(), Fail> {
+    let script =
+        "port 15 65535\nport 0 1\nbytes 65536\ntoclient 15 -\ntoserver 0 00ff10\nserve 15\n";
+    let events = read_script(rt.alloc(), ScriptKind::Replay, script.as_bytes())
+        .ok()
+        .ok_or("the script is a good one")?;
+    let wanted = [
+        Event::Port {
+            c: 15,
+            port: 65_535,
+        },
+        Event::Port { c: 0, port: 1 },
+        Event::Bytes { datagram: 65_536 },
+        Event::Toclient {
+            c: 15,
+            bytes: Bytes::of(rt.alloc(), b"")?,
+        },
+        Event::Toserver {
+            c: 0,
+            bytes: Bytes::of(rt.alloc(), b"\x00\xff\x10")?,
+        },
+        Event::Serve { c: 15 },
+    ];
+    assert_eq!(rt; events.as_slice(), wanted.as_slice());
+    Ok(())
+}
+
+/// A line that hands so many bytes to the server.
+fn hand_of(alloc: Global, count: usize) -> Result<Vec<u8>, AllocError> {
+    let mut line = Vec::new(alloc);
+    line.extend_from_slice(b"toserver 0 ")?;
+    for _ in 0..count {
+        line.push(b'0')?;
+        line.push(b'7')?;
+    }
+    Ok(line)
+}
+
+/// As many bytes as may be handed in, and one more.
+#[test]
+fn most_bytes_handed_in(rt: HostRuntime) -> Result<(), Fail> {
+    let most = hand_of(rt.alloc(), 16_400)?;
+    let events = read_script(rt.alloc(), ScriptKind::Replay, &most)
+        .ok()
+        .ok_or("the script is a good one")?;
+    assert_eq!(rt; events.len(), 1);
+    let more = hand_of(rt.alloc(), 16_401)?;
+    assert!(rt;
+        read_script(rt.alloc(), ScriptKind::Replay, &more)
+            == Err(ScriptError::Line {
+                line: 1,
+                cause: LineCause::Number
+            })
+    );
+    Ok(())
+}
+
 /// As many area bytes as there may be.
 #[test]
 fn most_area_bytes(rt: HostRuntime) -> Result<(), Fail> {
@@ -240,7 +299,7 @@ fn bad_scripts(rt: HostRuntime) {
         ("serve 0\n\nfoo\n", 3, LineCause::Word),
         ("serve 0 \n", 1, LineCause::Count),
         ("serve\n", 1, LineCause::Count),
-        ("serve 1\n", 1, LineCause::Number),
+        ("serve 16\n", 1, LineCause::Number),
         ("move 0 0 0 0 0 0 0 0 x\n", 1, LineCause::Count),
         ("move 0 0 0 0 0 0 0 0 0 0 x\n", 1, LineCause::Count),
         ("move 0 0 65536 0 0 0 0 0 0 0\n", 1, LineCause::Number),
@@ -252,8 +311,8 @@ fn bad_scripts(rt: HostRuntime) {
         ("move 0 0 0 0 0 0 0 0 0 256\n", 1, LineCause::Number),
         ("say\n", 1, LineCause::Count),
         ("say 0\n", 1, LineCause::Count),
-        ("say 1 \"x\"\n", 1, LineCause::Number),
-        ("say 1 x\n", 1, LineCause::Number),
+        ("say 16 \"x\"\n", 1, LineCause::Number),
+        ("say 16 x\n", 1, LineCause::Number),
         ("say 0 \n", 1, LineCause::Text),
         ("say 0 hi\n", 1, LineCause::Text),
         ("say 0 \"hi\n", 1, LineCause::Text),
@@ -269,7 +328,7 @@ fn bad_scripts(rt: HostRuntime) {
         ("say 0 \"\\\"\n", 1, LineCause::Text),
         ("type 0 \"\n", 1, LineCause::Text),
         ("send\n", 1, LineCause::Count),
-        ("send 1\n", 1, LineCause::Number),
+        ("send 16\n", 1, LineCause::Number),
         ("deliver 0\n", 1, LineCause::Number),
         ("deliver 01\n", 1, LineCause::Number),
         ("time 4294967296\n", 1, LineCause::Number),
@@ -304,7 +363,7 @@ fn bad_scripts(rt: HostRuntime) {
         ("remove 1023\n", 1, LineCause::Number),
         ("area 0\n", 1, LineCause::Count),
         ("area 0 - -\n", 1, LineCause::Count),
-        ("area 1 -\n", 1, LineCause::Number),
+        ("area 16 -\n", 1, LineCause::Number),
         ("area 0 \n", 1, LineCause::Number),
         ("area 0 0\n", 1, LineCause::Number),
         ("area 0 0A\n", 1, LineCause::Number),
@@ -321,6 +380,19 @@ fn bad_scripts(rt: HostRuntime) {
         ("player 0 x1:1\n", 1, LineCause::Fields),
         ("player 0 s:1\n", 1, LineCause::Fields),
         ("player 0 u15:4294967296\n", 1, LineCause::Fields),
+        ("port 0\n", 1, LineCause::Count),
+        ("port 0 1 2\n", 1, LineCause::Count),
+        ("port 0 0\n", 1, LineCause::Number),
+        ("port 0 65536\n", 1, LineCause::Number),
+        ("port 16 1\n", 1, LineCause::Number),
+        ("bytes\n", 1, LineCause::Count),
+        ("bytes 0\n", 1, LineCause::Number),
+        ("bytes 65537\n", 1, LineCause::Number),
+        ("toclient 0\n", 1, LineCause::Count),
+        ("toclient 0 \n", 1, LineCause::Number),
+        ("toclient 0 0A\n", 1, LineCause::Number),
+        ("toserver 16 -\n", 1, LineCause::Number),
+        ("toserver 0 - -\n", 1, LineCause::Count),
         ("client 0 1 2 3 10.0.0.256:1\n", 1, LineCause::Address),
         ("client 0 1 2 3 10.0.0.1:0\n", 1, LineCause::Address),
         ("client 0 1 2 6 10.0.0.1:1\n", 1, LineCause::Number),

@@ -1,0 +1,7 @@
+pub mod PrintedWords
+pub mod PrintedLines
+pub mod Printing
+pub mod Rows
+pub mod Lengths
+pub mod MadeLines
+pub mod MadeScripts
