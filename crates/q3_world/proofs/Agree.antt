@@ -17,8 +17,7 @@ use Rattle.q3_window.specs.Outgoing.{acknowledge_at, text_at}
 use Rattle.q3_client.specs.Client.{ClientState, receive_message, receive_bytes}
 use Rattle.q3_client.specs.Sending.{said_bytes, Said, IsSaid}
 use Rattle.q3_slot.specs.Slot.{SlotState}
-use Rattle.q3_slot.specs.Built.{Built, IsHeld, IsSnapshot, IsBuilt}
-use Rattle.q3_slot.specs.Emitting.{built_bytes}
+use Rattle.q3_built.specs.Built.{Built, IsHeld, IsSnapshot, IsBuilt, built_bytes}
 use Rattle.q3_slot.specs.Taking.{came_as, said_by}
 use Rattle.q3_world.specs.MessageLaws.{AreBuilt, HoldsThis}
 use Rattle.q3_world.specs.Layers.{ServerLaws, RingLaws, WindowLaws, ScramblingLaws, ConfigLaws}
@@ -27,7 +26,7 @@ use Rattle.q3_world.specs.Kept.{Kept, KeptStep}
 use Rattle.q3_world.specs.World.{Tag, Step, Whole, History, history_at, with_history}
 use Rattle.q3_world.specs.StandsFor.{bytes_of}
 use Rattle.q3_world.proofs.Growth.{noted_same}
-use Rattle.q3_world.proofs.Events.{Holds, with_client_of, same_clients}
+use Rattle.q3_world.proofs.Holding.{Holds, with_client_of, same_clients}
 
 -- ---- what is cited of the layers below
 
@@ -102,5 +101,6 @@ left_alone profile whole c client sent found same holds =
       ends = record whole.ends { clients = clients };
       histories = with_history whole.histories c (history_at whole.histories c);
       sent = sent;
+      foreign = whole.foreign;
     })) (sym (same_clients whole.ends c client found))
     (subst (λ (tags : List Tag). Holds profile (record whole { histories = with_history whole.histories c (history_at whole.histories c); sent = tags })) (sym same) (unnoted profile whole c holds))

@@ -12,7 +12,7 @@ use Rattle.q3_gamestate.specs.Values.{Gamestate}
 use Rattle.q3_clstate.specs.State.{AppliedState, applies_game, passes, accepts, skipped_for, hearing, heard_with, has_base, apply_message}
 use Rattle.q3_text.specs.declared.text.Command.{Command}
 use Rattle.q3_svmsg.specs.Values.{Message}
-use Rattle.q3_slot.specs.Built.{Built, Telling, number_of, message_of, built_of, game_message_of, game_built_of, IsNear}
+use Rattle.q3_built.specs.Built.{Built, Telling, number_of, message_of, built_of, game_message_of, game_built_of, IsNear}
 use Rattle.q3_world.specs.Layers.{RingLaws}
 use Rattle.q3_world.specs.Schedules.{outcome_of}
 

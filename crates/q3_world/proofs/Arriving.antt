@@ -1,7 +1,7 @@
 -- A datagram arrives by its bytes as by its tag.
 use Rattle.q3_rings.specs.declared.rings.NoBase.TheVariants.{EntitiesGone}
 use Rattle.std.proofs.Common.{◌≡◌, ℕ, ◌-◌, ◌^◌, ◌<◌, Bool, true, false, List, [], ◌∷◌, length, Option, Some, None, Result, Ok, refl, sym, ap, subst, ◌∙◌, inl, inr, arith, lit<, ◌++◌, ◌≤◌}
-use Rattle.std.specs.Prelude.{◌||◌, slice_get, All, Contains, ◌⊎◌, IfSome, if◌then◌else◌}
+use Rattle.std.specs.Prelude.{◌||◌, slice_get, All, Contains, ◌⊎◌, IfSome, if◌then◌else◌, map}
 use Rattle.std.specs.Option.{option_map}
 use Rattle.std.proofs.lemmas.List.{append-nil}
 use Rattle.std.proofs.lemmas.List.Elements.{All-nil, All-get_or, Contains-get_or}
@@ -32,9 +32,8 @@ use Rattle.q3_chan.specs.Senders.{qport_of}
 use Rattle.q3_chan.specs.Laws.{HoldsFront, SentIsTagged, Gathers}
 use Rattle.q3_client.specs.Client.{ClientState, Taken, Reception, receive_message, receive_bytes, applies, applies_read, take_answer, take_gathered, take_unless, take_at}
 use Rattle.q3_client.specs.Sending.{said_bytes, Said, IsSaid}
-use Rattle.q3_slot.specs.Built.{Built, IsNear, IsSnapshot, IsBuilt, BuildsGame, BuildsSnapshot, Telling, number_of}
+use Rattle.q3_built.specs.Built.{Built, IsNear, IsSnapshot, IsBuilt, BuildsGame, BuildsSnapshot, Telling, number_of, built_bytes}
 use Rattle.q3_slot.specs.Slot.{SlotState}
-use Rattle.q3_slot.specs.Emitting.{built_bytes}
 use Rattle.q3_slot.specs.Taking.{asked_with, delta_behind, runs, last_run_of, said_by, Came, OfMap, OfOther, asks_game, heads_of, moves_on, came_as, goes_on}
 use Rattle.q3_server.specs.Server.{places, slot_at}
 use Rattle.q3_server.specs.Taking.{sender_of}
@@ -45,20 +44,22 @@ use Rattle.q3_world.specs.declared.made.Direction.TheVariants.{ToClient, ToServe
 use Rattle.q3_world.specs.MessageLaws.{HoldsThis}
 use Rattle.q3_world.specs.Ends.{client_at, address_at}
 use Rattle.q3_world.specs.Kept.{kept_client_took, kept_to_client, kept_server_took, kept_arrive, kept_deliver, kept_step}
-use Rattle.q3_world.specs.World.{Tag, Whole, History, no_said, history_at, named, client_took, to_client, said_under, server_took, to_server, arrive, deliver, step, Played, game_in, texts_of, with_game, with_taken, with_heard}
+use Rattle.q3_world.specs.World.{Tag, Whole, History, no_said, history_at, named, client_took, to_client, said_under, server_took, to_server, arrive, deliver, step, Played, game_in, texts_of, with_game, with_taken, with_heard, deliver_as}
 use Rattle.q3_world.specs.StandsFor.{BeginsMessages, KeepsSlot, IsPiece, IsSent, IsClient, IsWay, WasBuilt, WasAccepted, carried_built, acks_built, carried_said, acks_said, AreCommanded, messages_of, messages_said, bytes_of, KeepsClient, TakesBuilt}
 use Rattle.q3_world.proofs.MoveLists.{consecutive_issued}
-use Rattle.q3_world.proofs.Clients.{no_client, no_end, at_number, said_number, KeepsSlot-ran, TakesBuilt-gathered, TakesBuilt-passed, TakesBuilt-accepted, TakesBuilt-started, KeepsSlot-acknowledged, AreAsked-accepted}
+use Rattle.q3_world.proofs.Clients.{no_client, no_end, at_number, said_number, KeepsSlot-ran, KeepsSlot-acknowledged}
+use Rattle.q3_world.proofs.Joined.{TakesBuilt-gathered, TakesBuilt-passed, TakesBuilt-accepted, TakesBuilt-started, AreAsked-accepted}
 use Rattle.q3_world.proofs.Bases.{if_some_then}
 use Rattle.q3_world.proofs.Knowing.{KnownBase, known_base, was_built_is, held_are_built, holds_this, lines_are}
 use Rattle.q3_world.proofs.Applying.{applies_message, applies_game_message}
 use Rattle.q3_world.proofs.Commanded.{ClientHears, client_hears, SlotHears, slot_hears}
-use Rattle.q3_world.proofs.Events.{Holds, Has, TakesSo, Holds-taken, HearsSo, Holds-heard, has_slot, has_client, tag_was_built, names_built}
+use Rattle.q3_world.proofs.Holding.{Holds, Has, has_slot, has_client}
+use Rattle.q3_world.proofs.Came.{TakesSo, Holds-taken, HearsSo, Holds-heard, tag_was_built, names_built}
 use Rattle.q3_svmsg.specs.Values.{Told}
 use Rattle.q3_text.specs.declared.text.Command.{Command}
 use Rattle.q3_gamestate.specs.Values.{Gamestate}
 use Rattle.q3_slot.specs.declared.stage.ClientStage.TheVariants.{Connected, Primed, Active}
-use Rattle.q3_world.proofs.Events as taking
+use Rattle.q3_world.proofs.Came as taking
 use Rattle.q3_world.proofs.Agree.{Cited, kept_of, Agree, found_or}
 use Rattle.q3_clstate.specs.declared.applied.SnapOutcome.TheVariants.{Skipped}
 use Rattle.q3_map.specs.Map.{MapState, is_other}
@@ -177,7 +178,7 @@ tag_gathers profile whole tag client cited is found holds =
     (cited.gathers.piece messages (length built) client.gathering tag.number tag.index had.1.joined.of_client.gathers is.1.begun)
 
 -- a message for a client that doesn't play has no base
-waits_none : (profile : Profile) (challenge n : ℕ) (built : Built) → IsBuilt profile challenge n built → built.under ≡ None → built.base ≡ None
+pub waits_none : (profile : Profile) (challenge n : ℕ) (built : Built) → IsBuilt profile challenge n built → built.under ≡ None → built.base ≡ None
 waits_none profile challenge n built is under =
     elim is.section [
       | inl one ↦ (one.waits (sym (ap (λ (b : Built). b.under) one.is) ∙ under)).1
@@ -716,4 +717,5 @@ pub delivers_agree : (profile : Profile) (whole : Whole) (number : ℕ) → Cite
     → Agree profile (kept_step (kept_of profile whole) (events.Deliver number)) (step profile whole (events.Deliver number))
 unfolding kept_step step
 delivers_agree profile whole number cited holds =
-    rw (slice_get-map bytes_of whole.sent (number - 1)) (sent_at profile whole number (slice_get whole.sent (number - 1)) cited refl holds)
+    subst (λ (b : Bool). Agree profile (kept_deliver (kept_of profile whole) number (slice_get (map bytes_of whole.sent) (number - 1))) (deliver_as b profile whole number (slice_get whole.sent (number - 1)))) (sym holds.own)
+    (rw (slice_get-map bytes_of whole.sent (number - 1)) (sent_at profile whole number (slice_get whole.sent (number - 1)) cited refl holds))

@@ -7,7 +7,7 @@ use Rattle.std.proofs.lemmas.Bool.{cases_eq, cases_lt}
 use Rattle.q3_ring.specs.Snapshot.{Snapshot}
 use Rattle.q3_ring.specs.Places.{place_of}
 use Rattle.q3_frames.specs.Frames.{FramesState, base_of, build_at}
-use Rattle.q3_slot.specs.Built.{Built, Telling, IsNear, built_of}
+use Rattle.q3_built.specs.Built.{Built, Telling, IsNear, built_of}
 use Rattle.q3_server.specs.Server.{places}
 use Rattle.q3_world.specs.Layers.{ServerLaws}
 use Rattle.q3_world.specs.World.{Played, History, no_history, no_message, history_at, with_history, built_at}

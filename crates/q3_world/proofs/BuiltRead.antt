@@ -23,8 +23,7 @@ use Rattle.q3_svmsg.specs.Texts.{section_bits, message_text}
 use Rattle.q3_svmsg.specs.Reading.{bits_read, ack_at, message_after, message_at}
 use Rattle.q3_svmsg.specs.Laws.{WrittenIsRead, ReadIsSkipped}
 use Rattle.q3_clstate.specs.State.{Application, context_of, received, apply_read, apply_at}
-use Rattle.q3_slot.specs.Built.{Built, is_unclear, IsSnapshot, IsNear, IsBuilt}
-use Rattle.q3_slot.specs.Emitting.{built_bits, built_bytes}
+use Rattle.q3_built.specs.Built.{Built, is_unclear, IsSnapshot, IsNear, IsBuilt, built_bits, built_bytes}
 use Rattle.q3_client.specs.Client.{ClientState, Reception, receive_message, receive_bytes, ack_taken, cleared}
 use Rattle.q3_world.specs.MessageLaws.{AreBuilt, HoldsThis, BuiltIsRead}
 use Rattle.q3_world.proofs.BitFronts.{begins_both}

@@ -25,7 +25,7 @@ use Rattle.q3_ring.specs.Snapshot.{Snapshot}
 use Rattle.q3_rings.specs.declared.rings.NoBase.{NoBase}
 use Rattle.q3_rings.specs.Rings.{HeldSnapshots, held_snapshot, view_at}
 use Rattle.q3_clstate.specs.State.{context_of, has_base, received}
-use Rattle.q3_slot.specs.Built.{Telling, number_of, message_of, game_message_of, IsSnapshot, IsNear, IsTelling}
+use Rattle.q3_built.specs.Built.{Telling, number_of, message_of, game_message_of, IsSnapshot, IsNear, IsTelling}
 use Rattle.q3_world.specs.MessageLaws.{AreBuilt, HoldsThis}
 use Rattle.q3_world.proofs.Applying.{has_base_is}
 

@@ -12,7 +12,7 @@ use Rattle.q3_window.specs.Outgoing.{OutgoingState, IsOutgoing, acknowledge_at, 
 use Rattle.q3_window.specs.Incoming.{IncomingState, fresh_of, gap_in, executes}
 use Rattle.q3_window.specs.Issued.{issued_text, OutgoingStandsFor}
 use Rattle.q3_window.specs.Flow.{no_command, acknowledgement_of, acknowledged_by, Carriage, no_carriage, carriage_of, Flow, FlowLaws}
-use Rattle.q3_slot.specs.Built.{Built}
+use Rattle.q3_built.specs.Built.{Built}
 use Rattle.q3_slot.specs.Slot.{SlotState}
 use Rattle.q3_client.specs.Client.{ClientState}
 use Rattle.q3_client.specs.Sending.{Said}

@@ -30,7 +30,7 @@ use Rattle.q3_map.specs.Map.{MapState, after_new_map, begins_game, is_other}
 use Rattle.q3_map.specs.declared.map.NotLater.{NotLater}
 use Rattle.q3_profile.specs.declared.profile.Profile.{Profile}
 use Rattle.q3_ring.specs.Snapshot.{Snapshot}
-use Rattle.q3_script.specs.Grammar.{IsReplayEvent}
+use Rattle.q3_world.specs.Schedules.{IsOwn, IsScheduled}
 use Rattle.q3_script.specs.declared.event.Event.{Event}
 use Rattle.q3_script.specs.declared.event.Event.TheVariants as events
 use Rattle.q3_server.specs.Server.{Handed, add_apart, add_to, change_or, change_unless, emit_at, emit_from, give, is_same, on_map, own_string, places, say_to, slot_at}
@@ -39,8 +39,8 @@ use Rattle.q3_server.specs.declared.server.ConfigRefused.{ConfigRefused}
 use Rattle.q3_server.specs.declared.server.ConfigRefused.TheVariants.{Own}
 use Rattle.q3_server.specs.declared.server.SlotError.{SlotError}
 use Rattle.q3_server.specs.declared.server.SlotError.TheVariants.{Range}
-use Rattle.q3_slot.specs.Built.{Built, is_unclear, number_of}
-use Rattle.q3_slot.specs.Emitting.{SlotEmission, begin, begun_next, built_bits, built_bytes, emit_bits, emit_game, emit_game_bits, emit_built, emit_new, emit_next, emit_slot, is_overlong, most_placed, next_frames, next_game_built, nothing}
+use Rattle.q3_built.specs.Built.{Built, is_unclear, number_of, built_bits, built_bytes}
+use Rattle.q3_slot.specs.Emitting.{SlotEmission, begin, begun_next, emit_bits, emit_game, emit_game_bits, emit_built, emit_new, emit_next, emit_slot, is_overlong, most_placed, next_frames, next_game_built, nothing}
 use Rattle.q3_slot.specs.Slot.{SlotState, is_connected, is_of, new_slot, on_new_map, primed, with_area, with_player}
 use Rattle.q3_slot.specs.Slots.{SlotSaying, changes_own, issues, lacks_room, say_slot, tells}
 use Rattle.q3_slot.specs.Taking as by_slot
@@ -60,18 +60,18 @@ use Rattle.q3_world.specs.Ends.{add_move_to, client_at, join, joined, moved, new
 use Rattle.q3_world.specs.Kept.{Kept, KeptStep, kept_step}
 use Rattle.q3_world.specs.Layers.{Layers}
 use Rattle.q3_world.specs.Schedules.{BytesFollowTags, EnteringIsNotRun, kept_then, whole_then}
-use Rattle.q3_world.specs.StandsFor.{IsChecked, IsSent, StandsFor}
-use Rattle.q3_world.specs.World.{History, Step, Tag, Whole, arrive, deliver, game_in, history_at, named, no_history, no_said, opening, said_under, send, serve, step, to_client, to_server, with_all, with_built, with_ends, with_game, with_heard, with_history, with_issued, with_joined, with_noted, with_run, with_said, with_spoken, with_taken, with_texts_told, with_told, with_typed, texts_told}
-use Rattle.q3_world.specs.declared.answer.Answer.TheVariants as variants
+use Rattle.q3_world.specs.StandsFor.{IsChecked, IsSent}
+use Rattle.q3_world.specs.World.{History, Step, Tag, Whole, arrive, deliver, game_in, history_at, named, no_history, no_said, opening, said_under, send, serve, step, to_client, to_server, with_all, with_built, with_ends, with_game, with_heard, with_history, with_issued, with_joined, with_noted, with_run, with_said, with_spoken, with_taken, with_texts_told, with_told, with_typed, texts_told, deliver_as}
+use Rattle.q3_report.specs.declared.answer.Answer.TheVariants as variants
 use Rattle.q3_world.specs.declared.made.Direction.{Direction}
 use Rattle.q3_world.specs.declared.made.Direction.TheVariants.{ToClient, ToServer}
 use Rattle.q3_world.proofs.Agree.{seen}
 use Rattle.q3_world.proofs.Agreement.{kept_is}
 use Rattle.q3_world.proofs.Arriving.{delivers_agree, is_of_client, is_sent}
-use Rattle.q3_world.proofs.Events.{Holds, has_slot}
+use Rattle.q3_world.proofs.Holding.{Holds, has_slot}
 use Rattle.q3_world.proofs.EverySchedule.{cited_of}
 use Rattle.q3_world.proofs.EverySlot.{slot_changed}
-use Rattle.q3_world.proofs.Following.{after_both, after_one, all_first}
+use Rattle.q3_world.proofs.Following.{after_both, after_one, all_at, all_first}
 use Rattle.q3_world.proofs.FollowsGiven.{history_changed}
 use Rattle.q3_world.proofs.GamesMoves.{last_least, rise_most}
 use Rattle.q3_world.proofs.GamesParts.{none_some, some_same}
@@ -79,6 +79,7 @@ use Rattle.q3_world.proofs.Growth.{noted_same}
 use Rattle.q3_world.proofs.Mapped.{enters_late}
 use Rattle.q3_world.proofs.MoveLists.{later, runs_rise}
 use Rattle.q3_world.proofs.OnePlace.{set_there}
+use Rattle.q3_world.proofs.Stood.{Stood, step_own, stood}
 
 -- ---- the moves of a message
 
@@ -529,24 +530,29 @@ module _ (profile : Profile) (whole : Whole) (old : List Move) (time c : ℕ) (l
   delivers number (Some tag) at = comes_to number tag (is_sent profile whole (number - 1) tag at holds) tag.direction refl
 
   -- every event
-  past_on : (event : Event) → At old time c (step profile whole event).whole
+  past_on : (event : Event) → IsOwn event → At old time c (step profile whole event).whole
   unfolding step emit_at
-  past_on (events.Client k challenge qport dup address) = joins k challenge qport dup address
-  past_on (events.Map id feed) = maps id feed
-  past_on (events.Baseline state) = is
-  past_on (events.Config index text) = configs index text
-  past_on (events.Entity state) = is
-  past_on (events.Remove number) = is
-  past_on (events.Player k player) = gives k (λ slot. with_player whole.ends.server.profile slot player) (λ slot. refl) (slot_at whole.ends.server k) refl
-  past_on (events.Area k area) = gives k (λ slot. with_area slot area.items) (λ slot. refl) (slot_at whole.ends.server k) refl
-  past_on (events.Time now) = is
-  past_on (events.Say k text) = says k text
-  past_on (events.TypeText k text) = types k text (client_at whole.ends k)
-  past_on (events.Move k one) = moves k one (client_at whole.ends k)
-  past_on (events.Serve k) = serves k (slot_at whole.ends.server k) refl
-  past_on (events.Send k) = sends k (client_at whole.ends k)
-  past_on (events.Deliver number) = delivers number (slice_get whole.sent (number - 1)) refl
-  past_on (events.Show k) = is
+  past_on (events.Client k challenge qport dup address) own = joins k challenge qport dup address
+  past_on (events.Port k port) own = is
+  past_on (events.Map id feed) own = maps id feed
+  past_on (events.Baseline state) own = is
+  past_on (events.Config index text) own = configs index text
+  past_on (events.Entity state) own = is
+  past_on (events.Remove number) own = is
+  past_on (events.Player k player) own = gives k (λ slot. with_player whole.ends.server.profile slot player) (λ slot. refl) (slot_at whole.ends.server k) refl
+  past_on (events.Area k area) own = gives k (λ slot. with_area slot area.items) (λ slot. refl) (slot_at whole.ends.server k) refl
+  past_on (events.Time now) own = is
+  past_on (events.Say k text) own = says k text
+  past_on (events.TypeText k text) own = types k text (client_at whole.ends k)
+  past_on (events.Move k one) own = moves k one (client_at whole.ends k)
+  past_on (events.Serve k) own = serves k (slot_at whole.ends.server k) refl
+  past_on (events.Send k) own = sends k (client_at whole.ends k)
+  past_on (events.Deliver number) own =
+      subst (λ (b : Bool). At old time c (deliver_as b profile whole number (slice_get whole.sent (number - 1))).whole) (sym holds.own) (delivers number (slice_get whole.sent (number - 1)) refl)
+  past_on (events.Show k) own = is
+  past_on (events.Bytes number) own = is
+  past_on (events.Toclient k bytes) own = absurd own
+  past_on (events.Toserver k bytes) own = absurd own
 
 -- ---- the delivery with which a client enters the map
 
@@ -609,23 +615,24 @@ enters_deliver profile whole number c n time holds (Some tag) at =
 
 enters_at : (profile : Profile) (whole : Whole) (number c n time : ℕ) → Holds profile whole → EntersWith whole number c n time (step profile whole (events.Deliver number))
 unfolding step
-enters_at profile whole number c n time holds = enters_deliver profile whole number c n time holds (slice_get whole.sent (number - 1)) refl
+enters_at profile whole number c n time holds =
+    subst (EntersWith whole number c n time) (sym (step_own profile whole number holds.own)) (enters_deliver profile whole number c n time holds (slice_get whole.sent (number - 1)) refl)
 
 -- ---- every list of events
 
-past_along : BytesFollowTags → (profile : Profile) → IsChecked profile → (old : List Move) (time c : ℕ) → c < places → (some rest : List Event) → AllByRecursion IsReplayEvent (some ++ rest)
+past_along : BytesFollowTags → (profile : Profile) → IsChecked profile → (old : List Move) (time c : ℕ) → c < places → (some rest : List Event) → AllByRecursion IsScheduled (some ++ rest)
     → At old time c (whole_then profile some) → At old time c (whole_then profile (some ++ rest))
 past_along law profile checked old time c lt some [] are at = subst (λ (all : List Event). At old time c (whole_then profile all)) (sym (append-nil some)) at
 past_along law profile checked old time c lt some (event ∷ rest) are at =
     let whole = whole_then profile some in
     let next = some ++ event ∷ [] in
     let same : next ++ rest ≡ some ++ event ∷ rest = append_assoc some (event ∷ []) rest in
-    let stands : StandsFor profile (kept_then profile some) whole = (law profile some checked (all_first IsReplayEvent some (event ∷ rest) are)).0 in
-    let holds : Holds profile whole = record { facts = stands.facts; joined = stands.joined } in
+    let stands : Stood profile (kept_then profile some) whole = stood law profile some checked (all_first IsScheduled some (event ∷ rest) are) in
+    let holds : Holds profile whole = record { facts = stands.facts; joined = stands.joined; own = stands.own } in
     let is : whole_then profile next ≡ (step profile whole event).whole = after_both profile (opening profile) some (event ∷ []) ∙ after_one profile whole event in
-    let on : At old time c (step profile whole event).whole = past_on profile whole old time c lt holds at event in
+    let on : At old time c (step profile whole event).whole = past_on profile whole old time c lt holds at event (all_at IsScheduled some event rest are).1 in
     subst (λ (all : List Event). At old time c (whole_then profile all)) same
-    (past_along law profile checked old time c lt next rest (subst (AllByRecursion IsReplayEvent) (sym same) are) (subst (At old time c) (sym is) on))
+    (past_along law profile checked old time c lt next rest (subst (AllByRecursion IsScheduled) (sym same) are) (subst (At old time c) (sym is) on))
 
 pub entering_is_not_run : BytesFollowTags → Layers → EnteringIsNotRun
 entering_is_not_run law below profile before rest c number n time checked are lt answered entered =
@@ -636,8 +643,8 @@ entering_is_not_run law below profile before rest c number n time checked are lt
     let kept = kept_then profile before in
     let whole = whole_then profile before in
     let old = (history_at whole.histories c).run in
-    let stands : StandsFor profile kept whole = (law profile before checked (all_first IsReplayEvent before (event ∷ rest) are)).0 in
-    let holds : Holds profile whole = record { facts = stands.facts; joined = stands.joined } in
+    let stands : Stood profile kept whole = stood law profile before checked (all_first IsScheduled before (event ∷ rest) are) in
+    let holds : Holds profile whole = record { facts = stands.facts; joined = stands.joined; own = stands.own } in
     let by_bytes : kept_step kept event ≡ seen profile (step profile whole event) =
     ap (λ (k : Kept). kept_step k event) (kept_is profile kept whole stands) ∙ (delivers_agree profile whole number (cited_of below profile checked) holds).same in
     let enters = enters_at profile whole number c n time holds (sym (ap (λ (s : KeptStep). s.answer.answer) by_bytes) ∙ answered)
@@ -645,6 +652,6 @@ entering_is_not_run law below profile before rest c number n time checked are lt
     let is : whole_then profile served ≡ (step profile whole event).whole = after_both profile (opening profile) before (event ∷ []) ∙ after_one profile whole event in
     let past : At old time c (whole_then profile all) =
     subst (λ (l : List Event). At old time c (whole_then profile l)) same
-    (past_along law profile checked old time c lt served rest (subst (AllByRecursion IsReplayEvent) (sym same) are) (subst (At old time c) (sym is) enters.past)) in
+    (past_along law profile checked old time c lt served rest (subst (AllByRecursion IsScheduled) (sym same) are) (subst (At old time c) (sym is) enters.past)) in
     let now = whole_then profile all in
     (enters.before, past_later old time (slot_at now.ends.server c) (history_at now.histories c).run past)

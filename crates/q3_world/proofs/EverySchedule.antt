@@ -34,23 +34,23 @@ use Rattle.q3_client.specs.declared.client.ClientTook.{ClientTook}
 use Rattle.q3_slot.specs.declared.taking.ServerTook.{ServerTook}
 use Rattle.q3_slot.specs.declared.taking.ServerTook.TheVariants.{Stranger}
 use Rattle.q3_io.specs.declared.address.Address.{Address}
-use Rattle.q3_world.specs.declared.answer.Answer.TheVariants as variants
-use Rattle.q3_world.specs.declared.answer.Answer.TheVariants.{Unknown, Deliver}
+use Rattle.q3_report.specs.declared.answer.Answer.TheVariants as variants
+use Rattle.q3_report.specs.declared.answer.Answer.TheVariants.{Unknown, Deliver}
 use Rattle.q3_world.specs.declared.made.Direction.{Direction}
 use Rattle.q3_world.specs.declared.made.Direction.TheVariants.{ToClient, ToServer}
 use Rattle.q3_world.specs.Layers.{Layers}
-use Rattle.q3_slot.specs.Built.{Built, number_of, IsNear, IsBuilt}
+use Rattle.q3_built.specs.Built.{Built, number_of, IsNear, IsBuilt, built_bytes}
 use Rattle.q3_slot.specs.Slot.{SlotState}
-use Rattle.q3_slot.specs.Emitting.{built_bytes}
 use Rattle.q3_server.specs.Server.{places, slot_at}
 use Rattle.q3_client.specs.Client.{ClientState, Taken, Reception, receive_message, take_answer, take_gathered}
-use Rattle.q3_world.specs.Ends.{Ends, Answered, delivered, client_at, address_at, with_client, newest, ran_nothing}
+use Rattle.q3_lines.specs.ServerLines.{ran_nothing}
+use Rattle.q3_world.specs.Ends.{Ends, Answered, delivered, client_at, address_at, with_client, newest}
 use Rattle.q3_world.specs.Kept.{SentBytes, Kept, KeptStep, opening_kept, kept_step, kept_after, kept_answers}
 use Rattle.q3_world.specs.World.{Tag, Step, Whole, History, history_at, built_at, opening, step, after, answers, deliver, arrive, to_client, to_server, named, Played}
 use Rattle.q3_world.specs.StandsFor.{IsChecked, IsSent, IsClient, WasBuilt, Rise, IsJoined, StandsFor, bytes_of}
 use Rattle.q3_world.specs.Schedules.{StepFollows, kept_then, whole_then, BytesFollowTags, AcceptedWereBuilt, ShownWasBuilt, ShownIsNewest, AsksForAccepted, outcome_of, applied_of, heard_of, Shows, AppliedWasBuilt, NewerIsAccepted, BasesWereAccepted, HeldIsAccepted, ViewsWereBuilt, AnswersSo, StateIsOfGame, is_game, outcome_in}
 use Rattle.q3_world.specs.Layers.{RingLaws}
-use Rattle.q3_world.proofs.Events.{Holds, Holds-opening, Has, has_client}
+use Rattle.q3_world.proofs.Holding.{Holds, Holds-opening, Has, has_client}
 use Rattle.q3_world.proofs.Agree.{Cited, seen}
 use Rattle.q3_world.proofs.Arriving.{IsFor, Named, names, is_sent, is_for, tag_is, delivers_agree}
 use Rattle.q3_world.proofs.Agreement.{stands_of, stands_next, kept_is}
@@ -63,6 +63,7 @@ use Rattle.q3_map.specs.Map.{MapState}
 use Rattle.q3_svmsg.specs.Values.{Told}
 use Rattle.q3_world.proofs.GamesParts.{newest as games_newest}
 use Rattle.q3_world.proofs.GamesMoves.{since_were}
+use Rattle.q3_world.proofs.Stood.{Stood, step_own, stood}
 
 -- what is cited of the layers below, of a profile that passed its check
 pub cited_of : Layers → (profile : Profile) → IsChecked profile → Cited profile
@@ -97,7 +98,7 @@ cited_of below profile checked =
 
 pub step_follows : Layers → StepFollows
 step_follows below profile kept whole event is stands =
-    stands_next profile kept whole event (cited_of below profile stands.facts.checked) is stands
+    stands_next profile kept whole event (λ own. cited_of below profile (stands.facts own).checked) is stands
 
 -- from what stands for a whole on, events answer the same, and what is kept stands for the whole
 follow : StepFollows → (profile : Profile) (all : List Event) (kept : Kept) (whole : Whole) → AllByRecursion IsReplayEvent all
@@ -116,14 +117,14 @@ follow law profile (event ∷ events) kept whole are stands =
 -- what is kept at first stands for the opening world
 pub stands_opening : Layers → (profile : Profile) → IsChecked profile → StandsFor profile (opening_kept profile) (opening profile)
 unfolding opening
-stands_opening below profile checked = stands_of profile (opening profile) (Holds-opening profile below.configs.stay below.configs.texts checked)
+stands_opening below profile checked = stands_of profile (opening profile) (λ own. Holds-opening profile below.configs.stay below.configs.texts checked)
 
 pub bytes_follow_tags : StepFollows → Layers → BytesFollowTags
 bytes_follow_tags law below profile all is are = follow law profile all (opening_kept profile) (opening profile) are (stands_opening below profile is)
 
 -- what stands after the events
 abbrev Then : Profile → List Event → Type 0
-Then profile all = StandsFor profile (kept_then profile all) (whole_then profile all)
+Then profile all = Stood profile (kept_then profile all) (whole_then profile all)
 
 -- ---- what was accepted
 
@@ -140,7 +141,7 @@ accepted_by profile map (Some slot) (Some client) address history is joined = (j
 
 pub accepted_were_built : BytesFollowTags → AcceptedWereBuilt
 accepted_were_built law profile all c is are within =
-    let stands : Then profile all = (law profile all is are).0 in
+    let stands : Then profile all = stood law profile all is are in
     let whole = whole_then profile all in
     accepted_by profile whole.ends.server.map (slot_at whole.ends.server c) (client_at whole.ends c) (address_at whole.ends c) (history_at whole.histories c)
     (stands.facts.each c within) (stands.joined c within)
@@ -168,7 +169,7 @@ shows kept c = refl
 
 pub shown_was_built : BytesFollowTags → Layers → ShownWasBuilt
 shown_was_built law below profile all c snapshot is are within shown =
-    let stands : Then profile all = (law profile all is are).0 in
+    let stands : Then profile all = stood law profile all is are in
     let whole = whole_then profile all in
     newest_was below.rings profile whole.ends.server.map (slot_at whole.ends.server c) (client_at whole.ends c) (address_at whole.ends c) (history_at whole.histories c) snapshot
     (ap (λ (e : Ends). newest (client_at e c)) (sym stands.ends) ∙ (sym (shows (kept_then profile all) c) ∙ shown))
@@ -184,7 +185,7 @@ newest_by profile map (Some slot) (Some client) address history is joined = join
 
 pub shown_is_newest : BytesFollowTags → ShownIsNewest
 shown_is_newest law profile all c is are within =
-    let stands : Then profile all = (law profile all is are).0 in
+    let stands : Then profile all = stood law profile all is are in
     let whole = whole_then profile all in
     shows (kept_then profile all) c
     ∙ (ap (λ (e : Ends). newest (client_at e c)) stands.ends
@@ -193,9 +194,9 @@ shown_is_newest law profile all c is are within =
 
 pub asks_for_accepted : BytesFollowTags → AsksForAccepted
 asks_for_accepted law profile all c client is are within found =
-    let stands : Then profile all = (law profile all is are).0 in
+    let stands : Then profile all = stood law profile all is are in
     let whole = whole_then profile all in
-    let holds : Holds profile whole = record { facts = stands.facts; joined = stands.joined } in
+    let holds : Holds profile whole = record { facts = stands.facts; joined = stands.joined; own = stands.own } in
     let had = has_client profile whole c client within (ap (λ (e : Ends). client_at e c) (sym stands.ends) ∙ found) holds in
     had.1.joined.of_client.asks
 
@@ -224,16 +225,16 @@ bases_by profile map (Some slot) (Some client) address history k d is joined lt 
 
 pub bases_were_accepted : BytesFollowTags → BasesWereAccepted
 bases_were_accepted law profile all c k d is are within lt =
-    let stands : Then profile all = (law profile all is are).0 in
+    let stands : Then profile all = stood law profile all is are in
     let whole = whole_then profile all in
     bases_by profile whole.ends.server.map (slot_at whole.ends.server c) (client_at whole.ends c) (address_at whole.ends c) (history_at whole.histories c) k d
     (stands.facts.each c within) (stands.joined c within) lt
 
 pub views_were_built : BytesFollowTags → Layers → ViewsWereBuilt
 views_were_built law below profile all c number client snapshot is are within found viewed =
-    let stands : Then profile all = (law profile all is are).0 in
+    let stands : Then profile all = stood law profile all is are in
     let whole = whole_then profile all in
-    let holds : Holds profile whole = record { facts = stands.facts; joined = stands.joined } in
+    let holds : Holds profile whole = record { facts = stands.facts; joined = stands.joined; own = stands.own } in
     let had = has_client profile whole c client within (ap (λ (e : Ends). client_at e c) (sym stands.ends) ∙ found) holds in
     let takes = had.1.joined.of_client in
     let history = history_at whole.histories c in
@@ -241,9 +242,9 @@ views_were_built law below profile all c number client snapshot is are within fo
 
 pub held_is_accepted : BytesFollowTags → Layers → HeldIsAccepted
 held_is_accepted law below profile all c number client is are within found =
-    let stands : Then profile all = (law profile all is are).0 in
+    let stands : Then profile all = stood law profile all is are in
     let whole = whole_then profile all in
-    let holds : Holds profile whole = record { facts = stands.facts; joined = stands.joined } in
+    let holds : Holds profile whole = record { facts = stands.facts; joined = stands.joined; own = stands.own } in
     let had = has_client profile whole c client within (ap (λ (e : Ends). client_at e c) (sym stands.ends) ∙ found) holds in
     let since = since_of (history_at whole.histories c) in
     subst (λ (ring : ℕ). held_snapshot client.state.held number ≡ held_among ring since number) had.1.keeps.of_client.ring
@@ -274,13 +275,13 @@ came_whole does_so profile whole tag client n count e =
 abbrev pub delivered_so : ℕ → ℕ → Taken → Answered
 delivered_so number c taken = delivered number c taken.client.state taken.answer taken.heard
 
-pub answers_tag : (profile : Profile) (whole : Whole) (number : ℕ) (tag : Tag) (client : ClientState) → slice_get whole.sent (number - 1) ≡ Some tag
+pub answers_tag : (profile : Profile) (whole : Whole) (number : ℕ) (tag : Tag) (client : ClientState) → whole.foreign ≡ false → slice_get whole.sent (number - 1) ≡ Some tag
     → tag.direction ≡ ToClient → client_at whole.ends tag.client ≡ Some client
     → (step profile whole (events.Deliver number)).answer
     ≡ delivered_so number tag.client (take_gathered client (tagged client.gathering tag.number (built_bytes profile (named whole.histories tag)) tag.index)
     (λ n. Ok (receive_message client n (named whole.histories tag).message)))
 unfolding step
-answers_tag profile whole number tag client at way found = rw (at, way, found) refl
+answers_tag profile whole number tag client own at way found = rw (own, at, way, found) refl
 
 -- what is answered of a message that was built, by what its client accepted since the last gamestate that it applied
 abbrev pub applied_now : Profile → History → ℕ → Built → AppliedSo
@@ -374,11 +375,11 @@ whole_answer profile whole number c n client now out count =
 
 pub newer_is_accepted : BytesFollowTags → Layers → NewerIsAccepted
 newer_is_accepted law below profile all number n count sent client is are at way found came =
-    let stands : Then profile all = (law profile all is are).0 in
+    let stands : Then profile all = stood law profile all is are in
     let kept = kept_then profile all in
     let whole = whole_then profile all in
     let cited = cited_of below profile is in
-    let holds : Holds profile whole = record { facts = stands.facts; joined = stands.joined } in
+    let holds : Holds profile whole = record { facts = stands.facts; joined = stands.joined; own = stands.own } in
     let tag = tag_of (slice_get whole.sent (number - 1)) sent
     (sym (slice_get-map bytes_of whole.sent (number - 1)) ∙ (ap (λ (d : List SentBytes). slice_get d (number - 1)) (sym stands.datagrams) ∙ at)) in
     let goes : tag.0.direction ≡ ToClient = ap (λ (s : SentBytes). s.direction) tag.2 ∙ way in
@@ -403,7 +404,7 @@ newer_is_accepted law below profile all number n count sent client is are at way
     let given : (kept_step kept (events.Deliver number)).answer
     ≡ delivered_so number tag.0.client (take_answer now (CameWhole tag.0.number count) (λ j. Ok (receive_message client j built.message))) =
     by_bytes
-    ∙ (answers_tag profile whole number tag.0 client tag.1 goes client_is
+    ∙ (answers_tag profile whole number tag.0 client stands.own tag.1 goes client_is
     ∙ (ap (λ (a : Gathered). delivered_so number tag.0.client (take_answer now a (λ k. Ok (receive_message client k built.message)))) answer
     ∙ ap (λ (k : ℕ). delivered_so number tag.0.client (take_answer now (CameWhole k count) (λ j. Ok (receive_message client j built.message)))) whole_is.0)) in
     let by_tag = whole_answer profile whole number tag.0.client tag.0.number client now out count in
@@ -524,17 +525,18 @@ applied_deliver profile whole number c applied (Some tag) cited at holds =
 applied_step : (profile : Profile) (whole : Whole) (number c : ℕ) (applied : AppliedSo) → Cited profile → Holds profile whole
     → AppliesSo profile whole number c applied (step profile whole (events.Deliver number))
 unfolding step
-applied_step profile whole number c applied cited holds = applied_deliver profile whole number c applied (slice_get whole.sent (number - 1)) cited refl holds
+applied_step profile whole number c applied cited holds =
+    subst (AppliesSo profile whole number c applied) (sym (step_own profile whole number holds.own)) (applied_deliver profile whole number c applied (slice_get whole.sent (number - 1)) cited refl holds)
 
 -- and by bytes
 pub applied_was_built : BytesFollowTags → Layers → AppliedWasBuilt
 applied_was_built law below profile all number c applied is are e =
-    let stands : Then profile all = (law profile all is are).0 in
+    let stands : Then profile all = stood law profile all is are in
     let kept = kept_then profile all in
     let whole = whole_then profile all in
     let history = history_at whole.histories c in
     let cited = cited_of below profile is in
-    let holds : Holds profile whole = record { facts = stands.facts; joined = stands.joined } in
+    let holds : Holds profile whole = record { facts = stands.facts; joined = stands.joined; own = stands.own } in
     let same : kept_step kept (events.Deliver number) ≡ seen profile (step profile whole (events.Deliver number)) =
     ap (λ (k : Kept). kept_step k (events.Deliver number)) (kept_is profile kept whole stands) ∙ (delivers_agree profile whole number cited holds).same in
     subst (λ (before : Ends). Applies profile whole.sent number before (kept_step kept (events.Deliver number)).kept.ends c applied history) (sym stands.ends)
@@ -558,8 +560,8 @@ state_by client history has = of_last (last_played history.games) refl has.shows
 
 pub state_is_of_game : BytesFollowTags → StateIsOfGame
 state_is_of_game law profile all c client is are within found =
-    let stands : Then profile all = (law profile all is are).0 in
+    let stands : Then profile all = stood law profile all is are in
     let whole = whole_then profile all in
-    let holds : Holds profile whole = record { facts = stands.facts; joined = stands.joined } in
+    let holds : Holds profile whole = record { facts = stands.facts; joined = stands.joined; own = stands.own } in
     let had = has_client profile whole c client within (ap (λ (e : Ends). client_at e c) (sym stands.ends) ∙ found) holds in
     state_by client (history_at whole.histories c) had.1.joined.mapped.has

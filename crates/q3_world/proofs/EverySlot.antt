@@ -15,7 +15,7 @@ use Rattle.q3_world.specs.StandsFor.{IsMap, AreEnds, AreJoined, IsClient, IsJoin
 use Rattle.q3_world.proofs.Growth.{Grow, all_sent_grow}
 use Rattle.q3_world.proofs.Bases.{KeepsFrames-alike}
 use Rattle.q3_world.proofs.Found.{AllFound}
-use Rattle.q3_world.proofs.Events.{Holds, Has, has_slot}
+use Rattle.q3_world.proofs.Holding.{Holds, Has, has_slot}
 
 -- ---- slots by place
 
@@ -103,6 +103,7 @@ Holds-every profile whole map_is f histories every holds =
         frames = KeepsFrames-alike server.frames whole.histories histories every.built facts.frames;
       };
       joined = λ c lt. rw (slot_changed f server.slots c) (of_joined c lt (slot_at server c) refl);
+      own = holds.own;
     }
   where
     of_client : (c : ℕ) → c < places → (s : Option SlotState) → slot_at whole.ends.server c ≡ s

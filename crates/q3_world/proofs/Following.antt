@@ -11,11 +11,11 @@ use Rattle.q3_config.specs.Strings.{Strings, no_strings}
 use Rattle.q3_gamestate.specs.Values.{Gamestate}
 use Rattle.q3_map.specs.Map.{MapState}
 use Rattle.q3_profile.specs.declared.profile.Profile.{Profile}
-use Rattle.q3_script.specs.Grammar.{IsReplayEvent}
+use Rattle.q3_world.specs.Schedules.{IsScheduled}
 use Rattle.q3_script.specs.declared.event.Event.{Event}
 use Rattle.q3_script.specs.declared.event.Event.TheVariants as events
 use Rattle.q3_server.specs.Server.{emit_at, emit_from, places, slot_at}
-use Rattle.q3_slot.specs.Built.{Built}
+use Rattle.q3_built.specs.Built.{Built}
 use Rattle.q3_slot.specs.Emitting.{emit_slot}
 use Rattle.q3_slot.specs.Slot.{SlotState}
 use Rattle.q3_window.specs.Flow.{Flow, FlowLaws}
@@ -24,9 +24,9 @@ use Rattle.q3_world.specs.Ends.{Ends, client_at}
 use Rattle.q3_world.specs.Games.{Carries, HasGames, IsFresh, IsOf, Tells, WasApplied}
 use Rattle.q3_world.specs.Layers.{Layers}
 use Rattle.q3_world.specs.Schedules.{BytesFollowTags, SaysNoChange, StringsFollow, kept_then, whole_then}
-use Rattle.q3_world.specs.StandsFor.{IsChecked, StandsFor, acks_said, carried_built}
+use Rattle.q3_world.specs.StandsFor.{IsChecked, acks_said, carried_built}
 use Rattle.q3_world.specs.World.{History, Played, Whole, after, built_at, history_at, no_history, opening, serve, step, with_built, with_history}
-use Rattle.q3_world.proofs.Events.{Holds, has_client}
+use Rattle.q3_world.proofs.Holding.{Holds, has_client}
 use Rattle.q3_world.proofs.Follows.{Grew, Grew-none, HasHeard, IsFollowed, IsHeard, follows_nothing}
 use Rattle.q3_world.proofs.FollowsEvents.{follows_on, issued_count}
 use Rattle.q3_world.proofs.FollowsGiven.{At, state_in}
@@ -34,6 +34,7 @@ use Rattle.q3_world.proofs.FollowsHeard.{BeginsSo, TellsOf, emits_so}
 use Rattle.q3_world.proofs.GamesParts.{built_end, built_front, carries_front, has_played, newest}
 use Rattle.q3_world.proofs.Growth.{noted_same}
 use Rattle.q3_world.proofs.OnePlace.{set_there}
+use Rattle.q3_world.proofs.Stood.{Stood, stood}
 
 -- ---- every list of events
 
@@ -58,25 +59,25 @@ pub all_first : (P : Event → Type 0) (some others : List Event) → AllByRecur
 all_first P [] others all = tt
 all_first P (event ∷ some) others all = (all.0, all_first P some others all.1)
 
-all_at : (P : Event → Type 0) (some : List Event) (event : Event) (others : List Event) → AllByRecursion P (some ++ event ∷ others) → P event
+pub all_at : (P : Event → Type 0) (some : List Event) (event : Event) (others : List Event) → AllByRecursion P (some ++ event ∷ others) → P event
 all_at P [] event others all = all.0
 all_at P (first ∷ some) event others all = all_at P some event others all.1
 
 -- what follows between any two events follows to the end
 follows_along : BytesFollowTags → Layers → (profile : Profile) → IsChecked profile → (old : History) (c : ℕ) → c < places → (some rest : List Event)
-    → AllByRecursion IsReplayEvent (some ++ rest) → AllByRecursion SaysNoChange (some ++ rest) → At old c (whole_then profile some) → At old c (whole_then profile (some ++ rest))
+    → AllByRecursion IsScheduled (some ++ rest) → AllByRecursion SaysNoChange (some ++ rest) → At old c (whole_then profile some) → At old c (whole_then profile (some ++ rest))
 follows_along law below profile checked old c lt some [] are says at = subst (λ (all : List Event). At old c (whole_then profile all)) (sym (append-nil some)) at
 follows_along law below profile checked old c lt some (event ∷ rest) are says at =
     let whole = whole_then profile some in
     let next = some ++ event ∷ [] in
     let same : next ++ rest ≡ some ++ event ∷ rest = append_assoc some (event ∷ []) rest in
-    let stands : StandsFor profile (kept_then profile some) whole = (law profile some checked (all_first IsReplayEvent some (event ∷ rest) are)).0 in
-    let holds : Holds profile whole = record { facts = stands.facts; joined = stands.joined } in
+    let stands : Stood profile (kept_then profile some) whole = stood law profile some checked (all_first IsScheduled some (event ∷ rest) are) in
+    let holds : Holds profile whole = record { facts = stands.facts; joined = stands.joined; own = stands.own } in
     let is : whole_then profile next ≡ (step profile whole event).whole = after_both profile (opening profile) some (event ∷ []) ∙ after_one profile whole event in
     let on : At old c (step profile whole event).whole =
-    follows_on profile whole old c lt holds at below.windows.flow below.does below.configs.make event (all_at IsReplayEvent some event rest are) (all_at SaysNoChange some event rest says) in
+    follows_on profile whole old c lt holds at below.windows.flow below.does below.configs.make event (all_at IsScheduled some event rest are) (all_at SaysNoChange some event rest says) in
     subst (λ (all : List Event). At old c (whole_then profile all)) same
-    (follows_along law below profile checked old c lt next rest (subst (AllByRecursion IsReplayEvent) (sym same) are) (subst (AllByRecursion SaysNoChange) (sym same) says)
+    (follows_along law below profile checked old c lt next rest (subst (AllByRecursion IsScheduled) (sym same) are) (subst (AllByRecursion SaysNoChange) (sym same) says)
     (subst (At old c) (sym is) on))
 
 -- what follows since now
@@ -171,25 +172,25 @@ strings_follow law below profile before rest c client checked are says lt more f
     let served = before ++ event ∷ [] in
     let all = before ++ event ∷ rest in
     let same : served ++ rest ≡ all = append_assoc before (event ∷ []) rest in
-    let are_so : AllByRecursion IsReplayEvent (served ++ rest) = subst (AllByRecursion IsReplayEvent) (sym same) are in
+    let are_so : AllByRecursion IsScheduled (served ++ rest) = subst (AllByRecursion IsScheduled) (sym same) are in
     let says_so : AllByRecursion SaysNoChange (served ++ rest) = subst (AllByRecursion SaysNoChange) (sym same) says in
     let first = whole_then profile before in
     let then = whole_then profile served in
     let now = whole_then profile all in
     let old = history_at then.histories c in
-    let stands : StandsFor profile (kept_then profile before) first = (law profile before checked (all_first IsReplayEvent before (event ∷ rest) are)).0 in
-    let holds : Holds profile first = record { facts = stands.facts; joined = stands.joined } in
+    let stands : Stood profile (kept_then profile before) first = stood law profile before checked (all_first IsScheduled before (event ∷ rest) are) in
+    let holds : Holds profile first = record { facts = stands.facts; joined = stands.joined; own = stands.own } in
     let is : then ≡ (step profile first event).whole = after_both profile (opening profile) before (event ∷ []) ∙ after_one profile first event in
     let begun : BegunAt first then c =
     subst (λ (w : Whole). BegunAt first w c) (sym is)
     (begun_at below.windows.flow profile first c lt holds (subst (λ (w : Whole). length (history_at w.histories c).built ≡ length (history_at first.histories c).built + 1) is more)) in
     let at : At no_history c then =
-    follows_along law below profile checked no_history c lt [] served (all_first IsReplayEvent served rest are_so) (all_first SaysNoChange served rest says_so) (follows_first profile c lt) in
+    follows_along law below profile checked no_history c lt [] served (all_first IsScheduled served rest are_so) (all_first SaysNoChange served rest says_so) (follows_first profile c lt) in
     let since : At old c now =
     subst (λ (l : List Event). At old c (whole_then profile l)) same (follows_along law below profile checked old c lt served rest are_so says_so (follows_since no_history c then at)) in
-    let stands_now : StandsFor profile (kept_then profile all) now = (law profile all checked are).0 in
+    let stands_now : Stood profile (kept_then profile all) now = stood law profile all checked are in
     let found_now : client_at now.ends c ≡ Some client = ap (λ (e : Ends). client_at e c) (sym stands_now.ends) ∙ found in
-    let had = has_client profile now c client lt found_now (record { facts = stands_now.facts; joined = stands_now.joined }) in
+    let had = has_client profile now c client lt found_now (record { facts = stands_now.facts; joined = stands_now.joined; own = stands_now.own }) in
     let history = history_at now.histories c in
     let map_is = ap (λ (e : Ends). e.server.map) stands.ends in
     let id_is : client.state.id ≡ then.ends.server.map.id = id ∙ (ap (λ (m : MapState). m.id) map_is ∙ sym begun.id) in

@@ -11,7 +11,7 @@ use Rattle.q3_config.specs.Commands.{Change, change_in}
 use Rattle.q3_config.specs.Strings.{Strings}
 use Rattle.q3_gamestate.specs.Values.{Gamestate}
 use Rattle.q3_profile.specs.declared.profile.Profile.{Profile}
-use Rattle.q3_slot.specs.Built.{Built}
+use Rattle.q3_built.specs.Built.{Built}
 use Rattle.q3_svmsg.specs.Values as told
 use Rattle.q3_world.specs.Games.{Carries, Tells}
 use Rattle.q3_world.specs.World.{Played, built_at}

@@ -1,5 +1,5 @@
 -- What follows for a client stays so with every event.
-use Rattle.std.proofs.Common.{Bool, List, None, Ok, Option, Some, [], arith, get_or, length, refl, subst, ℕ, ◌+◌, ◌-◌, ◌<◌, ◌∙◌, ◌≡◌}
+use Rattle.std.proofs.Common.{Bool, List, None, Ok, Option, Some, [], arith, get_or, length, refl, subst, ℕ, ◌+◌, ◌-◌, ◌<◌, ◌∙◌, ◌≡◌, sym}
 use Rattle.std.specs.Prelude.{Err, IfSome, Result, if◌then◌else◌, nat_le, nat_lt, not, slice_get, slice_set}
 use Rattle.std.proofs.lemmas.Bool.{cond_both}
 use Rattle.std.proofs.lemmas.Option.{get_or_from_slice_get, slice_get_within}
@@ -20,13 +20,13 @@ use Rattle.q3_clmsg.specs.declared.moves.Move.{Move}
 use Rattle.q3_config.specs.Laws.{PiecesMakeChange}
 use Rattle.q3_io.specs.declared.address.Address.{Address}
 use Rattle.q3_profile.specs.declared.profile.Profile.{Profile}
-use Rattle.q3_script.specs.Grammar.{IsReplayEvent}
+use Rattle.q3_world.specs.Schedules.{IsScheduled}
 use Rattle.q3_script.specs.declared.event.Event.{Event}
 use Rattle.q3_script.specs.declared.event.Event.TheVariants as events
 use Rattle.q3_server.specs.Server.{emit_at, emit_from, places, slot_at}
 use Rattle.q3_server.specs.Taking.{taken_at, unmoved}
-use Rattle.q3_slot.specs.Built.{Built, IsBuilt}
-use Rattle.q3_slot.specs.Emitting.{built_bytes, emit_slot}
+use Rattle.q3_built.specs.Built.{Built, IsBuilt, built_bytes}
+use Rattle.q3_slot.specs.Emitting.{emit_slot}
 use Rattle.q3_slot.specs.Slot.{SlotState, with_area, with_player}
 use Rattle.q3_slot.specs.Taking as by_slot
 use Rattle.q3_slot.specs.declared.taking.ServerTook.TheVariants.{Stranger}
@@ -37,10 +37,10 @@ use Rattle.q3_window.specs.declared.outgoing.WindowFull.{WindowFull}
 use Rattle.q3_world.specs.Ends.{add_move_to, client_at, moved, ran_of, type_to, typed}
 use Rattle.q3_world.specs.Schedules.{SaysNoChange}
 use Rattle.q3_world.specs.StandsFor.{IsSent, IsWay, acks_said, carried_built}
-use Rattle.q3_world.specs.World.{History, Tag, Whole, arrive, deliver, history_at, named, no_message, said_under, send, serve, step, to_client, to_server, with_built, with_history, with_issued, with_noted, with_run, with_said, with_taken, with_typed}
+use Rattle.q3_world.specs.World.{History, Tag, Whole, arrive, deliver, deliver_as, history_at, named, no_message, said_under, send, serve, step, to_client, to_server, with_built, with_history, with_issued, with_noted, with_run, with_said, with_taken, with_typed}
 use Rattle.q3_world.specs.declared.made.Direction.{Direction}
 use Rattle.q3_world.specs.declared.made.Direction.TheVariants.{ToClient, ToServer}
-use Rattle.q3_world.proofs.Events.{Holds, has_client, has_slot}
+use Rattle.q3_world.proofs.Holding.{Holds, has_client, has_slot}
 use Rattle.q3_world.proofs.Follows.{follows_built}
 use Rattle.q3_world.proofs.FollowsGiven.{At, Of, client_changed, configs, gives, history_changed, joins, lines, maps, same_map, same_state, says, state_in, unnoted}
 use Rattle.q3_world.proofs.FollowsHeard.{BeginsSo, TellsOf, emits_so, hears_it, take_follows}
@@ -223,9 +223,10 @@ module _ (profile : Profile) (whole : Whole) (old : History) (c : ℕ) (lt : c <
 
   -- ---- every event
 
-  pub follows_on : FlowLaws → TaggedDoes → PiecesMakeChange → (event : Event) → IsReplayEvent event → SaysNoChange event → At old c (step profile whole event).whole
+  pub follows_on : FlowLaws → TaggedDoes → PiecesMakeChange → (event : Event) → IsScheduled event → SaysNoChange event → At old c (step profile whole event).whole
   unfolding step emit_at
-  follows_on flow does_so make (events.Client k challenge qport dup address) replay none = joins profile whole old c lt holds is k challenge qport dup address (omega (arith, replay.0))
+  follows_on flow does_so make (events.Client k challenge qport dup address) replay none = joins profile whole old c lt holds is k challenge qport dup address (omega (arith, replay.0.0))
+  follows_on flow does_so make (events.Port k port) replay none = is
   follows_on flow does_so make (events.Map id feed) replay none = maps profile whole old c lt holds is id feed
   follows_on flow does_so make (events.Baseline state) replay none = lines profile whole old c lt holds is state
   follows_on flow does_so make (events.Config index text) replay none = configs profile whole old c lt holds is make index text
@@ -237,7 +238,11 @@ module _ (profile : Profile) (whole : Whole) (old : History) (c : ℕ) (lt : c <
   follows_on flow does_so make (events.Say k text) replay none = says profile whole old c lt holds is k text none
   follows_on flow does_so make (events.TypeText k text) replay none = types k text (client_at whole.ends k) refl
   follows_on flow does_so make (events.Move k one) replay none = moves k one (client_at whole.ends k) refl
-  follows_on flow does_so make (events.Serve k) replay none = serves flow k (omega (arith, replay)) (slot_at whole.ends.server k) refl
+  follows_on flow does_so make (events.Serve k) replay none = serves flow k (omega (arith, replay.0)) (slot_at whole.ends.server k) refl
   follows_on flow does_so make (events.Send k) replay none = sends k (client_at whole.ends k) refl
-  follows_on flow does_so make (events.Deliver number) replay none = delivers flow does_so number (slice_get whole.sent (number - 1)) refl
+  follows_on flow does_so make (events.Deliver number) replay none =
+      subst (λ (b : Bool). At old c (deliver_as b profile whole number (slice_get whole.sent (number - 1))).whole) (sym holds.own) (delivers flow does_so number (slice_get whole.sent (number - 1)) refl)
   follows_on flow does_so make (events.Show k) replay none = is
+  follows_on flow does_so make (events.Bytes number) replay none = is
+  follows_on flow does_so make (events.Toclient k bytes) replay none = absurd replay.1
+  follows_on flow does_so make (events.Toserver k bytes) replay none = absurd replay.1

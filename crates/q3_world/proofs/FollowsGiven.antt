@@ -26,7 +26,7 @@ use Rattle.q3_server.specs.declared.server.ConfigRefused.{ConfigRefused}
 use Rattle.q3_server.specs.declared.server.ConfigRefused.TheVariants.{Own}
 use Rattle.q3_server.specs.declared.server.SlotError.{SlotError}
 use Rattle.q3_server.specs.declared.server.SlotError.TheVariants.{Range}
-use Rattle.q3_slot.specs.Built.{Built}
+use Rattle.q3_built.specs.Built.{Built}
 use Rattle.q3_slot.specs.Slot.{SlotState, is_connected, is_of, new_slot}
 use Rattle.q3_slot.specs.Slots.{lacks_room, say_slot}
 use Rattle.q3_slot.specs.declared.answer.SayError.{SayError}
@@ -36,9 +36,9 @@ use Rattle.q3_world.specs.Ends.{address_at, client_at, join, joined, new_map, sa
 use Rattle.q3_world.specs.Games.{Carries, HasLast, Tells}
 use Rattle.q3_world.specs.StandsFor.{IsClient}
 use Rattle.q3_world.specs.World.{History, Whole, history_at, no_history, texts_told, with_all, with_ends, with_history, with_joined, with_noted, with_spoken, with_texts_told, with_told}
-use Rattle.q3_world.specs.declared.answer.Answer.TheVariants as answers
+use Rattle.q3_report.specs.declared.answer.Answer.TheVariants as answers
 use Rattle.q3_world.proofs.Clients.{no_client}
-use Rattle.q3_world.proofs.Events.{Holds, has_slot}
+use Rattle.q3_world.proofs.Holding.{Holds, has_slot}
 use Rattle.q3_world.proofs.Follows.{Follows, follows_anew, follows_issued, follows_joined, no_commands, nothing_changes}
 use Rattle.q3_world.proofs.GamesParts.{cases_option}
 use Rattle.q3_world.proofs.Growth.{noted_same}

@@ -22,8 +22,8 @@ use Rattle.q3_player.specs.declared.head.SnapHead.{SnapHead}
 use Rattle.q3_profile.specs.declared.profile.Profile.{Profile}
 use Rattle.q3_ring.specs.Snapshot.{Snapshot}
 use Rattle.q3_rings.specs.Rings.{held_snapshot}
-use Rattle.q3_slot.specs.Built.{Built, IsBuilt, is_unclear, number_of}
-use Rattle.q3_slot.specs.Emitting.{SlotEmission, begin, begun_next, built_bits, emit_built, emit_game, emit_new, emit_next, emit_slot, is_overlong, most_placed, next_frames, next_game, next_game_built, nothing}
+use Rattle.q3_built.specs.Built.{Built, IsBuilt, is_unclear, number_of, built_bits}
+use Rattle.q3_slot.specs.Emitting.{SlotEmission, begin, begun_next, emit_built, emit_game, emit_new, emit_next, emit_slot, is_overlong, most_placed, next_frames, next_game, next_game_built, nothing}
 use Rattle.q3_slot.specs.Slot.{SlotState, primed}
 use Rattle.q3_slot.specs.declared.answer.Emitted.TheVariants as emitted
 use Rattle.q3_svmsg.specs.Values as told

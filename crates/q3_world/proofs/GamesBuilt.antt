@@ -15,14 +15,15 @@ use Rattle.q3_io.specs.declared.address.Address.{Address}
 use Rattle.q3_map.specs.Map.{MapState, begins_game}
 use Rattle.q3_profile.specs.declared.profile.Profile.{Profile}
 use Rattle.q3_ring.specs.Snapshot.{Snapshot}
-use Rattle.q3_slot.specs.Built.{Built}
+use Rattle.q3_built.specs.Built.{Built}
 use Rattle.q3_slot.specs.Emitting.{nothing}
 use Rattle.q3_slot.specs.Slot.{is_active, new_slot, plays_under}
 use Rattle.q3_slot.specs.declared.stage.ClientStage.{ClientStage}
 use Rattle.q3_slot.specs.declared.stage.ClientStage.TheVariants.{Active, Connected, Primed}
 use Rattle.q3_world.specs.Games.{AreBuiltUnder, AreMapped, BuiltUnder, Carries, HasGames, HasLast, Standing, Tells, WasApplied, WasPlayed, standing_of}
 use Rattle.q3_world.specs.World.{Played, built_at}
-use Rattle.q3_world.proofs.GamesParts.{HasNone, built_end, built_front, carries_before, carries_cases, carries_front, carries_more, carries_one, is_last, is_some_number, last_stays, none_some, some_at, some_same, some_then, tells_one}
+use Rattle.q3_world.proofs.GamesUnder.{under_above}
+use Rattle.q3_world.proofs.GamesParts.{HasNone, built_end, built_front, carries_before, carries_cases, carries_front, carries_more, carries_one, is_last, is_past, is_some_number, last_stays, none_some, some_at, some_same, some_then, tells_one}
 
 -- ---- stages
 
@@ -57,11 +58,15 @@ pub AreMapped-new : (profile : Profile) (challenge qport : ℕ) (address : Addre
     → AreMapped map (standing_of (new_slot challenge qport address)) (new_state profile) 0 0 [] [] [] [] []
 AreMapped-new profile challenge qport address map =
     record {
-      of_maps = record { ids = λ n id game is tells. absurd (no_carries n game is); same = λ n game is tells. absurd (no_carries n game is) };
+      of_maps = record {
+        ids = λ n id game is tells. absurd (no_carries n game is);
+        rise = λ m n x y first second is other lt told same. absurd (no_carries m first is);
+        same = λ n game is tells. absurd (no_carries n game is);
+      };
       stands = record {
         last = λ n game is tells. no_carries n game is;
         none = (λ e. refl, λ e. refl);
-        earlier = λ n game is tells other. absurd (no_carries n game is);
+        earlier = λ m n id first second is other lt told same. absurd (no_carries m first is);
         active = λ e. absurd (not_active e);
         owed = λ e. absurd (untrue e);
         other = All-nil _;
@@ -70,6 +75,7 @@ AreMapped-new profile challenge qport address map =
       has = record {
         each = All-nil _;
         rise = λ j k d lt within. absurd (omega (arith, within));
+        maps = λ j k x y d lt within told same. absurd (omega (arith, within));
         shows = record { has = refl; id = refl; strings = no_strings_tell; slot = refl; feed = refl; lines = refl };
       };
       said = All-nil _;
@@ -115,6 +121,7 @@ module _ (state : AppliedState) (taken last_time : ℕ) (built : List Built) (ga
     each = All-weaker (WasApplied taken last_time built accepted executed) (WasApplied taken last_time (built ++ next ∷ []) accepted executed)
         (λ played was. record {
           carries = carries_more built (next ∷ []) played.number played.game was.carries;
+          tells = was.tells;
           most = was.most;
           before = was.before;
           executed = was.executed;
@@ -123,6 +130,7 @@ module _ (state : AppliedState) (taken last_time : ℕ) (built : List Built) (ga
           higher = was.higher;
         }) games has.each;
     rise = has.rise;
+    maps = has.maps;
     shows = has.shows;
   }
 
@@ -132,6 +140,7 @@ module _ (state : AppliedState) (taken last_time : ℕ) (built : List Built) (ga
     each = All-weaker (WasApplied taken last_time built accepted executed) (WasApplied taken time built accepted executed)
         (λ played was. let before = was.time in record {
           carries = was.carries;
+          tells = was.tells;
           most = was.most;
           before = was.before;
           executed = was.executed;
@@ -140,6 +149,7 @@ module _ (state : AppliedState) (taken last_time : ℕ) (built : List Built) (ga
           higher = was.higher;
         }) games has.each;
     rise = has.rise;
+    maps = has.maps;
     shows = has.shows;
   }
 
@@ -188,9 +198,12 @@ module _ (map : MapState) (slot : Standing) (state : AppliedState) (taken last_t
             let asks : base.head.number ≡ slot.delta = from.1 ∙ ap (λ (s : ClientStage). if is_active s then slot.delta else 0) of.0 in
             elim are.delta [
               | inl nothing ↦ absurd (omega (arith, some, asks, nothing))
-              | inr behind ↦
-                  let same : behind.0 ≡ g = some_same behind.0 g (sym behind.1 ∙ of.1) in
-                  let lt = behind.3 in
+              | inr under ↦
+                  let played = under.0 in
+                  let accept = under.3 in
+                  let same : played.number ≡ g = some_same played.number g (sym under.1 ∙ of.1) in
+                  let was = All-contains (WasApplied taken last_time built accepted executed) games played are.has.each accept.there in
+                  let lt = under_above taken last_time built games accepted executed played slot.delta was accept in
                   omega (arith, lt, same, asks)
             ]) base);
       }
@@ -205,12 +218,13 @@ module _ (map : MapState) (slot : Standing) (state : AppliedState) (taken last_t
       record {
         of_maps = record {
           ids = λ n id game is tells. are.of_maps.ids n id game (carries_before built next n game none is) tells;
+          rise = λ m n x y first second is other. are.of_maps.rise m n x y first second (carries_before built next m first none is) (carries_before built next n second none other);
           same = λ n game is tells. are.of_maps.same n game (carries_before built next n game none is) tells;
         };
         stands = record {
           last = last_stays map built next slot.game none stands.last;
           none = stands.none;
-          earlier = λ n game is tells other. stands.earlier n game (carries_before built next n game none is) tells other;
+          earlier = λ m n id first second is other. stands.earlier m n id first second (carries_before built next m first none is) (carries_before built next n second none other);
           active = stands.active;
           owed = stands.owed;
           other = stands.other;
@@ -253,6 +267,16 @@ module _ (map : MapState) (slot : Standing) (state : AppliedState) (taken last_t
                 let some = owes.1 in
                 (omega (arith, one, some), omega (arith, one))
           ];
+          rise = λ m k x y first second is other lt told same. elim (carries_cases built next k second other) [
+            | inl before ↦
+                let within = before.begun in
+                are.of_maps.rise m k x y first second (carries_front built (next ∷ []) m first (omega (arith, lt, within)) is) before lt told same
+            | inr last ↦
+                let place = last.0 in
+                let one : map.id ≡ y = tells_one second map.id y (subst (λ (x : Gamestate). Tells x map.id) (the_game second last.1) tells) same in
+                let most = (are.of_maps.ids m x first (carries_front built (next ∷ []) m first (omega (arith, lt, place)) is) told).1 in
+                omega (arith, most, one)
+          ];
           same = λ k x is told. elim (carries_cases built next k x is) [
             | inl before ↦ let same = are.of_maps.same k x before told in (refl, same.1, same.2)
             | inr last ↦
@@ -263,15 +287,17 @@ module _ (map : MapState) (slot : Standing) (state : AppliedState) (taken last_t
         stands = record {
           last = ((game, begun, tells), λ k x is. let within = is.begun in omega (arith, within, number, length_push built next));
           none = (λ e. absurd (none_some n (sym e)), λ e. absurd (primed_connected e));
-          earlier = λ k x is told other. elim (carries_cases built next k x is) [
-            | inl before ↦ elim (is_some_number slot.game k) [
-              | inl same ↦
-                  let late = some_at slot.game (λ (k : ℕ). (WasPlayed games k → ⊥) × (k < taken)) k same owes.2 in
-                  let lt = late.1 in
-                  (late.0, omega (arith, lt))
-              | inr apart ↦ stands.earlier k x before told apart
-            ]
-            | inr last ↦ absurd (other (ap Some (number ∙ sym last.0)))
+          earlier = λ m k id first second is other lt told same. elim (carries_cases built next k second other) [
+            | inl before ↦
+                let within = before.begun in
+                stands.earlier m k id first second (carries_front built (next ∷ []) m first (omega (arith, lt, within)) is) before lt told same
+            | inr last ↦
+                let place = last.0 in
+                let one : id ≡ map.id = tells_one second id map.id same (subst (λ (x : Gamestate). Tells x map.id) (the_game second last.1) tells) in
+                elim (is_some_number slot.game m) [
+                  | inl here ↦ some_at slot.game (λ (k : ℕ). (WasPlayed games k → ⊥) × (k < taken)) m here owes.2
+                  | inr apart ↦ is_past map slot taken built games began stands m first (carries_front built (next ∷ []) m first (omega (arith, lt, place)) is) (told ∙ ap Some one) apart
+                ]
           ];
           active = λ e. absurd (primed_active e);
           owed = λ e. absurd (untrue e);
@@ -285,7 +311,7 @@ module _ (map : MapState) (slot : Standing) (state : AppliedState) (taken last_t
         under = under_more built games next are.under (λ k g last is. absurd (owes.0 (plays slot.stage slot.game g (sym under ∙ is)).0));
         delta = elim are.delta [
           | inl nothing ↦ inl nothing
-          | inr behind ↦ absurd (owes.0 behind.2)
+          | inr under ↦ absurd (owes.0 under.2)
         ];
         ran = are.ran;
         acks = are.acks;

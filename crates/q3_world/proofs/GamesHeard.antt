@@ -12,21 +12,32 @@ use Rattle.q3_config.specs.Strings.{Strings, server_id}
 use Rattle.q3_map.specs.Map.{MapState}
 use Rattle.q3_ring.specs.Snapshot.{Snapshot}
 use Rattle.q3_rings.specs.Rings.{HeldSnapshots}
-use Rattle.q3_slot.specs.Built.{Built}
+use Rattle.q3_built.specs.Built.{Built}
 use Rattle.q3_text.specs.declared.text.Command.{Command}
 use Rattle.q3_window.specs.Incoming.{fresh_of}
 use Rattle.q3_world.specs.Games.{AreMapped, HasGames, IsFresh, IsSaidUnder, Standing, WasApplied, WasPlayed, last_played}
 use Rattle.q3_world.specs.World.{Played, texts_of}
 use Rattle.q3_world.specs.Games.{IsOf}
 use Rattle.q3_world.proofs.GamesParts.{cases_option, some_then, newest}
+use Rattle.q3_world.proofs.GamesUnder.{under_more}
 use Rattle.q3_world.proofs.GamesTexts.{LeavesOwn, after_commands-append, id_behind, ids_stay, strings_behind}
 
 -- what a message said stays said where more is accepted
-said_same : (games : List Played) (accepted after : List Snapshot) (said : Said) → IsSaidUnder games accepted said → IsSaidUnder games after said
-said_same games accepted after said is =
+said_same : (games : List Played) (accepted more : List Snapshot) (said : Said) → IsSaidUnder games accepted said → IsSaidUnder games (accepted ++ more) said
+said_same games accepted more said is =
     elim is [
       | inl before ↦ inl before
-      | inr under ↦ let was = under.1 in inr (under.0, record { there = was.there; id = was.id; feed = was.feed; behind = was.behind; asks = was.asks; later = was.later })
+      | inr under ↦ let was = under.1 in inr (
+        under.0,
+        record {
+          there = was.there;
+          id = was.id;
+          feed = was.feed;
+          behind = was.behind;
+          asks = λ e. under_more games accepted more under.0 said.message.acknowledged (was.asks e);
+          later = was.later;
+        },
+      )
     ]
 
 -- a client's state behind texts that it executed: what it has of its gamestate stays, but for the strings
@@ -115,6 +126,7 @@ module _ (state : AppliedState) (taken last_time : ℕ) (built : List Built) (ga
             let heard = was.executed in
             record {
               carries = was.carries;
+              tells = was.tells;
               most = omega (arith, most, newer);
               before = omega (arith, before, length-append accepted more);
               executed = omega (arith, heard, length-append executed texts);
@@ -131,6 +143,7 @@ module _ (state : AppliedState) (taken last_time : ℕ) (built : List Built) (ga
               ];
             }) games has.each;
         rise = has.rise;
+        maps = has.maps;
         shows = shows_on state after executed texts goes own (last_played games)
             (some_then (last_played games) (WasApplied taken last_time built accepted executed) (λ (played : Played). played.executed ≤ length executed) (λ played e was. was.executed) (last_applied has)) has.shows;
       }
@@ -148,8 +161,8 @@ module _ (map : MapState) (slot : Standing) (state : AppliedState) (taken last_t
         stands = record {
           last = stands.last;
           none = stands.none;
-          earlier = λ m x is told other.
-              let old = stands.earlier m x is told other in
+          earlier = λ m k id x y is other lt told same.
+              let old = stands.earlier m k id x y is other lt told same in
               let late = old.1 in
               (old.0, omega (arith, late, newer));
           active = stands.active;
@@ -168,9 +181,12 @@ module _ (map : MapState) (slot : Standing) (state : AppliedState) (taken last_t
           older = stands.older;
         };
         has = has_on state taken last_time built games accepted executed after n more texts newer numbers goes own are.has;
-        said = All-weaker (IsSaidUnder games accepted) (IsSaidUnder games (accepted ++ more)) (λ said is. said_same games accepted (accepted ++ more) said is) began are.said;
+        said = All-weaker (IsSaidUnder games accepted) (IsSaidUnder games (accepted ++ more)) (λ said is. said_same games accepted more said is) began are.said;
         under = are.under;
-        delta = are.delta;
+        delta = elim are.delta [
+          | inl none ↦ inl none
+          | inr under ↦ inr (under.0, under.1, under.2, under_more games accepted more under.0 slot.delta under.3)
+        ];
         ran = are.ran;
         acks = All-weaker (λ (message : Said). message.message.acknowledged ≤ taken) (λ (message : Said). message.message.acknowledged ≤ n)
             (λ message most. omega (arith, most, newer)) began are.acks;

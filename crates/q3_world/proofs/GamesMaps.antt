@@ -13,7 +13,7 @@ use Rattle.q3_gamestate.specs.Values.{Gamestate}
 use Rattle.q3_map.specs.Map.{Handed, MapState, set_baseline_at, after_new_map, begins_game}
 use Rattle.q3_map.specs.declared.map.Late.{Late}
 use Rattle.q3_ring.specs.Snapshot.{Snapshot}
-use Rattle.q3_slot.specs.Built.{Built}
+use Rattle.q3_built.specs.Built.{Built}
 use Rattle.q3_slot.specs.declared.stage.ClientStage.TheVariants.{Active, Connected}
 use Rattle.q3_world.specs.Games.{AreMapped, Carries, HasLast, Standing, Tells}
 use Rattle.q3_world.specs.World.{Played}
@@ -40,12 +40,13 @@ module _ (map : MapState) (slot : Standing) (state : AppliedState) (taken last_t
       record {
         of_maps = record {
           ids = λ n i game is tells. let was = are.of_maps.ids n i game is tells in let most = was.1 in (was.0, omega (arith, most, above));
+          rise = are.of_maps.rise;
           same = λ n game is tells. absurd (before n game is tells);
         };
         stands = record {
           last = before;
           none = (λ e. refl, λ e. refl);
-          earlier = λ n game is tells other. absurd (before n game is tells);
+          earlier = are.stands.earlier;
           active = λ e. absurd (not_active e);
           owed = λ e. absurd (untrue e);
           other = λ k d within apart. tt;
@@ -69,6 +70,7 @@ module _ (map : MapState) (slot : Standing) (state : AppliedState) (taken last_t
       record {
         of_maps = record {
           ids = λ n i game is tells. let was = are.of_maps.ids n i game is tells in let most = was.1 in (was.0, omega (arith, most, id));
+          rise = are.of_maps.rise;
           same = λ n game is tells.
               let was = are.of_maps.same n game is (of n game tells) in
               let kept = keeps was.0 in
@@ -77,7 +79,7 @@ module _ (map : MapState) (slot : Standing) (state : AppliedState) (taken last_t
         stands = record {
           last = last_of map new built slot.game id stands.last;
           none = stands.none;
-          earlier = λ n game is tells other. stands.earlier n game is (of n game tells) other;
+          earlier = stands.earlier;
           active = stands.active;
           owed = λ e. let was = stands.owed e in (was.0, λ zero. was.1 (sym id ∙ zero), was.2);
           other = λ k d within apart. stands.other k d within (λ e. apart (e ∙ sym id));

@@ -11,8 +11,9 @@ use Rattle.q3_clstate.specs.State.{AppliedState}
 use Rattle.q3_gamestate.specs.Values.{Gamestate}
 use Rattle.q3_map.specs.Map.{MapState}
 use Rattle.q3_ring.specs.Snapshot.{Snapshot}
-use Rattle.q3_slot.specs.Built.{Built}
-use Rattle.q3_world.specs.Games.{Carries, GamesRise, HasGames, HasLast, IsFresh, IsOf, Tells, WasPlayed, accepted_since, last_played}
+use Rattle.q3_built.specs.Built.{Built}
+use Rattle.q3_client.specs.Sending.{Said}
+use Rattle.q3_world.specs.Games.{Carries, GamesRise, HasGames, HasLast, IsFresh, IsOf, Standing, StandsAt, Tells, WasPlayed, accepted_since, last_played}
 use Rattle.q3_world.specs.World.{Played, built_at, no_message}
 
 -- ---- what may be there
@@ -120,6 +121,22 @@ last_stays map built next (Some last) none is = (
   (is.0.0, carries_more built (next ∷ []) last is.0.0 is.0.1, is.0.2),
   λ n game carries. is.1 n game (carries_before built next n game none carries),
 )
+
+-- of those of the present map each but the last was never applied, and its client has taken a number above it
+pub is_past : (map : MapState) (slot : Standing) (taken : ℕ) (built : List Built) (games : List Played) (began : List Said) → StandsAt map slot taken built games began
+    → (n : ℕ) (game : Gamestate) → Carries built n game → Tells game map.id → (slot.game ≡ Some n → ⊥) → (WasPlayed games n → ⊥) × (n < taken)
+is_past map slot taken built games began stands n game carries tells other =
+    elim (cases_option slot.game) [
+      | inl none ↦ let last : HasLast map built None = subst (HasLast map built) none stands.last in absurd (last n game carries tells)
+      | inr some ↦
+          let number = some.0 in
+          let last : HasLast map built (Some number) = subst (HasLast map built) some.1 stands.last in
+          let most = last.1 n game carries in
+          elim (cases_eq n number) [
+            | inl same ↦ absurd (other (some.1 ∙ ap Some (sym same)))
+            | inr apart ↦ stands.earlier n number map.id game last.0.0 carries last.0.1 (omega (arith, most, apart)) tells last.0.2
+          ]
+    ]
 
 -- ---- gamestates that a client applied
 

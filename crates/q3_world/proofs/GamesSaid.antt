@@ -1,6 +1,6 @@
 -- The maps of a server at both ends of a client, where the client begins a message, and where the server hears one.
 use Rattle.std.proofs.lemmas.Option.{MatchOption-at_some, MatchOption-at_none}
-use Rattle.std.proofs.Common.{[], List, None, Option, Some, ap, arith, drop, false, get_or-drop, inl, inr, length-drop, refl, subst, sym, true, ℕ, ◌++◌, ◌+◌, ◌<◌, ◌∙◌, ◌∷◌, ◌≡◌, ◌≤◌}
+use Rattle.std.proofs.Common.{[], List, None, Option, Some, ap, arith, false, inl, inr, refl, subst, sym, true, ℕ, ◌++◌, ◌<◌, ◌∙◌, ◌∷◌, ◌≡◌, ◌≤◌}
 use Rattle.std.specs.Prelude.{All, Bool, Contains, IfSome, MatchOption, if◌then◌else◌, not, ◌&&◌, ◌==◌, ◌⊎◌, ◌||◌}
 use Rattle.std.proofs.lemmas.Bool.{both_ways, cases_Bool, eqb-true, false_from_ne_true, ltb-true, or_cases, or_parts, eqb-false, not-true, or_from}
 use Rattle.std.proofs.lemmas.List.Elements.{All-contains, All-push, All-weaker}
@@ -10,31 +10,20 @@ use Rattle.q3_clstate.specs.State.{AppliedState}
 use Rattle.q3_gamestate.specs.Values.{Gamestate}
 use Rattle.q3_map.specs.Map.{MapState, is_other}
 use Rattle.q3_ring.specs.Snapshot.{Snapshot}
-use Rattle.q3_slot.specs.Built.{Built}
+use Rattle.q3_built.specs.Built.{Built}
 use Rattle.q3_slot.specs.Slot.{SlotState, is_active}
 use Rattle.q3_slot.specs.Taking.{Playing, asked_with, goes_on, is_behind_game, moves_on}
 use Rattle.q3_slot.specs.declared.stage.ClientStage.{ClientStage}
 use Rattle.q3_slot.specs.declared.stage.ClientStage.TheVariants.{Active, Connected, Primed}
 use Rattle.q3_clmsg.specs.Values.{Message}
-use Rattle.q3_world.specs.Games.{AreMapped, Carries, HasGames, HasLast, IsFresh, IsSaidUnder, Standing, Tells, WasApplied, WasPlayed, accepted_since, last_played, standing_of}
+use Rattle.q3_world.specs.Games.{AcceptedUnder, AreMapped, Carries, HasGames, HasLast, IsFresh, IsSaidUnder, Standing, Tells, WasApplied, WasPlayed, accepted_since, last_played, standing_of}
 use Rattle.q3_world.specs.StandsFor.{WasAccepted}
 use Rattle.q3_world.specs.World.{Played}
 use Rattle.q3_world.specs.Games.{IsOf}
-use Rattle.q3_world.proofs.GamesParts.{carries_one, cases_option, is_some_number, none_played, none_some, since_is, some_at, some_here, some_same, some_then, tells_one, newest}
+use Rattle.q3_world.proofs.GamesUnder.{under_last}
+use Rattle.q3_world.proofs.GamesParts.{carries_one, cases_option, is_past, is_some_number, none_played, none_some, since_is, some_at, some_here, some_then, tells_one, newest}
 
--- ---- a snapshot that was accepted
-
--- since the last gamestate has a higher number
-accepted_behind : (taken last_time : ℕ) (built : List Built) (games : List Played) (accepted : List Snapshot) (executed : List (List ℕ)) (played : Played) (number : ℕ)
-    → WasApplied taken last_time built accepted executed played → WasAccepted (drop played.accepted accepted) number → played.number < number
-accepted_behind taken last_time built games accepted executed played number was accept =
-    let snapshot = accept.0 in
-    let there = accept.1 in
-    let within = there.1 in
-    let higher = was.higher (played.accepted + there.0) snapshot (omega arith) (omega (arith, within, length-drop played.accepted accepted)) in
-    let at = ap (λ (s : Snapshot). s.head.number) (sym (get_or-drop played.accepted accepted there.0 snapshot) ∙ there.2) in
-    let is = accept.2 in
-    omega (arith, higher, at, is)
+-- ---- a client begins a message
 
 module _ (map : MapState) (slot : Standing) (state : AppliedState) (taken last_time : ℕ) (built : List Built) (games : List Played) (began : List Said)
     (accepted : List Snapshot) (executed : List (List ℕ)) where
@@ -60,14 +49,15 @@ module _ (map : MapState) (slot : Standing) (state : AppliedState) (taken last_t
 
   -- what a client says is said under the last gamestate that it applied
   said_under : (next : Said) → next.message.id ≡ state.id → next.feed ≡ state.feed → next.message.acknowledged ≡ taken
-      → (next.message.delta ≡ true → WasAccepted (accepted_since games accepted) taken)
+      → (next.message.moves ≡ [] → next.message.delta ≡ false) → (next.message.delta ≡ true → WasAccepted (accepted_since games accepted) taken)
       → MatchOption (last_played games) (next.message.moves ≡ []) (λ (played : Played). All (λ (one : Move). played.time < one.time) next.message.moves)
       → HasGames state taken last_time built games accepted executed → IsSaidUnder games accepted next
-  said_under next id feed acknowledged asks moves has =
+  said_under next id feed acknowledged quiet asks moves has =
       elim (cases_option (last_played games)) [
         | inl none ↦
             let fresh = MatchOption-at_none (IsFresh state) (λ (played : Played). IsOf state played executed) none has.shows in
-            inl (id ∙ fresh.id, MatchOption-at_none (next.message.moves ≡ []) (λ (played : Played). All (λ (one : Move). played.time < one.time) next.message.moves) none moves)
+            let still = MatchOption-at_none (next.message.moves ≡ []) (λ (played : Played). All (λ (one : Move). played.time < one.time) next.message.moves) none moves in
+            inl (id ∙ fresh.id, still, quiet still)
         | inr some ↦
             let played = some.0 in
             let of = MatchOption-at_some (IsFresh state) (λ (played : Played). IsOf state played executed) played some.1 has.shows in
@@ -83,8 +73,7 @@ module _ (map : MapState) (slot : Standing) (state : AppliedState) (taken last_t
                 behind = omega (arith, most, acknowledged);
                 asks = λ e.
                     let was = subst (λ (since : List Snapshot). WasAccepted since taken) (since_is games accepted played some.1) (asks e) in
-                    let lt = accepted_behind taken last_time built games accepted executed played taken applied was in
-                    omega (arith, lt, acknowledged);
+                    subst (λ (number : ℕ). AcceptedUnder games accepted played number) (sym acknowledged) (under_last games accepted played taken has.rise some.1 was);
                 later = MatchOption-at_some (next.message.moves ≡ []) (λ (played : Played). All (λ (one : Move). played.time < one.time) next.message.moves) played some.1 moves;
               },
             )
@@ -92,11 +81,11 @@ module _ (map : MapState) (slot : Standing) (state : AppliedState) (taken last_t
 
   -- a client begins a message
   pub AreMapped-said : (next : Said) → next.message.id ≡ state.id → next.feed ≡ state.feed → next.message.acknowledged ≡ taken
-      → (next.message.delta ≡ true → WasAccepted (accepted_since games accepted) taken)
+      → (next.message.moves ≡ [] → next.message.delta ≡ false) → (next.message.delta ≡ true → WasAccepted (accepted_since games accepted) taken)
       → MatchOption (last_played games) (next.message.moves ≡ []) (λ (played : Played). All (λ (one : Move). played.time < one.time) next.message.moves)
       → AreMapped map slot state taken last_time built games began accepted executed
       → AreMapped map slot state taken last_time built games (began ++ next ∷ []) accepted executed
-  AreMapped-said next id feed acknowledged asks moves are =
+  AreMapped-said next id feed acknowledged quiet asks moves are =
       let stands = are.stands in
       record {
         of_maps = are.of_maps;
@@ -113,7 +102,7 @@ module _ (map : MapState) (slot : Standing) (state : AppliedState) (taken last_t
           older = stands.older;
         };
         has = are.has;
-        said = All-push (IsSaidUnder games accepted) began next are.said (said_under next id feed acknowledged asks moves are.has);
+        said = All-push (IsSaidUnder games accepted) began next are.said (said_under next id feed acknowledged quiet asks moves are.has);
         under = are.under;
         delta = are.delta;
         ran = are.ran;
@@ -202,7 +191,7 @@ module _ (map : MapState) (slot : Standing) (state : AppliedState) (taken last_t
 -- ---- a message of the map
 
 -- what a message of the map tells: its client applied the last gamestate of the map, and its moves were issued since; its feed is the map's
-pub record IsOfMap (map : MapState) (slot : Standing) (games : List Played) (said : Said) : Type 0 where
+pub record IsOfMap (map : MapState) (slot : Standing) (games : List Played) (accepted : List Snapshot) (said : Said) : Type 0 where
   pub played : Played
   pub there : Contains games played
   pub last : slot.game ≡ Some played.number
@@ -210,7 +199,7 @@ pub record IsOfMap (map : MapState) (slot : Standing) (games : List Played) (sai
   pub unowed : slot.owed ≡ false
   pub feed : said.feed ≡ map.feed
   pub behind : played.number ≤ said.message.acknowledged
-  pub asks : said.message.delta ≡ true → played.number < said.message.acknowledged
+  pub asks : said.message.delta ≡ true → AcceptedUnder games accepted played said.message.acknowledged
   pub older : (slot.stage ≡ Active → ⊥) → slot.last_run ≤ played.time
   pub later : All (λ (one : Move). played.time < one.time) said.message.moves
 
@@ -218,20 +207,24 @@ pub record IsOfMap (map : MapState) (slot : Standing) (games : List Played) (sai
 abbrev pub with_playing : Standing → Playing → Standing
 with_playing slot playing = record slot { stage = playing.stage; delta = playing.delta; last_run = playing.last_run }
 
--- what it asks for then
-asked_behind : (g before : ℕ) (message : Message) (moves : List Move) → (before ≡ 0) ⊎ (g < before) → (message.delta ≡ true → g < message.acknowledged)
-    → (asked_with before message moves ≡ 0) ⊎ (g < asked_with before message moves)
-asked_behind g before message [] old asks = old
-asked_behind g before message (one ∷ moves) old asks = go message.delta asks
+-- what holds of a number that a message asks for holds of the one that is asked for then
+asked_then : (P : ℕ → Type 0) (before : ℕ) (message : Message) (moves : List Move) → (before ≡ 0) ⊎ P before → (message.delta ≡ true → P message.acknowledged)
+    → (asked_with before message moves ≡ 0) ⊎ P (asked_with before message moves)
+asked_then P before message [] old asks = old
+asked_then P before message (one ∷ moves) old asks = go message.delta asks
   where
-    go : (delta : Bool) → (delta ≡ true → g < message.acknowledged) → ((if delta then message.acknowledged else 0) ≡ 0) ⊎ (g < (if delta then message.acknowledged else 0))
+    go : (delta : Bool) → (delta ≡ true → P message.acknowledged) → ((if delta then message.acknowledged else 0) ≡ 0) ⊎ P (if delta then message.acknowledged else 0)
     go true asks = inr (asks refl)
     go false asks = inl refl
+
+-- a snapshot of a number was accepted under the gamestate of a number
+abbrev IsUnder : Option ℕ → List Played → List Snapshot → ℕ → Type 0
+IsUnder game games accepted number = (played : Played) × (game ≡ Some played.number) × AcceptedUnder games accepted played number
 
 module _ (map : MapState) (slot : Standing) (state : AppliedState) (taken last_time : ℕ) (built : List Built) (games : List Played) (began : List Said)
     (accepted : List Snapshot) (executed : List (List ℕ)) where
   pub said_of_map : (one : Said) → Contains began one → is_other map one.message.id ≡ false → AreMapped map slot state taken last_time built games began accepted executed
-      → IsOfMap map slot games one
+      → IsOfMap map slot games accepted one
   said_of_map one there same are =
       let id = same_id map one.message.id same in
       elim (All-contains (IsSaidUnder games accepted) began one are.said there) [
@@ -246,7 +239,7 @@ module _ (map : MapState) (slot : Standing) (state : AppliedState) (taken last_t
             let last : slot.game ≡ Some played.number =
             elim (is_some_number slot.game played.number) [
               | inl is ↦ is
-              | inr apart ↦ absurd ((stands.earlier played.number played.game applied.carries tells apart).0 was)
+              | inr apart ↦ absurd ((is_past map slot taken built games began stands played.number played.game applied.carries tells apart).0 was)
             ] in
             record {
               played = played;
@@ -263,7 +256,7 @@ module _ (map : MapState) (slot : Standing) (state : AppliedState) (taken last_t
       ]
 
   -- a client plays on, or enters the map
-  plays_on : (one : Said) (delta last_run : ℕ) → IsOfMap map slot games one → (delta ≡ 0) ⊎ ((g : ℕ) × (slot.game ≡ Some g) × (g < delta)) → last_run ≤ last_time
+  plays_on : (one : Said) (delta last_run : ℕ) → IsOfMap map slot games accepted one → (delta ≡ 0) ⊎ IsUnder slot.game games accepted delta → last_run ≤ last_time
       → AreMapped map slot state taken last_time built games began accepted executed
       → AreMapped map (record slot { stage = Active; delta = delta; last_run = last_run }) state taken last_time built games began accepted executed
   plays_on one delta last_run of asks ran are =
@@ -284,7 +277,7 @@ module _ (map : MapState) (slot : Standing) (state : AppliedState) (taken last_t
         under = are.under;
         delta = elim asks [
           | inl none ↦ inl none
-          | inr behind ↦ inr (behind.0, behind.1, refl, behind.2)
+          | inr under ↦ inr (under.0, under.1, refl, under.2)
         ];
         ran = ran;
         acks = are.acks;
@@ -294,7 +287,7 @@ module _ (map : MapState) (slot : Standing) (state : AppliedState) (taken last_t
       active_connected e = absurd (cc)
 
   -- the moves of a client that isn't playing came behind the last that was run
-  pub enters_later : (one : Said) → IsOfMap map slot games one → (slot.stage ≡ Active → ⊥) → All (λ (move : Move). slot.last_run < move.time) one.message.moves
+  pub enters_later : (one : Said) → IsOfMap map slot games accepted one → (slot.stage ≡ Active → ⊥) → All (λ (move : Move). slot.last_run < move.time) one.message.moves
   enters_later one of waits =
       let older = of.older waits in
       All-weaker (λ (move : Move). of.played.time < move.time) (λ (move : Move). slot.last_run < move.time) (λ move later. omega (arith, later, older)) one.message.moves of.later
@@ -302,30 +295,23 @@ module _ (map : MapState) (slot : Standing) (state : AppliedState) (taken last_t
 module _ (map : MapState) (slot : SlotState) (state : AppliedState) (taken last_time : ℕ) (built : List Built) (games : List Played) (began : List Said)
     (accepted : List Snapshot) (executed : List (List ℕ)) (one : Said) where
   -- its moves, by how far the client came
-  stage_runs : (move : Move) (moves : List Move) (stage : ClientStage) → slot.stage ≡ stage → IsOfMap map (standing_of slot) games one
+  stage_runs : (move : Move) (moves : List Move) (stage : ClientStage) → slot.stage ≡ stage → IsOfMap map (standing_of slot) games accepted one
       → (moves_on slot one.message move moves stage).last_run ≤ last_time → AreMapped map (standing_of slot) state taken last_time built games began accepted executed
       → AreMapped map (with_playing (standing_of slot) (moves_on slot one.message move moves stage)) state taken last_time built games began accepted executed
   stage_runs move moves Connected is of ran are = absurd (of.begun is)
   stage_runs move moves Primed is of ran are =
       plays_on map (standing_of slot) state taken last_time built games began accepted executed one 0 (moves_on slot one.message move moves Primed).last_run of (inl refl) ran are
   stage_runs move moves Active is of ran are =
-      let old : (slot.delta ≡ 0) ⊎ (of.played.number < slot.delta) =
+      let old : (slot.delta ≡ 0) ⊎ IsUnder slot.game games accepted slot.delta =
       elim are.delta [
         | inl none ↦ inl none
-        | inr behind ↦
-            let g = some_same behind.0 of.played.number (sym behind.1 ∙ of.last) in
-            let lt = behind.3 in
-            inr (omega (arith, lt, g))
+        | inr under ↦ inr (under.0, under.1, under.3)
       ] in
-      let asks : (asked_with slot.delta one.message one.message.moves ≡ 0) ⊎ ((g : ℕ) × (slot.game ≡ Some g) × (g < asked_with slot.delta one.message one.message.moves)) =
-      elim (asked_behind of.played.number slot.delta one.message one.message.moves old of.asks) [
-        | inl none ↦ inl none
-        | inr lt ↦ inr (of.played.number, of.last, lt)
-      ] in
+      let asks = asked_then (IsUnder slot.game games accepted) slot.delta one.message one.message.moves old (λ e. (of.played, of.last, of.asks e)) in
       plays_on map (standing_of slot) state taken last_time built games began accepted executed one (asked_with slot.delta one.message one.message.moves)
       (moves_on slot one.message move moves Active).last_run of asks ran are
 
-  moves_run : (moves : List Move) → IsOfMap map (standing_of slot) games one → (goes_on slot one.message moves).last_run ≤ last_time
+  moves_run : (moves : List Move) → IsOfMap map (standing_of slot) games accepted one → (goes_on slot one.message moves).last_run ≤ last_time
       → AreMapped map (standing_of slot) state taken last_time built games began accepted executed
       → AreMapped map (with_playing (standing_of slot) (goes_on slot one.message moves)) state taken last_time built games began accepted executed
   moves_run [] of ran are = are

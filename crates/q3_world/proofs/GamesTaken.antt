@@ -2,9 +2,9 @@
 use Rattle.std.proofs.lemmas.Option.{MatchOption-at_some}
 use Rattle.std.proofs.Common.{[], List, None, Option, Some, ap, arith, drop, false, get_or, get_or-drop, inl, inr, length, length-drop, refl, subst, sym, ℕ, ◌++◌, ◌+◌, ◌-◌, ◌<◌, ◌∙◌, ◌∷◌, ◌≡◌, ◌≤◌, IsSome}
 use Rattle.std.specs.Prelude.{All, Contains, IfSome, MatchOption, unwrap_or}
-use Rattle.std.proofs.lemmas.Bool.{both_ways, cases_lt, false_from_ne_true}
-use Rattle.std.proofs.lemmas.List.{drop_all, get_or_append_left, length-append, length_push, get_or-append_right}
-use Rattle.std.proofs.lemmas.List.Elements.{All-contains, All-get_or, All-push, All-weaker, Contains-append_left, Contains-push_cases}
+use Rattle.std.proofs.lemmas.Bool.{both_ways, cases_eq, cases_lt, false_from_ne_true}
+use Rattle.std.proofs.lemmas.List.{drop_all, get_or_append_left, get_or_push, length-append, length_push, get_or-append_right}
+use Rattle.std.proofs.lemmas.List.Elements.{All-contains, All-contains_itself, All-get_or, All-push, All-weaker, Contains-append_left, Contains-push_cases}
 use Rattle.q3_client.specs.Sending.{Said}
 use Rattle.q3_clstate.specs.State.{AppliedState, after_gamestate, id_in}
 use Rattle.q3_config.specs.Changes.{after_commands}
@@ -12,12 +12,13 @@ use Rattle.q3_config.specs.Strings.{Strings, server_id}
 use Rattle.q3_gamestate.specs.Values.{Gamestate}
 use Rattle.q3_map.specs.Map.{MapState}
 use Rattle.q3_ring.specs.Snapshot.{Snapshot}
-use Rattle.q3_slot.specs.Built.{Built}
+use Rattle.q3_built.specs.Built.{Built}
 use Rattle.q3_slot.specs.Slots.{tells}
-use Rattle.q3_world.specs.Games.{AreMapped, Carries, GamesRise, IsFresh, IsSaidUnder, Standing, Tells, WasApplied, WasPlayed, accepted_since, last_played}
+use Rattle.q3_world.specs.Games.{AreMapped, Carries, GamesRise, IsFresh, IsSaidUnder, MapsRise, Standing, Tells, WasApplied, WasPlayed, accepted_since, last_played}
 use Rattle.q3_world.specs.World.{Played, built_at}
 use Rattle.q3_world.specs.Games.{IsOf}
-use Rattle.q3_world.proofs.GamesParts.{cases_option, is_some_number, last_push, none_played, played_cases, played_more, since_is, some_at, some_then, newest}
+use Rattle.q3_world.proofs.GamesUnder.{under_later}
+use Rattle.q3_world.proofs.GamesParts.{cases_option, is_past, is_some_number, last_push, none_played, played_cases, played_more, since_is, some_at, some_then, newest}
 
 -- ---- what a client knows of a message
 
@@ -83,7 +84,7 @@ module _ (map : MapState) (slot : Standing) (state : AppliedState) (taken last_t
       let last : slot.game ≡ Some n =
       elim (is_some_number slot.game n) [
         | inl is ↦ is
-        | inr apart ↦ let late = (are.stands.earlier n game carries tells apart).1 in absurd (omega (arith, late, newer))
+        | inr apart ↦ let late = (is_past map slot taken built games began are.stands n game carries tells apart).1 in absurd (omega (arith, late, newer))
       ] in (
         last,
         false_from_ne_true slot.owed (λ owed.
@@ -92,8 +93,9 @@ module _ (map : MapState) (slot : Standing) (state : AppliedState) (taken last_t
       )
 
 -- what holds of a gamestate that was built later
-said_later : (games : List Played) (next : Played) (accepted after : List Snapshot) (said : Said) → IsSaidUnder games accepted said → IsSaidUnder (games ++ next ∷ []) after said
-said_later games next accepted after said is =
+said_later : (games : List Played) (next : Played) (accepted : List Snapshot) (said : Said) → length accepted ≤ next.accepted → IsSaidUnder games accepted said
+    → IsSaidUnder (games ++ next ∷ []) accepted said
+said_later games next accepted said count is =
     elim is [
       | inl before ↦ inl before
       | inr under ↦ let was = under.1 in inr (
@@ -103,7 +105,7 @@ said_later games next accepted after said is =
           id = was.id;
           feed = was.feed;
           behind = was.behind;
-          asks = was.asks;
+          asks = λ e. under_later games next accepted under.0 said.message.acknowledged count (was.asks e);
           later = was.later;
         },
       )
@@ -129,6 +131,22 @@ rise_more games next below rise j k d lt within =
           let third = ap (λ (i : ℕ). (get_or (next ∷ []) i d).number) e in
           let low = All-get_or (λ (played : Played). played.number < next.number) games j d front below in
           omega (arith, first, second, third, low)
+    ]
+
+-- and so do the maps behind one of a greater id
+maps_more : (games : List Played) (next : Played) → All (λ (played : Played). (x y : ℕ) → Tells played.game x → Tells next.game y → x < y) games → MapsRise games
+    → MapsRise (games ++ next ∷ [])
+maps_more games next below rise j k x y d lt within told same =
+    elim (cases_lt k (length games)) [
+      | inl front ↦
+          let at : (i : ℕ) → i < length games → get_or (games ++ next ∷ []) i d ≡ get_or games i d = λ i lt. get_or_append_left games (next ∷ []) d i lt in
+          rise j k x y d lt front (subst (λ (p : Played). Tells p.game x) (at j (omega (arith, lt, front))) told) (subst (λ (p : Played). Tells p.game y) (at k front) same)
+      | inr past ↦
+          let last : length games ≡ k = omega (arith, past, within, length_push games next) in
+          let front : j < length games = omega (arith, lt, last) in
+          All-get_or (λ (played : Played). (x y : ℕ) → Tells played.game x → Tells next.game y → x < y) games j d front below x y
+          (subst (λ (p : Played). Tells p.game x) (get_or_append_left games (next ∷ []) d j front) told)
+          (subst (λ (p : Played). Tells p.game y) (get_or_push games next d k last) same)
     ]
 
 the_id : (game : Gamestate) (id : ℕ) → IsSome (server_id game.strings) → Tells game (id_in id game.strings)
@@ -165,8 +183,8 @@ module _ (map : MapState) (slot : Standing) (state : AppliedState) (taken last_t
         stands = record {
           last = stands.last;
           none = stands.none;
-          earlier = λ m x is told other.
-              let old = stands.earlier m x is told other in
+          earlier = λ m k id x y is other lt told same.
+              let old = stands.earlier m k id x y is other lt told same in
               let late = old.1 in
               (was_not m (λ e. omega (arith, late, e, newer)) old.0, omega (arith, late, newer));
           active = λ e. let old = stands.active e in (old.0, (old.1.0, old.1.1, played_more games next old.1.0 old.1.2));
@@ -201,6 +219,7 @@ module _ (map : MapState) (slot : Standing) (state : AppliedState) (taken last_t
               let heard = was.executed in
               record {
                 carries = was.carries;
+                tells = was.tells;
                 most = omega (arith, most, newer);
                 before = was.before;
                 executed = omega (arith, heard, length-append executed texts);
@@ -210,6 +229,7 @@ module _ (map : MapState) (slot : Standing) (state : AppliedState) (taken last_t
               }) games are.has.each)
               (record {
                 carries = carries;
+                tells = tells;
                 most = omega arith;
                 before = omega arith;
                 executed = omega arith;
@@ -219,6 +239,16 @@ module _ (map : MapState) (slot : Standing) (state : AppliedState) (taken last_t
               });
           rise = rise_more games next (All-weaker (WasApplied taken last_time built accepted executed) (λ (played : Played). played.number < n)
               (λ played was. let most = was.most in omega (arith, most, newer)) games are.has.each) are.has.rise;
+          maps = maps_more games next (All-weaker (Contains games) (λ (played : Played). (x y : ℕ) → Tells played.game x → Tells game y → x < y)
+              (λ played there x y told same.
+              let was = All-contains (WasApplied taken last_time built accepted executed) games played are.has.each there in
+              let most = was.most in
+              let lt : played.number < n = omega (arith, most, newer) in
+              let le = are.of_maps.rise played.number n x y played.game game was.carries carries lt told same in
+              elim (cases_eq x y) [
+                | inl one ↦ absurd ((stands.earlier played.number n y played.game game was.carries carries lt (told ∙ ap Some one) same).0 (played, there, refl))
+                | inr apart ↦ omega (arith, le, apart)
+              ]) games (All-contains_itself games)) are.has.maps;
           shows = subst (λ (o : Option Played). MatchOption o (IsFresh after) (λ (played : Played). IsOf after played (executed ++ texts))) (sym (last_push None games next))
               (record {
                 has = refl;
@@ -229,11 +259,14 @@ module _ (map : MapState) (slot : Standing) (state : AppliedState) (taken last_t
                 strings = strings_are game.strings (executed ++ texts);
               });
         };
-        said = All-weaker (IsSaidUnder games accepted) (IsSaidUnder (games ++ next ∷ []) accepted) (λ said is. said_later games next accepted accepted said is) began are.said;
+        said = All-weaker (IsSaidUnder games accepted) (IsSaidUnder (games ++ next ∷ []) accepted) (λ said is. said_later games next accepted said (omega arith) is) began are.said;
         under = λ m g some begun is.
             let old = are.under m g some begun is in
             record { was = played_more games next g old.was; below = old.below; last = old.last; lines = old.lines; base = old.base };
-        delta = are.delta;
+        delta = elim are.delta [
+          | inl none ↦ inl none
+          | inr under ↦ inr (under.0, under.1, under.2, under_later games next accepted under.0 slot.delta (omega arith) under.3)
+        ];
         ran = are.ran;
         acks = All-weaker (λ (message : Said). message.message.acknowledged ≤ taken) (λ (message : Said). message.message.acknowledged ≤ n)
             (λ message most. omega (arith, most, newer)) began are.acks;

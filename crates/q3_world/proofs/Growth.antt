@@ -7,8 +7,7 @@ use Rattle.q3_chan.specs.declared.side.Side.{Side}
 use Rattle.q3_chan.specs.declared.side.Side.TheVariants.{Server, Client}
 use Rattle.q3_chan.specs.Datagrams.{piece_count, datagram}
 use Rattle.q3_ring.specs.Snapshot.{Snapshot}
-use Rattle.q3_slot.specs.Built.{Built}
-use Rattle.q3_slot.specs.Emitting.{built_bytes}
+use Rattle.q3_built.specs.Built.{Built, built_bytes}
 use Rattle.q3_server.specs.Server.{places}
 use Rattle.q3_client.specs.Sending.{said_bytes, Said}
 use Rattle.q3_world.specs.declared.made.Direction.{Direction}

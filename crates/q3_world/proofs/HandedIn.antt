@@ -29,13 +29,13 @@ use Rattle.q3_client.specs.declared.client.MoveError.TheVariants.{NoGame, NotLat
 use Rattle.q3_client.specs.Moves.{Handed as HandedMove, is_issuable, issue}
 use Rattle.q3_map.specs.declared.map.Late.{Late}
 use Rattle.q3_map.specs.Map.{MapState, AreHeld, Handed as HandedMap, after_new_map, set_baseline_at, with_config, with_entity, without_entity}
-use Rattle.q3_slot.specs.Built.{Built, IsHeld, IsArea}
+use Rattle.q3_built.specs.Built.{Built, IsHeld, IsArea}
 use Rattle.q3_slot.specs.Slot.{SlotState, is_connected, is_of, on_new_map, with_player}
 use Rattle.q3_slot.specs.Slots.{changes_own, lacks_room, tells}
 use Rattle.q3_server.specs.declared.server.ConfigRefused.{ConfigRefused}
 use Rattle.q3_server.specs.declared.server.ConfigRefused.TheVariants.{Own}
 use Rattle.q3_server.specs.Server.{ServerState, Handed, places, own_string, slot_at, with_slot, is_same, change_config, change_unless, change_or}
-use Rattle.q3_world.specs.declared.answer.Answer.TheVariants.{Config}
+use Rattle.q3_report.specs.declared.answer.Answer.TheVariants.{Config}
 use Rattle.q3_world.specs.Layers.{WindowLaws}
 use Rattle.q3_world.specs.Ends.{EndsStep, client_at, with_client, address_at, moved, join, new_map, set_baseline, set_config, set_time, set_entity, remove_entity, set_player, set_area, say_command, type_command, add_move}
 use Rattle.q3_world.specs.Games.{standing_of}
@@ -44,8 +44,10 @@ use Rattle.q3_world.specs.StandsFor.{IsMap, KeepsSlot, AreEnds, AreJoined}
 use Rattle.q3_world.specs.World.{Whole, History, no_history, history_at, with_history, with_joined, with_spoken, texts_told, with_texts_told, with_told, with_typed, with_issued, with_ends, with_noted, with_all}
 use Rattle.q3_world.proofs.MoveLists.{is_move}
 use Rattle.q3_world.proofs.Growth.{Grow, HistoryGrows, HistoryGrows-same, HistoryGrows-beside}
-use Rattle.q3_world.proofs.Clients.{KeepsSlot-told, TakesSaid-same}
-use Rattle.q3_world.proofs.Events.{Holds, with_new_slot, has_client, Holds-new, Holds-player, Holds-area, with_map, Holds-map, joined_stays, Holds-issued, same_server}
+use Rattle.q3_world.proofs.Clients.{KeepsSlot-told}
+use Rattle.q3_world.proofs.Joined.{TakesSaid-same}
+use Rattle.q3_world.proofs.Holding.{Holds, has_client, Holds-new, same_server}
+use Rattle.q3_world.proofs.Given.{with_new_slot, Holds-player, Holds-area, with_map, Holds-map, joined_stays, Holds-issued}
 use Rattle.q3_world.proofs.EverySlot.{LeavesClient, Holds-every}
 use Rattle.q3_world.proofs.Maps.{map_given, map_new, map_lined, MayGoOut, may_go_out, map_configured, pieces_own}
 use Rattle.q3_world.proofs.GamesBuilt.{AreMapped-new}

@@ -1,13 +1,13 @@
 -- The pieces of a message that to_client in order.
-use Rattle.std.proofs.Common.{◌≡◌, ℕ, suc, ◌+◌, ◌-◌, ◌<◌, ◌≤◌, List, [], ◌∷◌, ◌++◌, length, Option, Some, None, Ok, refl, sym, ap, subst, ◌∙◌, inl, inr, arith}
+use Rattle.std.proofs.Common.{◌≡◌, ℕ, suc, ◌+◌, ◌-◌, ◌<◌, ◌≤◌, List, [], ◌∷◌, ◌++◌, length, Option, Some, None, Ok, refl, sym, ap, subst, ◌∙◌, inl, inr, arith, false}
 use Rattle.std.specs.Prelude.{◌⊎◌, slice_get}
 use Rattle.std.specs.List.{AllByRecursion}
 use Rattle.std.proofs.Math.ListN.{length-set}
 use Rattle.q3_profile.specs.declared.profile.Profile.{Profile}
 use Rattle.q3_script.specs.declared.event.Event.{Event}
 use Rattle.q3_script.specs.declared.event.Event.TheVariants as events
-use Rattle.q3_world.specs.declared.answer.Answer.TheVariants as answers
-use Rattle.q3_script.specs.Grammar.{IsReplayEvent}
+use Rattle.q3_report.specs.declared.answer.Answer.TheVariants as answers
+use Rattle.q3_world.specs.Schedules.{IsScheduled}
 use Rattle.q3_ring.specs.Snapshot.{Snapshot}
 use Rattle.q3_text.specs.declared.text.Command.{Command}
 use Rattle.q3_window.specs.Incoming.{fresh_of}
@@ -21,19 +21,19 @@ use Rattle.q3_chan.specs.Gathering.{Gathering, Took}
 use Rattle.q3_chan.specs.Tags.{tagged, tagged_all}
 use Rattle.q3_chan.specs.Laws.{PiecesAreTagged, TaggedDoes}
 use Rattle.q3_client.specs.declared.client.ClientTook.TheVariants.{Applied}
-use Rattle.q3_slot.specs.Built.{Built}
-use Rattle.q3_slot.specs.Emitting.{built_bytes}
+use Rattle.q3_built.specs.Built.{Built, built_bytes}
 use Rattle.q3_server.specs.Server.{places}
 use Rattle.q3_client.specs.Client.{ClientState, Taken, Reception, receive_message, take_answer, take_gathered}
 use Rattle.q3_world.specs.declared.made.Direction.TheVariants.{ToClient}
-use Rattle.q3_world.specs.Ends.{client_at, with_client, Answered, ran_nothing}
+use Rattle.q3_lines.specs.ServerLines.{ran_nothing}
+use Rattle.q3_world.specs.Ends.{client_at, with_client, Answered}
 use Rattle.q3_world.specs.Kept.{Kept, KeptStep, kept_step}
 use Rattle.q3_world.specs.World.{Tag, Whole, History, no_history, history_at, with_history, with_heard, built_at, named, client_took, step, after, opening, with_game, with_taken, game_in, Played}
-use Rattle.q3_world.specs.StandsFor.{StandsFor, messages_of}
+use Rattle.q3_world.specs.StandsFor.{messages_of}
 use Rattle.q3_world.specs.Layers.{Layers}
 use Rattle.q3_world.specs.Schedules.{kept_then, whole_then, BytesFollowTags, applied_of, heard_of, ArePieces, deliveries, InOrderIsAccepted, AnswersSo}
 use Rattle.q3_world.proofs.Clients.{at_number}
-use Rattle.q3_world.proofs.Events.{Holds, has_client}
+use Rattle.q3_world.proofs.Holding.{Holds, has_client}
 use Rattle.q3_world.proofs.Arriving.{quiet_client, Named, names, is_sent, is_for, delivers_agree}
 use Rattle.q3_world.proofs.Agreement.{kept_is}
 use Rattle.q3_world.proofs.EverySchedule.{cited_of, outcome, delivered_so, answers_tag, applied_now}
@@ -42,6 +42,7 @@ use Rattle.q3_gamestate.specs.Values.{Gamestate}
 use Rattle.q3_world.specs.Games.{accepted_since}
 use Rattle.q3_svmsg.specs.Values.{Told}
 use Rattle.std.proofs.lemmas.List.{append-nil}
+use Rattle.q3_world.proofs.Stood.{Stood, stood}
 
 -- ---- one piece
 
@@ -80,6 +81,7 @@ IsAsBefore before now = (now.games ≡ before.games) × (now.accepted ≡ before
 pub record Reached (profile : Profile) (start now : Whole) (c n count : ℕ) (g : Gathering) : Type 0 where
   pub sent : now.sent ≡ start.sent
   pub clients : length now.ends.clients ≡ places
+  pub own : now.foreign ≡ false
   pub histories : length now.histories ≡ places
   pub built : (history_at now.histories c).built ≡ (history_at start.histories c).built
   pub client : ClientState
@@ -94,6 +96,7 @@ unfolding tagged_all
 reached_none profile start c n client holds found = record {
   sent = refl;
   clients = holds.facts.clients;
+  own = holds.own;
   histories = holds.facts.histories;
   built = refl;
   client = client;
@@ -143,6 +146,7 @@ reached_more does_so profile start now c n count number g tag lt is_c is_n is_in
     record {
       sent = reached.sent;
       clients = length-set now.ends.clients tag.client (Some taken.client) ∙ reached.clients;
+      own = reached.own;
       histories = length-set now.histories tag.client noted ∙ reached.histories;
       built = ap (λ (h : History). h.built) noted_is
           ∙ (noted_built history taken.accepted taken.heard tag.number taken.client.last_time (game_in taken.answer section)
@@ -166,10 +170,10 @@ reached_more does_so profile start now c n count number g tag lt is_c is_n is_in
     }
 
 -- a delivery of a piece, by its tag
-delivers_piece : (profile : Profile) (whole : Whole) (number : ℕ) (tag : Tag) (client : ClientState) → slice_get whole.sent (number - 1) ≡ Some tag
+delivers_piece : (profile : Profile) (whole : Whole) (number : ℕ) (tag : Tag) (client : ClientState) → whole.foreign ≡ false → slice_get whole.sent (number - 1) ≡ Some tag
     → tag.direction ≡ ToClient → client_at whole.ends tag.client ≡ Some client → (step profile whole (events.Deliver number)).whole ≡ arrives_at profile whole number tag client
 unfolding step
-delivers_piece profile whole number tag client at way found = rw (at, way, found) refl
+delivers_piece profile whole number tag client own at way found = rw (own, at, way, found) refl
 
 -- ---- pieces, one after the other
 
@@ -187,7 +191,7 @@ reached_all does_so profile start now c n count g (number ∷ numbers) last lt a
     let tag = are.0 in
     let at : slice_get now.sent (number - 1) ≡ Some tag = ap (λ (sent : List Tag). slice_get sent (number - 1)) reached.sent ∙ are.1 in
     let found : client_at now.ends tag.client ≡ Some reached.client = ap (λ (k : ℕ). client_at now.ends k) are.3 ∙ reached.found in
-    let next = delivers_piece profile now number tag reached.client at are.2 found in
+    let next = delivers_piece profile now number tag reached.client reached.own at are.2 found in
     let more = subst (λ (w : Whole). Reached profile start w c n (count + 1) g) (sym next)
     (reached_more does_so profile start now c n count number g tag lt are.3 are.4 are.5 reached) in
     let others = reached_all does_so profile start (step profile now (events.Deliver number)).whole c n (count + 1) g numbers last lt are.6 more in
@@ -201,21 +205,21 @@ unfolding after
 after_both profile whole [] others = refl
 after_both profile whole (event ∷ some) others = after_both profile (step profile whole event).whole some others
 
-pub both_are : (some others : List Event) → AllByRecursion IsReplayEvent some → AllByRecursion IsReplayEvent others → AllByRecursion IsReplayEvent (some ++ others)
+pub both_are : (some others : List Event) → AllByRecursion IsScheduled some → AllByRecursion IsScheduled others → AllByRecursion IsScheduled (some ++ others)
 both_are [] others first second = second
 both_are (event ∷ some) others first second = (first.0, both_are some others first.1 second)
 
 -- what the last piece answers, by its tag
-last_answer : (profile : Profile) (whole : Whole) (c n last : ℕ) (tag : Tag) (client : ClientState) (applied : AppliedSo) (heard : List Command) → slice_get whole.sent (last - 1) ≡ Some tag
+last_answer : (profile : Profile) (whole : Whole) (c n last : ℕ) (tag : Tag) (client : ClientState) (applied : AppliedSo) (heard : List Command) → whole.foreign ≡ false → slice_get whole.sent (last - 1) ≡ Some tag
     → tag.direction ≡ ToClient → tag.client ≡ c → client_at whole.ends tag.client ≡ Some client
     → (tagged client.gathering tag.number (built_bytes profile (named whole.histories tag)) tag.index).answer ≡ CameWhole n (length (built_bytes profile (named whole.histories tag)))
     → (apply_message client.state n (named whole.histories tag).message).answer ≡ applied
     → fresh_of client.state.executed.executed (named whole.histories tag).message.commands ≡ heard
     → AnswersSo (step profile whole (events.Deliver last)).answer (answers.Deliver last c (Applied applied)) (record ran_nothing { commands = heard })
-last_answer profile whole c n last tag client applied heard at way is_c found came is heard_is =
+last_answer profile whole c n last tag client applied heard own at way is_c found came is heard_is =
     let built = named whole.histories tag in
     let took = tagged client.gathering tag.number (built_bytes profile built) tag.index in
-    let given = answers_tag profile whole last tag client at way found
+    let given = answers_tag profile whole last tag client own at way found
     ∙ ap (λ (a : Gathered). delivered_so last tag.client (take_answer (record client { gathering = took.gathering }) a (λ k. Ok (receive_message client k built.message)))) came in (
       ap (λ (a : Answered). a.answer) given
           ∙ (ap (λ (a : AppliedSo). answers.Deliver last tag.client (Applied a)) is ∙ ap (λ (k : ℕ). answers.Deliver last k (Applied applied)) is_c),
@@ -225,20 +229,20 @@ last_answer profile whole c n last tag client applied heard at way is_c found ca
 pub in_order_is_accepted : BytesFollowTags → Layers → PiecesAreTagged → InOrderIsAccepted
 unfolding tagged_all
 in_order_is_accepted law below pieces profile all c n last numbers client is are delivers found newer are_pieces count =
-    let before : StandsFor profile (kept_then profile all) (whole_then profile all) = (law profile all is are).0 in
+    let before : Stood profile (kept_then profile all) (whole_then profile all) = stood law profile all is are in
     let start = whole_then profile all in
     let built = (history_at start.histories c).built in
     let message = built_bytes profile (built_at built n) in
-    let starts : Holds profile start = record { facts = before.facts; joined = before.joined } in
+    let starts : Holds profile start = record { facts = before.facts; joined = before.joined; own = before.own } in
     let first_tag = first numbers last start.sent c n are_pieces in
     let first_is = is_for profile start first_tag.1 first_tag.3 (is_sent profile start (first_tag.0 - 1) first_tag.1 first_tag.2 starts) in
     let lt : c < places = subst (λ (k : ℕ). k < places) first_tag.4 first_is.0 in
     let some : 1 ≤ n = subst (λ (k : ℕ). 1 ≤ k) first_tag.5 first_is.1.some in
     let had = has_client profile start c client lt found starts in
     let all' = all ++ deliveries numbers in
-    let stands : StandsFor profile (kept_then profile all') (whole_then profile all') = (law profile all' is (both_are all (deliveries numbers) are delivers)).0 in
+    let stands : Stood profile (kept_then profile all') (whole_then profile all') = stood law profile all' is (both_are all (deliveries numbers) are delivers) in
     let now = whole_then profile all' in
-    let holds : Holds profile now = record { facts = stands.facts; joined = stands.joined } in
+    let holds : Holds profile now = record { facts = stands.facts; joined = stands.joined; own = stands.own } in
     let g = client.gathering in
     let at_start = reached_none profile start c n client starts found in
     let reached_both = reached_all below.does profile start start c n 0 g numbers last lt are_pieces at_start in
@@ -286,7 +290,7 @@ in_order_is_accepted law below pieces profile all c n last numbers client is are
     ∙ ap (λ (b : Built). applied_now profile (history_at start.histories c) n b) named_is)) in
     let by_bytes = ap (λ (k : Kept). (kept_step k (events.Deliver last)).answer) (kept_is profile (kept_then profile all') now stands)
     ∙ ap (λ (s : KeptStep). s.answer) (delivers_agree profile now last cited holds).same in
-    let by_tag = last_answer profile now c n last tag reached.client (applied_now profile (history_at start.histories c) n (built_at built n)) (heard_of (history_at start.histories c) n) at tail.2 tail.3
+    let by_tag = last_answer profile now c n last tag reached.client (applied_now profile (history_at start.histories c) n (built_at built n)) (heard_of (history_at start.histories c) n) holds.own at tail.2 tail.3
     tag_found answer (out.answer ∙ applied_is) heard_is in
     (ap (λ (a : Answered). a.answer) by_bytes ∙ by_tag.0, ap (λ (a : Answered). a.ran) by_bytes ∙ by_tag.1)
   where

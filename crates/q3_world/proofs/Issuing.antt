@@ -19,8 +19,9 @@ use Rattle.q3_world.specs.World.{Whole, History, history_at}
 use Rattle.q3_world.specs.Games.{accepted_since}
 use Rattle.q3_world.specs.StandsFor.{AreJoined, carried_built, acks_built, carried_said, acks_said}
 use Rattle.q3_world.proofs.Growth.{HistoryGrows-beside}
-use Rattle.q3_world.proofs.Clients.{KeepsSlot-told, KeepsClient-typed, TakesBuilt-same, TakesSaid-same, AreAsked-same}
-use Rattle.q3_world.proofs.Events.{Holds, has_slot, has_client, with_server_of, Holds-slot, frames_stay, sent_grows, with_client_of, Holds-client}
+use Rattle.q3_world.proofs.Clients.{KeepsSlot-told, KeepsClient-typed}
+use Rattle.q3_world.proofs.Joined.{TakesBuilt-same, TakesSaid-same, AreAsked-same}
+use Rattle.q3_world.proofs.Holding.{Holds, has_slot, has_client, with_server_of, Holds-slot, frames_stay, sent_grows, with_client_of, Holds-client}
 
 -- what holds of the windows of both ends behind texts that fit
 record IssuesSo (window : OutgoingState) (incoming : IncomingState) (issued executed : List (List ℕ)) (carries : List Carriage) (acks : List Command) (taken came : ℕ) (texts : List (List ℕ)) : Type 0 where

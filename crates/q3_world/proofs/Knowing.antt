@@ -8,7 +8,7 @@ use Rattle.q3_ring.specs.Snapshot.{Snapshot}
 use Rattle.q3_rings.specs.declared.rings.NoBase.{NoBase}
 use Rattle.q3_rings.specs.Rings.{HeldSnapshots, held_snapshot, view_at}
 use Rattle.q3_rings.specs.Accepted.{SnapshotsStandFor}
-use Rattle.q3_slot.specs.Built.{Built, IsSnapshot, IsNear, IsBuilt}
+use Rattle.q3_built.specs.Built.{Built, IsSnapshot, IsNear, IsBuilt}
 use Rattle.q3_slot.specs.Slot.{SlotState}
 use Rattle.q3_client.specs.Client.{ClientState}
 use Rattle.q3_world.specs.Layers.{RingLaws}

@@ -1,5 +1,5 @@
 -- No end ever gets what it can't read.
-use Rattle.std.proofs.Common.{◌≡◌, ℕ, ◌+◌, ◌-◌, List, [], ◌∷◌, length, Option, Some, None, Result, Ok, Err, refl, sym, subst, inl, inr, arith}
+use Rattle.std.proofs.Common.{◌≡◌, ℕ, ◌+◌, ◌-◌, List, [], ◌∷◌, length, Option, Some, None, Result, Ok, Err, refl, sym, subst, inl, inr, arith, false, Bool, ◌∙◌}
 use Rattle.std.specs.Prelude.{◌⊎◌, nat_le, nat_lt, slice_get}
 use Rattle.std.specs.List.{AllByRecursion}
 use Rattle.std.proofs.lemmas.Bool.{cases_Bool}
@@ -8,7 +8,8 @@ use Rattle.q3_profile.specs.declared.profile.Profile.{Profile}
 use Rattle.q3_io.specs.declared.address.Address.{Address}
 use Rattle.q3_script.specs.declared.event.Event.{Event}
 use Rattle.q3_script.specs.declared.event.Event.TheVariants as events
-use Rattle.q3_script.specs.Grammar.{IsReplayEvent}
+use Rattle.q3_world.specs.Schedules.{IsScheduled}
+use Rattle.q3_world.proofs.Stood.{foreign_is, own_at_first}
 use Rattle.q3_window.specs.declared.outgoing.WindowFull.{WindowFull}
 use Rattle.q3_window.specs.Incoming.{gap_in}
 use Rattle.q3_clmsg.specs.declared.moves.Move.{Move}
@@ -23,9 +24,8 @@ use Rattle.q3_chan.specs.Datagrams.{sequence_end, longest_message}
 use Rattle.q3_chan.specs.Sending.{UnderWay}
 use Rattle.q3_chan.specs.Tags.{tagged, IsQuiet}
 use Rattle.q3_server.specs.declared.server.SlotError.{SlotError}
-use Rattle.q3_slot.specs.Built.{Built}
+use Rattle.q3_built.specs.Built.{Built, built_bytes}
 use Rattle.q3_slot.specs.Slot.{SlotState}
-use Rattle.q3_slot.specs.Emitting.{built_bytes}
 use Rattle.q3_server.specs.Server.{slot_at, add_client_at}
 use Rattle.q3_ring.specs.Snapshot.{Snapshot}
 use Rattle.q3_rings.specs.Rings.{is_young}
@@ -39,14 +39,14 @@ use Rattle.q3_client.specs.Sending as speaks
 use Rattle.q3_client.specs.Sending.{said_bits, said_bytes, next_message, next_said, is_unclear}
 use Rattle.q3_world.specs.declared.made.Direction.{Direction}
 use Rattle.q3_world.specs.declared.made.Direction.TheVariants.{ToClient, ToServer}
-use Rattle.q3_world.specs.declared.answer.Answer.TheVariants as answers
+use Rattle.q3_report.specs.declared.answer.Answer.TheVariants as answers
 use Rattle.q3_world.specs.Ends.{Ends, Answered, sent, joined, typed, type_to, moved, add_move_to, client_at}
 use Rattle.q3_world.specs.Kept.{Kept, opening_kept, kept_step, kept_answers}
-use Rattle.q3_world.specs.World.{Tag, Whole, history_at, opening, step, send, named, to_client, said_under, to_server, arrive, deliver}
+use Rattle.q3_world.specs.World.{Tag, Whole, history_at, opening, step, send, named, to_client, said_under, to_server, arrive, deliver, deliver_as}
 use Rattle.q3_world.specs.StandsFor.{IsSent, StandsFor}
 use Rattle.q3_world.specs.Layers.{Layers}
 use Rattle.q3_world.specs.Schedules.{StepFollows, MayBecome, outcome_of, IsLegible, AlwaysLegible, outcome_in}
-use Rattle.q3_world.proofs.Events.{Holds, has_slot, has_client}
+use Rattle.q3_world.proofs.Holding.{Holds, has_slot, has_client}
 use Rattle.q3_world.proofs.Agree.{Cited}
 use Rattle.q3_world.proofs.Arriving.{IsFor, IsOf, names, is_sent, is_for, is_of_client, slot_of_tag, said_hears}
 use Rattle.q3_world.proofs.EverySchedule.{cited_of, outcome, stands_opening}
@@ -215,11 +215,12 @@ legible_deliver profile whole number (Some tag) cited at holds =
     legible_arrive profile whole number tag tag.direction cited refl (is_sent profile whole (number - 1) tag at holds) holds
 
 -- each step by tags answers legibly
-legible_step : (profile : Profile) (whole : Whole) (event : Event) → Cited profile → IsReplayEvent event → Holds profile whole → IsLegible (step profile whole event).answer.answer
+legible_step : (profile : Profile) (whole : Whole) (event : Event) → Cited profile → IsScheduled event → Holds profile whole → IsLegible (step profile whole event).answer.answer
 unfolding step
 legible_step profile whole (events.Client c challenge qport dup address) cited is holds =
     let added = add_client_at whole.ends.server c challenge qport address in
     legible_joined (record whole.ends { server = added.server }) c (new_client profile challenge qport dup) address added.answer
+legible_step profile whole (events.Port c port) cited is holds = tt
 legible_step profile whole (events.Map id feed) cited is holds = tt
 legible_step profile whole (events.Baseline state) cited is holds = tt
 legible_step profile whole (events.Config index text) cited is holds = tt
@@ -233,24 +234,28 @@ legible_step profile whole (events.TypeText c text) cited is holds = legible_typ
 legible_step profile whole (events.Move c one) cited is holds = legible_move whole.ends c one (client_at whole.ends c)
 legible_step profile whole (events.Serve c) cited is holds = tt
 legible_step profile whole (events.Send c) cited is holds =
-    legible_send profile whole c (client_at whole.ends c) (λ client found. (has_client profile whole c client (omega (arith, is)) found holds).1.joined.of_client.legible)
-legible_step profile whole (events.Deliver number) cited is holds = legible_deliver profile whole number (slice_get whole.sent (number - 1)) cited refl holds
+    legible_send profile whole c (client_at whole.ends c) (λ client found. (has_client profile whole c client (omega (arith, is.0)) found holds).1.joined.of_client.legible)
+legible_step profile whole (events.Deliver number) cited is holds =
+    subst (λ (b : Bool). IsLegible (deliver_as b profile whole number (slice_get whole.sent (number - 1))).answer.answer) (sym holds.own) (legible_deliver profile whole number (slice_get whole.sent (number - 1)) cited refl holds)
 legible_step profile whole (events.Show c) cited is holds = tt
+legible_step profile whole (events.Bytes number) cited is holds = tt
+legible_step profile whole (events.Toclient c bytes) cited is holds = absurd is.1
+legible_step profile whole (events.Toserver c bytes) cited is holds = absurd is.1
 
 abbrev AreLegible : List Answered → Type 0
 AreLegible all = AllByRecursion (λ (given : Answered). IsLegible given.answer) all
 
 -- and so does what is kept, on every list of events
-legible_answers : StepFollows → (profile : Profile) (all : List Event) (kept : Kept) (whole : Whole) → Cited profile → AllByRecursion IsReplayEvent all → StandsFor profile kept whole
+legible_answers : StepFollows → (profile : Profile) (all : List Event) (kept : Kept) (whole : Whole) → Cited profile → whole.foreign ≡ false → AllByRecursion IsScheduled all → StandsFor profile kept whole
     → AreLegible (kept_answers kept all)
 unfolding kept_answers
-legible_answers law profile [] kept whole cited are stands = tt
-legible_answers law profile (event ∷ events) kept whole cited are stands =
-    let next = law profile kept whole event are.0 stands in
-    let here = legible_step profile whole event cited are.0 (record { facts = stands.facts; joined = stands.joined }) in (
+legible_answers law profile [] kept whole cited own are stands = tt
+legible_answers law profile (event ∷ events) kept whole cited own are stands =
+    let next = law profile kept whole event are.0.0 stands in
+    let here = legible_step profile whole event cited are.0 (record { facts = stands.facts own; joined = stands.joined own; own = own }) in (
       subst (λ (a : Answered). IsLegible a.answer) (sym next.1) here,
-      legible_answers law profile events (kept_step kept event).kept (step profile whole event).whole cited are.1 next.0,
+      legible_answers law profile events (kept_step kept event).kept (step profile whole event).whole cited (foreign_is profile whole event are.0.1 ∙ own) are.1 next.0,
     )
 
 pub always_legible : StepFollows → Layers → AlwaysLegible
-always_legible law below profile all is are = legible_answers law profile all (opening_kept profile) (opening profile) (cited_of below profile is) are (stands_opening below profile is)
+always_legible law below profile all is are = legible_answers law profile all (opening_kept profile) (opening profile) (cited_of below profile is) (own_at_first profile) are (stands_opening below profile is)

@@ -19,9 +19,9 @@ use Rattle.q3_client.specs.declared.client.Sent.TheVariants as answered_sent
 use Rattle.q3_client.specs.Client.{ClientState}
 use Rattle.q3_client.specs.Sending as speaks
 use Rattle.q3_client.specs.Sending.{said_bits, said_bytes, next_message, next_said, is_unclear as is_said_unclear}
-use Rattle.q3_slot.specs.Built.{is_unclear, IsBuilt, IsNear}
+use Rattle.q3_built.specs.Built.{is_unclear, IsBuilt, IsNear, built_bits, built_bytes}
 use Rattle.q3_slot.specs.Slot.{SlotState, asked, primed}
-use Rattle.q3_slot.specs.Emitting.{SlotEmission, next_frames, begun_next, built_bits, built_bytes, emit_built, most_placed, emit_new, emit_slot, next_game, telling_of, emit_game, emit_next, next_snapshot, next_game_built}
+use Rattle.q3_slot.specs.Emitting.{SlotEmission, next_frames, begun_next, emit_built, most_placed, emit_new, emit_slot, next_game, telling_of, emit_game, emit_next, next_snapshot, next_game_built}
 use Rattle.q3_server.specs.Server.{ServerState, Emission, places, slot_at, with_slot, emission_at, emit_from}
 use Rattle.q3_world.specs.Ends.{client_at, address_at}
 use Rattle.q3_world.specs.Kept.{kept_serve, kept_said, kept_send}
@@ -29,7 +29,9 @@ use Rattle.q3_world.specs.World.{Whole, history_at, serve, say, send, with_built
 use Rattle.q3_world.specs.Layers.{ScramblingLaws}
 use Rattle.q3_world.specs.StandsFor.{bytes_of}
 use Rattle.q3_world.proofs.Clients.{slot_begun, client_begun, BaseIs, asked_has, next_base, waits_empty, next_number, next_tells, next_is_snapshot}
-use Rattle.q3_world.proofs.Events.{Holds, Holds-handed, Holds-begun, Holds-too_long, handed_tag, Holds-goes, Holds-said, said_tag, has_slot, has_client, executed_by_slot, executed_by_client, same_server, Has, joined_stays}
+use Rattle.q3_world.proofs.Holding.{Holds, has_slot, has_client, same_server, Has}
+use Rattle.q3_world.proofs.Given.{joined_stays}
+use Rattle.q3_world.proofs.Begun.{Holds-handed, Holds-begun, Holds-too_long, handed_tag, Holds-goes, Holds-said, said_tag, executed_by_slot, executed_by_client}
 use Rattle.q3_world.proofs.Maps.{map_begun}
 use Rattle.q3_world.proofs.GamesMaps.{AreMapped-begun}
 use Rattle.q3_world.proofs.Agree.{Cited, kept_of, Agree, found_or, unnoted, left_alone}

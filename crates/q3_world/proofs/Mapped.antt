@@ -19,7 +19,7 @@ use Rattle.q3_player.specs.declared.head.SnapHead.{SnapHead}
 use Rattle.q3_profile.specs.declared.profile.Profile.{Profile}
 use Rattle.q3_ring.specs.Snapshot.{Snapshot}
 use Rattle.q3_rings.specs.Rings.{HeldSnapshots}
-use Rattle.q3_slot.specs.Built.{Built}
+use Rattle.q3_built.specs.Built.{Built}
 use Rattle.q3_slot.specs.Emitting.{next_game}
 use Rattle.q3_slot.specs.Slot.{SlotState, asked, is_active, plays_under, primed}
 use Rattle.q3_slot.specs.Slots.{tells}
@@ -131,7 +131,7 @@ pub mapped_said : (map : MapState) (slot : SlotState) (client : ClientState) (hi
     → AreMapped map (standing_of slot) client.state client.gathering.taken client.last_time history.built history.games (history.said ++ next_said client ∷ []) history.accepted history.client_executed
 mapped_said map slot client history asks since mapped =
     AreMapped-said map (standing_of slot) client.state client.gathering.taken client.last_time history.built history.games history.said history.accepted history.client_executed (next_said client) refl
-    refl refl (λ so. asks (asks_only client.delta (next_said client).message.moves so)) (AreSince-carried history.games (client.sending.number + 1) client.dup client.moves since) mapped
+    refl refl (λ none. ap (asks_delta client.delta) none) (λ so. asks (asks_only client.delta (next_said client).message.moves so)) (AreSince-carried history.games (client.sending.number + 1) client.dup client.moves since) mapped
   where
     asks_only : (delta : Bool) (moves : List Move) → asks_delta delta moves ≡ true → delta ≡ true
     asks_only delta [] so = absurd cc

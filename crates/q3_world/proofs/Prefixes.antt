@@ -1,5 +1,5 @@
 -- What the ends executed of each other's commands.
-use Rattle.std.proofs.Common.{◌≡◌, ℕ, ◌+◌, ◌-◌, List, [], ◌∷◌, ◌++◌, length, take, Option, Some, None, Ok, refl, sym, ap, subst, ◌∙◌, inl, inr}
+use Rattle.std.proofs.Common.{◌≡◌, ℕ, ◌+◌, ◌-◌, List, [], ◌∷◌, ◌++◌, length, take, Option, Some, None, Ok, refl, sym, ap, subst, ◌∙◌, inl, inr, Bool}
 use Rattle.std.specs.Prelude.{slice_get}
 use Rattle.q3_profile.specs.declared.profile.Profile.{Profile}
 use Rattle.q3_io.specs.declared.address.Address.{Address}
@@ -9,8 +9,8 @@ use Rattle.q3_text.specs.declared.text.Command.{Command}
 use Rattle.q3_text.specs.Commands.{numbered}
 use Rattle.q3_chan.specs.declared.gatherer.Gathered.{Gathered}
 use Rattle.q3_chan.specs.Tags.{tagged}
+use Rattle.q3_built.specs.Built.{built_bytes}
 use Rattle.q3_slot.specs.Slot.{SlotState}
-use Rattle.q3_slot.specs.Emitting.{built_bytes}
 use Rattle.q3_slot.specs.Taking as by_slot
 use Rattle.q3_server.specs.Taking as hears
 use Rattle.q3_server.specs.Server.{slot_at}
@@ -21,11 +21,11 @@ use Rattle.q3_world.specs.declared.made.Direction.{Direction}
 use Rattle.q3_world.specs.declared.made.Direction.TheVariants.{ToClient, ToServer}
 use Rattle.q3_world.specs.Ends.{Ends, client_at, ran_of}
 use Rattle.q3_world.specs.Kept.{Kept, KeptStep, kept_step}
-use Rattle.q3_world.specs.World.{Tag, Step, Whole, History, no_history, history_at, texts_of, with_heard, with_run, named, said_under, arrive, opening, step, after, with_game, with_taken, game_in}
-use Rattle.q3_world.specs.StandsFor.{IsSent, AreCommanded, StandsFor}
+use Rattle.q3_world.specs.World.{Tag, Step, Whole, History, no_history, history_at, texts_of, with_heard, with_run, named, said_under, arrive, opening, step, after, with_game, with_taken, game_in, deliver_as}
+use Rattle.q3_world.specs.StandsFor.{IsSent, AreCommanded}
 use Rattle.q3_world.specs.Layers.{Layers}
 use Rattle.q3_world.specs.Schedules.{kept_then, whole_then, BytesFollowTags, GoesOn, CommandsArePrefixes, ExecutedGoesOn}
-use Rattle.q3_world.proofs.Events.{Holds, Has, has_client, has_slot}
+use Rattle.q3_world.proofs.Holding.{Holds, Has, has_client, has_slot}
 use Rattle.q3_world.proofs.Agree.{Cited}
 use Rattle.q3_world.proofs.Arriving.{IsFor, IsOf, quiet_client, quiet_slot, client_of_tag, slot_of_tag, names, said_hears, is_sent, is_for, is_of_client, delivers_agree}
 use Rattle.q3_world.proofs.Agreement.{kept_is}
@@ -37,15 +37,16 @@ use Rattle.q3_map.specs.Map.{is_other}
 use Rattle.q3_slot.specs.Taking.{came_as}
 use Rattle.q3_gamestate.specs.Values.{Gamestate}
 use Rattle.q3_world.proofs.RunIssued.{slot_takes, slot_does}
+use Rattle.q3_world.proofs.Stood.{Stood, stood}
 
 -- ---- fronts
 
 pub commands_are_prefixes : BytesFollowTags → CommandsArePrefixes
 commands_are_prefixes law profile all c slot client is are within slot_is client_is =
-    let stands : StandsFor profile (kept_then profile all) (whole_then profile all) = (law profile all is are).0 in
+    let stands : Stood profile (kept_then profile all) (whole_then profile all) = stood law profile all is are in
     let whole = whole_then profile all in
     let history = history_at whole.histories c in
-    let holds : Holds profile whole = record { facts = stands.facts; joined = stands.joined } in
+    let holds : Holds profile whole = record { facts = stands.facts; joined = stands.joined; own = stands.own } in
     let slot_found : slot_at whole.ends.server c ≡ Some slot = ap (λ (e : Ends). slot_at e.server c) (sym stands.ends) ∙ slot_is in
     let client_found : client_at whole.ends c ≡ Some client = ap (λ (e : Ends). client_at e c) (sym stands.ends) ∙ client_is in
     let had = has_client profile whole c client within client_found holds in
@@ -163,7 +164,8 @@ delivered_goes_on : (profile : Profile) (whole : Whole) (number : ℕ) (tag : Ta
     → StepGoesOn whole tag (step profile whole (events.Deliver number))
 unfolding step
 delivered_goes_on profile whole number tag cited at holds =
-    rw at (arrived_goes_on profile whole number tag tag.direction cited refl (is_sent profile whole (number - 1) tag at holds) holds)
+    subst (λ (b : Bool). StepGoesOn whole tag (deliver_as b profile whole number (slice_get whole.sent (number - 1)))) (sym holds.own)
+    (rw at (arrived_goes_on profile whole number tag tag.direction cited refl (is_sent profile whole (number - 1) tag at holds) holds))
 
 after_one : (profile : Profile) (whole : Whole) (event : Event) → after profile whole (event ∷ []) ≡ (step profile whole event).whole
 unfolding after
@@ -172,12 +174,12 @@ after_one profile whole event = refl
 -- and by bytes
 pub executed_goes_on : BytesFollowTags → Layers → ExecutedGoesOn
 executed_goes_on law below profile all number tag is are is_event at =
-    let stands : StandsFor profile (kept_then profile all) (whole_then profile all) = (law profile all is are).0 in
+    let stands : Stood profile (kept_then profile all) (whole_then profile all) = stood law profile all is are in
     let kept = kept_then profile all in
     let whole = whole_then profile all in
     let event : Event = events.Deliver number in
     let cited = cited_of below profile is in
-    let holds : Holds profile whole = record { facts = stands.facts; joined = stands.joined } in
+    let holds : Holds profile whole = record { facts = stands.facts; joined = stands.joined; own = stands.own } in
     let history = history_at whole.histories tag.client in
     let by_tag = delivered_goes_on profile whole number tag cited at holds in
     let answers : (kept_step kept event).answer.ran.commands ≡ (step profile whole event).answer.ran.commands =

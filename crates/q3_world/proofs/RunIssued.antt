@@ -12,22 +12,22 @@ use Rattle.q3_chan.specs.Tags.{tagged, IsQuiet}
 use Rattle.q3_chan.specs.Laws.{TaggedDoes}
 use Rattle.q3_window.specs.Incoming.{fresh_of, gap_in}
 use Rattle.q3_slot.specs.declared.taking.ServerTook.TheVariants as answer
-use Rattle.q3_world.specs.declared.answer.Answer.TheVariants as variants
+use Rattle.q3_report.specs.declared.answer.Answer.TheVariants as variants
 use Rattle.q3_slot.specs.Slot.{SlotState}
 use Rattle.q3_server.specs.Server.{ServerState, slot_at, with_slot}
 use Rattle.q3_slot.specs.Taking as by_slot
 use Rattle.q3_client.specs.Client.{ClientState}
 use Rattle.q3_client.specs.Sending.{said_bytes}
 use Rattle.q3_world.specs.declared.made.Direction.TheVariants as direction
-use Rattle.q3_world.specs.Ends.{Ends, Answered, client_at, ran, address_at, ran_nothing}
+use Rattle.q3_world.specs.Ends.{Ends, Answered, client_at, ran, address_at}
 use Rattle.q3_world.specs.Kept.{SentBytes, Kept, KeptStep, kept_step}
 use Rattle.q3_world.specs.World.{Tag, Whole, History, history_at, said_at, said_under, step}
-use Rattle.q3_world.specs.StandsFor.{IsClient, IsJoined, StandsFor, bytes_of}
+use Rattle.q3_world.specs.StandsFor.{IsClient, IsJoined, bytes_of}
 use Rattle.q3_world.specs.Moves.{TimesRise, StandAmong}
 use Rattle.q3_world.specs.Layers.{Layers}
 use Rattle.q3_world.specs.Schedules.{kept_then, whole_then, BytesFollowTags, NewerIsRun, MovesWereIssued, AnswersSo, GoesOnPlaying, playing_of, run_of}
 use Rattle.q3_world.proofs.MoveLists.{stand_among}
-use Rattle.q3_world.proofs.Events.{Holds, has_slot, Has}
+use Rattle.q3_world.proofs.Holding.{Holds, has_slot, Has}
 use Rattle.q3_world.proofs.Arriving.{is_sent, is_of_client, said_tag_is, runs_whole, said_hears, delivers_agree, IsOf}
 use Rattle.q3_world.proofs.OnePlace.{set_there}
 use Rattle.q3_world.proofs.Agree.{seen, Cited}
@@ -36,7 +36,8 @@ use Rattle.q3_world.proofs.EverySchedule.{cited_of, tag_of}
 use Rattle.q3_map.specs.Map.{MapState, is_other}
 use Rattle.q3_clmsg.specs.Values.{Message}
 use Rattle.q3_slot.specs.Taking.{OfMap, OfOther, asks_game, came_as, goes_on, heads_of}
-use Rattle.q3_server.specs.Report.{Run}
+use Rattle.q3_lines.specs.ServerLines.{Run, ran_nothing}
+use Rattle.q3_world.proofs.Stood.{Stood, stood}
 
 -- ---- moves
 
@@ -54,7 +55,7 @@ issued_by profile map (Some slot) (Some client) address history is joined =
 
 pub moves_were_issued : BytesFollowTags → MovesWereIssued
 moves_were_issued law profile all c is are within =
-    let stands : StandsFor profile (kept_then profile all) (whole_then profile all) = (law profile all is are).0 in
+    let stands : Stood profile (kept_then profile all) (whole_then profile all) = stood law profile all is are in
     let whole = whole_then profile all in
     issued_by profile whole.ends.server.map (slot_at whole.ends.server c) (client_at whole.ends c) (address_at whole.ends c) (history_at whole.histories c)
     (stands.facts.each c within) (stands.joined c within)
@@ -91,18 +92,18 @@ abbrev ran_so : ℕ → by_slot.SlotTaken → Answered
 ran_so number taken = ran number taken.answer (ran_of_slot taken)
 
 -- what a delivery to the server answers, by its tag
-answers_said : (profile : Profile) (whole : Whole) (number : ℕ) (tag : Tag) (from : Address) (slot : SlotState) → slice_get whole.sent (number - 1) ≡ Some tag
+answers_said : (profile : Profile) (whole : Whole) (number : ℕ) (tag : Tag) (from : Address) (slot : SlotState) → whole.foreign ≡ false → slice_get whole.sent (number - 1) ≡ Some tag
     → tag.direction ≡ direction.ToServer from → slot_at whole.ends.server tag.client ≡ Some slot
     → (step profile whole (events.Deliver number)).answer ≡ ran_so number (slot_takes profile whole tag from slot)
 unfolding step
-answers_said profile whole number tag from slot at way found = rw (at, way, found) refl
+answers_said profile whole number tag from slot own at way found = rw (own, at, way, found) refl
 
 -- and the server behind it
-server_said : (profile : Profile) (whole : Whole) (number : ℕ) (tag : Tag) (from : Address) (slot : SlotState) → slice_get whole.sent (number - 1) ≡ Some tag
+server_said : (profile : Profile) (whole : Whole) (number : ℕ) (tag : Tag) (from : Address) (slot : SlotState) → whole.foreign ≡ false → slice_get whole.sent (number - 1) ≡ Some tag
     → tag.direction ≡ direction.ToServer from → slot_at whole.ends.server tag.client ≡ Some slot
     → (step profile whole (events.Deliver number)).whole.ends.server ≡ with_slot whole.ends.server tag.client (slot_takes profile whole tag from slot).slot
 unfolding step
-server_said profile whole number tag from slot at way found = rw (at, way, found) refl
+server_said profile whole number tag from slot own at way found = rw (own, at, way, found) refl
 
 -- the message that came whole is the one that the tag names
 heard_whole : TaggedDoes → (profile : Profile) (whole : Whole) (tag : Tag) (slot : SlotState) (n count : ℕ)
@@ -154,9 +155,9 @@ runs_by_tag profile whole number tag from slot client count cited at way sent_is
     let gap = (said_hears profile whole tag from slot client cited sent_is had newer).gap in
     let doing : SlotDoes map now c n message heard = slot_does map now c n count message took.answer came gap in
     let counted = had.joined.commanded.to_server.runs.executed in
-    let given = answers_said profile whole number tag from slot at way had.slot_is in
+    let given = answers_said profile whole number tag from slot holds.own at way had.slot_is in
     let behind : slot_at (step profile whole (events.Deliver number)).whole.ends.server c ≡ Some heard.slot =
-    ap (λ (server : ServerState). slot_at server c) (server_said profile whole number tag from slot at way had.slot_is)
+    ap (λ (server : ServerState). slot_at server c) (server_said profile whole number tag from slot holds.own at way had.slot_is)
     ∙ set_there whole.ends.server.slots c None (Some heard.slot) holds.facts.slots sent_is.0 in
     let playing = goes_on slot message message.moves in (
       λ same.
@@ -181,11 +182,11 @@ runs_by_tag profile whole number tag from slot client count cited at way sent_is
 
 pub newer_is_run : BytesFollowTags → Layers → NewerIsRun
 newer_is_run law below profile all number n count sent from slot is are at way found came =
-    let stands : StandsFor profile (kept_then profile all) (whole_then profile all) = (law profile all is are).0 in
+    let stands : Stood profile (kept_then profile all) (whole_then profile all) = stood law profile all is are in
     let kept = kept_then profile all in
     let whole = whole_then profile all in
     let cited = cited_of below profile is in
-    let holds : Holds profile whole = record { facts = stands.facts; joined = stands.joined } in
+    let holds : Holds profile whole = record { facts = stands.facts; joined = stands.joined; own = stands.own } in
     let tag = tag_of (slice_get whole.sent (number - 1)) sent
     (sym (slice_get-map bytes_of whole.sent (number - 1)) ∙ (ap (λ (d : List SentBytes). slice_get d (number - 1)) (sym stands.datagrams) ∙ at)) in
     let goes : tag.0.direction ≡ direction.ToServer from = ap (λ (s : SentBytes). s.direction) tag.2 ∙ way in

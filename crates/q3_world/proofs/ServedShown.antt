@@ -12,7 +12,7 @@ use Rattle.q3_bits.specs.Laws.{MessageIsBytes}
 use Rattle.q3_profile.specs.declared.profile.Profile.{Profile}
 use Rattle.q3_script.specs.declared.event.Event.{Event}
 use Rattle.q3_script.specs.declared.event.Event.TheVariants as events
-use Rattle.q3_script.specs.Grammar.{IsReplayEvent}
+use Rattle.q3_world.specs.Schedules.{IsScheduled}
 use Rattle.q3_ring.specs.Snapshot.{Snapshot}
 use Rattle.q3_frames.specs.Frames.{FramesState}
 use Rattle.q3_clstate.specs.declared.applied.Applied.{Applied as AppliedSo}
@@ -21,24 +21,26 @@ use Rattle.q3_chan.specs.Laws.{TaggedDoes, FrontStays}
 use Rattle.q3_chan.specs.Sending.{Sending, UnderWay, left_of, next_of}
 use Rattle.q3_clstate.specs.declared.applied.SnapOutcome.TheVariants.{Accepted}
 use Rattle.q3_slot.specs.declared.answer.Emitted.TheVariants as emitted
-use Rattle.q3_slot.specs.Built.{Built, number_of}
+use Rattle.q3_built.specs.Built.{Built, number_of, built_bits, built_bytes}
 use Rattle.q3_slot.specs.Slot.{SlotState}
-use Rattle.q3_slot.specs.Emitting.{SlotEmission, next_snapshot, next_frames, built_bits, built_bytes, most_placed, hand_out, emit_slot}
+use Rattle.q3_slot.specs.Emitting.{SlotEmission, next_snapshot, next_frames, most_placed, hand_out, emit_slot}
 use Rattle.q3_server.specs.Server.{ServerState, places, slot_at, emission_at, emit_at}
 use Rattle.q3_client.specs.Client.{ClientState}
 use Rattle.q3_world.specs.Ends.{client_at}
 use Rattle.q3_world.specs.Kept.{Kept, opening_kept, kept_step, kept_after}
 use Rattle.q3_world.specs.World.{Tag, Whole, History, no_history, no_message, history_at, with_built, built_at, serve, step, after, opening, Played}
-use Rattle.q3_world.specs.StandsFor.{IsChecked, snapshot_in, StandsFor}
+use Rattle.q3_world.specs.StandsFor.{IsChecked, snapshot_in}
 use Rattle.q3_world.specs.Schedules.{kept_then, whole_then, history_then, BytesFollowTags, ArePieces, deliveries, serve_and_deliver, built_next, datagrams_of, MayBegin, outcome_of, InOrderIsAccepted, AppliedWasBuilt, ServedIsShown, since_then, applied_then, outcome_in}
 use Rattle.q3_world.proofs.Growth.{noted_same}
 use Rattle.q3_world.proofs.Clients.{slot_begun}
-use Rattle.q3_world.proofs.Events.{Holds, with_server_of, slot_handed, handed_tag, has_client}
+use Rattle.q3_world.proofs.Holding.{Holds, with_server_of, has_client}
+use Rattle.q3_world.proofs.Begun.{slot_handed, handed_tag}
 use Rattle.q3_world.proofs.EverySchedule.{shows}
 use Rattle.q3_world.proofs.InOrder.{reached_none, reached_all, after_both, both_are}
 use Rattle.q3_world.proofs.OnePlace.{set_there}
 use Rattle.q3_world.specs.Games.{accepted_since}
 use Rattle.q3_clstate.specs.declared.applied.SnapOutcome.{SnapOutcome}
+use Rattle.q3_world.proofs.Stood.{Stood, stood}
 
 -- ---- one datagram more
 
@@ -221,7 +223,7 @@ range_last first (suc count) =
     let same : first + 1 + count ≡ first + suc count = omega arith in
     ap (λ (numbers : List ℕ). first ∷ numbers) (range_last (first + 1) count ∙ ap (λ (k : ℕ). range_with_len (first + 1) count ++ k ∷ []) same)
 
-are_both : (some others : List Event) → AllByRecursion IsReplayEvent (some ++ others) → AllByRecursion IsReplayEvent some × AllByRecursion IsReplayEvent others
+are_both : (some others : List Event) → AllByRecursion IsScheduled (some ++ others) → AllByRecursion IsScheduled some × AllByRecursion IsScheduled others
 are_both [] others are = (tt, are)
 are_both (event ∷ some) others are = let rest = are_both some others are.1 in ((are.0, rest.0), rest.1)
 
@@ -241,8 +243,8 @@ one_snapshot : (x y : Snapshot) → Some x ≡ Some y → x ≡ y
 one_snapshot x y e = cc
 
 shown : BytesFollowTags → InOrderIsAccepted → AppliedWasBuilt → BytesAreMany → TaggedDoes
-    → (profile : Profile) (all : List Event) (c t : ℕ) (slot : SlotState) (client : ClientState) → IsChecked profile → AllByRecursion IsReplayEvent all
-    → AllByRecursion IsReplayEvent (serve_and_deliver c (length (whole_then profile all).sent + 1) (suc t))
+    → (profile : Profile) (all : List Event) (c t : ℕ) (slot : SlotState) (client : ClientState) → IsChecked profile → AllByRecursion IsScheduled all
+    → AllByRecursion IsScheduled (serve_and_deliver c (length (whole_then profile all).sent + 1) (suc t))
     → slot_at (whole_then profile all).ends.server c ≡ Some slot → client_at (whole_then profile all).ends c ≡ Some client
     → MayBegin profile (whole_then profile all).ends.server c slot
     → outcome_of profile.parse_ring (since_then profile all c) (built_next (whole_then profile all).ends.server c slot).base
@@ -252,8 +254,8 @@ shown : BytesFollowTags → InOrderIsAccepted → AppliedWasBuilt → BytesAreMa
     ≡ Some (next_snapshot (whole_then profile all).ends.server.map slot)
 shown law accepted applied bytes does profile all c t slot client is are made_so found there may there_base count =
     let start = whole_then profile all in
-    let before : StandsFor profile (kept_then profile all) start = (law profile all is are).0 in
-    let holds : Holds profile start = record { facts = before.facts; joined = before.joined } in
+    let before : Stood profile (kept_then profile all) start = stood law profile all is are in
+    let holds : Holds profile start = record { facts = before.facts; joined = before.joined; own = before.own } in
     let map = start.ends.server.map in
     let next = built_next start.ends.server c slot in
     let n = slot.sending.number + 1 in
@@ -265,8 +267,8 @@ shown law accepted applied bytes does profile all c t slot client is are made_so
     let deliver_all : deliveries (range_with_len first (suc t)) ≡ deliveries numbers ++ events.Deliver last ∷ [] =
     ap (λ (k : List ℕ). deliveries k) is_range ∙ map-append (λ (k : ℕ). events.Deliver k) numbers (last ∷ []) in
     let parts = are_both serves (deliveries (range_with_len first (suc t))) made_so in
-    let numbers_are = are_both (deliveries numbers) (events.Deliver last ∷ []) (subst (λ (l : List Event). AllByRecursion IsReplayEvent l) deliver_all parts.1) in
-    let lt : c < places = let zero_is : c ≡ 0 = parts.0.0 in omega arith in
+    let numbers_are = are_both (deliveries numbers) (events.Deliver last ∷ []) (subst (λ (l : List Event). AllByRecursion IsScheduled l) deliver_all parts.1) in
+    let lt : c < places = let few = parts.0.0.0 in omega (arith, few) in
     let had = has_client profile start c client lt there holds in
     let slot_is : had.0 ≡ slot = some_one (sym had.1.slot_is ∙ found) in
     let begun : length (history_at start.histories c).built ≡ slot.sending.number = sym had.1.keeps.of_slot.sending.begun ∙ ap (λ (s : SlotState). s.sending.number) slot_is in
@@ -285,9 +287,9 @@ shown law accepted applied bytes does profile all c t slot client is are made_so
     let answer = accepted profile served c n last numbers client is served_are numbers_are.0 mid_found (omega (arith, taken, begun)) pieces index in
     let arrived = served ++ deliveries numbers in
     let arrived_are = both_are served (deliveries numbers) served_are numbers_are.0 in
-    let mid_stands : StandsFor profile (kept_then profile served) mid = (law profile served is served_are).0 in
+    let mid_stands : Stood profile (kept_then profile served) mid = stood law profile served is served_are in
     let g = client.gathering in
-    let at_mid = reached_none profile mid c n client (record { facts = mid_stands.facts; joined = mid_stands.joined }) mid_found in
+    let at_mid = reached_none profile mid c n client (record { facts = mid_stands.facts; joined = mid_stands.joined; own = mid_stands.own }) mid_found in
     let reached = (reached_all does profile mid mid c n 0 g numbers last lt pieces at_mid).0 in
     let then_is : whole_then profile arrived ≡ after profile mid (deliveries numbers) = after_both profile (opening profile) served (deliveries numbers) in
     let built_is : built_at (history_then profile arrived c).built n ≡ next =
@@ -328,5 +330,5 @@ served_is_shown law accepted applied bytes front does profile all c slot client 
     let one : suc t ≡ count = omega arith in
     let more : 1 + t ≡ count = omega arith in
     subst (λ (k : ℕ). (kept_step (kept_then profile (all ++ serve_and_deliver c first k)) (events.Show c)).answer.snapshot ≡ Some (next_snapshot server.map slot)) one
-    (shown law accepted applied (λ p b. (front 4 b.start b.text (message_bytes (built_bits p b))).0 ∙ (bytes (built_bits p b)).0) does profile all c t slot client is are (subst (λ (k : ℕ). AllByRecursion IsReplayEvent (serve_and_deliver c first k)) (sym one) made_so)
+    (shown law accepted applied (λ p b. (front 4 b.start b.text (message_bytes (built_bits p b))).0 ∙ (bytes (built_bits p b)).0) does profile all c t slot client is are (subst (λ (k : ℕ). AllByRecursion IsScheduled (serve_and_deliver c first k)) (sym one) made_so)
     found there may there_base more)

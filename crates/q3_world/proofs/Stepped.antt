@@ -40,6 +40,7 @@ few_delivered kept number (Some sent) = few_arrived_at kept number sent sent.dir
 pub few_more : (kept : Kept) (event : Event) → length (kept_step kept event).kept.datagrams ≤ length kept.datagrams + 1
 unfolding kept_step
 few_more kept (events.Client c challenge qport dup address) = omega arith
+few_more kept (events.Port c port) = omega arith
 few_more kept (events.Map id feed) = omega arith
 few_more kept (events.Baseline state) = omega arith
 few_more kept (events.Config index text) = omega arith
@@ -55,3 +56,6 @@ few_more kept (events.Serve c) = few_made kept.datagrams c ToClient (emit_at kep
 few_more kept (events.Send c) = few_sent kept c (client_at kept.ends c)
 few_more kept (events.Deliver number) = few_delivered kept number (slice_get kept.datagrams (number - 1))
 few_more kept (events.Show c) = omega arith
+few_more kept (events.Bytes number) = omega arith
+few_more kept (events.Toclient c bytes) = omega arith
+few_more kept (events.Toserver c bytes) = omega arith

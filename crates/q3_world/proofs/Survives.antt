@@ -19,9 +19,9 @@ use Rattle.q3_chan.specs.Laws.{IsSendable, PiecesComeWhole, FirstComePartial}
 use Rattle.q3_svmsg.specs.declared.error.Illegible.{Illegible}
 use Rattle.q3_clmsg.specs.declared.error.ClientIllegible.{ClientIllegible}
 use Rattle.q3_map.specs.Map.{MapState}
+use Rattle.q3_built.specs.Built.{built_bytes}
 use Rattle.q3_slot.specs.declared.taking.ServerTook.TheVariants.{Partial as SlotPartial}
 use Rattle.q3_slot.specs.Slot.{SlotState, is_of}
-use Rattle.q3_slot.specs.Emitting.{built_bytes}
 use Rattle.q3_slot.specs.Taking.{came_as, said_by, run_read}
 use Rattle.q3_slot.specs.Taking as by_slot
 use Rattle.q3_server.specs.Server.{ServerState, slot_at, with_slot}

@@ -1,5 +1,5 @@
 -- Which deliveries are unknown.
-use Rattle.std.proofs.Common.{◌≡◌, ℕ, ◌-◌, List, Option, Some, None, refl, sym, ap, ◌∙◌}
+use Rattle.std.proofs.Common.{◌≡◌, ℕ, ◌-◌, List, Option, Some, None, refl, sym, ap, ◌∙◌, Bool, subst}
 use Rattle.std.specs.Prelude.{◌↔◌, slice_get}
 use Rattle.std.specs.Option.{option_map}
 use Rattle.std.proofs.lemmas.Option.{slice_get-map}
@@ -8,21 +8,22 @@ use Rattle.q3_script.specs.declared.event.Event.TheVariants as events
 use Rattle.q3_text.specs.declared.text.Command.{Command}
 use Rattle.q3_slot.specs.declared.taking.ServerTook.{ServerTook}
 use Rattle.q3_client.specs.declared.client.ClientTook.{ClientTook}
-use Rattle.q3_world.specs.declared.answer.Answer.TheVariants as answer
+use Rattle.q3_report.specs.declared.answer.Answer.TheVariants as answer
 use Rattle.q3_world.specs.declared.made.Direction.{Direction}
 use Rattle.q3_world.specs.declared.made.Direction.TheVariants.{ToClient, ToServer}
 use Rattle.q3_world.specs.Ends.{Answered, unknown, delivered, ran}
 use Rattle.q3_world.specs.Kept.{SentBytes, Kept, KeptStep, kept_step}
-use Rattle.q3_world.specs.World.{Tag, Whole, arrive, deliver, step}
-use Rattle.q3_world.specs.StandsFor.{IsSent, StandsFor, bytes_of}
+use Rattle.q3_world.specs.World.{Tag, Whole, arrive, deliver, step, deliver_as}
+use Rattle.q3_world.specs.StandsFor.{IsSent, bytes_of}
 use Rattle.q3_world.specs.Layers.{Layers}
 use Rattle.q3_world.specs.Schedules.{kept_then, whole_then, BytesFollowTags, UnknownWasNotMade}
-use Rattle.q3_world.proofs.Events.{Holds}
+use Rattle.q3_world.proofs.Holding.{Holds}
 use Rattle.q3_world.proofs.Arriving.{is_sent, is_for, is_of_client, client_of_tag, slot_of_tag, delivers_agree}
 use Rattle.q3_world.proofs.Agreement.{kept_is}
 use Rattle.q3_world.proofs.EverySchedule.{cited_of}
 use Rattle.q3_clstate.specs.State.{AppliedState}
-use Rattle.q3_server.specs.Report.{Run}
+use Rattle.q3_lines.specs.ServerLines.{Run}
+use Rattle.q3_world.proofs.Stood.{Stood, stood}
 
 not_delivered : (number c : ℕ) (state : AppliedState) (took : ClientTook) (commands : List Command) → delivered number c state took commands ≡ unknown number → ⊥
 not_delivered number c state took commands e =
@@ -54,15 +55,17 @@ unknown_tag profile whole number (Some tag) at holds =
 unknown_step : (profile : Profile) (whole : Whole) (number : ℕ) → Holds profile whole
     → ((step profile whole (events.Deliver number)).answer ≡ unknown number) ↔ (option_map bytes_of (slice_get whole.sent (number - 1)) ≡ None)
 unfolding step
-unknown_step profile whole number holds = unknown_tag profile whole number (slice_get whole.sent (number - 1)) refl holds
+unknown_step profile whole number holds =
+    subst (λ (b : Bool). ((deliver_as b profile whole number (slice_get whole.sent (number - 1))).answer ≡ unknown number) ↔ (option_map bytes_of (slice_get whole.sent (number - 1)) ≡ None))
+    (sym holds.own) (unknown_tag profile whole number (slice_get whole.sent (number - 1)) refl holds)
 
 -- and by bytes
 pub unknown_was_not_made : BytesFollowTags → Layers → UnknownWasNotMade
 unknown_was_not_made law below profile all number is are =
-    let stands : StandsFor profile (kept_then profile all) (whole_then profile all) = (law profile all is are).0 in
+    let stands : Stood profile (kept_then profile all) (whole_then profile all) = stood law profile all is are in
     let kept = kept_then profile all in
     let whole = whole_then profile all in
-    let holds : Holds profile whole = record { facts = stands.facts; joined = stands.joined } in
+    let holds : Holds profile whole = record { facts = stands.facts; joined = stands.joined; own = stands.own } in
     let by_tags = unknown_step profile whole number holds in
     let answers : (kept_step kept (events.Deliver number)).answer ≡ (step profile whole (events.Deliver number)).answer =
     ap (λ (k : Kept). (kept_step k (events.Deliver number)).answer) (kept_is profile kept whole stands)

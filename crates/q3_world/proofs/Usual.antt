@@ -10,22 +10,22 @@ use Rattle.q3_rings.specs.Rings.{is_young}
 use Rattle.q3_rings.specs.Accepted.{AreAccepted, newest_of, age_of, held_among}
 use Rattle.q3_clstate.specs.declared.applied.Applied.{Applied}
 use Rattle.q3_clstate.specs.declared.applied.SnapOutcome.TheVariants.{Accepted, NoSnap}
-use Rattle.q3_slot.specs.Built.{Built, IsNear, IsBuilt}
+use Rattle.q3_built.specs.Built.{Built, IsNear, IsBuilt}
 use Rattle.q3_svmsg.specs.Values as told
 use Rattle.q3_svmsg.specs.Values.{Told}
 use Rattle.q3_server.specs.Server.{places}
 use Rattle.q3_client.specs.Client.{ClientState}
 use Rattle.q3_world.specs.Ends.{Ends, client_at}
 use Rattle.q3_world.specs.World.{no_message, history_at, built_at}
-use Rattle.q3_world.specs.StandsFor.{StandsFor}
 use Rattle.q3_world.specs.Layers.{Layers, RingLaws}
 use Rattle.q3_world.specs.Schedules.{kept_then, whole_then, BytesFollowTags, AppliedWasBuilt, outcome_of, UsualNeverSkips, outcome_in}
 use Rattle.q3_world.proofs.Bases.{if_some_then}
 use Rattle.q3_world.proofs.Knowing.{KnownBase, known_base}
-use Rattle.q3_world.proofs.Events.{Holds, has_client}
+use Rattle.q3_world.proofs.Holding.{Holds, has_client}
 use Rattle.q3_world.specs.Games.{accepted_since}
 use Rattle.q3_world.proofs.Mapped.{mapped_base}
 use Rattle.q3_profile.specs.declared.profile.Profile.{Profile}
+use Rattle.q3_world.proofs.Stood.{Stood, stood}
 
 abbrev held_so : Snapshot → Result Snapshot NoBase
 held_so snapshot = Ok snapshot
@@ -72,9 +72,9 @@ has_place (x ∷ clients) (suc c) client e = let behind = has_place clients c cl
 
 pub usual_never_skips : BytesFollowTags → Layers → AppliedWasBuilt → UsualNeverSkips
 usual_never_skips law below applied_so profile all number c applied is are room e =
-    let stands : StandsFor profile (kept_then profile all) (whole_then profile all) = (law profile all is are).0 in
+    let stands : Stood profile (kept_then profile all) (whole_then profile all) = stood law profile all is are in
     let whole = whole_then profile all in
-    let holds : Holds profile whole = record { facts = stands.facts; joined = stands.joined } in
+    let holds : Holds profile whole = record { facts = stands.facts; joined = stands.joined; own = stands.own } in
     let history = history_at whole.histories c in
     let was = applied_so profile all number c applied is are e in
     let n = applied.number in

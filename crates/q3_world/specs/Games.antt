@@ -1,6 +1,6 @@
 -- The maps of a server at both ends of a client: the gamestates that were built for it, those that it applied, and what its own
 -- messages say of them.
-use Rattle.std.specs.Prelude.{◌≡◌, ◌≢◌, ℕ, ◌<◌, ◌≤◌, ◌⊎◌, ◌↔◌, Bool, true, false, List, [], length, drop, All, Contains, Option, Some, None, IfSome, MatchOption, slice_index_or}
+use Rattle.std.specs.Prelude.{◌≡◌, ◌≢◌, ℕ, ◌<◌, ◌≤◌, ◌⊎◌, ◌↔◌, Bool, true, false, List, [], length, drop, All, Contains, Option, Some, None, IfSome, MatchOption, slice_index_or, IsSome}
 use Rattle.std.specs.List.{last_or}
 use Rattle.q3_config.specs.Strings.{server_id}
 use Rattle.q3_config.specs.Changes.{after_commands}
@@ -13,7 +13,7 @@ use Rattle.q3_clstate.specs.State.{AppliedState}
 use Rattle.q3_map.specs.Map.{MapState}
 use Rattle.q3_slot.specs.declared.stage.ClientStage.{ClientStage}
 use Rattle.q3_slot.specs.declared.stage.ClientStage.TheVariants.{Connected, Active}
-use Rattle.q3_slot.specs.Built.{Built}
+use Rattle.q3_built.specs.Built.{Built}
 use Rattle.q3_slot.specs.Slot.{SlotState}
 use Rattle.q3_client.specs.declared.moves.Issued.{Issued}
 use Rattle.q3_client.specs.Sending.{Said}
@@ -49,9 +49,11 @@ pub record Standing : Type 0 where
 abbrev pub standing_of : SlotState → Standing
 standing_of slot = record { stage = slot.stage; game = slot.game; owed = slot.owed; delta = slot.delta; last_run = slot.last_run }
 
--- the gamestates that were built are of maps up to the present one; those of the present one have its baselines and its feed
+-- the gamestates that were built are of maps up to the present one, and later ones of no earlier map; those of the present one have
+-- its baselines and its feed
 pub record OfMaps (map : MapState) (built : List Built) : Type 0 where
   pub ids : (n id : ℕ) (game : Gamestate) → Carries built n game → Tells game id → (1 ≤ id) × (id ≤ map.id)
+  pub rise : (m n x y : ℕ) (first second : Gamestate) → Carries built m first → Carries built n second → m < n → Tells first x → Tells second y → x ≤ y
   pub same : (n : ℕ) (game : Gamestate) → Carries built n game → Tells game map.id → (map.begun ≡ true) × (game.lines ≡ map.lines) × (game.feed ≡ map.feed)
 
 -- a slot whose last gamestate of the present map is that of a number: none was built behind it; or none of the map was built
@@ -67,8 +69,9 @@ pub record StandsAt (map : MapState) (slot : Standing) (taken : ℕ) (built : Li
   pub last : HasLast map built slot.game
   -- a client is connected exactly where none was begun for it
   pub none : (slot.game ≡ None) ↔ (slot.stage ≡ Connected)
-  -- earlier ones of the map were never applied, and come too late: the client has taken a number above each
-  pub earlier : (n : ℕ) (game : Gamestate) → Carries built n game → Tells game map.id → slot.game ≢ Some n → (WasPlayed games n → ⊥) × (n < taken)
+  -- of two of one map, the present or a past one, the earlier was never applied, and comes too late: the client has taken a number above it
+  pub earlier : (m n id : ℕ) (first second : Gamestate) → Carries built m first → Carries built n second → m < n → Tells first id → Tells second id
+      → (WasPlayed games m → ⊥) × (m < taken)
   -- one that plays applied the last, and is owed none
   pub active : slot.stage ≡ Active → (slot.owed ≡ false) × ((n : ℕ) × (slot.game ≡ Some n) × WasPlayed games n)
   -- one that is owed a gamestate doesn't play, applied none of the map, and took a later number than the last
@@ -111,10 +114,11 @@ accepted_before (Some played) = played.accepted
 abbrev pub accepted_since : List Played → List Snapshot → List Snapshot
 accepted_since games accepted = drop (accepted_before (last_played games)) accepted
 
--- one gamestate that a client applied: it was built, and every snapshot that was accepted before has a lower number, each since a
--- higher one
+-- one gamestate that a client applied: it was built, it tells the id of a map, and every snapshot that was accepted before has a lower
+-- number, each since a higher one
 pub record WasApplied (taken last_time : ℕ) (built : List Built) (accepted : List Snapshot) (heard : List (List ℕ)) (played : Played) : Type 0 where
   pub carries : Carries built played.number played.game
+  pub tells : IsSome (server_id played.game.strings)
   pub most : played.number ≤ taken
   pub before : played.accepted ≤ length accepted
   pub executed : played.executed ≤ length heard
@@ -126,25 +130,40 @@ pub record WasApplied (taken last_time : ℕ) (built : List Built) (accepted : L
 abbrev pub GamesRise : List Played → Type 0
 GamesRise games = (j k : ℕ) (d : Played) → j < k → k < length games → (slice_index_or games j d).number < (slice_index_or games k d).number
 
+-- of two the later one is of a map with a greater id: so there is at most one of each map
+abbrev pub MapsRise : List Played → Type 0
+MapsRise games = (j k x y : ℕ) (d : Played) → j < k → k < length games → Tells (slice_index_or games j d).game x → Tells (slice_index_or games k d).game y → x < y
+
 -- what a client has of the gamestates that it applied
 pub record HasGames (state : AppliedState) (taken last_time : ℕ) (built : List Built) (games : List Played) (accepted : List Snapshot) (executed : List (List ℕ)) : Type 0 where
   pub each : All (WasApplied taken last_time built accepted executed) games
   pub rise : GamesRise games
+  pub maps : MapsRise games
   pub shows : MatchOption (last_played games) (IsFresh state) (λ played. IsOf state played executed)
 
+-- a client accepted a snapshot of a number under a gamestate that it had applied: behind it, and before each gamestate that it applied
+-- later, which has a higher number
+pub record AcceptedUnder (games : List Played) (accepted : List Snapshot) (played : Played) (number : ℕ) : Type 0 where
+  pub there : Contains games played
+  pub place : ℕ
+  pub within : place < length accepted
+  pub is : (d : Snapshot) → (slice_index_or accepted place d).head.number ≡ number
+  pub behind : played.accepted ≤ place
+  pub before : (later : Played) → Contains games later → played.number < later.number → place < later.accepted
+
 -- a message that a client said under a gamestate that it had applied: with its id and feed, behind it, and with moves that were issued
--- since; one that asks for deltas acknowledges a snapshot accepted since
+-- since; one that asks for deltas acknowledges a snapshot that was accepted under this gamestate
 pub record SaidUnder (games : List Played) (accepted : List Snapshot) (said : Said) (played : Played) : Type 0 where
   pub there : Contains games played
   pub id : Tells played.game said.message.id
   pub feed : said.feed ≡ played.game.feed
   pub behind : played.number ≤ said.message.acknowledged
-  pub asks : said.message.delta ≡ true → played.number < said.message.acknowledged
+  pub asks : said.message.delta ≡ true → AcceptedUnder games accepted played said.message.acknowledged
   pub later : All (λ (one : Move). played.time < one.time) said.message.moves
 
--- before a gamestate there is neither an id nor a move
+-- before a gamestate there is neither an id nor a move, and no deltas are asked for
 abbrev pub SaidBefore : Said → Type 0
-SaidBefore said = (said.message.id ≡ 0) × (said.message.moves ≡ [])
+SaidBefore said = (said.message.id ≡ 0) × (said.message.moves ≡ []) × (said.message.delta ≡ false)
 
 abbrev pub IsSaidUnder : List Played → List Snapshot → Said → Type 0
 IsSaidUnder games accepted said = SaidBefore said ⊎ ((played : Played) × SaidUnder games accepted said played)
@@ -164,9 +183,10 @@ pub record BuiltUnder (built : List Built) (games : List Played) (n g : ℕ) : T
 abbrev pub AreBuiltUnder : List Built → List Played → Type 0
 AreBuiltUnder built games = (n g : ℕ) → 1 ≤ n → n ≤ length built → (built_at built n).under ≡ Some g → BuiltUnder built games n g
 
--- the snapshot that a slot asks to write against came behind the gamestate under which its client plays, if it asks for one
-abbrev pub AsksBehind : Standing → Type 0
-AsksBehind slot = (slot.delta ≡ 0) ⊎ ((g : ℕ) × (slot.game ≡ Some g) × (slot.stage ≡ Active) × (g < slot.delta))
+-- the snapshot that a slot asks to write against was accepted under the gamestate under which its client plays, if it asks for one
+abbrev pub AsksUnder : Standing → List Played → List Snapshot → Type 0
+AsksUnder slot games accepted =
+    (slot.delta ≡ 0) ⊎ ((played : Played) × (slot.game ≡ Some played.number) × (slot.stage ≡ Active) × AcceptedUnder games accepted played slot.delta)
 
 -- what joins both ends of a client on the server's maps: the map, what its slot has of it, what the client applied, the newest number
 -- that it took and the time of the last move that it issued, and all that nothing wipes
@@ -176,7 +196,7 @@ pub record AreMapped (map : MapState) (slot : Standing) (state : AppliedState) (
   pub has : HasGames state taken last_time built games accepted executed
   pub said : All (IsSaidUnder games accepted) began
   pub under : AreBuiltUnder built games
-  pub delta : AsksBehind slot
+  pub delta : AsksUnder slot games accepted
   pub ran : slot.last_run ≤ last_time
   pub acks : All (λ (message : Said). message.message.acknowledged ≤ taken) began
 

@@ -1,16 +1,18 @@
 -- What the program's world keeps, and what an event does to it: datagrams are taken by their bytes.
 use Rattle.std.specs.Prelude.{ℕ, ◌+◌, ◌-◌, ◌^◌, List, [], ◌∷◌, ◌++◌, length, Option, Some, None, Ok, Err, slice_get}
+use Rattle.std.specs.Option.{option_map}
 use Rattle.q3_profile.specs.declared.profile.Profile.{Profile}
 use Rattle.q3_script.specs.declared.event.Event.{Event}
 use Rattle.q3_script.specs.declared.event.Event.TheVariants as events
 use Rattle.q3_chan.specs.Sending.{Piece}
 use Rattle.q3_server.specs.Server.{Emission, emit_at}
 use Rattle.q3_server.specs.Taking as hears
-use Rattle.q3_client.specs.Client.{ClientState, Taken, take_at}
+use Rattle.q3_client.specs.Client.{ClientState, Taken}
 use Rattle.q3_client.specs.Sending as speaks
 use Rattle.q3_world.specs.declared.made.Direction.{Direction}
 use Rattle.q3_world.specs.declared.made.Direction.TheVariants.{ToClient, ToServer}
-use Rattle.q3_world.specs.Ends.{Ends, EndsStep, Answered, answered, client_at, with_client, address_at, new_ends, served, sent, unknown, delivered, ran, ran_of, join, new_map, set_baseline, set_config, set_time, set_entity, remove_entity, set_player, set_area, say_command, type_command, add_move, show}
+use Rattle.q3_report.specs.declared.answer.Answer.TheVariants as answers
+use Rattle.q3_world.specs.Ends.{Ends, EndsStep, EndsTook, Answered, answered, client_at, with_client, address_at, new_ends, served, sent, unknown, told_bytes, client_took_so, client_takes, server_took_so, server_takes, hand_client, hand_server, join, set_port, new_map, set_baseline, set_config, set_time, set_entity, remove_entity, set_player, set_area, say_command, type_command, add_move, show}
 
 -- a datagram that was made: the client that it is for or comes from, which of the two, and its bytes
 pub record SentBytes : Type 0 where
@@ -73,37 +75,41 @@ abbrev pub kept_send : Kept → ℕ → Option ClientState → KeptStep
 kept_send kept c None = record { kept = kept; answer = sent c (Err (record {})) (length kept.datagrams + 1) }
 kept_send kept c (Some from) = kept_said kept c (speaks.emit_at from)
 
+-- an end took bytes
+abbrev pub kept_took : Kept → EndsTook → KeptStep
+kept_took kept step = record { kept = record kept { ends = step.ends }; answer = step.answer }
+
 -- a client took a datagram
 abbrev pub kept_client_took : Kept → ℕ → ℕ → Taken → KeptStep
-kept_client_took kept number c taken =
-    record {
-      kept = record kept { ends = with_client kept.ends c taken.client };
-      answer = delivered number c taken.client.state taken.answer taken.heard;
-    }
+kept_client_took kept number c taken = kept_took kept (client_took_so kept.ends c (λ took. answers.Deliver number c took) taken)
 
 -- the client that a datagram is for takes it
 abbrev pub kept_to_client : Kept → ℕ → SentBytes → Option ClientState → KeptStep
-kept_to_client kept number sent None = record { kept = kept; answer = unknown number }
-kept_to_client kept number sent (Some client) = kept_client_took kept number sent.client (take_at client sent.bytes)
+kept_to_client kept number sent found =
+    kept_took kept (client_takes kept.ends sent.client sent.bytes (λ took. answers.Deliver number sent.client took) (answers.Unknown number) found)
 
 -- the server took a datagram
 abbrev pub kept_server_took : Kept → ℕ → hears.Taken → KeptStep
-kept_server_took kept number taken =
-    record { kept = record kept { ends = record kept.ends { server = taken.server } }; answer = ran number taken.answer (ran_of taken) }
+kept_server_took kept number taken = kept_took kept (server_took_so kept.ends (λ took. answers.ToServer number took) taken)
 
 -- the end that a datagram goes to takes it
 abbrev pub kept_arrive : Kept → ℕ → SentBytes → Direction → KeptStep
 kept_arrive kept number sent ToClient = kept_to_client kept number sent (client_at kept.ends sent.client)
-kept_arrive kept number sent (ToServer from) = kept_server_took kept number (hears.take_at kept.ends.server from sent.bytes)
+kept_arrive kept number sent (ToServer from) = kept_took kept (server_takes kept.ends from sent.bytes (λ took. answers.ToServer number took))
 
 -- the datagram of a number, if it was made, arrives
 abbrev pub kept_deliver : Kept → ℕ → Option SentBytes → KeptStep
 kept_deliver kept number None = record { kept = kept; answer = unknown number }
 kept_deliver kept number (Some sent) = kept_arrive kept number sent sent.direction
 
+-- the bytes of the datagram of a number, if it was made
+abbrev pub kept_bytes : List SentBytes → ℕ → Option (List ℕ)
+kept_bytes datagrams number = option_map (λ (sent : SentBytes). sent.bytes) (slice_get datagrams (number - 1))
+
 -- one event
 unfoldable pub kept_step : Kept → Event → KeptStep
 kept_step kept (events.Client c challenge qport dup address) = kept_ends kept (join kept.profile kept.ends c challenge qport dup address)
+kept_step kept (events.Port c port) = kept_ends kept (set_port kept.ends c port)
 kept_step kept (events.Map id feed) = kept_ends kept (new_map kept.ends id feed)
 kept_step kept (events.Baseline state) = kept_ends kept (set_baseline kept.ends state)
 kept_step kept (events.Config index text) = kept_ends kept (set_config kept.ends index text)
@@ -119,6 +125,9 @@ kept_step kept (events.Serve c) = kept_serve kept c (emit_at kept.ends.server c)
 kept_step kept (events.Send c) = kept_send kept c (client_at kept.ends c)
 kept_step kept (events.Deliver number) = kept_deliver kept number (slice_get kept.datagrams (number - 1))
 kept_step kept (events.Show c) = kept_ends kept (show kept.ends c)
+kept_step kept (events.Bytes number) = record { kept = kept; answer = told_bytes number (kept_bytes kept.datagrams number) }
+kept_step kept (events.Toclient c bytes) = kept_took kept (hand_client kept.ends c bytes)
+kept_step kept (events.Toserver c bytes) = kept_took kept (hand_server kept.ends c bytes)
 
 -- what is kept after these events
 unfoldable pub kept_after : Kept → List Event → Kept

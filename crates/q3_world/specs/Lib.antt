@@ -1,6 +1,8 @@
 pub mod MessageLaws
 pub mod Layers
+pub mod Apart
 pub mod Ends
+pub mod Counts
 pub mod Executed
 pub mod Kept
 pub mod Moves

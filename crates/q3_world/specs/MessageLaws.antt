@@ -17,9 +17,8 @@ use Rattle.q3_ring.specs.Snapshot.{Snapshot}
 use Rattle.q3_rings.specs.Rings.{HeldSnapshots, view_at}
 use Rattle.q3_window.specs.Outgoing.{acknowledge_at, text_at}
 use Rattle.q3_slot.specs.declared.taking.ServerTook.TheVariants.{Partial as SlotPartial}
-use Rattle.q3_slot.specs.Built.{Built, IsSnapshot, IsBuilt}
+use Rattle.q3_built.specs.Built.{Built, IsSnapshot, IsBuilt, built_bytes}
 use Rattle.q3_slot.specs.Slot.{SlotState}
-use Rattle.q3_slot.specs.Emitting.{built_bytes}
 use Rattle.q3_slot.specs.Taking.{came_as, run_read, said_by}
 use Rattle.q3_slot.specs.Taking as by_slot
 use Rattle.q3_server.specs.Server.{ServerState, slot_at}

@@ -21,18 +21,20 @@ use Rattle.q3_chan.specs.declared.gatherer.Gathered.TheVariants.{Whole as CameWh
 use Rattle.q3_chan.specs.Datagrams.{sequence_end, longest_message, piece_count, last_index}
 use Rattle.q3_chan.specs.Sending.{IsIdle}
 use Rattle.q3_chan.specs.Gathering.{gathered}
-use Rattle.q3_world.specs.declared.answer.Answer.{Answer}
-use Rattle.q3_world.specs.declared.answer.Answer.TheVariants.{Send, Deliver, ToServer}
+use Rattle.q3_report.specs.declared.answer.Answer.{Answer}
+use Rattle.q3_report.specs.declared.answer.Answer.TheVariants.{Send, Deliver, ToServer}
 use Rattle.q3_world.specs.declared.made.Direction.TheVariants as direction
-use Rattle.q3_slot.specs.Built.{Built, number_of, IsNear, is_unclear}
+use Rattle.q3_built.specs.Built.{Built, number_of, IsNear, is_unclear, built_bytes}
 use Rattle.q3_slot.specs.Slot.{SlotState}
-use Rattle.q3_slot.specs.Emitting.{next_snapshot, begun_next, built_bytes, most_placed}
-use Rattle.q3_map.specs.Map.{is_other}
+use Rattle.q3_slot.specs.Emitting.{next_snapshot, begun_next, most_placed}
+use Rattle.q3_map.specs.Map.{MapState, is_other}
+use Rattle.q3_client.specs.Sending.{Said}
+use Rattle.q3_slot.specs.declared.stage.ClientStage.TheVariants.{Active}
 use Rattle.q3_slot.specs.Taking.{Playing, asks_game, goes_on, heads_of}
 use Rattle.q3_server.specs.Server.{ServerState, places, slot_at}
 use Rattle.q3_client.specs.Client.{ClientState}
 use Rattle.q3_world.specs.Moves.{TimesRise, StandAmong}
-use Rattle.q3_world.specs.Ends.{Ends, Answered, client_at, newest, ran_nothing, unknown}
+use Rattle.q3_world.specs.Ends.{Ends, Answered, client_at, newest, unknown}
 use Rattle.q3_world.specs.Kept.{SentBytes, Kept, opening_kept, kept_step, kept_after, kept_answers}
 use Rattle.q3_world.specs.declared.made.Direction.{Direction}
 use Rattle.q3_text.specs.declared.text.Command.{Command}
@@ -42,12 +44,13 @@ use Rattle.q3_window.specs.Outgoing.{text_at}
 use Rattle.q3_config.specs.Commands.{change_in}
 use Rattle.q3_svmsg.specs.Values as told
 use Rattle.q3_svmsg.specs.Values.{Told}
-use Rattle.q3_server.specs.Report.{Run}
-use Rattle.q3_world.specs.World.{Tag, Whole, History, history_at, built_at, said_at, texts_of, opening, step, after, answers}
+use Rattle.q3_lines.specs.ServerLines.{Run, ran_nothing}
+use Rattle.q3_world.specs.World.{Tag, Played, Whole, History, history_at, built_at, said_at, texts_of, opening, step, after, answers}
 use Rattle.q3_world.specs.StandsFor.{IsChecked, StandsFor, WasBuilt, Rise, WasAccepted}
-use Rattle.q3_world.specs.Games.{Carries, IsOf, IsFresh, last_played, accepted_since}
+use Rattle.q3_world.specs.Games.{Carries, Tells, IsOf, IsFresh, MapsRise, AcceptedUnder, last_played, accepted_since}
 
--- a step by bytes of what stands for a whole world gives what stands for its step by tags, and answers the same
+-- a step by bytes of what stands for a whole world gives what stands for its step, and answers the same; the whole world's step is by
+-- tags, until a line hands other bytes to an end
 abbrev pub StepFollows : Type 0
 StepFollows = (profile : Profile) (kept : Kept) (whole : Whole) (event : Event) → IsReplayEvent event → StandsFor profile kept whole
     → StandsFor profile (kept_step kept event).kept (step profile whole event).whole
@@ -73,11 +76,21 @@ abbrev pub AnswersSo : Answered → Answer → Run → Type 0
 AnswersSo given answer ran = (given.answer ≡ answer) × (given.ran ≡ ran)
 
 -- in a replay what is kept after the events, where each datagram is taken by its bytes, stands for the whole world after
--- them, where each is taken by its tag; and each event answers the same
+-- them, where each is taken by its tag until a line hands other bytes to an end; and each event answers the same
 abbrev pub BytesFollowTags : Type 0
 BytesFollowTags = (profile : Profile) (all : List Event) → IsChecked profile → AllByRecursion IsReplayEvent all
     → StandsFor profile (kept_then profile all) (whole_then profile all)
     × (kept_answers (opening_kept profile) all ≡ answers profile (opening profile) all)
+
+-- an event that hands to an end no bytes but those of datagrams that an end made
+abbrev pub IsOwn : Event → Type 0
+IsOwn (events.Toclient c bytes) = ⊥
+IsOwn (events.Toserver c bytes) = ⊥
+IsOwn other = Unit {0}
+
+-- an event of a schedule in which each end gets only what the other made; the laws below are said of such schedules
+abbrev pub IsScheduled : Event → Type 0
+IsScheduled event = IsReplayEvent event × IsOwn event
 
 -- what may become of a snapshot, where a message has one: it is accepted, or the entities of its base are gone
 abbrev pub MayBecome : SnapOutcome → Type 0
@@ -115,19 +128,19 @@ GoesOn commands before after (direction.ToServer from) =
 -- in a replay no end ever gets what it can't read, no acknowledgement is refused, no command leaves a gap, the server finds each
 -- datagram's client, no client is dropped, no snapshot is stale, and none is skipped but for the entities of its base
 abbrev pub AlwaysLegible : Type 0
-AlwaysLegible = (profile : Profile) (all : List Event) → IsChecked profile → AllByRecursion IsReplayEvent all
+AlwaysLegible = (profile : Profile) (all : List Event) → IsChecked profile → AllByRecursion IsScheduled all
     → AllByRecursion (λ given. IsLegible given.answer) (kept_answers (opening_kept profile) all)
 
 -- a delivery is unknown where no datagram of its number was made, and there alone
 abbrev pub UnknownWasNotMade : Type 0
-UnknownWasNotMade = (profile : Profile) (all : List Event) (number : ℕ) → IsChecked profile → AllByRecursion IsReplayEvent all
+UnknownWasNotMade = (profile : Profile) (all : List Event) (number : ℕ) → IsChecked profile → AllByRecursion IsScheduled all
     → ((kept_step (kept_then profile all) (events.Deliver number)).answer ≡ unknown number)
     ↔ (slice_get (kept_then profile all).datagrams (number - 1) ≡ None)
 
 -- each end has executed a front of the commands that the other issued, each once and in order; and its window counts them
 abbrev pub CommandsArePrefixes : Type 0
 CommandsArePrefixes = (profile : Profile) (all : List Event) (c : ℕ) (slot : SlotState) (client : ClientState) → IsChecked profile
-    → AllByRecursion IsReplayEvent all → c < places
+    → AllByRecursion IsScheduled all → c < places
     → slot_at (kept_then profile all).ends.server c ≡ Some slot → client_at (kept_then profile all).ends c ≡ Some client
     → (history_then profile all c).client_executed
     ≡ take client.state.executed.executed (history_then profile all c).server_commands
@@ -139,7 +152,7 @@ CommandsArePrefixes = (profile : Profile) (all : List Event) (c : ℕ) (slot : S
 -- that the message acknowledges its window has the text that the other end had executed last when it began the message
 abbrev pub KeysAgree : Type 0
 KeysAgree = (profile : Profile) (all : List Event) (c : ℕ) (slot : SlotState) (client : ClientState) → IsChecked profile
-    → AllByRecursion IsReplayEvent all → c < places
+    → AllByRecursion IsScheduled all → c < places
     → slot_at (kept_then profile all).ends.server c ≡ Some slot → client_at (kept_then profile all).ends c ≡ Some client
     → ((n : ℕ) → client.gathering.taken < n → n ≤ length (history_then profile all c).built
     → text_at client.issued (built_at (history_then profile all c).built n).message.ack ≡ (built_at (history_then profile all c).built n).text)
@@ -149,53 +162,87 @@ KeysAgree = (profile : Profile) (all : List Event) (c : ℕ) (slot : SlotState) 
 -- what an event prints as executed, at a client or at the server, goes on where that end stood: its numbers follow on the count of
 -- all executed before, and its texts are noted behind them
 abbrev pub ExecutedGoesOn : Type 0
-ExecutedGoesOn = (profile : Profile) (all : List Event) (number : ℕ) (tag : Tag) → IsChecked profile → AllByRecursion IsReplayEvent all
-    → IsReplayEvent (events.Deliver number) → slice_get (whole_then profile all).sent (number - 1) ≡ Some tag
+ExecutedGoesOn = (profile : Profile) (all : List Event) (number : ℕ) (tag : Tag) → IsChecked profile → AllByRecursion IsScheduled all
+    → IsScheduled (events.Deliver number) → slice_get (whole_then profile all).sent (number - 1) ≡ Some tag
     → GoesOn (kept_step (kept_then profile all) (events.Deliver number)).answer.ran.commands
     (history_then profile all tag.client) (history_then profile (all ++ events.Deliver number ∷ []) tag.client) tag.direction
 
 -- each snapshot that a client accepted is the one that the server built for it under that number, and the numbers rise
 abbrev pub AcceptedWereBuilt : Type 0
-AcceptedWereBuilt = (profile : Profile) (all : List Event) (c : ℕ) → IsChecked profile → AllByRecursion IsReplayEvent all → c < places
+AcceptedWereBuilt = (profile : Profile) (all : List Event) (c : ℕ) → IsChecked profile → AllByRecursion IsScheduled all → c < places
     → All (WasBuilt (history_then profile all c).built) (history_then profile all c).accepted × Rise (history_then profile all c).accepted
 
 -- where a client that takes datagrams by their bytes shows a snapshot, it is the one that the server built for it
 -- under that number
 abbrev pub ShownWasBuilt : Type 0
 ShownWasBuilt = (profile : Profile) (all : List Event) (c : ℕ) (snapshot : Snapshot) → IsChecked profile
-    → AllByRecursion IsReplayEvent all → c < places
+    → AllByRecursion IsScheduled all → c < places
     → (kept_step (kept_then profile all) (events.Show c)).answer.snapshot ≡ Some snapshot
     → WasBuilt (history_then profile all c).built snapshot
 
 -- what a show prints is the newest snapshot that the client accepted since the last gamestate that it applied, if it accepted one
 abbrev pub ShownIsNewest : Type 0
-ShownIsNewest = (profile : Profile) (all : List Event) (c : ℕ) → IsChecked profile → AllByRecursion IsReplayEvent all → c < places
+ShownIsNewest = (profile : Profile) (all : List Event) (c : ℕ) → IsChecked profile → AllByRecursion IsScheduled all → c < places
     → (kept_step (kept_then profile all) (events.Show c)).answer.snapshot ≡ last_or None (since_then profile all c)
 
 -- a client asks for deltas exactly where the snapshot of the newest message that it took was accepted, and no gamestate was applied since
 abbrev pub AsksForAccepted : Type 0
-AsksForAccepted = (profile : Profile) (all : List Event) (c : ℕ) (client : ClientState) → IsChecked profile → AllByRecursion IsReplayEvent all
+AsksForAccepted = (profile : Profile) (all : List Event) (c : ℕ) (client : ClientState) → IsChecked profile → AllByRecursion IsScheduled all
     → c < places → client_at (kept_then profile all).ends c ≡ Some client
     → (client.delta ≡ true) ↔ WasAccepted (since_then profile all c) client.gathering.taken
 
 -- each base against which a message was built is below it, at most by 28, was built itself and was accepted by the client
 abbrev pub BasesWereAccepted : Type 0
-BasesWereAccepted = (profile : Profile) (all : List Event) (c k : ℕ) (d : Built) → IsChecked profile → AllByRecursion IsReplayEvent all → c < places
+BasesWereAccepted = (profile : Profile) (all : List Event) (c k : ℕ) (d : Built) → IsChecked profile → AllByRecursion IsScheduled all → c < places
     → k < length (history_then profile all c).built
     → IfSome (slice_index_or (history_then profile all c).built k d).base
     (λ base. IsNear (k + 1) base × WasBuilt (history_then profile all c).built base × Contains (history_then profile all c).accepted base)
 
+-- a client accepted the snapshot of a number under a gamestate of a map
+abbrev pub AcceptedUnderMap : History → ℕ → ℕ → Type 0
+AcceptedUnderMap history id number = (played : Played) × Tells played.game id × AcceptedUnder history.games history.accepted played number
+
+-- each message of a client that asks for deltas acknowledges a snapshot that the client accepted under the gamestate of the map whose id
+-- the message has
+abbrev pub SaidUnderItsMap : History → Type 0
+SaidUnderItsMap history = All (λ (said : Said). said.message.delta ≡ true → AcceptedUnderMap history said.message.id said.message.acknowledged) history.said
+
+-- so was the snapshot accepted against which a slot writes, under the gamestate of the present map; where its client doesn't play, there
+-- is none
+abbrev pub SlotUnderMap : MapState → History → SlotState → Type 0
+SlotUnderMap map history slot = (slot.delta ≡ 0) ⊎ ((slot.stage ≡ Active) × AcceptedUnderMap history map.id slot.delta)
+
+-- and each base against which a message was built, under the gamestate under which its client played then
+abbrev pub BuiltUnderItsGame : History → Type 0
+BuiltUnderItsGame history =
+    All (λ (built : Built). IfSome built.base (λ base. (played : Played) × (built.under ≡ Some played.number) × AcceptedUnder history.games history.accepted played base.head.number)) history.built
+
+-- what is asked for, and what is written against, its client accepted under the gamestate of that map
+abbrev pub AskedUnderGame : Type 0
+AskedUnderGame = (profile : Profile) (all : List Event) (c : ℕ) → IsChecked profile → AllByRecursion IsScheduled all → c < places
+    → SaidUnderItsMap (history_then profile all c)
+    × IfSome (slot_at (kept_then profile all).ends.server c) (SlotUnderMap (kept_then profile all).ends.server.map (history_then profile all c))
+    × BuiltUnderItsGame (history_then profile all c)
+
+-- each gamestate that a client applied tells the id of its map, of two the later one a greater id: so of a map it applied at most one
+abbrev pub OneGamePerMap : Type 0
+OneGamePerMap = (profile : Profile) (all : List Event) (c : ℕ) → IsChecked profile → AllByRecursion IsScheduled all → c < places
+    → All (λ (played : Played). (id : ℕ) × Tells played.game id) (history_then profile all c).games
+    × MapsRise (history_then profile all c).games
+    × ((j k id : ℕ) (d : Played) → j < length (history_then profile all c).games → k < length (history_then profile all c).games
+    → Tells (slice_index_or (history_then profile all c).games j d).game id → Tells (slice_index_or (history_then profile all c).games k d).game id → j ≡ k)
+
 -- what a client holds is told by all that it accepted since the last gamestate that it applied: under a number exactly the snapshot accepted under it, as long as no later one
 -- stands in its place and its entities are there
 abbrev pub HeldIsAccepted : Type 0
-HeldIsAccepted = (profile : Profile) (all : List Event) (c number : ℕ) (client : ClientState) → IsChecked profile → AllByRecursion IsReplayEvent all
+HeldIsAccepted = (profile : Profile) (all : List Event) (c number : ℕ) (client : ClientState) → IsChecked profile → AllByRecursion IsScheduled all
     → c < places → client_at (kept_then profile all).ends c ≡ Some client
     → held_snapshot client.state.held number ≡ held_among profile.parse_ring (since_then profile all c) number
 
 -- so a client lends under a number the snapshot that the server built for it under that number, or none
 abbrev pub ViewsWereBuilt : Type 0
 ViewsWereBuilt = (profile : Profile) (all : List Event) (c number : ℕ) (client : ClientState) (snapshot : Snapshot) → IsChecked profile
-    → AllByRecursion IsReplayEvent all → c < places → client_at (kept_then profile all).ends c ≡ Some client → view_at client.state.held number ≡ Some snapshot
+    → AllByRecursion IsScheduled all → c < places → client_at (kept_then profile all).ends c ≡ Some client → view_at client.state.held number ≡ Some snapshot
     → (snapshot.head.number ≡ number) × WasBuilt (history_then profile all c).built snapshot
 
 -- what becomes of a message that was built, at a client that accepted these snapshots: it is accepted, unless too many entities
@@ -242,7 +289,7 @@ Shows ends c n built = (snapshot : Snapshot) × (newest (client_at ends c) ≡ S
 -- where it accepts the snapshot, its newest is the one that the server built for it under that number; and behind the delivery the
 -- client there has that number
 abbrev pub AppliedWasBuilt : Type 0
-AppliedWasBuilt = (profile : Profile) (all : List Event) (number c : ℕ) (applied : AppliedSo) → IsChecked profile → AllByRecursion IsReplayEvent all
+AppliedWasBuilt = (profile : Profile) (all : List Event) (number c : ℕ) (applied : AppliedSo) → IsChecked profile → AllByRecursion IsScheduled all
     → (kept_step (kept_then profile all) (events.Deliver number)).answer.answer ≡ Deliver number c (Applied applied)
     → ((client : ClientState) × (client_at (kept_then profile all).ends c ≡ Some client) × (client.gathering.taken < applied.number))
     × (applied ≡ applied_then profile all c applied.number)
@@ -255,7 +302,7 @@ AppliedWasBuilt = (profile : Profile) (all : List Event) (number c : ℕ) (appli
 -- exactly where it has no base, or the entities of its base are there
 abbrev pub NewerIsAccepted : Type 0
 NewerIsAccepted = (profile : Profile) (all : List Event) (number n count : ℕ) (sent : SentBytes) (client : ClientState) → IsChecked profile
-    → AllByRecursion IsReplayEvent all
+    → AllByRecursion IsScheduled all
     → slice_get (kept_then profile all).datagrams (number - 1) ≡ Some sent → sent.direction ≡ direction.ToClient
     → client_at (kept_then profile all).ends sent.client ≡ Some client
     → (gathered client.gathering sent.bytes).answer ≡ CameWhole n count
@@ -265,7 +312,7 @@ NewerIsAccepted = (profile : Profile) (all : List Event) (number n count : ℕ) 
 
 -- with a ring that has the usual room for 8,192 entities, or more, no snapshot is skipped
 abbrev pub UsualNeverSkips : Type 0
-UsualNeverSkips = (profile : Profile) (all : List Event) (number c : ℕ) (applied : AppliedSo) → IsChecked profile → AllByRecursion IsReplayEvent all
+UsualNeverSkips = (profile : Profile) (all : List Event) (number c : ℕ) (applied : AppliedSo) → IsChecked profile → AllByRecursion IsScheduled all
     → 8192 ≤ profile.parse_ring → (kept_step (kept_then profile all) (events.Deliver number)).answer.answer ≡ Deliver number c (Applied applied)
     → (applied.snap ≡ NoSnap) ⊎ ((base : ℕ) × (applied.snap ≡ Accepted base))
 
@@ -281,7 +328,7 @@ GoesOnPlaying after playing = IfSome after (λ slot. (slot.stage ≡ playing.sta
 -- above the last one executed, and its moves as the slot stands. Of one of another map nothing is run, and a gamestate may be owed
 abbrev pub NewerIsRun : Type 0
 NewerIsRun = (profile : Profile) (all : List Event) (number n count : ℕ) (sent : SentBytes) (from : Address) (slot : SlotState) → IsChecked profile
-    → AllByRecursion IsReplayEvent all
+    → AllByRecursion IsScheduled all
     → slice_get (kept_then profile all).datagrams (number - 1) ≡ Some sent → sent.direction ≡ direction.ToServer from
     → slot_at (kept_then profile all).ends.server sent.client ≡ Some slot
     → (gathered slot.gathering sent.bytes).answer ≡ CameWhole n count
@@ -305,14 +352,14 @@ NewerIsRun = (profile : Profile) (all : List Event) (number n count : ℕ) (sent
 -- the moves of a client that the server ran stand among those that the client issued, each once and in their order, and their
 -- times rise
 abbrev pub MovesWereIssued : Type 0
-MovesWereIssued = (profile : Profile) (all : List Event) (c : ℕ) → IsChecked profile → AllByRecursion IsReplayEvent all → c < places
+MovesWereIssued = (profile : Profile) (all : List Event) (c : ℕ) → IsChecked profile → AllByRecursion IsScheduled all → c < places
     → StandAmong (history_then profile all c).run (history_then profile all c).issued × TimesRise 0 (history_then profile all c).run
 
 -- a move with which a client enters a map isn't among those that are run: all that were run before it are earlier, and all that
 -- are run later are later
 abbrev pub EnteringIsNotRun : Type 0
 EnteringIsNotRun = (profile : Profile) (before rest : List Event) (c number n time : ℕ) → IsChecked profile
-    → AllByRecursion IsReplayEvent (before ++ events.Deliver number ∷ rest) → c < places
+    → AllByRecursion IsScheduled (before ++ events.Deliver number ∷ rest) → c < places
     → (kept_step (kept_then profile before) (events.Deliver number)).answer.answer ≡ ToServer number (took.Ran c n)
     → (kept_step (kept_then profile before) (events.Deliver number)).answer.ran.entered ≡ Some time
     → All (λ (one : Move). one.time < time) (history_then profile before c).run
@@ -335,7 +382,7 @@ deliveries numbers = map (λ number. events.Deliver number) numbers
 -- has taken, with the last it is applied: its snapshot is accepted unless the entities of its base are gone
 abbrev pub InOrderIsAccepted : Type 0
 InOrderIsAccepted = (profile : Profile) (all : List Event) (c n last : ℕ) (numbers : List ℕ) (client : ClientState) → IsChecked profile
-    → AllByRecursion IsReplayEvent all → AllByRecursion IsReplayEvent (deliveries numbers)
+    → AllByRecursion IsScheduled all → AllByRecursion IsScheduled (deliveries numbers)
     → client_at (whole_then profile all).ends c ≡ Some client → client.gathering.taken < n
     → ArePieces (whole_then profile all).sent c n 0 (numbers ++ last ∷ [])
     → length numbers ≡ last_index (built_bytes profile (built_at (history_then profile all c).built n))
@@ -368,8 +415,8 @@ pub record MayBegin (profile : Profile) (server : ServerState) (c : ℕ) (slot :
 -- entities of its base are there, the client then shows the snapshot that the server had for it
 abbrev pub ServedIsShown : Type 0
 ServedIsShown = (profile : Profile) (all : List Event) (c : ℕ) (slot : SlotState) (client : ClientState) → IsChecked profile
-    → AllByRecursion IsReplayEvent all
-    → AllByRecursion IsReplayEvent (serve_and_deliver c (length (whole_then profile all).sent + 1) (datagrams_of profile (whole_then profile all).ends.server c slot))
+    → AllByRecursion IsScheduled all
+    → AllByRecursion IsScheduled (serve_and_deliver c (length (whole_then profile all).sent + 1) (datagrams_of profile (whole_then profile all).ends.server c slot))
     → slot_at (whole_then profile all).ends.server c ≡ Some slot → client_at (whole_then profile all).ends c ≡ Some client
     → MayBegin profile (whole_then profile all).ends.server c slot
     → outcome_of profile.parse_ring (since_then profile all c) (built_next (whole_then profile all).ends.server c slot).base
@@ -384,7 +431,7 @@ ServedIsShown = (profile : Profile) (all : List Event) (c : ℕ) (slot : SlotSta
 -- changes that the texts tell which it executed since; before one its id, slot and feed are 0, it has no baselines, and its
 -- strings tell no id
 abbrev pub StateIsOfGame : Type 0
-StateIsOfGame = (profile : Profile) (all : List Event) (c : ℕ) (client : ClientState) → IsChecked profile → AllByRecursion IsReplayEvent all
+StateIsOfGame = (profile : Profile) (all : List Event) (c : ℕ) (client : ClientState) → IsChecked profile → AllByRecursion IsScheduled all
     → c < places → client_at (kept_then profile all).ends c ≡ Some client
     → MatchOption (last_played (history_then profile all c).games)
     (IsFresh client.state)
@@ -399,7 +446,7 @@ SaysNoChange other = Unit {0}
 -- strings are those that the server had then
 abbrev pub StringsFollow : Type 0
 StringsFollow = (profile : Profile) (before rest : List Event) (c : ℕ) (client : ClientState) → IsChecked profile
-    → AllByRecursion IsReplayEvent (before ++ events.Serve c ∷ rest) → AllByRecursion SaysNoChange (before ++ events.Serve c ∷ rest) → c < places
+    → AllByRecursion IsScheduled (before ++ events.Serve c ∷ rest) → AllByRecursion SaysNoChange (before ++ events.Serve c ∷ rest) → c < places
     → length (history_then profile (before ++ events.Serve c ∷ []) c).built ≡ length (history_then profile before c).built + 1
     → client_at (kept_then profile (before ++ events.Serve c ∷ rest)).ends c ≡ Some client → client.state.has_game ≡ true
     → client.state.number ≡ length (history_then profile before c).built + 1

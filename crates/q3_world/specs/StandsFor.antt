@@ -26,9 +26,8 @@ use Rattle.q3_frames.specs.Frames.{FramesState, AreFrames, held_frame}
 use Rattle.q3_rings.specs.Rings.{view_at}
 use Rattle.q3_rings.specs.Accepted.{SnapshotsStandFor}
 use Rattle.q3_map.specs.Map.{MapState, AreHeld}
-use Rattle.q3_slot.specs.Built.{Built, IsHeld, IsArea, IsBuilt}
+use Rattle.q3_built.specs.Built.{Built, IsHeld, IsArea, IsBuilt, built_bytes}
 use Rattle.q3_slot.specs.Slot.{SlotState}
-use Rattle.q3_slot.specs.Emitting.{built_bytes}
 use Rattle.q3_slot.specs.Taking.{last_time}
 use Rattle.q3_server.specs.Server.{places, slot_at}
 use Rattle.q3_server.specs.Taking.{sender_of}
@@ -290,10 +289,11 @@ AllJoined profile whole = (c : ℕ) → c < places
 abbrev pub bytes_of : Tag → SentBytes
 bytes_of tag = record { client = tag.client; direction = tag.direction; bytes = tag.bytes }
 
--- the ends are the same, each datagram has the bytes of its tag, and all of the above holds
+-- the ends are the same, each datagram has the bytes of its tag, and, as long as no line handed other bytes to an end, all of the
+-- above holds
 pub record StandsFor (profile : Profile) (kept : Kept) (whole : Whole) : Type 0 where
   pub by : kept.profile ≡ profile
   pub ends : kept.ends ≡ whole.ends
   pub datagrams : kept.datagrams ≡ map bytes_of whole.sent
-  pub facts : Facts profile whole
-  pub joined : AllJoined profile whole
+  pub facts : whole.foreign ≡ false → Facts profile whole
+  pub joined : whole.foreign ≡ false → AllJoined profile whole

@@ -1,6 +1,6 @@
--- The whole world: both ends, and what nothing wipes. A step delivers a datagram by its tag:
--- what arrives is the message that was begun under its number.
-use Rattle.std.specs.Prelude.{ℕ, ◌+◌, ◌-◌, if◌then◌else◌, List, [], ◌∷◌, ◌++◌, length, map, replicate, Option, Some, None, Ok, Err, slice_get, slice_set, slice_index_or}
+-- The whole world: both ends, and what nothing wipes. A step delivers a datagram by its tag: what arrives is the message that was
+-- begun under its number. Once a line handed other bytes to an end, it delivers a datagram by its bytes.
+use Rattle.std.specs.Prelude.{ℕ, ◌+◌, ◌-◌, if◌then◌else◌, Bool, true, false, List, [], ◌∷◌, ◌++◌, length, map, replicate, Option, Some, None, Ok, Err, slice_get, slice_set, slice_index_or}
 use Rattle.q3_profile.specs.declared.profile.Profile.{Profile}
 use Rattle.q3_io.specs.declared.address.Address.{Address}
 use Rattle.q3_player.specs.Heads.{empty_head}
@@ -14,10 +14,10 @@ use Rattle.q3_clmsg.specs.declared.moves.Move.{Move}
 use Rattle.q3_clmsg.specs.Values.{empty_message}
 use Rattle.q3_ring.specs.Snapshot.{Snapshot}
 use Rattle.q3_slot.specs.declared.taking.ServerTook.TheVariants.{Stranger}
-use Rattle.q3_slot.specs.Built.{Built, built_of}
+use Rattle.q3_built.specs.Built.{Built, built_of, built_bytes}
 use Rattle.q3_slot.specs.Slot.{SlotState}
-use Rattle.q3_slot.specs.Emitting.{built_bytes}
 use Rattle.std.specs.List.{range_with_len}
+use Rattle.std.specs.Option.{option_map}
 use Rattle.q3_entity.specs.Baselines.{no_lines}
 use Rattle.q3_config.specs.Laws.{piece_texts}
 use Rattle.q3_gamestate.specs.Values.{Gamestate}
@@ -27,18 +27,18 @@ use Rattle.q3_slot.specs.Slot.{is_connected}
 use Rattle.q3_slot.specs.Taking.{came_as}
 use Rattle.q3_client.specs.declared.client.ClientTook.{ClientTook}
 use Rattle.q3_client.specs.declared.client.ClientTook.TheVariants as took
-use Rattle.q3_server.specs.Report.{Run}
+use Rattle.q3_lines.specs.ServerLines.{Run}
 use Rattle.q3_server.specs.Server.{ServerState, Emission, places, slot_at, emit_at, is_same}
 use Rattle.q3_slot.specs.Taking as by_slot
 use Rattle.q3_server.specs.Taking as hears
 use Rattle.q3_client.specs.Client.{ClientState, Taken, receive_message, take_gathered}
 use Rattle.q3_client.specs.Sending as speaks
 use Rattle.q3_client.specs.Sending.{Said, said_bytes}
-use Rattle.q3_world.specs.declared.answer.Answer.{Answer}
-use Rattle.q3_world.specs.declared.answer.Answer.TheVariants as answer
+use Rattle.q3_report.specs.declared.answer.Answer.{Answer}
+use Rattle.q3_report.specs.declared.answer.Answer.TheVariants as answer
 use Rattle.q3_world.specs.declared.made.Direction.{Direction}
 use Rattle.q3_world.specs.declared.made.Direction.TheVariants.{ToClient, ToServer}
-use Rattle.q3_world.specs.Ends.{Ends, EndsStep, Answered, answered, client_at, with_client, address_at, new_ends, served, sent, unknown, delivered, ran, ran_of, join, new_map, set_baseline, set_config, set_time, set_entity, remove_entity, set_player, set_area, say_command, type_command, add_move, show}
+use Rattle.q3_world.specs.Ends.{Ends, EndsStep, EndsTook, Answered, answered, client_at, with_client, address_at, new_ends, served, sent, unknown, told_bytes, delivered, ran, ran_of, client_takes, server_takes, hand_client, hand_server, join, set_port, new_map, set_baseline, set_config, set_time, set_entity, remove_entity, set_player, set_area, say_command, type_command, add_move, show}
 
 -- a datagram that was made: the client that it is for or comes from, which of the two, its message's number, which of its
 -- pieces it carries, and its bytes
@@ -76,11 +76,12 @@ pub record History : Type 0 where
   pub client_commands : List (List ℕ)
   pub server_executed : List (List ℕ)
 
--- both ends, each client's history at its place, and every datagram that was made
+-- both ends, each client's history at its place, every datagram that was made, and whether a line handed other bytes to an end
 pub record Whole : Type 0 where
   pub ends : Ends
   pub histories : List History
   pub sent : List Tag
+  pub foreign : Bool
 
 -- the world after an event, and the answer
 pub record Step : Type 0 where
@@ -211,7 +212,7 @@ with_run history ran =
 
 -- before the first event
 unfoldable pub opening : Profile → Whole
-opening profile = record { ends = new_ends profile; histories = replicate places no_history; sent = [] }
+opening profile = record { ends = new_ends profile; histories = replicate places no_history; sent = []; foreign = false }
 
 -- what the game handed in, or read
 abbrev pub with_ends : Whole → EndsStep → Step
@@ -335,10 +336,43 @@ abbrev pub deliver : Profile → Whole → ℕ → Option Tag → Step
 deliver profile whole number None = record { whole = whole; answer = unknown number }
 deliver profile whole number (Some tag) = arrive profile whole number tag tag.direction
 
+-- ---- bytes arrive
+
+-- an end took bytes. What is noted of clients stays as it is: of what comes behind bytes that no end made nothing is noted
+abbrev pub with_took : Whole → EndsTook → Step
+with_took whole took = record { whole = record whole { ends = took.ends }; answer = took.answer }
+
+-- a datagram arrives by its bytes at the end that it goes to
+abbrev pub arrive_bytes : Whole → ℕ → Tag → Direction → Step
+arrive_bytes whole number tag ToClient =
+    with_took whole
+    (client_takes whole.ends tag.client tag.bytes (λ took. answer.Deliver number tag.client took) (answer.Unknown number) (client_at whole.ends tag.client))
+arrive_bytes whole number tag (ToServer from) = with_took whole (server_takes whole.ends from tag.bytes (λ took. answer.ToServer number took))
+
+-- the datagram of a number, if it was made, arrives by its bytes
+abbrev pub deliver_bytes : Whole → ℕ → Option Tag → Step
+deliver_bytes whole number None = record { whole = whole; answer = unknown number }
+deliver_bytes whole number (Some tag) = arrive_bytes whole number tag tag.direction
+
+-- a datagram arrives by its bytes once a line handed other bytes to an end, and by its tag before
+abbrev pub deliver_as : Bool → Profile → Whole → ℕ → Option Tag → Step
+deliver_as false profile whole number found = deliver profile whole number found
+deliver_as true profile whole number found = deliver_bytes whole number found
+
+-- the bytes of the datagram of a number, if it was made
+abbrev pub sent_bytes : List Tag → ℕ → Option (List ℕ)
+sent_bytes sent number = option_map (λ (tag : Tag). tag.bytes) (slice_get sent (number - 1))
+
+-- a line hands bytes to an end, where its client is there; with no such client nothing is handed over
+abbrev pub with_handed : Whole → Option ClientState → EndsTook → Step
+with_handed whole None took = with_took whole took
+with_handed whole (Some client) took = record { whole = record whole { ends = took.ends; foreign = true }; answer = took.answer }
+
 -- one event
 unfoldable pub step : Profile → Whole → Event → Step
 step profile whole (events.Client c challenge qport dup address) =
     with_noted whole c (join profile whole.ends c challenge qport dup address) (with_joined (history_at whole.histories c) qport address)
+step profile whole (events.Port c port) = with_ends whole (set_port whole.ends c port)
 step profile whole (events.Map id feed) = with_ends whole (new_map whole.ends id feed)
 step profile whole (events.Baseline state) = with_ends whole (set_baseline whole.ends state)
 step profile whole (events.Config index text) = with_all whole (set_config whole.ends index text) (with_told whole.ends.server index text)
@@ -352,8 +386,11 @@ step profile whole (events.TypeText c text) = with_noted whole c (type_command w
 step profile whole (events.Move c one) = with_noted whole c (add_move whole.ends c one) (with_issued (history_at whole.histories c) one)
 step profile whole (events.Serve c) = serve whole c (emit_at whole.ends.server c)
 step profile whole (events.Send c) = send whole c (client_at whole.ends c)
-step profile whole (events.Deliver number) = deliver profile whole number (slice_get whole.sent (number - 1))
+step profile whole (events.Deliver number) = deliver_as whole.foreign profile whole number (slice_get whole.sent (number - 1))
 step profile whole (events.Show c) = with_ends whole (show whole.ends c)
+step profile whole (events.Bytes number) = record { whole = whole; answer = told_bytes number (sent_bytes whole.sent number) }
+step profile whole (events.Toclient c bytes) = with_handed whole (client_at whole.ends c) (hand_client whole.ends c bytes)
+step profile whole (events.Toserver c bytes) = with_handed whole (client_at whole.ends c) (hand_server whole.ends c bytes)
 
 -- the world after these events
 unfoldable pub after : Profile → Whole → List Event → Whole

@@ -2,7 +2,8 @@
 
 ghost use Rattle.q3_world.specs.MessageLaws.{BuiltIsRead, SaidIsRead, BuiltSurvives, SaidSurvives};
 ghost use Rattle.q3_world.specs.Layers.{Layers};
-ghost use Rattle.q3_world.specs.Schedules.{StepFollows, BytesFollowTags, AlwaysLegible, UnknownWasNotMade, CommandsArePrefixes, KeysAgree, ExecutedGoesOn, AcceptedWereBuilt, ShownWasBuilt, ShownIsNewest, AsksForAccepted, BasesWereAccepted, HeldIsAccepted, ViewsWereBuilt, AppliedWasBuilt, NewerIsAccepted, UsualNeverSkips, NewerIsRun, MovesWereIssued, EnteringIsNotRun, InOrderIsAccepted, ServedIsShown, StateIsOfGame, StringsFollow};
+ghost use Rattle.q3_world.specs.Apart.{SlotsApart};
+ghost use Rattle.q3_world.specs.Schedules.{StepFollows, BytesFollowTags, AlwaysLegible, UnknownWasNotMade, CommandsArePrefixes, KeysAgree, ExecutedGoesOn, AcceptedWereBuilt, ShownWasBuilt, ShownIsNewest, AsksForAccepted, AskedUnderGame, OneGamePerMap, BasesWereAccepted, HeldIsAccepted, ViewsWereBuilt, AppliedWasBuilt, NewerIsAccepted, UsualNeverSkips, NewerIsRun, MovesWereIssued, EnteringIsNotRun, InOrderIsAccepted, ServedIsShown, StateIsOfGame, StringsFollow};
 
 use q3_bits::laws as bits;
 use q3_chan::laws as chan;
@@ -93,7 +94,7 @@ pub(crate) fn layers()
 }
 
 /// A step of what stands for a whole world, where each datagram is taken by its bytes, is the whole world's step, where
-/// each is taken by its tag.
+/// each is taken by its tag until a line hands other bytes to an end.
 pub fn step_follows()
     ensures { StepFollows }
 {
@@ -101,7 +102,7 @@ pub fn step_follows()
 }
 
 /// In a replay what is kept, where each datagram is taken by its bytes, stands for the whole world, where each is taken
-/// by its tag, and each event answers the same.
+/// by its tag until a line hands other bytes to an end, and each event answers the same.
 pub fn bytes_follow_tags()
     ensures { BytesFollowTags }
 {
@@ -175,6 +176,21 @@ pub fn shown_is_newest()
 /// applied since.
 pub fn asks_for_accepted()
     ensures { AsksForAccepted }
+{
+    bytes_follow_tags();
+}
+
+/// What a client's message asks for, what its slot writes against, and each base of a message were accepted by the client under the
+/// gamestate of that message's map.
+pub fn asked_under_game()
+    ensures { AskedUnderGame }
+{
+    bytes_follow_tags();
+}
+
+/// Of a map a client applied at most one gamestate, and the ids of those maps rise.
+pub fn one_game_per_map()
+    ensures { OneGamePerMap }
 {
     bytes_follow_tags();
 }
@@ -298,3 +314,8 @@ pub fn strings_follow()
     bytes_follow_tags();
     layers();
 }
+
+/// An event that isn't of a client leaves its slot, its end and its address, in every state and whatever bytes arrive.
+pub fn slots_apart()
+    ensures { SlotsApart }
+{}

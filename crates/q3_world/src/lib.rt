@@ -1,13 +1,12 @@
 //! Both ends over a schedule, and what they print.
 #![tactic(auto)]
 
-pub mod answer;
+pub mod counts;
 pub mod laws;
 mod made;
 mod places;
 mod replay;
-mod report;
 pub mod world;
 
-pub use answer::{Answer, MoveRefused, Shown, TypeRefused};
+pub use counts::Counts;
 pub use world::{StepError, World};

@@ -9,13 +9,12 @@ ghost use Rattle.q3_server.specs.Server.{places, emit_at};
 ghost use Rattle.q3_rings.specs.Loans.{snapshot_of};
 ghost use Rattle.q3_clstate.specs.declared.applied.Log.{Log as LogValue};
 ghost use Rattle.q3_slot.specs.declared.taking.Heard.{Heard as HeardValue};
-ghost use Rattle.q3_world.specs.Ends.{lent, newest_of, newest, client_at, shown_of, join, new_map, set_baseline, set_config, set_time, set_entity, remove_entity, set_player, set_area, say_command, type_command, add_move};
-ghost use Rattle.q3_world.specs.Executed.{answered_with, state_with};
-ghost use Rattle.q3_world.specs.Kept.{most_datagrams, opening_kept, kept_step, kept_ends, kept_serve, kept_send, kept_deliver};
+ghost use Rattle.q3_world.specs.Ends.{lent, newest_of, newest, client_at, shown_of, join, set_port, hand_client, hand_server, new_map, set_baseline, set_config, set_time, set_entity, remove_entity, set_player, set_area, say_command, type_command, add_move};
+ghost use Rattle.q3_world.specs.Executed.{answered_with, state_with, bytes_with};
+ghost use Rattle.q3_world.specs.Kept.{most_datagrams, opening_kept, kept_step, kept_ends, kept_serve, kept_send, kept_deliver, kept_took, kept_bytes};
 ghost use Rattle.q3_world.specs.Outcome.{TakesMemory};
 
-use crate::answer::{Answer, MoveRefused, Shown, TypeRefused};
-use crate::made::{Direction, Made, arrive, keep, room_for_one};
+use crate::made::{Direction, Made, arrive, hand_client, keep, room_for_one};
 use crate::places::{empty_places, no_addresses};
 use arrayvec::ArrayVec;
 use q3_bits::NoMemory;
@@ -27,6 +26,7 @@ use q3_entity::EntityState;
 use q3_io::Address;
 use q3_player::PlayerState;
 use q3_profile::Profile;
+use q3_report::{Answer, MoveRefused, Shown, TypeRefused};
 use q3_rings::SnapView;
 use q3_script::{Bytes, Event};
 use q3_server::{Heard, MOST_SLOTS, NoClient, Server};
@@ -92,7 +92,7 @@ impl Replay {
         requires event { IsReplayEvent event.now }
         requires few { length self.old.datagrams < most_datagrams }
         ensures ok { IfOk result (λ answer. kept_step self.old event.now
-            ≡ record { kept = self.new; answer = answered_with self.new.ends answer log.new heard.new }) }
+            ≡ record { kept = self.new; answer = answered_with self.new answer log.new heard.new }) }
         ensures err { OnErr result (TakesMemory event.now × (self.new ≡ self.old)) }
     {
         match event {
@@ -103,6 +103,7 @@ impl Replay {
                 dup,
                 address,
             } => self.join(*c, *challenge, *qport, *dup, *address),
+            Event::Port { c, port } => Ok(self.set_port(*c, *port)),
             Event::Map { id, feed } => Ok(self.new_map(*id, *feed)),
             Event::Baseline { state } => Ok(self.set_baseline(state)),
             Event::Config { index, text } => Ok(self.set_config(*index, text)),
@@ -118,6 +119,11 @@ impl Replay {
             Event::Send { c } => self.send(*c),
             Event::Deliver { datagram } => Ok(self.deliver(*datagram, log, heard)),
             Event::Show { c } => Ok(self.show(*c)),
+            Event::Bytes { datagram } => Ok(Answer::Bytes {
+                datagram: *datagram,
+            }),
+            Event::Toclient { c, bytes } => Ok(self.hand_client(*c, bytes.bytes(), log)),
+            Event::Toserver { c, bytes } => Ok(self.hand_server(*c, bytes.bytes(), heard)),
         }
     }
 
@@ -132,7 +138,7 @@ impl Replay {
     ) -> Result<Answer, NoMemory>
         requires { c < places }
         ensures ok { IfOk result (λ answer. (log : LogValue) (heard : HeardValue) → kept_ends self.old (join self.old.profile self.old.ends c challenge qport dup address)
-            ≡ record { kept = self.new; answer = answered_with self.new.ends answer log heard }) }
+            ≡ record { kept = self.new; answer = answered_with self.new answer log heard }) }
         ensures err { OnErr result (self.new ≡ self.old) }
     {
         let client = Client::new(self.alloc, &self.profile, challenge, qport, dup)?;
@@ -147,11 +153,28 @@ impl Replay {
         Ok(Answer::Client { c, outcome: Ok(()) })
     }
 
+    /// A client's later datagrams come from another port.
+    fn set_port(&mut self, c: u8, port: u16) -> Answer
+        requires { c < places }
+        ensures { (log : LogValue) (heard : HeardValue) → kept_ends self.old (set_port self.old.ends c port)
+            ≡ record { kept = self.new; answer = answered_with self.new result log heard } }
+    {
+        if self.clients[c as usize].is_none() {
+            return Answer::Port {
+                c,
+                outcome: Err(NoClient),
+            };
+        }
+        let host = self.addresses[c as usize].host;
+        self.addresses[c as usize] = Address { host, port };
+        Answer::Port { c, outcome: Ok(()) }
+    }
+
     /// A new map.
     fn new_map(&mut self, id: u32, feed: u32) -> Answer
         requires { id < 2 ^ 31 }
         ensures { (log : LogValue) (heard : HeardValue) → kept_ends self.old (new_map self.old.ends id feed)
-            ≡ record { kept = self.new; answer = answered_with self.new.ends result log heard } }
+            ≡ record { kept = self.new; answer = answered_with self.new result log heard } }
     {
         Answer::Map {
             id,
@@ -164,7 +187,7 @@ impl Replay {
         requires some { 1 ≤ state.now.number }
         requires most { state.now.number < most_lines }
         ensures { (log : LogValue) (heard : HeardValue) → kept_ends self.old (set_baseline self.old.ends state.now)
-            ≡ record { kept = self.new; answer = answered_with self.new.ends result log heard } }
+            ≡ record { kept = self.new; answer = answered_with self.new result log heard } }
     {
         Answer::Baseline {
             number: state.number,
@@ -175,7 +198,7 @@ impl Replay {
     /// A config string changes to a text.
     fn set_config(&mut self, index: u32, text: &Bytes) -> Answer
         ensures { (log : LogValue) (heard : HeardValue) → kept_ends self.old (set_config self.old.ends index text.now)
-            ≡ record { kept = self.new; answer = answered_with self.new.ends result log heard } }
+            ≡ record { kept = self.new; answer = answered_with self.new result log heard } }
     {
         Answer::Config {
             index,
@@ -186,7 +209,7 @@ impl Replay {
     fn set_entity(&mut self, state: &EntityState) -> Answer
         requires { state.now.number < most_numbers }
         ensures { (log : LogValue) (heard : HeardValue) → kept_ends self.old (set_entity self.old.ends state.now)
-            ≡ record { kept = self.new; answer = answered_with self.new.ends result log heard } }
+            ≡ record { kept = self.new; answer = answered_with self.new result log heard } }
     {
         self.server.set_entity(state);
         Answer::Entity {
@@ -196,7 +219,7 @@ impl Replay {
 
     fn remove_entity(&mut self, number: u16) -> Answer
         ensures { (log : LogValue) (heard : HeardValue) → kept_ends self.old (remove_entity self.old.ends number)
-            ≡ record { kept = self.new; answer = answered_with self.new.ends result log heard } }
+            ≡ record { kept = self.new; answer = answered_with self.new result log heard } }
     {
         self.server.remove_entity(number);
         Answer::Remove { number }
@@ -205,7 +228,7 @@ impl Replay {
     fn set_player(&mut self, c: u8, player: &PlayerState) -> Answer
         requires { c < places }
         ensures { (log : LogValue) (heard : HeardValue) → kept_ends self.old (set_player self.old.ends c player.now)
-            ≡ record { kept = self.new; answer = answered_with self.new.ends result log heard } }
+            ≡ record { kept = self.new; answer = answered_with self.new result log heard } }
     {
         Answer::Player {
             c,
@@ -216,7 +239,7 @@ impl Replay {
     fn set_area(&mut self, c: u8, area: &ArrayVec<u8, 32>) -> Answer
         requires { c < places }
         ensures { (log : LogValue) (heard : HeardValue) → kept_ends self.old (set_area self.old.ends c area.now)
-            ≡ record { kept = self.new; answer = answered_with self.new.ends result log heard } }
+            ≡ record { kept = self.new; answer = answered_with self.new result log heard } }
     {
         Answer::Area {
             c,
@@ -226,7 +249,7 @@ impl Replay {
 
     fn set_time(&mut self, time: u32) -> Answer
         ensures { (log : LogValue) (heard : HeardValue) → kept_ends self.old (set_time self.old.ends time)
-            ≡ record { kept = self.new; answer = answered_with self.new.ends result log heard } }
+            ≡ record { kept = self.new; answer = answered_with self.new result log heard } }
     {
         self.server.set_time(time);
         Answer::Time
@@ -236,7 +259,7 @@ impl Replay {
     fn say(&mut self, c: u8, text: &Text) -> Answer
         requires { c < places }
         ensures { (log : LogValue) (heard : HeardValue) → kept_ends self.old (say_command self.old.ends c text.now)
-            ≡ record { kept = self.new; answer = answered_with self.new.ends result log heard } }
+            ≡ record { kept = self.new; answer = answered_with self.new result log heard } }
     {
         Answer::Say {
             c,
@@ -248,7 +271,7 @@ impl Replay {
     fn type_command(&mut self, c: u8, text: &Text) -> Answer
         requires { c < places }
         ensures { (log : LogValue) (heard : HeardValue) → kept_ends self.old (type_command self.old.ends c text.now)
-            ≡ record { kept = self.new; answer = answered_with self.new.ends result log heard } }
+            ≡ record { kept = self.new; answer = answered_with self.new result log heard } }
     {
         let Some(client) = &mut self.clients[c as usize] else {
             return Answer::TypeText {
@@ -267,7 +290,7 @@ impl Replay {
     fn add_move(&mut self, c: u8, one: &Move) -> Answer
         requires { c < places }
         ensures { (log : LogValue) (heard : HeardValue) → kept_ends self.old (add_move self.old.ends c one.now)
-            ≡ record { kept = self.new; answer = answered_with self.new.ends result log heard } }
+            ≡ record { kept = self.new; answer = answered_with self.new result log heard } }
     {
         let Some(client) = &mut self.clients[c as usize] else {
             return Answer::Move {
@@ -295,7 +318,7 @@ impl Replay {
         requires place { c < places }
         requires few { length self.old.datagrams < most_datagrams }
         ensures ok { IfOk result (λ answer. (log : LogValue) (heard : HeardValue) → kept_serve self.old c (emit_at self.old.ends.server c)
-            ≡ record { kept = self.new; answer = answered_with self.new.ends answer log heard }) }
+            ≡ record { kept = self.new; answer = answered_with self.new answer log heard }) }
         ensures err { OnErr result (self.new ≡ self.old) }
     {
         let bytes = room_for_one(self.alloc, &mut self.datagrams)?;
@@ -315,7 +338,7 @@ impl Replay {
         requires place { c < places }
         requires few { length self.old.datagrams < most_datagrams }
         ensures ok { IfOk result (λ answer. (log : LogValue) (heard : HeardValue) → kept_send self.old c (client_at self.old.ends c)
-            ≡ record { kept = self.new; answer = answered_with self.new.ends answer log heard }) }
+            ≡ record { kept = self.new; answer = answered_with self.new answer log heard }) }
         ensures err { OnErr result (self.new ≡ self.old) }
     {
         let bytes = room_for_one(self.alloc, &mut self.datagrams)?;
@@ -348,7 +371,7 @@ impl Replay {
     fn deliver(&mut self, number: u32, log: &mut Log, heard: &mut Heard) -> Answer
         requires { 1 ≤ number }
         ensures { kept_deliver self.old number (slice_get self.old.datagrams (number - 1))
-            ≡ record { kept = self.new; answer = answered_with self.new.ends result log.new heard.new } }
+            ≡ record { kept = self.new; answer = answered_with self.new result log.new heard.new } }
     {
         let Some(sent) = self.datagrams.get(number as usize - 1) else {
             return Answer::Unknown { datagram: number };
@@ -361,6 +384,34 @@ impl Replay {
             log,
             heard,
         )
+    }
+
+    /// Bytes are handed to a client.
+    fn hand_client(&mut self, c: u8, bytes: &[u8], log: &mut Log) -> Answer
+        requires { c < places }
+        ensures { (heard : HeardValue) → kept_took self.old (hand_client self.old.ends c bytes.now)
+            ≡ record { kept = self.new; answer = answered_with self.new result log.new heard } }
+    {
+        hand_client(&mut self.clients, c, bytes, log)
+    }
+
+    /// Bytes are handed to the server, from a client's address.
+    fn hand_server(&mut self, c: u8, bytes: &[u8], heard: &mut Heard) -> Answer
+        requires { c < places }
+        ensures { (log : LogValue) → kept_took self.old (hand_server self.old.ends c bytes.now)
+            ≡ record { kept = self.new; answer = answered_with self.new result log heard.new } }
+    {
+        if self.clients[c as usize].is_none() {
+            return Answer::Toserver {
+                c,
+                outcome: Err(NoClient),
+            };
+        }
+        let address = self.addresses[c as usize];
+        Answer::Toserver {
+            c,
+            outcome: Ok(self.server.take(address, bytes, heard)),
+        }
     }
 
     fn show(&self, c: u8) -> Answer
@@ -390,9 +441,33 @@ impl Replay {
         ensures { option_map (λ client. client.now.state) result ≡ state_with self.now.ends answer }
     {
         match answer {
-            Answer::Deliver { c, .. } => self.clients.get(c as usize)?.as_ref(),
+            Answer::Deliver { c, .. } | Answer::Toclient { c, outcome: Ok(_) } => {
+                self.clients.get(c as usize)?.as_ref()
+            }
             _ => None,
         }
+    }
+
+    /// The bytes of a datagram, which are printed with the answer.
+    pub fn bytes(&self, answer: Answer) -> Option<&[u8]>
+        ensures { option_map (λ bytes. bytes.now) result ≡ bytes_with self.now.datagrams answer }
+    {
+        match answer {
+            Answer::Bytes { datagram } => self.bytes_of(datagram),
+            _ => None,
+        }
+    }
+
+    /// The bytes of the datagram of a number, if it was made.
+    fn bytes_of(&self, number: u32) -> Option<&[u8]>
+        ensures { option_map (λ bytes. bytes.now) result ≡ kept_bytes self.now.datagrams number }
+    {
+        Some(
+            self.datagrams
+                .get((number as usize).saturating_sub(1))?
+                .bytes
+                .as_slice(),
+        )
     }
 
     /// The newest snapshot that a client accepted.

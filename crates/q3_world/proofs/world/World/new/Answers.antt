@@ -1,7 +1,6 @@
 use Rattle.q3_world.proofs.EverySchedule.{stands_opening}
 use Rattle.q3_world.proofs.world.World.new.Goals as goal
 
-pub returns : goal.returns
-returns c = record {
-  stands = rw c.in_ok-new.ensures.made (stands_opening c.layers.ensures c.args.profile.now (record { codec = c.in_ok-new.ensures.codec; rings = c.requires }));
-}
+pub returns-clause-stands : goal.returns-clause-stands
+returns-clause-stands g =
+    rw g.in_ok-new.ensures.made (stands_opening g.layers.ensures g.args.profile.now (record { codec = g.in_ok-new.ensures.codec; rings = g.requires }))

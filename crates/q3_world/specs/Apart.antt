@@ -1,0 +1,60 @@
+-- An event of one client leaves what the others have.
+use Rattle.std.specs.Prelude.{◌≡◌, ◌≢◌, ℕ, ◌-◌, List, Option, Some, None, Result, Ok, Err, slice_get}
+use Rattle.q3_io.specs.declared.address.Address.{Address}
+use Rattle.q3_chan.specs.declared.qport.NoQport.{NoQport}
+use Rattle.q3_chan.specs.Senders.{qport_of}
+use Rattle.q3_script.specs.declared.event.Event.{Event}
+use Rattle.q3_script.specs.declared.event.Event.TheVariants.{Client, Port, Map, Player, Area, Config, Say, TypeText, Move, Serve, Send, Deliver, Toclient, Toserver}
+use Rattle.q3_server.specs.Server.{ServerState, slot_at}
+use Rattle.q3_server.specs.Taking.{sender_of}
+use Rattle.q3_world.specs.declared.made.Direction.{Direction}
+use Rattle.q3_world.specs.declared.made.Direction.TheVariants.{ToClient, ToServer}
+use Rattle.q3_world.specs.Ends.{Ends, client_at, address_at}
+use Rattle.q3_world.specs.Kept.{SentBytes, Kept, kept_step}
+
+-- the client that the server finds for bytes from an address, by the host and the qport, if it finds one
+abbrev pub found_by : ServerState → Address → Result ℕ NoQport → Option ℕ
+found_by server from (Ok qport) = sender_of server from.host qport
+found_by server from (Err e) = None
+
+abbrev pub taker_of : ServerState → Address → List ℕ → Option ℕ
+taker_of server from bytes = found_by server from (qport_of bytes)
+
+-- a datagram is neither for the client at a place nor found to be of it
+abbrev pub IsOfOther : Ends → ℕ → SentBytes → Direction → Type 0
+IsOfOther ends d sent ToClient = d ≢ sent.client
+IsOfOther ends d sent (ToServer from) = taker_of ends.server from sent.bytes ≢ Some d
+
+-- nor is the datagram of a number, if it was made
+abbrev pub IsOfOthers : Ends → ℕ → Option SentBytes → Type 0
+IsOfOthers ends d None = Unit {0}
+IsOfOthers ends d (Some sent) = IsOfOther ends d sent sent.direction
+
+-- an event isn't of the client at a place: it names another one, or hands an end bytes that aren't for that client. A new map, and a
+-- change of a config string, are of every client; the time, entities and baselines are of none
+abbrev pub IsApart : Kept → Event → ℕ → Type 0
+IsApart kept (Client c challenge qport dup address) d = d ≢ c
+IsApart kept (Port c port) d = d ≢ c
+IsApart kept (Map id feed) d = ⊥
+IsApart kept (Config index text) d = ⊥
+IsApart kept (Player c player) d = d ≢ c
+IsApart kept (Area c area) d = d ≢ c
+IsApart kept (Say c text) d = d ≢ c
+IsApart kept (TypeText c text) d = d ≢ c
+IsApart kept (Move c one) d = d ≢ c
+IsApart kept (Serve c) d = d ≢ c
+IsApart kept (Send c) d = d ≢ c
+IsApart kept (Deliver number) d = IsOfOthers kept.ends d (slice_get kept.datagrams (number - 1))
+IsApart kept (Toclient c bytes) d = d ≢ c
+IsApart kept (Toserver c bytes) d = taker_of kept.ends.server (address_at kept.ends c) bytes ≢ Some d
+IsApart kept other d = Unit {0}
+
+-- a client has the same slot, the same end and the same address
+pub record IsLeft (d : ℕ) (old new : Ends) : Type 0 where
+  pub slot : slot_at new.server d ≡ slot_at old.server d
+  pub client : client_at new d ≡ client_at old d
+  pub address : address_at new d ≡ address_at old d
+
+-- an event that isn't of a client leaves its slot, its end and its address, in every state and whatever bytes arrive
+abbrev pub SlotsApart : Type 0
+SlotsApart = (kept : Kept) (event : Event) (d : ℕ) → IsApart kept event d → IsLeft d kept.ends (kept_step kept event).kept.ends
