@@ -1,5 +1,5 @@
 -- How a run ends.
-use Rattle.std.proofs.Common.{◌≡◌, ℕ, Bool, true, false, List, [], ◌∷◌, ◌++◌, Option, Some, None, Result, Ok, Err, refl, ap, subst, ◌∙◌, inl, inr}
+use Rattle.std.proofs.Common.{◌≡◌, ℕ, Bool, true, false, List, [], ◌∷◌, ◌++◌, Option, Some, None, Result, Ok, Err, refl, sym, ap, subst, ◌∙◌, inl, inr}
 use Rattle.std.specs.Prelude.{if◌then◌else◌}
 use Rattle.std.proofs.lemmas.List.{append-nil}
 use Rattle.q3_io.specs.Laws.{TextsFollow}
@@ -9,20 +9,58 @@ use Rattle.q3net.specs.declared.fault.Fault.{Fault}
 use Rattle.q3net.specs.declared.fault.Fault.TheVariants as faults
 use Rattle.q3net.specs.Command.{Command}
 use Rattle.q3net.specs.Lines.{ending_status, ending_line}
-use Rattle.q3net.specs.Verdict.{IsVerdict, settled}
-use Rattle.q3net.specs.Run.{Executes, PrintsAll, Took, Prints}
+use Rattle.q3net.specs.Faults.{Gets}
+use Rattle.q3net.specs.Verdict.{Verdict, IsVerdict, settled}
+use Rattle.q3net.specs.Run.{MayStop, MayRead, Executes, PrintsAll, Took, Prints}
 
 -- ---- a command that reads nothing
 
 pub none_executes : (follow : TextsFollow) (told : Option Told) (old : Option Written) → Executes None told old old (Err faults.Usage)
 none_executes follow told old = (settled [] (Err faults.Usage), refl, inl ([], inl (refl, refl), follow.none))
 
-pub text_executes : (command : Option Command) (told : Option Told) (old now : Option Written) (text : List ℕ) (ended : Result (Unit {0}) Fault)
-    → IsVerdict told command (settled [] (Ok text)) → PrintsAll text old now ended → Executes command told old now ended
-text_executes command told old now text ended is prints =
+-- a text of one write
+pub text_executes : (command : Option Command) (told : Option Told) (old now : Option Written) (names : List (List ℕ)) (text : List ℕ) (ended : Result (Unit {0}) Fault)
+    → IsVerdict told command (settled names (Ok text)) → PrintsAll text old now ended → Executes command told old now ended
+text_executes command told old now names text ended is prints =
     elim prints [
-      | inl all ↦ (settled [] (Ok text), is, inl (text, inl (all.0, refl), all.1))
-      | inr front ↦ (settled [] (Ok text), is, inr front)
+      | inl all ↦ (settled names (Ok text), is, inl (text, inl (all.0, refl), all.1))
+      | inr front ↦ (settled names (Ok text), is, inr front)
+    ]
+
+-- ---- a command that ends before it has printed anything
+
+-- its input ended it
+pub refused : (follow : TextsFollow) (command : Option Command) (told : Option Told) (old : Option Written) (names : List (List ℕ)) (e : Fault)
+    → IsVerdict told command (settled names (Err e)) → Executes command told old old (Err e)
+refused follow command told old names e is = (settled names (Err e), is, inl ([], inl (refl, refl), follow.none))
+
+-- memory ran out
+pub wants_memory : (follow : TextsFollow) (command : Option Command) (told : Option Told) (old : Option Written) (verdict : Verdict)
+    → IsVerdict told command verdict → MayStop command → Executes command told old old (Err faults.NoMemory)
+wants_memory follow command told old verdict is may = (verdict, is, inl ([], inr (may, faults.NoMemory, refl, (verdict.text, refl)), follow.none))
+
+-- a read failed
+fails_reading : (follow : TextsFollow) (command : Option Command) (told : Option Told) (old : Option Written) (verdict : Verdict)
+    → IsVerdict told command verdict → MayStop command → MayRead command → Executes command told old old (Err faults.Read)
+fails_reading follow command told old verdict is may reads = (verdict, is, inl ([], inr (may, faults.Read, refl, (reads, refl)), follow.none))
+
+-- a part that reads a file ended it
+pub part_ended : {A : Type 0} (follow : TextsFollow) (command : Option Command) (told : Option Told) (old : Option Written) (names : List (List ℕ)) (answer : Result (List ℕ) Fault)
+    (said : Result A Fault) (e : Fault) → IsVerdict told command (settled names answer) → MayStop command → MayRead command
+    → (said ≡ Err e → answer ≡ Err e) → Gets said (Err e) → Executes command told old old (Err e)
+part_ended follow command told old names answer said e is may reads so gets =
+    elim gets [
+      | inl by_input ↦ refused follow command told old names e (subst (λ (a : Result (List ℕ) Fault). IsVerdict told command (settled names a)) (so (sym by_input)) is)
+      | inr outside ↦ elim outside [
+        | inl memory ↦ (
+            let so : e ≡ faults.NoMemory = cc in
+            subst (λ (d : Fault). Executes command told old old (Err d)) (sym so) (wants_memory follow command told old (settled names answer) is may)
+            )
+        | inr read ↦ (
+            let so : e ≡ faults.Read = cc in
+            subst (λ (d : Fault). Executes command told old old (Err d)) (sym so) (fails_reading follow command told old (settled names answer) is may reads)
+            )
+      ]
     ]
 
 -- ---- after a sink has failed

@@ -2,5 +2,6 @@ pub mod Reading
 pub mod Loading
 pub mod Looking
 pub mod Stepping
-pub mod Replaying
 pub mod Ending
+pub mod Replaying
+pub mod Trying

@@ -6,11 +6,12 @@ use Rattle.q3_profile.specs.declared.profile.Profile.{Profile}
 use Rattle.q3_io.specs.Told.{Told, Named}
 use Rattle.q3net.specs.declared.fault.Fault.{Fault}
 use Rattle.q3net.specs.declared.fault.Fault.TheVariants as faults
-use Rattle.q3net.specs.Command.{Command, Help, Version, Replay, files_of}
+use Rattle.q3net.specs.declared.command.Draws.{Draws}
+use Rattle.q3net.specs.Command.{Command, Help, Version, Replay, Make, Trial, files_of}
 use Rattle.q3net.specs.Faults.{Gets, IsEarly}
 use Rattle.q3net.specs.Input.{IsFront, Holds, looked_up, LooksUp, LooksUpTold, LooksUpFirst, Gives}
 use Rattle.q3net.specs.Lines.{ending_status}
-use Rattle.q3net.specs.Verdict.{Verdict, IsVerdict, settled, names_by, replayed, profile_in, GetsFrom}
+use Rattle.q3net.specs.Verdict.{Verdict, IsVerdict, settled, names_by, replayed, tried, profile_in, GetsFrom}
 use Rattle.q3net.specs.Run.{GivesNames, HasGiven}
 use Rattle.q3net.proofs.Loading.{held}
 
@@ -98,6 +99,9 @@ verdict_front told (Some (Replay profile script)) verdict is =
       ap (λ (v : Verdict). v.names ++ front.0) is.4
           ∙ (ap (λ (n : List (List ℕ)). n ++ front.0) (sym (settled_names names (replayed is.0 is.1))) ∙ front.1),
     )
+verdict_front told (Some (Make draws)) verdict is = ([], ap (λ (v : Verdict). v.names ++ []) is)
+verdict_front told (Some (Trial profile draws)) verdict is =
+    ([], append-nil verdict.names ∙ (ap (λ (v : Verdict). v.names) is.2 ∙ sym (settled_names (profile ∷ []) (tried is.0 draws))))
 
 -- they are the first of those that the command names
 pub touches : (command : Option Command) (told now : Option Told) (ended : Result (Unit {0}) Fault) → GivesNames command told now ended → LooksUpFirst told now (files_of command)
@@ -139,6 +143,26 @@ none_given told = (settled [] (Err faults.Usage), refl, inl (looks_none told))
 pub text_given : (command : Option Command) (told : Option Told) (text : List ℕ) (ended : Result (Unit {0}) Fault)
     → IsVerdict told command (settled [] (Ok text)) → GivesNames command told told ended
 text_given command told text ended is = (settled [] (Ok text), is, inl (looks_none told))
+
+-- a profile was looked up, and nothing else
+pub trial_given : {A : Type 0} (told now : Option Told) (profile : List ℕ) (draws : Draws) (ended : Result (Unit {0}) Fault) (got : Result A Fault)
+    → (Gives got (profile ∷ []) told now → Gives ended (profile ∷ []) told now) → Gives got (profile ∷ []) told now → GivesNames (Some (Trial profile draws)) told now ended
+trial_given told now profile draws ended got so gives =
+    let file = held told profile in (
+      settled (profile ∷ []) (tried file.0 draws),
+      (file.0, file.1, refl),
+      subst (λ (n : List (List ℕ)). Gives ended n told now) (settled_names (profile ∷ []) (tried file.0 draws)) (so gives),
+    )
+
+-- none passed
+pub trial_gives : {A : Type 0} (told now : Option Told) (profile : List ℕ) (draws : Draws) (e : Fault) → Gives {A = A} (Err e) (profile ∷ []) told now
+    → GivesNames (Some (Trial profile draws)) told now (Err e)
+trial_gives told now profile draws e gives = trial_given told now profile draws (Err e) (Err e) (gives_as e (profile ∷ []) told now) gives
+
+-- one did
+pub trial_gave : {A : Type 0} (told now : Option Told) (profile : List ℕ) (draws : Draws) (by : A) (ended : Result (Unit {0}) Fault) → Gives (Ok by) (profile ∷ []) told now
+    → GivesNames (Some (Trial profile draws)) told now ended
+trial_gave told now profile draws by ended gives = trial_given told now profile draws ended (Ok by) (λ all. inl (gave by (profile ∷ []) told now all)) gives
 
 replay_given : (told now : Option Told) (profile script : List ℕ) (file : Option (List ℕ)) (ended : Result (Unit {0}) Fault) → Holds told profile file
     → Gives ended (names_by (profile_in file) profile script) told now → GivesNames (Some (Replay profile script)) told now ended

@@ -17,13 +17,14 @@ use Rattle.q3net.specs.declared.fault.Fault.{Fault}
 use Rattle.q3net.specs.declared.fault.Fault.TheVariants as faults
 use Rattle.q3net.specs.Command.{Replay}
 use Rattle.q3_world.specs.Outcome.{HasStepCause}
-use Rattle.q3net.specs.Faults.{Gets, step_fault, ReadCause, WriteCause}
+use Rattle.q3net.specs.Faults.{step_fault, ReadCause, WriteCause}
 use Rattle.q3net.specs.Input.{IsFront, Holds, LooksUpTold, Gives}
 use Rattle.q3net.specs.Verdict.{IsVerdict, settled, profile_in, events_in, replayed, names_by, GetsFrom}
-use Rattle.q3net.specs.Run.{AddsLines, Stops, Executes}
+use Rattle.q3net.specs.Run.{AddsLines, Executes}
 use Rattle.q3net.proofs.Loading.{held}
 use Rattle.q3net.proofs.Looking.{got_ok, gave}
 use Rattle.q3net.proofs.Stepping.{lines_of, lines-all}
+use Rattle.q3net.proofs.Ending.{part_ended, wants_memory}
 
 -- the first part that its input ends, or the text
 no_profile : (profile script : Option (List ℕ)) (e : Fault) → profile_in profile ≡ Err e → replayed profile script ≡ Err e
@@ -40,42 +41,12 @@ all_said profile script by events passes is =
     ap (λ (says : Result Profile Fault). says >>= (λ by. events_in script >>= (λ events. Ok (report by events)))) passes
     ∙ ap (λ (says : Result (List Event) Fault). says >>= (λ events. Ok (report by events))) is
 
--- the input ended a replay before anything was printed
-refused : (follow : TextsFollow) (told : Option Told) (profile script : List ℕ) (old : Option Written) (p s : Option (List ℕ)) (e : Fault) → Holds told profile p → Holds told script s
-    → replayed p s ≡ Err e → Executes (Some (Replay profile script)) told old old (Err e)
-refused follow told profile script old p s e of_p of_s says =
-    let names = names_by (profile_in p) profile script in
-    (settled names (Err e), (p, s, of_p, of_s, sym (ap (settled names) says)), inl ([], inl (refl, refl), follow.none))
-
-stops : (profile script : List ℕ) (e : Fault) (text : List ℕ) → (e ≡ faults.NoMemory) ⊎ (e ≡ faults.Read) → Stops (Some (Replay profile script)) e [] text
-stops profile script e text outside =
-    elim outside [
-      | inl memory ↦ subst (λ (d : Fault). Stops (Some (Replay profile script)) d [] text) (sym memory) (text, refl)
-      | inr read ↦ subst (λ (d : Fault). Stops (Some (Replay profile script)) d [] text) (sym read) refl
-    ]
-
--- something from outside did
-stopped : (follow : TextsFollow) (told : Option Told) (profile script : List ℕ) (old : Option Written) (p s : Option (List ℕ)) (e : Fault) → Holds told profile p → Holds told script s
-    → (e ≡ faults.NoMemory) ⊎ (e ≡ faults.Read) → Executes (Some (Replay profile script)) told old old (Err e)
-stopped follow told profile script old p s e of_p of_s outside =
-    let verdict = settled (names_by (profile_in p) profile script) (replayed p s) in
-    (verdict, (p, s, of_p, of_s, refl), inl ([], inr (tt, e, refl, stops profile script e verdict.text outside), follow.none))
-
--- a part ended it early
-part_ended : {A : Type 0} (follow : TextsFollow) (told : Option Told) (profile script : List ℕ) (old : Option Written) (p s : Option (List ℕ)) (e : Fault) (said : Result A Fault)
-    → Holds told profile p → Holds told script s → (said ≡ Err e → replayed p s ≡ Err e) → Gets said (Err e)
-    → Executes (Some (Replay profile script)) told old old (Err e)
-part_ended follow told profile script old p s e said of_p of_s so gets =
-    elim gets [
-      | inl is ↦ refused follow told profile script old p s e of_p of_s (so (sym is))
-      | inr outside ↦ stopped follow told profile script old p s e of_p of_s (elim outside [ inl memory ↦ inl (cc) | inr read ↦ inr (cc) ])
-    ]
-
 pub profile_ended : (follow : TextsFollow) (told : Option Told) (profile script : List ℕ) (old : Option Written) (e : Fault) → GetsFrom profile_in told profile (Err e)
     → Executes (Some (Replay profile script)) told old old (Err e)
 profile_ended follow told profile script old e gets =
     let s = held told script in
-    part_ended follow told profile script old gets.0 s.0 e (profile_in gets.0) gets.1 s.1 (no_profile gets.0 s.0 e) gets.2
+    part_ended follow (Some (Replay profile script)) told old (names_by (profile_in gets.0) profile script) (replayed gets.0 s.0) (profile_in gets.0) e
+    (gets.0, s.0, gets.1, s.1, refl) tt tt (no_profile gets.0 s.0 e) gets.2
 
 -- what the files hold isn't changed by a look
 same_held : (told mid : Option Told) (names : List (List ℕ)) (name : List ℕ) (file : Option (List ℕ)) → LooksUpTold told mid names → Holds mid name file → Holds told name file
@@ -88,8 +59,8 @@ pub events_ended : (follow : TextsFollow) (told mid : Option Told) (profile scri
     → Gives (Ok by) (profile ∷ []) told mid → GetsFrom events_in mid script (Err e) → Executes (Some (Replay profile script)) told old old (Err e)
 events_ended follow told mid profile script by old e passes gives gets =
     let of_script = same_held told mid (profile ∷ []) script gets.0 (gave by (profile ∷ []) told mid gives) gets.1 in
-    part_ended follow told profile script old passes.0 gets.0 e (events_in gets.0) passes.1 of_script
-    (no_events passes.0 gets.0 by e (got_ok (profile_in passes.0) by passes.2)) gets.2
+    part_ended follow (Some (Replay profile script)) told old (names_by (profile_in passes.0) profile script) (replayed passes.0 gets.0) (events_in gets.0) e
+    (passes.0, gets.0, passes.1, of_script, refl) tt tt (no_events passes.0 gets.0 by e (got_ok (profile_in passes.0) by passes.2)) gets.2
 
 -- both files were read
 pub record BothRead (told : Option Told) (profile script : List ℕ) (by : Profile) (events : List Event) : Type 0 where
@@ -126,7 +97,7 @@ verdict_of told profile script by events read = (
 pub memory_ended : (follow : TextsFollow) (told : Option Told) (profile script : List ℕ) (by : Profile) (events : List Event) (old : Option Written) → BothRead told profile script by events
     → Executes (Some (Replay profile script)) told old old (Err faults.NoMemory)
 memory_ended follow told profile script by events old read =
-    (settled (profile ∷ script ∷ []) (Ok (report by events)), verdict_of told profile script by events read, inl ([], inr (tt, faults.NoMemory, refl, (report by events, refl)), follow.none))
+    wants_memory follow (Some (Replay profile script)) told old (settled (profile ∷ script ∷ []) (Ok (report by events))) (verdict_of told profile script by events read) tt
 
 pub steps_ended : (told : Option Told) (profile script : List ℕ) (by : Profile) (events : List Event) (old now : Option Written) (e : StepError)
     → BothRead told profile script by events → AddsLines (answers by (opening by) events) old now (Err e)

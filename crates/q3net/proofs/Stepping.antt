@@ -1,4 +1,4 @@
--- Stepping over the events of a script.
+-- Stepping over the events of a script, and counting what they answer.
 use Rattle.std.proofs.Common.{◌≡◌, ℕ, ◌+◌, ◌<◌, ◌≤◌, List, [], ◌∷◌, ◌++◌, length, get_or, take, drop, Option, Err, refl, sym, ap, subst, ◌∙◌, append_assoc}
 use Rattle.std.specs.Prelude.{true}
 use Rattle.std.specs.List.{flat_map}
@@ -13,11 +13,12 @@ use Rattle.q3_io.specs.Laws.{TextsFollow}
 use Rattle.q3_io.specs.Written.{Written, Wrote}
 use Rattle.q3_world.specs.Outcome.{Prints}
 use Rattle.q3_world.specs.Ends.{Answered}
-use Rattle.q3_world.specs.Kept.{Kept}
+use Rattle.q3_world.specs.declared.counts.Counts.{Counts}
+use Rattle.q3_world.specs.Counts.{counted, counted_all, Counting}
 use Rattle.q3_world.specs.World.{Whole, step, answers}
 use Rattle.q3_world.specs.StandsFor.{StandsFor}
 use Rattle.q3_world.specs.Report.{answer_text}
-use Rattle.q3net.specs.Run.{AddsLines}
+use Rattle.q3net.specs.Run.{AddsLines, AddsCounts}
 
 -- the lines of these answers
 abbrev pub lines_of : List Answered → List ℕ
@@ -40,16 +41,28 @@ lines-more all k one others parts =
     ap lines_of (take-add k 1 all ∙ ap (λ (left : List Answered). take k all ++ take 1 left) parts)
     ∙ (flat_map-append answer_text (take k all) (one ∷ []) ∙ ap (λ (text : List ℕ). lines_of (take k all) ++ text) (append-nil (answer_text one)))
 
+-- answers counted, and one more
+counted-push : (start : Counts) (first : List Answered) (one : Answered) → counted_all start (first ++ one ∷ []) ≡ counted (counted_all start first) one
+unfolding counted_all
+counted-push start [] one = refl
+counted-push start (x ∷ first) one = counted-push (counted start x) first one
+
+counts-more : (all : List Answered) (k : ℕ) (one : Answered) (others : List Answered) (start : Counts) → drop k all ≡ one ∷ others
+    → counted_all start (take (k + 1) all) ≡ counted (counted_all start (take k all)) one
+counts-more all k one others start parts =
+    ap (counted_all start) (take-add k 1 all ∙ ap (λ (left : List Answered). take k all ++ take 1 left) parts) ∙ counted-push start (take k all) one
+
 pub lines-all : (all : List Answered) (k : ℕ) → lines_of all ≡ lines_of (take k all) ++ lines_of (drop k all)
 lines-all all k = ap lines_of (sym (take-append-drop k all)) ∙ flat_map-append answer_text (take k all) (drop k all)
 
--- the events before the k-th were done and the lines of their answers written; the other answers are those that come
-abbrev pub HasStepped : Profile → Kept → Kept → Option Written → Option Written → List Event → ℕ → Type 0
+-- the events before the k-th were done, the lines of their answers written, and these counted; the other answers are those that come
+abbrev pub HasStepped : Profile → Counting → Counting → Option Written → Option Written → List Event → ℕ → Type 0
 HasStepped profile start now had written events k =
-    (whole : Whole) → StandsFor profile start whole
-    → (next : Whole) × StandsFor profile now next
+    (whole : Whole) → StandsFor profile start.kept whole
+    → (next : Whole) × StandsFor profile now.kept next
     × Wrote had written (lines_of (take k (answers profile whole events))) true
     × (drop k (answers profile whole events) ≡ answers profile next (drop k events))
+    × (now.counts ≡ counted_all start.counts (take k (answers profile whole events)))
 
 -- the answers that come are that of the k-th event and the others
 comes : (profile : Profile) (all : List Answered) (next : Whole) (events : List Event) (k : ℕ) (event : Event) → event ≡ get_or events k event → k < length events
@@ -59,12 +72,17 @@ comes profile all next events k event is lt left =
     left ∙ (ap (answers profile next) (drop_more events k event lt ∙ ap (λ (e : Event). e ∷ drop (k + 1) events) (sym is))
     ∙ answers-next profile next event (drop (k + 1) events))
 
-pub HasStepped-more : (follow : TextsFollow) (profile : Profile) (start now after : Kept) (had written more : Option Written) (events : List Event) (k : ℕ) (event : Event) → event ≡ get_or events k event → k < length events
+pub HasStepped-begin : (follow : TextsFollow) (profile : Profile) (start : Counting) (had : Option Written) (events : List Event) → HasStepped profile start start had had events 0
+unfolding counted_all
+HasStepped-begin follow profile start had events = λ whole begun. (whole, begun, follow.none, refl, refl)
+
+pub HasStepped-more : (follow : TextsFollow) (profile : Profile) (start now after : Counting) (had written more : Option Written) (events : List Event) (k : ℕ) (event : Event) → event ≡ get_or events k event → k < length events
     → HasStepped profile start now had written events k
-    → ((whole : Whole) → StandsFor profile now whole → StandsFor profile after (step profile whole event).whole)
-    → ((whole : Whole) → StandsFor profile now whole → Wrote written more (answer_text (step profile whole event).answer) true)
+    → ((whole : Whole) → StandsFor profile now.kept whole → StandsFor profile after.kept (step profile whole event).whole)
+    → ((whole : Whole) → StandsFor profile now.kept whole → Wrote written more (answer_text (step profile whole event).answer) true)
+    → ((whole : Whole) → StandsFor profile now.kept whole → after.counts ≡ counted now.counts (step profile whole event).answer)
     → HasStepped profile start after had more events (k + 1)
-HasStepped-more follow profile start now after had written more events k event is lt stepped stands lines = λ whole begun.
+HasStepped-more follow profile start now after had written more events k event is lt stepped stands lines counts = λ whole begun.
     let was = stepped whole begun in
     let done = step profile was.0 event in
     let all = answers profile whole events in
@@ -74,13 +92,14 @@ HasStepped-more follow profile start now after had written more events k event i
       stands was.0 was.1,
       follow.more was.2 (lines was.0 was.1) (lines-more all k done.answer others parts),
       sym (drop-drop 1 k all) ∙ ap (λ (left : List Answered). drop 1 left) parts,
+      counts was.0 was.1 ∙ (ap (λ (so : Counts). counted so done.answer) was.4 ∙ sym (counts-more all k done.answer others start.counts parts)),
     )
 
 -- the sink or memory failed at the k-th event
-pub HasStepped-early : (follow : TextsFollow) (profile : Profile) (start now : Kept) (had written more : Option Written) (events : List Event) (k : ℕ) (event : Event) (e : StepError) → event ≡ get_or events k event → k < length events
+pub HasStepped-early : (follow : TextsFollow) (profile : Profile) (start now : Counting) (had written more : Option Written) (events : List Event) (k : ℕ) (event : Event) (e : StepError) → event ≡ get_or events k event → k < length events
     → HasStepped profile start now had written events k
-    → ((whole : Whole) → StandsFor profile now whole → Prints written more (answer_text (step profile whole event).answer) (Err e))
-    → (whole : Whole) → StandsFor profile start whole → AddsLines (answers profile whole events) had more (Err e)
+    → ((whole : Whole) → StandsFor profile now.kept whole → Prints written more (answer_text (step profile whole event).answer) (Err e))
+    → (whole : Whole) → StandsFor profile start.kept whole → AddsLines (answers profile whole events) had more (Err e)
 HasStepped-early follow profile start now had written more events k event errors.NoMemory is lt stepped lines whole begun =
     let was = stepped whole begun in
     (k, subst (λ (m : Option Written). Wrote had m (lines_of (take k (answers profile whole events))) true) (sym (lines was.0 was.1)) was.2)
@@ -96,13 +115,27 @@ HasStepped-early follow profile start now had written more events k event errors
     follow.early (lines_of others) (follow.more was.2 (lines was.0 was.1) refl) total
 
 -- every event was done
-pub HasStepped-all : (profile : Profile) (start now : Kept) (had written : Option Written) (events : List Event) (k : ℕ) → length events ≤ k
-    → HasStepped profile start now had written events k
-    → (whole : Whole) → StandsFor profile start whole → Wrote had written (lines_of (answers profile whole events)) true
-HasStepped-all profile start now had written events k le stepped whole begun =
+all_done : (profile : Profile) (start now : Counting) (had written : Option Written) (events : List Event) (k : ℕ) → length events ≤ k
+    → (stepped : HasStepped profile start now had written events k) (whole : Whole) (begun : StandsFor profile start.kept whole)
+    → drop k (answers profile whole events) ≡ []
+all_done profile start now had written events k le stepped whole begun =
     let was = stepped whole begun in
+    was.3 ∙ (ap (answers profile was.0) (drop_all k events le) ∙ answers-none profile was.0)
+
+taken_all : (all : List Answered) (k : ℕ) → drop k all ≡ [] → take k all ≡ all
+taken_all all k none = sym (append-nil (take k all)) ∙ (ap (λ (left : List Answered). take k all ++ left) (sym none) ∙ take-append-drop k all)
+
+pub HasStepped-all : (profile : Profile) (start now : Counting) (had written : Option Written) (events : List Event) (k : ℕ) → length events ≤ k
+    → HasStepped profile start now had written events k
+    → (whole : Whole) → StandsFor profile start.kept whole → Wrote had written (lines_of (answers profile whole events)) true
+HasStepped-all profile start now had written events k le stepped whole begun =
     let all = answers profile whole events in
-    let none : drop k all ≡ [] = was.3 ∙ (ap (answers profile was.0) (drop_all k events le) ∙ answers-none profile was.0) in
-    let total : lines_of (take k all) ≡ lines_of all =
-    sym (append-nil (lines_of (take k all))) ∙ (ap (λ (left : List Answered). lines_of (take k all) ++ lines_of left) (sym none) ∙ sym (lines-all all k)) in
-    subst (λ (text : List ℕ). Wrote had written text true) total was.2
+    subst (λ (first : List Answered). Wrote had written (lines_of first) true) (taken_all all k (all_done profile start now had written events k le stepped whole begun))
+    (stepped whole begun).2
+
+pub HasStepped-counts : (profile : Profile) (start now : Counting) (had written : Option Written) (events : List Event) (k : ℕ) → length events ≤ k
+    → HasStepped profile start now had written events k
+    → (whole : Whole) → StandsFor profile start.kept whole → now.counts ≡ counted_all start.counts (answers profile whole events)
+HasStepped-counts profile start now had written events k le stepped whole begun =
+    let all = answers profile whole events in
+    (stepped whole begun).4 ∙ ap (counted_all start.counts) (taken_all all k (all_done profile start now had written events k le stepped whole begun))

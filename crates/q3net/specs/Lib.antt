@@ -1,6 +1,7 @@
 pub mod Command
 pub mod Faults
 pub mod Lines
+pub mod Summary
 pub mod Input
 pub mod Verdict
 pub mod Run

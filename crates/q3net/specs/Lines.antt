@@ -14,7 +14,7 @@ use Rattle.q3net.specs.declared.fault.Fault.{Fault}
 use Rattle.q3net.specs.declared.fault.Fault.TheVariants.{NoMemory, Usage, Read, Write, Profile, Script}
 
 unfoldable pub help_text : List ℕ
-help_text = codes "q3net replays schedules of Quake III's connected protocol 68\n\nq3net replay PROFILE SCRIPT    replays the schedule of the script by the profile, and prints its report\nq3net --help                   prints this text\nq3net --version                prints the version\n"
+help_text = codes "q3net replays schedules of Quake III's connected protocol 68\n\nq3net replay PROFILE SCRIPT        replays the schedule of the script by the profile, and prints its report\nq3net make NUMBER SEED             prints a generated script, of which so many events are drawn from the seed\nq3net trial PROFILE NUMBER SEED    replays that script by the profile, and prints what the report counts\nq3net --help                       prints this text\nq3net --version                    prints the version\n"
 
 unfoldable pub version_text : List ℕ
 version_text = codes "q3net 0.1.0\n"

@@ -7,7 +7,9 @@ use Rattle.q3_world.specs.declared.world.StepError.{StepError}
 use Rattle.q3_world.specs.declared.world.StepError.TheVariants as step
 use Rattle.q3_world.specs.Ends.{Answered}
 use Rattle.q3_world.specs.Report.{answer_text}
-use Rattle.q3net.specs.Command.{Command, Help, Version, Replay}
+use Rattle.q3_world.specs.Counts.{counted_all}
+use Rattle.q3_world.specs.declared.counts.Counts.{Counts}
+use Rattle.q3net.specs.Command.{Command, Help, Version, Replay, Trial}
 use Rattle.q3net.specs.Input.{IsFront, LooksUpTold, LooksUpFirst, Gives}
 use Rattle.q3net.specs.Lines.{ending_line, ending_status}
 use Rattle.q3net.specs.Verdict.{Verdict, IsVerdict}
@@ -20,22 +22,27 @@ HandsOn old now text = Wrote old now text true × NothingWaits now
 
 -- ---- how a command ends
 
--- a command that reads files or takes memory: these may fail
+-- a command that takes memory, of which it may want more than there is
 abbrev pub MayStop : Option Command → Type 0
 MayStop None = ⊥
 MayStop (Some Help) = ⊥
 MayStop (Some Version) = ⊥
 MayStop command = Unit {0}
 
--- what a command has printed where a read fails: a replay reads every file before its first line
-abbrev pub StopsReading : Option Command → List ℕ → List ℕ → Type 0
-StopsReading (Some (Replay profile script)) printed text = printed ≡ []
-StopsReading other printed text = ⊥
+-- a command that reads files
+abbrev pub MayRead : Option Command → Type 0
+MayRead (Some (Replay profile script)) = Unit {0}
+MayRead (Some (Trial profile draws)) = Unit {0}
+MayRead command = ⊥
+
+-- what a command has printed where a read fails: it reads every file before its first line
+abbrev pub StopsReading : Option Command → List ℕ → Type 0
+StopsReading command printed = MayRead command × (printed ≡ [])
 
 -- what stops a command early, and what of its text was printed by then
 abbrev pub Stops : Option Command → Fault → List ℕ → List ℕ → Type 0
 Stops command NoMemory printed text = IsFront printed text
-Stops command Read printed text = StopsReading command printed text
+Stops command Read printed text = StopsReading command printed
 Stops command other printed text = ⊥
 
 -- how a command ends, and what it printed before any fault line: as its verdict says, or stopped early
@@ -78,7 +85,7 @@ Reports command told old now =
 
 -- the status of a run that something from outside ended early
 abbrev pub IsEarlyStatus : Option Command → ℕ → Type 0
-IsEarlyStatus command status = (status ≡ 4) ⊎ (MayStop command × ((status ≡ 1) ⊎ (status ≡ 3)))
+IsEarlyStatus command status = (status ≡ 4) ⊎ ((MayStop command × (status ≡ 1)) ⊎ (MayRead command × (status ≡ 3)))
 
 -- the status is the verdict's, unless something from outside ended the run early
 abbrev pub IsDecided : Option Command → Option Told → ℕ → Type 0
@@ -103,3 +110,8 @@ abbrev pub AddsLines : List Answered → Option Written → Option Written → R
 AddsLines all old now (Ok x) = Wrote old now (flat_map answer_text all) true
 AddsLines all old now (Err step.NoMemory) = (k : ℕ) × Wrote old now (flat_map answer_text (take k all)) true
 AddsLines all old now (Err step.WriteFault) = Wrote old now (flat_map answer_text all) false
+
+-- each answer was counted, where all events were done
+abbrev pub AddsCounts : List Answered → Counts → Counts → Result (Unit {0}) StepError → Type 0
+AddsCounts all old now (Ok x) = now ≡ counted_all old all
+AddsCounts all old now (Err e) = Unit {0}

@@ -9,11 +9,17 @@ use Rattle.q3_script.specs.declared.event.Event.{Event}
 use Rattle.q3_script.specs.declared.cause.ScriptKind.TheVariants as kinds
 use Rattle.q3_script.specs.Script.{BadLine, script_at}
 use Rattle.q3_io.specs.Told.{Told}
+use Rattle.q3_make.specs.Printed.{script_text}
+use Rattle.q3_make.specs.Generated.{generated}
+use Rattle.q3_world.specs.World.{opening, answers}
 use Rattle.q3_world.specs.Report.{report}
-use Rattle.q3net.specs.Command.{Command, Help, Version, Replay}
+use Rattle.q3_world.specs.Counts.{counts_of}
+use Rattle.q3net.specs.declared.command.Draws.{Draws}
+use Rattle.q3net.specs.Command.{Command, Help, Version, Replay, Make, Trial}
 use Rattle.q3net.specs.Faults.{Gets}
 use Rattle.q3net.specs.Input.{Holds}
 use Rattle.q3net.specs.Lines.{help_text, version_text}
+use Rattle.q3net.specs.Summary.{summary_text}
 use Rattle.q3net.specs.declared.fault.Fault.{Fault}
 use Rattle.q3net.specs.declared.fault.Fault.TheVariants.{Usage, Read, Profile, Script}
 
@@ -52,6 +58,16 @@ abbrev pub names_by : Result ProfileValue Fault → List ℕ → List ℕ → Li
 names_by (Ok by) profile script = profile ∷ script ∷ []
 names_by (Err cause) profile script = profile ∷ []
 
+-- what the report of a replay of these events counts
+unfoldable pub summary : ProfileValue → List Event → List ℕ
+summary by events = summary_text (counts_of (answers by (opening by) events))
+
+-- a trial by the profile in a file
+abbrev pub tried : Option (List ℕ) → Draws → Result (List ℕ) Fault
+tried profile draws = do
+  by ← profile_in profile
+  Ok (summary by (generated draws.number draws.seed))
+
 -- the verdict of a command, by what the files hold that it names
 abbrev pub IsVerdict : Option Told → Option Command → Verdict → Type 0
 IsVerdict told None verdict = verdict ≡ settled [] (Err Usage)
@@ -60,6 +76,9 @@ IsVerdict told (Some Version) verdict = verdict ≡ settled [] (Ok version_text)
 IsVerdict told (Some (Replay profile script)) verdict =
     (of_profile : Option (List ℕ)) × (of_script : Option (List ℕ)) × Holds told profile of_profile × Holds told script of_script
     × (verdict ≡ settled (names_by (profile_in of_profile) profile script) (replayed of_profile of_script))
+IsVerdict told (Some (Make draws)) verdict = verdict ≡ settled [] (Ok (script_text (generated draws.number draws.seed)))
+IsVerdict told (Some (Trial profile draws)) verdict =
+    (of_profile : Option (List ℕ)) × Holds told profile of_profile × (verdict ≡ settled (profile ∷ []) (tried of_profile draws))
 
 -- what a part of a run answers by the file of a name
 abbrev pub GetsFrom : {A : Type 0} → (Option (List ℕ) → Result A Fault) → Option Told → List ℕ → Result A Fault → Type 0

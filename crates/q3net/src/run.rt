@@ -1,41 +1,24 @@
 //! The top call: does all that the program does.
 
-ghost use Rattle.std.specs.Prelude.{◌≡◌, ℕ, [], ◌∷◌, ◌⊎◌, ◌+◌, ◌<◌, ◌≤◌, All, length, map, Some, IsNone, IsOk, IfOk};
+ghost use Rattle.std.specs.Prelude.{◌≡◌, ◌⊎◌, ◌≤◌, map, IsNone, IsOk};
 ghost use Rattle.std.specs.String.{string_bytes};
-ghost use Rattle.q3_profile.specs.declared.profile.Profile.{Profile as ProfileValue};
-ghost use Rattle.q3_profile.specs.Profile.{IsProfile};
-ghost use Rattle.q3_script.specs.Script.{most_events};
-ghost use Rattle.q3_script.specs.Grammar.{IsReplayEvent};
 ghost use Rattle.q3_io.specs.Faults.{HasCause, Rose};
 ghost use Rattle.q3_io.specs.Written.{Adds, NothingWaits};
-ghost use Rattle.q3_world.specs.Outcome.{HasStepCause};
-ghost use Rattle.q3_world.specs.Kept.{most_datagrams};
-ghost use Rattle.q3_world.specs.World.{Whole, answers};
-ghost use Rattle.q3_world.specs.StandsFor.{StandsFor};
-ghost use Rattle.q3net.specs.Command.{Replay, command_of, files_of};
+ghost use Rattle.q3net.specs.Command.{command_of, files_of};
 ghost use Rattle.q3net.specs.Faults.{ReadCause, WriteCause};
 ghost use Rattle.q3net.specs.Lines.{ending_line, ending_status};
-ghost use Rattle.q3net.specs.Input.{Gives, LooksUpFirst};
-ghost use Rattle.q3net.specs.Verdict.{GetsFrom, profile_in, events_in, with_events};
-ghost use Rattle.q3net.specs.Run.{PrintsAll, Executes, Took, Prints, Reports, IsDecided, IsComplete, HasGiven, GivesNames, AddsLines};
+ghost use Rattle.q3net.specs.Input.{LooksUpFirst};
+ghost use Rattle.q3net.specs.Run.{PrintsAll, Executes, Took, Prints, Reports, IsDecided, IsComplete, HasGiven, GivesNames};
 
 use crate::command::{Command, parse};
 use crate::fault::Fault;
-use crate::input::read_file;
+use crate::generated::{make, trial};
+use crate::replay::replay;
 use q3_io::{Failed, Files, Sink};
-use q3_profile::{Profile, read_profile};
-use q3_script::{Event, ScriptKind, read_script};
-use q3_world::{StepError, World};
 use std::alloc::Global;
 
-/// A profile's limit in bytes.
-const LONGEST_PROFILE: usize = 1_048_576;
-
-/// A script's limit in bytes.
-const LONGEST_SCRIPT: usize = 67_108_864;
-
 const HELP: &[u8] =
-    b"q3net replays schedules of Quake III's connected protocol 68\n\nq3net replay PROFILE SCRIPT    replays the schedule of the script by the profile, and prints its report\nq3net --help                   prints this text\nq3net --version                prints the version\n";
+    b"q3net replays schedules of Quake III's connected protocol 68\n\nq3net replay PROFILE SCRIPT        replays the schedule of the script by the profile, and prints its report\nq3net make NUMBER SEED             prints a generated script, of which so many events are drawn from the seed\nq3net trial PROFILE NUMBER SEED    replays that script by the profile, and prints what the report counts\nq3net --help                       prints this text\nq3net --version                    prints the version\n";
 
 const VERSION: &[u8] = b"q3net 0.1.0\n";
 
@@ -44,7 +27,8 @@ const VERSION: &[u8] = b"q3net 0.1.0\n";
 /// Want of memory may come at any point after usage, and no clause ties it to anything.
 pub fn run<F: Files, O: Sink>(alloc: Global, words: &[String], files: &mut F, out: &mut O) -> u8
     // Where 0 is answered, what was written is the text of the verdict: the report, by the profile that the one
-    // file's bytes spell, of the events that the other's spell, or the text that was asked for.
+    // file's bytes spell, of the events that the other's spell; the generated script; what the report of its replay
+    // counts; or the text that was asked for.
     ensures report { result ≡ 0 → Reports (command_of (map string_bytes words.now)) (F.told files.old) (O.written out.old) (O.written out.new) }
     // Ended early, it is a front of that, and the fault line; where the sink failed, a front of both.
     ensures prints { Prints (command_of (map string_bytes words.now)) (F.told files.old) (O.written out.old) (O.written out.new) result }
@@ -94,6 +78,8 @@ fn execute<F: Files, O: Sink>(
         Some(Command::Help) => print(HELP, out),
         Some(Command::Version) => print(VERSION, out),
         Some(Command::Replay { profile, script }) => replay(alloc, profile, script, files, out),
+        Some(Command::Make(draws)) => make(alloc, draws, out),
+        Some(Command::Trial { profile, draws }) => trial(alloc, profile, draws, files, out),
     }
 }
 
@@ -131,72 +117,4 @@ fn print<O: Sink>(text: &[u8], out: &mut O) -> Result<(), Fault>
     ensures write_cause { WriteCause (O.faults out.old) (O.faults out.new) result }
 {
     out.write_all(text).map_err(|_| Fault::Write)
-}
-
-/// Replays the script of this name by the profile of that name, and prints its report.
-fn replay<F: Files, O: Sink>(
-    alloc: Global,
-    profile: &str,
-    script: &str,
-    files: &mut F,
-    out: &mut O,
-) -> Result<(), Fault>
-    ensures executes { Executes (Some (Replay profile.now script.now)) (F.told files.old) (O.written out.old) (O.written out.new) result }
-    ensures gives { GivesNames (Some (Replay profile.now script.now)) (F.told files.old) (F.told files.new) result }
-    ensures writes { F.write_faults files.new ≡ F.write_faults files.old }
-    ensures read_cause { ReadCause (F.faults files.old) (F.faults files.new) result }
-    ensures write_cause { WriteCause (O.faults out.old) (O.faults out.new) result }
-{
-    q3_io::laws::texts_follow();
-    let profile = load_profile(alloc, profile, files)?;
-    let events = load_events(alloc, script, files)?;
-    let mut world = World::new(alloc, &profile)?;
-    step_all(&mut world, &events, files, out)?;
-    Ok(())
-}
-
-/// Reads the profile of this name, and checks it.
-fn load_profile<F: Files>(alloc: Global, name: &str, files: &mut F) -> Result<Profile, Fault>
-    ensures gets { GetsFrom profile_in (F.told files.old) name.now result }
-    ensures passes { IfOk result IsProfile }
-    ensures gives { Gives result (name.now ∷ []) (F.told files.old) (F.told files.new) }
-    ensures writes { F.write_faults files.new ≡ F.write_faults files.old }
-    ensures read_cause { ReadCause (F.faults files.old) (F.faults files.new) result }
-{
-    let bytes = read_file(alloc, name, LONGEST_PROFILE, files)?;
-    Ok(read_profile(alloc, &bytes)?)
-}
-
-/// Reads the script of this name: the events of a replay.
-fn load_events<F: Files>(alloc: Global, name: &str, files: &mut F) -> Result<Vec<Event>, Fault>
-    ensures gets { GetsFrom events_in (F.told files.old) name.now (with_events result) }
-    ensures each { IfOk result (λ events. All IsReplayEvent events.items) }
-    ensures few { IfOk result (λ events. length events.items ≤ most_events) }
-    ensures gives { Gives result (name.now ∷ []) (F.told files.old) (F.told files.new) }
-    ensures writes { F.write_faults files.new ≡ F.write_faults files.old }
-    ensures read_cause { ReadCause (F.faults files.old) (F.faults files.new) result }
-{
-    let bytes = read_file(alloc, name, LONGEST_SCRIPT, files)?;
-    Ok(read_script(alloc, ScriptKind::Replay, &bytes)?)
-}
-
-/// Steps over the events, and prints their lines.
-fn step_all<F: Files, O: Sink>(
-    world: &mut World,
-    events: &[Event],
-    files: &mut F,
-    out: &mut O,
-) -> Result<(), StepError>
-    requires events { All IsReplayEvent events.now }
-    requires few { length world.old.datagrams + length events.now < most_datagrams }
-    ensures adds { (profile : ProfileValue) (whole : Whole) → StandsFor profile world.old whole
-        → AddsLines (answers profile whole events.now) (O.written out.old) (O.written out.new) result }
-    ensures cause { HasStepCause (O.faults out.old) (O.faults out.new) result }
-    ensures files { files.new ≡ files.old }
-{
-    q3_io::laws::texts_follow();
-    for event in events {
-        world.step(event, files, out)?;
-    }
-    Ok(())
 }

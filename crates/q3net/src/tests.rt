@@ -145,3 +145,44 @@ fn faults_of_the_outside(rt: HostRuntime) {
     wants(&rt, alloc, "replay p s", SCRIPT, (2, 0), 3, b"read fault\n");
     wants(&rt, alloc, "replay p s", SCRIPT, (5, 0), 3, b"read fault\n");
 }
+
+/// Words that ask nothing of the generator, and a trial whose profile doesn't pass.
+#[test]
+fn refused_draws(rt: HostRuntime) {
+    let alloc = rt.alloc();
+    wants(&rt, alloc, "make 0 1", SCRIPT, (0, 0), 2, b"usage\n");
+    wants(&rt, alloc, "make 65001 1", SCRIPT, (0, 0), 2, b"usage\n");
+    wants(
+        &rt,
+        alloc,
+        "make 1 18446744073709551616",
+        SCRIPT,
+        (0, 0),
+        2,
+        b"usage\n",
+    );
+    wants(&rt, alloc, "make 01 1", SCRIPT, (0, 0), 2, b"usage\n");
+    wants(&rt, alloc, "trial p 0 1", SCRIPT, (0, 0), 2, b"usage\n");
+    wants(
+        &rt,
+        alloc,
+        "trial s 1 1",
+        SCRIPT,
+        (0, 0),
+        5,
+        b"profile: toml\n",
+    );
+}
+
+/// A generated script, of which one event is drawn: its first line and its last.
+#[test]
+fn made_script(rt: HostRuntime) {
+    let alloc = rt.alloc();
+    let mut files = MemFiles::new(alloc, 0, 0, 0, &[]).expect(&rt, "memory");
+    let mut out = Line::new(MemSink::new(alloc, 16_384, &[]).expect(&rt, "memory"));
+    let words = words(alloc, "make 1 7").expect(&rt, "memory");
+    assert_eq!(rt; status_of(alloc, &words, &mut files, &mut out), 0);
+    let printed = out.sink().bytes();
+    assert!(rt; printed.starts_with(b"client 0 1000 5000 0 10.0.0.1:27960\n"));
+    assert!(rt; printed.ends_with(b"\nshow 3\n"));
+}

@@ -1,0 +1,84 @@
+use Rattle.std.proofs.Common.{List, Err, ap, subst, ◌∙◌, arith}
+use Rattle.std.proofs.lemmas.Result.{err_from_is_err_and}
+use Rattle.q3_script.specs.declared.event.Event.{Event}
+use Rattle.q3_world.specs.World.{opening, answers}
+use Rattle.q3net.specs.Run.{AddsLines}
+use Rattle.q3net.proofs.Looking.{profile_gives, script_gives, both_given}
+use Rattle.q3net.proofs.Replaying.{profile_ended, events_ended, both_read, memory_ended, steps_ended, steps_done, nothing_sent, step_read_cause, step_write_cause}
+use Rattle.q3net.proofs.replay.replay.Goals as goal
+
+pub returns-in_err-profile-clause-executes : goal.returns-in_err-profile-clause-executes
+returns-in_err-profile-clause-executes g c =
+    let p = err_from_is_err_and c.from_residual.result c.from_residual.ensures.1 in
+    rw (p.1, p.2) (profile_ended c.texts_follow.ensures (g.F.Files.told c.args.files.now) c.args.profile.now c.args.script.now (g.O.Sink.written c.args.out.now) c.in_err-profile.field-0.0 c.in_err-profile.ensures.gets)
+
+pub returns-in_err-profile-clause-gives : goal.returns-in_err-profile-clause-gives
+returns-in_err-profile-clause-gives g c =
+    let p = err_from_is_err_and c.from_residual.result c.from_residual.ensures.1 in
+    rw (p.1, p.2) (profile_gives (g.F.Files.told c.args.files.now) (g.F.Files.told c.load_profile.new.files) c.args.profile.now c.args.script.now c.in_err-profile.field-0.0
+    c.in_err-profile.ensures.gets c.in_err-profile.ensures.gives)
+
+pub returns-in_err-events-clause-executes : goal.returns-in_err-events-clause-executes
+returns-in_err-events-clause-executes g c =
+    let p = err_from_is_err_and c.from_residual-in_err-events.result c.from_residual-in_err-events.ensures.1 in
+    rw (p.1, p.2) (events_ended c.texts_follow.ensures (g.F.Files.told c.args.files.now) (g.F.Files.told c.load_profile.new.files) c.args.profile.now c.args.script.now c.in_ok-profile.profile (g.O.Sink.written c.args.out.now) c.in_err-events.field-0.0
+    c.in_ok-profile.ensures.gets c.in_ok-profile.ensures.gives c.in_err-events.ensures.gets)
+
+pub returns-in_err-events-clause-gives : goal.returns-in_err-events-clause-gives
+returns-in_err-events-clause-gives g c =
+    let p = err_from_is_err_and c.from_residual-in_err-events.result c.from_residual-in_err-events.ensures.1 in
+    rw (p.1, p.2) (script_gives (g.F.Files.told c.args.files.now) (g.F.Files.told c.load_profile.new.files) (g.F.Files.told c.load_events.new.files) c.args.profile.now c.args.script.now c.in_ok-profile.profile c.in_err-events.field-0.0
+    c.in_ok-profile.ensures.gets c.in_ok-profile.ensures.gives c.in_err-events.ensures.gives)
+
+pub returns-in_err-world-clause-executes : goal.returns-in_err-world-clause-executes
+returns-in_err-world-clause-executes g c =
+    let p = err_from_is_err_and c.from_residual-in_err-world.result c.from_residual-in_err-world.ensures.1 in
+    let read = both_read (g.F.Files.told c.args.files.now) (g.F.Files.told c.load_profile.new.files) c.args.profile.now c.args.script.now c.in_ok-profile.profile c.in_ok-events.events.items
+    c.in_ok-profile.ensures.gets c.in_ok-profile.ensures.gives c.in_ok-events.ensures.gets in
+    rw (p.1, p.2) (memory_ended c.texts_follow.ensures (g.F.Files.told c.args.files.now) c.args.profile.now c.args.script.now c.in_ok-profile.profile c.in_ok-events.events.items (g.O.Sink.written c.args.out.now) read)
+
+pub step_all-requires-clause-few : goal.step_all-requires-clause-few
+step_all-requires-clause-few g c =
+    omega (arith, nothing_sent c.in_ok-profile.profile c.in_ok-world.world.kept c.in_ok-world.ensures.stands, c.in_ok-events.ensures.few, c.deref.ensures.len)
+
+pub returns-in_err-step_all-clause-executes : goal.returns-in_err-step_all-clause-executes
+returns-in_err-step_all-clause-executes g c =
+    let p = err_from_is_err_and c.from_residual-in_err-step_all.result c.from_residual-in_err-step_all.ensures.1 in
+    let read = both_read (g.F.Files.told c.args.files.now) (g.F.Files.told c.load_profile.new.files) c.args.profile.now c.args.script.now c.in_ok-profile.profile c.in_ok-events.events.items
+    c.in_ok-profile.ensures.gets c.in_ok-profile.ensures.gives c.in_ok-events.ensures.gets in
+    rw (p.1, p.2) (steps_ended (g.F.Files.told c.args.files.now) c.args.profile.now c.args.script.now c.in_ok-profile.profile c.in_ok-events.events.items (g.O.Sink.written c.args.out.now)
+    (g.O.Sink.written c.step_all.new.out) c.in_err-step_all.field-0.0 read (subst (λ (events : List Event). AddsLines (answers c.in_ok-profile.profile (opening c.in_ok-profile.profile) events) (g.O.Sink.written c.args.out.now) (g.O.Sink.written c.step_all.new.out) (Err c.in_err-step_all.field-0.0))
+    c.deref.ensures.value (c.in_err-step_all.ensures.adds c.in_ok-profile.profile (opening c.in_ok-profile.profile) c.in_ok-world.ensures.stands)))
+
+pub returns-clause-executes : goal.returns-clause-executes
+returns-clause-executes g c =
+    let read = both_read (g.F.Files.told c.args.files.now) (g.F.Files.told c.load_profile.new.files) c.args.profile.now c.args.script.now c.in_ok-profile.profile c.in_ok-events.events.items
+    c.in_ok-profile.ensures.gets c.in_ok-profile.ensures.gives c.in_ok-events.ensures.gets in
+    steps_done (g.F.Files.told c.args.files.now) c.args.profile.now c.args.script.now c.in_ok-profile.profile c.in_ok-events.events.items (g.O.Sink.written c.args.out.now)
+    (g.O.Sink.written c.step_all.new.out) read (rw c.deref.ensures.value at (c.in_ok-step_all.ensures.adds c.in_ok-profile.profile (opening c.in_ok-profile.profile) c.in_ok-world.ensures.stands))
+
+pub returns-in_err-world-clause-gives : goal.returns-in_err-world-clause-gives
+returns-in_err-world-clause-gives g c =
+    both_given (g.F.Files.told c.args.files.now) (g.F.Files.told c.load_profile.new.files) (g.F.Files.told c.load_events.new.files) c.args.profile.now c.args.script.now c.in_ok-profile.profile c.in_ok-events.events _
+    c.in_ok-profile.ensures.gets c.in_ok-profile.ensures.gives c.in_ok-events.ensures.gives
+
+pub returns-in_err-step_all-clause-gives : goal.returns-in_err-step_all-clause-gives
+returns-in_err-step_all-clause-gives g c =
+    rw c.in_err-step_all.ensures.files (both_given (g.F.Files.told c.args.files.now) (g.F.Files.told c.load_profile.new.files) (g.F.Files.told c.load_events.new.files) c.args.profile.now c.args.script.now c.in_ok-profile.profile
+    c.in_ok-events.events _ c.in_ok-profile.ensures.gets c.in_ok-profile.ensures.gives c.in_ok-events.ensures.gives)
+
+pub returns-clause-gives : goal.returns-clause-gives
+returns-clause-gives g c =
+    rw c.in_ok-step_all.ensures.files (both_given (g.F.Files.told c.args.files.now) (g.F.Files.told c.load_profile.new.files) (g.F.Files.told c.load_events.new.files) c.args.profile.now c.args.script.now c.in_ok-profile.profile
+    c.in_ok-events.events _ c.in_ok-profile.ensures.gets c.in_ok-profile.ensures.gives c.in_ok-events.ensures.gives)
+
+pub returns-in_err-step_all-clause-read_cause : goal.returns-in_err-step_all-clause-read_cause
+returns-in_err-step_all-clause-read_cause g c =
+    let p = err_from_is_err_and c.from_residual-in_err-step_all.result c.from_residual-in_err-step_all.ensures.1 in
+    rw (p.1, p.2) (step_read_cause (g.F.Files.faults c.args.files.now) (g.F.Files.faults c.step_all.new.files) c.in_err-step_all.field-0.0
+    (ap (λ files. g.F.Files.faults files) c.step_all.ensures.files ∙ (c.in_ok-events.ensures.read_cause ∙ c.in_ok-profile.ensures.read_cause)))
+
+pub returns-in_err-step_all-clause-write_cause : goal.returns-in_err-step_all-clause-write_cause
+returns-in_err-step_all-clause-write_cause g c =
+    let p = err_from_is_err_and c.from_residual-in_err-step_all.result c.from_residual-in_err-step_all.ensures.1 in
+    rw (p.1, p.2) (step_write_cause (g.O.Sink.faults c.args.out.now) (g.O.Sink.faults c.step_all.new.out) c.in_err-step_all.field-0.0 c.in_err-step_all.ensures.cause)
