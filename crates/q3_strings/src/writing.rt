@@ -1,8 +1,9 @@
 //! Writes strings and commands. Keeps the rules "strings and their translation" and "commands in messages", the engine's
 //! `MSG_WriteString` and `MSG_WriteBigString` (msg.c).
 
-ghost use Rattle.std.specs.Prelude.{◌≡◌};
+ghost use Rattle.std.specs.Prelude.{◌≡◌, ◌+◌, ◌*◌, ◌≤◌, Bool, List, length, take, drop};
 ghost use Rattle.q3_bits.specs.Streams.{Writes};
+ghost use Rattle.q3_bits.specs.Words.{field_bits};
 ghost use Rattle.q3_text.specs.Commands.{commands_of};
 ghost use Rattle.q3_strings.specs.Texts.{bytes_row, string_bits, command_bits};
 ghost use Rattle.q3_strings.specs.Commands.{issued_bits, commands_bits};
@@ -10,9 +11,47 @@ ghost use Rattle.q3_strings.specs.Commands.{issued_bits, commands_bits};
 use q3_bits::{Overflow, Writer, laws};
 use q3_text::{Command, CommandRun};
 
-/// Writes bytes.
+/// Writes bytes, four at a time as far as there are four.
 /// `Overflow` comes exactly where the text doesn't fit the writer's room; a front of it was then written.
 pub fn write_bytes(w: &mut Writer, bytes: &[u8]) -> Result<(), Overflow>
+    ensures { Writes w.old w.new (bytes_row w.old.words bytes.now) result }
+{
+    laws::texts_are_written();
+    let fours = bytes.len() / 4;
+    write_fours(w, bytes, fours)?;
+    write_each(w, &bytes[4 * fours..])
+}
+
+/// Writes so many times four of the first bytes.
+fn write_fours(w: &mut Writer, bytes: &[u8], count: usize) -> Result<(), Overflow>
+    requires { 4 * count ≤ length bytes.now }
+    ensures { Writes w.old w.new (bytes_row w.old.words (take (4 * count) bytes.now)) result }
+{
+    laws::texts_are_written();
+    // what stands there fits the room
+    prove!(w.length() > 0);
+    for k in 0..count {
+        let four = four_at(bytes, 4 * k);
+        w.put(four, 32)?;
+    }
+    Ok(())
+}
+
+/// The number whose four bytes, least byte first, stand at a place.
+fn four_at(bytes: &[u8], place: usize) -> u32
+    requires { place + 4 ≤ length bytes.now }
+    ensures { (words : List (List Bool)) → field_bits words 32 result ≡ bytes_row words (take 4 (drop place bytes.now)) }
+{
+    u32::from_le_bytes([
+        bytes[place],
+        bytes[place + 1],
+        bytes[place + 2],
+        bytes[place + 3],
+    ])
+}
+
+/// Writes bytes, one at a time.
+fn write_each(w: &mut Writer, bytes: &[u8]) -> Result<(), Overflow>
     ensures { Writes w.old w.new (bytes_row w.old.words bytes.now) result }
 {
     laws::texts_are_written();

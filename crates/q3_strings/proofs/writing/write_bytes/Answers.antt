@@ -1,23 +1,19 @@
+use Rattle.std.proofs.Common.{◌*◌, ◌/◌, drop, length}
+use Rattle.std.proofs.lemmas.List.{take_rest}
 use Rattle.std.proofs.lemmas.Result.{err_from_is_err_and}
-use Rattle.q3_strings.proofs.Rows.{bytes-next, bytes-end}
+use Rattle.q3_strings.specs.Texts.{bytes_row}
+use Rattle.q3_strings.proofs.Rows.{bytes-parts}
 use Rattle.q3_strings.proofs.writing.write_bytes.Goals as goal
 
-pub returns-in_err-put : goal.returns-in_err-put
-returns-in_err-put c =
-    let law = c.texts_are_written.ensures in
-    let h = c.loop-byte.invariant in
+pub returns-in_err-write_fours : goal.returns-in_err-write_fours
+returns-in_err-write_fours c =
     let p = err_from_is_err_and c.from_residual.result c.from_residual.ensures.1 in
-    let next = bytes-next c.args.w.now.words c.loop-byte.w.words c.args.bytes.now c.loop-byte.byte-index (law.words _ _ _ _ h) c.loop-byte-test.true in
-    rw (p.1, p.2) (law.stops _ _ _ _ _ _ _ _ h next (rw c.from.ensures at c.in_err-put.ensures.writes))
-
-pub loop-byte-preserved : goal.loop-byte-preserved
-loop-byte-preserved c =
-    let law = c.texts_are_written.ensures in
-    let h = c.loop-byte.invariant in
-    let next = bytes-next c.args.w.now.words c.loop-byte.w.words c.args.bytes.now c.loop-byte.byte-index (law.words _ _ _ _ h) c.loop-byte-test.true in
-    law.more _ _ _ _ _ _ _ h next (rw c.from.ensures at c.in_ok-put.ensures.writes)
+    let bytes = c.args.bytes.now in
+    rw (bytes-parts c.args.w.now.words bytes (4 * (length bytes / 4)), p.1, p.2)
+    (c.texts_are_written.ensures.refused (bytes_row c.args.w.now.words (drop (4 * (length bytes / 4)) bytes)) c.in_err-write_fours.ensures)
 
 pub returns : goal.returns
 returns c =
-    let end = bytes-end c.args.w.now.words c.args.bytes.now c.loop-byte.byte-index c.loop-byte-test.false in
-    c.texts_are_written.ensures.all _ _ _ (rw end at c.loop-byte.invariant)
+    let bytes = c.args.bytes.now in
+    rw (bytes-parts c.args.w.now.words bytes (4 * (length bytes / 4)))
+    (c.texts_are_written.ensures.next (λ ws. bytes_row ws (drop (4 * (length bytes / 4)) bytes)) c.in_ok-write_fours.ensures (rw (take_rest bytes (4 * (length bytes / 4))) at c.write_each.ensures))

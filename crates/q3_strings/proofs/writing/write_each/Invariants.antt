@@ -1,7 +1,7 @@
 use Rattle.std.proofs.Common.{drop}
 use Rattle.q3_bits.specs.Streams.{HasWritten}
 use Rattle.q3_strings.specs.Texts.{bytes_row}
-use Rattle.q3_strings.proofs.writing.write_bytes.Given as goal
+use Rattle.q3_strings.proofs.writing.write_each.Given as goal
 
 -- so many bytes were written
 abbrev pub invariant-loop-byte : goal.invariant-loop-byte
