@@ -23,5 +23,6 @@ pub use list_reading::{read_list, skip_list};
 pub use list_writing::write_list;
 pub use print::print_fields;
 pub use reading::{Entry, read_entity};
+pub use run::count_same;
 pub use state::{EntityState, List, Run};
 pub use writing::{write_entity, write_removal};

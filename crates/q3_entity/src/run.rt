@@ -69,7 +69,7 @@ fn behind_same<'a, 'b>(
 }
 
 /// With how many entities, the same in both, both begin.
-fn count_same(base: &[EntityState], now: &[EntityState]) -> usize
+pub fn count_same(base: &[EntityState], now: &[EntityState]) -> usize
     ensures same { take result base.now ≡ take result now.now }
     ensures in_base { result ≤ length base.now }
     ensures in_now { result ≤ length now.now }

@@ -25,11 +25,14 @@ pub struct Base<'a> {
 }
 
 /// For each slot its newest frames, 32 at most, each in the place of its number modulo 32. The entities of all frames lie in
-/// one ring. After `new` no call takes memory.
+/// one ring, and those of frames that are built one after the other from the same entities lie there once. After `new` no call
+/// takes memory.
 #[derive(Drop)]
 pub struct Frames {
     ring: Ring,
     slots: Vec<Places>,
+    /// How many entities the frames had, all together: no fewer than were placed in the ring.
+    placed: u64,
 }
 
 impl Model for Frames {
@@ -59,11 +62,12 @@ impl Frames {
         Ok(Frames {
             ring: Ring::new(alloc, ring)?,
             slots: empty_slots(alloc, slots)?,
+            placed: 0,
         })
     }
 
-    /// Builds a frame of a slot: its head, and its entities, which are placed behind those of all frames before it. What
-    /// stood in the place of its number is gone. The entities rise by number, and there are at most 256.
+    /// Builds a frame of a slot: its head, and its entities, which count behind those of all frames before it. What stood in
+    /// the place of its number is gone. The entities rise by number, and there are at most 256.
     pub fn build(&mut self, slot: u8, head: &SnapHead, entities: &[EntityState])
         requires slot { slot < length self.old.slots }
         requires placed { self.old.placed ≤ 2 ^ 62 }
@@ -72,9 +76,9 @@ impl Frames {
     {
         laws::placed_is_there();
         laws::others_stay();
-        let first = self.ring.placed();
-        self.ring.place(entities);
-        self.slots[slot as usize].keep(head, first, entities.len());
+        let first = self.ring.place_once(entities);
+        self.slots[slot as usize].keep(head, first, entities.len(), self.placed);
+        self.placed += entities.len() as u64;
     }
 
     /// Lends the base of a slot's message, whose own frame was built before: the frame of the client's delta number, 0 for
@@ -88,9 +92,7 @@ impl Frames {
             return None;
         }
         let frame = self.slots.get(slot as usize)?.at(delta)?;
-        if frame.head.number != delta
-            || self.ring.placed() - frame.first >= self.ring.room() as u64
-        {
+        if frame.head.number != delta || self.placed - frame.counted >= self.ring.room() as u64 {
             return None;
         }
         Some(Base {
@@ -105,7 +107,7 @@ impl Frames {
         ensures placed { result ≡ self.now.placed }
         ensures frames { AreFrames self.now }
     {
-        self.ring.placed()
+        self.placed
     }
 }
 

@@ -1,5 +1,5 @@
 -- Entities of which those that were placed last are kept.
-use Rattle.std.specs.Prelude.{ℕ, ◌+◌, ◌-◌, List, ◌++◌, length, replicate, take, drop}
+use Rattle.std.specs.Prelude.{◌≡◌, ◌⊎◌, ℕ, ◌+◌, ◌-◌, List, ◌++◌, length, replicate, take, drop}
 use Rattle.q3_entity.specs.declared.state.EntityState.{EntityState}
 use Rattle.q3_entity.specs.Entities.{zero_entity}
 
@@ -23,3 +23,13 @@ with_entities ring entities = record {
 -- so many entities from one on, which has its number among all that were ever placed, from 0
 abbrev pub entities_from : RingState → ℕ → ℕ → List EntityState
 entities_from ring first count = take count (drop (first + length ring.recent - ring.placed) ring.recent)
+
+-- the entities that were placed last are these, from this one on
+pub record EndsWith (ring : RingState) (entities : List EntityState) (first : ℕ) : Type 0 where
+  pub end : first + length entities ≡ ring.placed
+  pub same : entities_from ring first (length entities) ≡ entities
+
+-- entities lie in the ring from this one on: placed behind all others, or once with those that were placed last
+abbrev pub PlacesOnce : RingState → RingState → List EntityState → ℕ → Type 0
+PlacesOnce old new entities first =
+    ((new ≡ with_entities old entities) × (first ≡ old.placed)) ⊎ ((new ≡ old) × EndsWith old entities first)

@@ -17,10 +17,12 @@ pub const PLACES: u32 = 32;
 #[derive(Drop)]
 pub struct Kept {
     pub head: SnapHead,
-    /// How many entities were placed before its own.
+    /// How many entities were placed in the ring before its own.
     pub first: u64,
     /// How many it has.
     pub count: usize,
+    /// How many were counted before its own: more than were placed where some lie in the ring once for several snapshots.
+    pub counted: u64,
 }
 
 /// 32 places for what is kept of snapshots: each has the place of its number modulo 32. `new` takes memory, and no other
@@ -62,15 +64,16 @@ impl Places {
         self.places[(number % PLACES) as usize].as_ref()
     }
 
-    /// Keeps a snapshot's head, with how many entities were placed before its own and how many it has. What stood in the
-    /// place of its number is gone.
-    pub fn keep(&mut self, head: &SnapHead, first: u64, count: usize)
-        ensures { self.new ≡ put_at_number self.old head.now.number (record { head = head.now; first = first; count = count }) }
+    /// Keeps a snapshot's head, with how many entities were placed before its own, how many it has, and how many were counted
+    /// before them. What stood in the place of its number is gone.
+    pub fn keep(&mut self, head: &SnapHead, first: u64, count: usize, counted: u64)
+        ensures { self.new ≡ put_at_number self.old head.now.number (record { head = head.now; first = first; count = count; counted = counted }) }
     {
         self.places[(head.number % PLACES) as usize] = Some(Kept {
             head: copy_head(head),
             first,
             count,
+            counted,
         });
     }
 

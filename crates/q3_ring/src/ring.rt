@@ -1,12 +1,12 @@
 //! Entities in one ring. Keeps the rules "server frames and their shared entity ring" and "held snapshots of a client", the
 //! engine's `svs.snapshotEntities` (sv_snapshot.c) and `cl.parseEntities` (cl_parse.c).
 
-ghost use Rattle.std.specs.Prelude.{◌≡◌, ◌+◌, ◌-◌, ◌%◌, ◌^◌, ◌<◌, ◌≤◌, ◌++◌, length, take, drop, min, vec_capacity, IfOk};
+ghost use Rattle.std.specs.Prelude.{◌≡◌, ◌+◌, ◌-◌, ◌%◌, ◌^◌, ◌<◌, ◌≤◌, ◌++◌, length, take, drop, min, vec_capacity, IfOk, IsTrue};
 ghost use Rattle.q3_entity.specs.Entities.{zero_entity, run_of};
-ghost use Rattle.q3_ring.specs.Ring.{new_ring, with_entities, entities_from};
+ghost use Rattle.q3_ring.specs.Ring.{new_ring, with_entities, entities_from, EndsWith, PlacesOnce};
 ghost use Rattle.q3_ring.specs.Turned.{turned, filled};
 
-use q3_entity::{EntityState, Run};
+use q3_entity::{EntityState, Run, count_same};
 use std::alloc::{AllocError as NoMemory, Global};
 use std::marker::Model;
 
@@ -70,6 +70,34 @@ impl Ring {
         let start = (self.placed % self.room as u64) as usize;
         put_round(&mut self.cells, self.room, start, entities);
         self.placed += entities.len() as u64;
+    }
+
+    /// Places entities behind all others, unless those that were placed last are the same, which then lie there for both.
+    /// Answers how many were placed before them.
+    pub fn place_once(&mut self, entities: &[EntityState]) -> u64
+        requires few { length entities.now ≤ length self.old.recent }
+        requires count { self.old.placed + length entities.now < 2 ^ 64 }
+        ensures { PlacesOnce self.old self.new entities.now result }
+    {
+        if self.ends_with(entities) {
+            return self.placed - entities.len() as u64;
+        }
+        let first = self.placed;
+        self.place(entities);
+        first
+    }
+
+    /// Whether the entities that were placed last are these.
+    fn ends_with(&self, entities: &[EntityState]) -> bool
+        requires { length entities.now ≤ length self.now.recent }
+        ensures { IsTrue result → EndsWith self.now entities.now (self.now.placed - length entities.now) }
+    {
+        let count = entities.len();
+        if self.placed < count as u64 {
+            return false;
+        }
+        let last = self.lend(self.placed - count as u64, count);
+        is_run(last, entities)
     }
 
     /// Lends so many entities from one on, which has its number among all that were placed, from 0. All of them were
@@ -146,4 +174,21 @@ fn put_over(cells: &mut Vec<EntityState>, place: usize, entities: &[EntityState]
     ensures room { vec_capacity cells.new ≡ vec_capacity cells.old }
 {
     cells[place..place + entities.len()].copy_from_slice(entities);
+}
+
+/// Whether the entities that are lent are these.
+fn is_run(run: Run, entities: &[EntityState]) -> bool
+    ensures { IsTrue result → run_of run.entry ≡ entities.now }
+{
+    let behind = count_same(run.head, entities);
+    let most = run.head.len();
+    behind == most && is_piece(run.tail, &entities[behind..])
+}
+
+/// The same of entities that lie in one piece.
+fn is_piece(piece: &[EntityState], entities: &[EntityState]) -> bool
+    ensures { IsTrue result → piece.now ≡ entities.now }
+{
+    let same = count_same(piece, entities);
+    same == piece.len() && same == entities.len()
 }

@@ -32,3 +32,25 @@ fn entities_lie_round_the_end_of_a_ring(rt: HostRuntime) -> Result<(), Fail> {
     assert_eq!(rt; (before.head[112].number, before.head[311].number), (2, 2));
     Ok(())
 }
+
+/// Places entities once, where the ring has room for them.
+fn place_once(ring: &mut Ring, entities: &[EntityState]) -> Option<u64> {
+    if entities.len() > ring.room() || ring.placed() > 1_000 {
+        return None;
+    }
+    Some(ring.place_once(entities))
+}
+
+#[test]
+fn same_entities_lie_once(rt: HostRuntime) -> Result<(), Fail> {
+    let mut ring = Ring::new(rt.alloc(), 512)?;
+    let ones = entities(rt.alloc(), 200, 1)?;
+    let twos = entities(rt.alloc(), 100, 2)?;
+    assert_eq!(rt; place_once(&mut ring, &ones), Some(0));
+    assert_eq!(rt; place_once(&mut ring, &ones), Some(0));
+    assert_eq!(rt; place_once(&mut ring, &twos), Some(200));
+    assert_eq!(rt; place_once(&mut ring, &twos), Some(200));
+    assert_eq!(rt; place_once(&mut ring, &ones), Some(300));
+    assert_eq!(rt; ring.placed(), 500);
+    Ok(())
+}

@@ -29,7 +29,7 @@ as_held ring kept = held_remains (length ring.recent) (held_in ring kept)
 
 -- a snapshot whose entities are placed next
 abbrev next_kept : RingState → SnapHead → List EntityState → Kept
-next_kept ring head entities = record { head = head; first = ring.placed; count = length entities }
+next_kept ring head entities = record { head = head; first = ring.placed; count = length entities; counted = ring.placed }
 
 -- ---- what is held
 

@@ -120,7 +120,7 @@ impl Rings {
         others_stay();
         let first = self.ring.placed();
         self.ring.place(entities);
-        self.places.keep(head, first, entities.len());
+        self.places.keep(head, first, entities.len(), first);
         self.newest = head.number;
     }
 

@@ -19,6 +19,7 @@ invariant_of-result c =
       places = All-same (λ places. length places ≡ most_places) c.in_ok-empty_slots.field-0.items (replicate c.args.slots no_places) slots
           (All-replicate (λ (places : List (Option Kept)). length places ≡ most_places) c.args.slots no_places (length-replicate {A = Option Kept} most_places None));
       placed = omega arith;
+      fewer = omega arith;
       each = empty-kept c.in_ok-new.field-0 c.args.slots c.in_ok-empty_slots.field-0.items slots;
     }
 
