@@ -5,6 +5,8 @@ use Rattle.q3_chan.specs.declared.qport.NoQport.{NoQport}
 use Rattle.q3_chan.specs.Senders.{qport_of}
 use Rattle.q3_script.specs.declared.event.Event.{Event}
 use Rattle.q3_script.specs.declared.event.Event.TheVariants.{Client, Port, Map, Player, Area, Config, Say, TypeText, Move, Serve, Send, Deliver, Toclient, Toserver}
+use Rattle.q3_ring.specs.Snapshot.{Snapshot}
+use Rattle.q3_frames.specs.Frames.{FramesState, held_frame}
 use Rattle.q3_server.specs.Server.{ServerState, slot_at}
 use Rattle.q3_server.specs.Taking.{sender_of}
 use Rattle.q3_world.specs.declared.made.Direction.{Direction}
@@ -49,12 +51,17 @@ IsApart kept (Toclient c bytes) d = d ≢ c
 IsApart kept (Toserver c bytes) d = taker_of kept.ends.server (address_at kept.ends c) bytes ≢ Some d
 IsApart kept other d = Unit {0}
 
--- a client has the same slot, the same end and the same address
+-- the frames that a slot has were its frames before, the same: others may have lost their entities' places
+abbrev pub KeepsFrames : ℕ → FramesState → FramesState → Type 0
+KeepsFrames d old new = (number : ℕ) (frame : Snapshot) → held_frame new d number ≡ Some frame → held_frame old d number ≡ Some frame
+
+-- a client has the same slot, the same frames as far as they are there, the same end and the same address
 pub record IsLeft (d : ℕ) (old new : Ends) : Type 0 where
   pub slot : slot_at new.server d ≡ slot_at old.server d
+  pub frames : KeepsFrames d old.server.frames new.server.frames
   pub client : client_at new d ≡ client_at old d
   pub address : address_at new d ≡ address_at old d
 
--- an event that isn't of a client leaves its slot, its end and its address, in every state and whatever bytes arrive
+-- an event that isn't of a client leaves its slot, its frames, its end and its address, in every state and whatever bytes arrive
 abbrev pub SlotsApart : Type 0
 SlotsApart = (kept : Kept) (event : Event) (d : ℕ) → IsApart kept event d → IsLeft d kept.ends (kept_step kept event).kept.ends

@@ -315,7 +315,10 @@ pub fn strings_follow()
     layers();
 }
 
-/// An event that isn't of a client leaves its slot, its end and its address, in every state and whatever bytes arrive.
+/// An event that isn't of a client leaves its slot, its frames, its end and its address, in every state and whatever bytes
+/// arrive.
 pub fn slots_apart()
     ensures { SlotsApart }
-{}
+{
+    layers();
+}
