@@ -8,8 +8,8 @@ use Rattle.q3_script.specs.declared.event.Event.{Event}
 use Rattle.q3_script.specs.declared.event.Event.TheVariants.{Client, Port, Map, Entity, Remove, Baseline, Player, Area, Time, Config, Say, TypeText, Move, Serve, Send, Deliver, Show, Bytes, Toclient, Toserver}
 use Rattle.q3_script.specs.Grammar.{IsReplayEvent}
 use Rattle.q3_make.specs.Printed.{event_line, script_text}
-use Rattle.q3_make.specs.Generated.{generator_of, entity_with, still, joins, made_by, made_in, drawn_line, drawn_from, first_turns, last_turn, last_turns, opening, closing, generated, IsMade}
-use Rattle.q3_make.proofs.Rows.{made_more}
+use Rattle.q3_make.specs.Generated.{generator_of, entity_with, still, joins, made_by, made_in, drawn_line, drawn_from, first_turns, last_turn, last_turns, opening, closing, generated, DrawnState, rest_of, IsMade}
+use Rattle.q3_make.proofs.Rows.{made_more, rest_none}
 use Rattle.q3_make.proofs.MadeLines.{IsGood, baseline_good, entity_good, still_good, serve_good, send_good, show_good, deliver_good, time_good, map_good, joins_good, drawn_good}
 
 -- ---- lines for each number of a row
@@ -108,7 +108,7 @@ pub opening_makes : made_in opening ≡ 16
 unfolding opening
 opening_makes = refl
 
-opening_length : length opening ≡ 122
+pub opening_length : length opening ≡ 122
 unfolding opening
 opening_length = refl
 
@@ -166,7 +166,7 @@ closing_good : (made : ℕ) → made ≤ 65100 → All IsGood (closing made)
 unfolding closing
 closing_good made room = each_put (λ c. last_turns c (made + 40 * c)) 0 4 (λ k low high. turns_good k (made + 40 * k) (omega arith) (omega arith))
 
-closing_length : (made : ℕ) → length (closing made) ≡ 404
+pub closing_length : (made : ℕ) → length (closing made) ≡ 404
 unfolding closing
 closing_length made = refl
 
@@ -212,10 +212,25 @@ generated_is_made number seed few =
     (All-append IsGood opening drawn opening_good (drawn_are_good number 1 (made_in opening) (generator_of seed) (omega arith) (omega arith) (omega arith)))
     (closing_good (made_in front) (omega arith)))
 
--- the three parts behind one another
-pub whole_is : (number seed made : ℕ) → made ≡ 16 + made_in (drawn_from number 1 16 (generator_of seed)) → (opening ++ drawn_from number 1 16 (generator_of seed)) ++ closing made ≡ generated number seed
-unfolding generated
-whole_is number seed made e =
+-- the opening, the drawn lines and the closing behind one another
+pub whole_is : (number seed : ℕ) → opening ++ rest_of number (record { drawn = 0; made = 16; generator = generator_of seed }) ≡ generated number seed
+unfolding generated rest_of
+whole_is number seed =
     let drawn : ℕ → List Event = λ n. drawn_from number 1 n (generator_of seed) in
-    let last : made ≡ made_in (opening ++ drawn 16) = e ∙ sym (front_makes (drawn 16)) in
-    ap (λ (m : ℕ). (opening ++ drawn 16) ++ closing m) last ∙ ap (λ (n : ℕ). (opening ++ drawn n) ++ closing (made_in (opening ++ drawn n))) (sym opening_makes)
+    sym (append_assoc opening (drawn 16) (closing (16 + made_in (drawn 16))))
+    ∙ ap (λ (m : ℕ). (opening ++ drawn 16) ++ closing m) (sym (front_makes (drawn 16)))
+    ∙ ap (λ (n : ℕ). (opening ++ drawn n) ++ closing (made_in (opening ++ drawn n))) (sym opening_makes)
+
+-- the parts are events of a replay
+pub opening_each : All IsReplayEvent opening
+opening_each = All-weaker IsGood IsReplayEvent (λ event is. is.of_replay) opening opening_good
+
+pub closing_each : (made : ℕ) → made ≤ 65100 → All IsReplayEvent (closing made)
+closing_each made room = All-weaker IsGood IsReplayEvent (λ event is. is.of_replay) (closing made) (closing_good made room)
+
+-- the three parts, put behind one another
+pub parts_are : (number seed : ℕ) (start now : DrawnState) (made : ℕ) (first second all : List Event) → first ≡ opening → second ++ rest_of 0 now ≡ first ++ rest_of number start
+    → made ≡ now.made → all ≡ second ++ closing made → ((number : ℕ) → opening ++ rest_of number start ≡ generated number seed) → all ≡ generated number seed
+parts_are number seed start now made first second all begins goes makes ends whole =
+    ends ∙ ap (λ (n : ℕ). second ++ closing n) makes ∙ ap (λ (events : List Event). second ++ events) (sym (rest_none now))
+    ∙ goes ∙ ap (λ (events : List Event). events ++ rest_of number start) begins ∙ whole number

@@ -1,12 +1,12 @@
 -- Rows of lines that grow by one number after the other, and drawn lines.
-use Rattle.std.proofs.Common.{◌≡◌, ℕ, zero, suc, ◌+◌, ◌≤◌, List, [], ◌∷◌, ◌++◌, map, refl, sym, ap, ◌∙◌, arith, append_assoc}
+use Rattle.std.proofs.Common.{◌≡◌, ℕ, zero, suc, ◌+◌, List, [], ◌∷◌, ◌++◌, map, refl, sym, ap, ◌∙◌, arith, append_assoc}
 use Rattle.std.specs.List.{flat_map, range_with_len}
 use Rattle.std.proofs.lemmas.List.{append-nil, map-append}
 use Rattle.std.proofs.lemmas.List.Concat.{flat_map-append}
 use Rattle.std.proofs.lemmas.List.Sums.{sum_by-append}
 use Rattle.rand_pcg.specs.Lcg.{Lcg}
 use Rattle.q3_script.specs.declared.event.Event.{Event}
-use Rattle.q3_make.specs.Generated.{made_by, made_in, drawn_line, drawn_from}
+use Rattle.q3_make.specs.Generated.{made_by, made_in, drawn_line, drawn_from, closing, DrawnState, rest_of}
 
 -- the next number of a row
 range_next : (a k j : ℕ) → a + k ≡ j → range_with_len a (suc k) ≡ range_with_len a k ++ j ∷ []
@@ -35,46 +35,25 @@ made_more event events =
     let one : 0 + made_by event ≡ made_by event = omega arith in
     sum_by-append made_by (event ∷ []) events ∙ ap (λ (n : ℕ). n + made_in events) one
 
--- where the drawing stands: so many lines are left
-pub record HasDrawn (number left k made : ℕ) (start generator : Lcg) (old now : List Event) : Type 0 where
-  pub lines : now ++ drawn_from left (k + 1) made generator ≡ old ++ drawn_from number 1 16 start
-  pub datagrams : made + made_in (drawn_from left (k + 1) made generator) ≡ 16 + made_in (drawn_from number 1 16 start)
-  pub some : 1 ≤ made
-  pub few : made ≤ 16 + k
+-- ---- what is left of a script
 
-pub begins : (number : ℕ) (start : Lcg) (old : List Event) → HasDrawn number number 0 16 start start old old
-begins number start old = record { lines = refl; datagrams = refl; some = omega arith; few = omega arith }
+-- a drawn line, and what is left behind it
+pub rest_next : (left : ℕ) (state : DrawnState) (event : Event) (drawn made : ℕ) (generator : Lcg) → (event, generator) ≡ drawn_line (state.drawn + 1) state.made state.generator
+    → drawn ≡ state.drawn + 1 → made ≡ state.made + made_by event → rest_of (left + 1) state ≡ event ∷ rest_of left (record { drawn = drawn; made = made; generator = generator })
+unfolding drawn_from rest_of
+rest_next left state event drawn made generator line counts makes =
+    let is : event ≡ (drawn_line (state.drawn + 1) state.made state.generator).0 = ap (λ (p : Event × Lcg). p.0) line in
+    let goes : generator ≡ (drawn_line (state.drawn + 1) state.made state.generator).1 = ap (λ (p : Event × Lcg). p.1) line in
+    let more : left + 1 ≡ suc left = omega arith in
+    let rest = drawn_from left (drawn + 1) made generator in
+    let one : drawn_from (left + 1) (state.drawn + 1) state.made state.generator ≡ event ∷ rest = rw (more, counts, makes, is, goes) refl in
+    let e = made_more event rest in
+    let sum : state.made + made_in (event ∷ rest) ≡ made + made_in rest = omega arith in
+    ap (λ (lines : List Event). lines ++ closing (state.made + made_in lines)) one ∙ ap (λ (n : ℕ). event ∷ (rest ++ closing n)) sum
 
--- one line more
-pub draws : {number left left' k made made' : ℕ} {start generator generator' : Lcg} {old now : List Event} {event : Event} → HasDrawn number left k made start generator old now
-    → left ≡ suc left' → (event, generator') ≡ drawn_line (k + 1) made generator → made' ≡ made + made_by event → made_by event ≤ 1 → HasDrawn number left' (k + 1) made' start generator' old (now ++ event ∷ [])
-unfolding drawn_from
-draws {number} {left} {left'} {k} {made} {made'} {start} {generator} {generator'} {old} {now} {event} has more line counts few =
-    let is : event ≡ (drawn_line (k + 1) made generator).0 = ap (λ (p : Event × Lcg). p.0) line in
-    let goes : generator' ≡ (drawn_line (k + 1) made generator).1 = ap (λ (p : Event × Lcg). p.1) line in
-    let rest = drawn_from left' (k + 1 + 1) made' generator' in
-    let one : drawn_from left (k + 1) made generator ≡ event ∷ rest = rw (more, counts, is, goes) refl in
-    let in_few = has.few in
-    let in_some = has.some in
-    let in_datagrams : made + (made_by event + made_in rest) ≡ 16 + made_in (drawn_from number 1 16 start) =
-    ap (λ (n : ℕ). made + n) (sym (made_more event rest)) ∙ ap (λ (events : List Event). made + made_in events) (sym one) ∙ has.datagrams in
-    record {
-      lines = append_assoc now (event ∷ []) rest ∙ ap (λ (events : List Event). now ++ events) (sym one) ∙ has.lines;
-      datagrams = omega arith;
-      some = omega arith;
-      few = omega arith;
-    }
-
--- no line is left
-pub drawn_all : {number left k made : ℕ} {start generator : Lcg} {old now : List Event} → HasDrawn number left k made start generator old now → left ≡ 0 → now ≡ old ++ drawn_from number 1 16 start
-unfolding drawn_from
-drawn_all {number} {left} {k} {made} {start} {generator} {old} {now} has none =
-    let e : drawn_from left (k + 1) made generator ≡ [] = rw none refl in
-    sym (append-nil now) ∙ ap (λ (rest : List Event). now ++ rest) (sym e) ∙ has.lines
-
-pub counted_all : {number left k made : ℕ} {start generator : Lcg} {old now : List Event} → HasDrawn number left k made start generator old now → left ≡ 0 → made ≡ 16 + made_in (drawn_from number 1 16 start)
-unfolding drawn_from
-counted_all {number} {left} {k} {made} {start} {generator} {old} {now} has none =
-    let e : made_in (drawn_from left (k + 1) made generator) ≡ 0 = rw none refl in
-    let sum = has.datagrams in
-    omega arith
+-- no drawn line is left
+pub rest_none : (state : DrawnState) → rest_of 0 state ≡ closing state.made
+unfolding drawn_from rest_of
+rest_none state =
+    let none : state.made + made_in [] ≡ state.made = omega arith in
+    ap closing none

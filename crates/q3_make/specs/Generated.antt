@@ -170,6 +170,18 @@ generated number seed =
     let front = opening ++ drawn_from number 1 (made_in opening) (generator_of seed) in
     front ++ closing (made_in front)
 
+-- where the drawing of lines stands: how many were drawn, how many datagrams all lines so far make, and the generator
+pub record DrawnState : Type 0 where
+  pub drawn : ℕ
+  pub made : ℕ
+  pub generator : Lcg
+
+-- what is left of a script from there: so many drawn lines, and the closing ones
+unfoldable pub rest_of : ℕ → DrawnState → List Event
+rest_of left state =
+    let lines = drawn_from left (state.drawn + 1) state.made state.generator in
+    lines ++ closing (state.made + made_in lines)
+
 -- what a seed makes can be printed: so many events, each one of a replay, in a text that isn't too long
 pub record IsMade (number : ℕ) (events : List Event) : Type 0 where
   pub count : length events ≡ number + 526

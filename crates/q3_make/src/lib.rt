@@ -2,11 +2,13 @@
 #![tactic(auto)]
 
 mod draw;
+mod drawn;
 pub mod laws;
 mod make;
 pub mod print;
 
-pub use make::make_script;
+pub use drawn::Drawn;
+pub use make::{closing_lines, make_script, opening_lines};
 pub use print::print_script;
 
 #[cfg(test)]

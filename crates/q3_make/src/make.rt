@@ -5,22 +5,21 @@ ghost use Rattle.std.specs.List.{flat_map, range_with_len};
 ghost use Rattle.q3_script.specs.Grammar.{IsReplayEvent};
 ghost use Rattle.q3_script.specs.Script.{longest_script, most_events};
 ghost use Rattle.q3_make.specs.Printed.{script_text};
-ghost use Rattle.q3_make.specs.Generated.{generator_of, entity_with as state_with, joins as joined, still as standing, made_in, drawn_from, first_turns, last_turn, last_turns, opening, closing, generated};
+ghost use Rattle.q3_make.specs.Generated.{entity_with as state_with, joins as joined, still as standing, first_turns, last_turn, last_turns, opening, closing, rest_of, generated};
 
-use crate::draw::{drawn_line, entity_with, made_by};
+use crate::draw::entity_with;
+use crate::drawn::Drawn;
 use q3_bits::NoMemory;
 use q3_clmsg::Move;
 use q3_io::Address;
 use q3_script::Event;
-use rand_core::SeedableRng;
-use rand_pcg::Lcg64Xsh32;
 use std::alloc::Global;
 
-/// How many lines a script has beside the drawn ones.
-const OTHER_LINES: usize = 526;
+/// How many lines open a script.
+const OPENING_LINES: usize = 122;
 
-/// How many datagrams the opening lines make.
-const FIRST_DATAGRAMS: u32 = 16;
+/// How many lines close a script.
+const CLOSING_LINES: usize = 404;
 
 /// The script that a seed makes, with so many drawn lines: it goes through joining, maps, the game, and delivery of late,
 /// repeated and lost datagrams, and ends with twenty turns of each client without loss. `Err` is want of memory.
@@ -35,10 +34,34 @@ pub fn make_script(alloc: Global, number: u32, seed: u64) -> Result<Vec<Event>, 
     ensures small { IfOk result (λ events. length (script_text events.items) ≤ longest_script) }
 {
     crate::laws::generated_are_events();
-    let mut events = Vec::with_capacity(alloc, number as usize + OTHER_LINES)?;
+    let mut events = Vec::with_capacity(alloc, OPENING_LINES + number as usize + CLOSING_LINES)?;
     push_opening(&mut events)?;
-    let made = push_drawn(alloc, number, seed, &mut events)?;
-    push_closing(made, &mut events)?;
+    let mut drawn = Drawn::new(seed);
+    push_drawn(alloc, number, &mut drawn, &mut events)?;
+    push_closing(drawn.made(), &mut events)?;
+    Ok(events)
+}
+
+/// The lines that open each generated script. `Err` is want of memory.
+pub fn opening_lines(alloc: Global) -> Result<Vec<Event>, NoMemory>
+    ensures lines { IfOk result (λ events. events.items ≡ opening) }
+    ensures count { IfOk result (λ events. length events.items ≡ 122) }
+    ensures each { IfOk result (λ events. All IsReplayEvent events.items) }
+{
+    let mut events = Vec::with_capacity(alloc, OPENING_LINES)?;
+    push_opening(&mut events)?;
+    Ok(events)
+}
+
+/// The lines that close a generated script, behind the lines so far. `Err` is want of memory.
+pub fn closing_lines(alloc: Global, drawn: &Drawn) -> Result<Vec<Event>, NoMemory>
+    ensures lines { IfOk result (λ events. events.items ≡ closing drawn.now.made) }
+    ensures rest { IfOk result (λ events. rest_of 0 drawn.now ≡ events.items) }
+    ensures count { IfOk result (λ events. length events.items ≡ 404) }
+    ensures each { IfOk result (λ events. All IsReplayEvent events.items) }
+{
+    let mut events = Vec::with_capacity(alloc, CLOSING_LINES)?;
+    push_closing(drawn.made(), &mut events)?;
     Ok(events)
 }
 
@@ -146,34 +169,20 @@ fn still(time: u32) -> Move
     one
 }
 
-/// Puts so many drawn lines behind others, and answers how many datagrams were made.
+/// Puts so many drawn lines behind others.
 fn push_drawn(
     alloc: Global,
     number: u32,
-    seed: u64,
+    drawn: &mut Drawn,
     events: &mut Vec<Event>,
-) -> Result<u32, NoMemory>
-    requires { number ≤ 65000 }
-    ensures pushed { IfOk result (λ _. events.new.items ≡ events.old.items ++ drawn_from number 1 16 (generator_of seed)) }
-    ensures made { IfOk result (λ made. made ≡ 16 + made_in (drawn_from number 1 16 (generator_of seed))) }
-    ensures few { IfOk result (λ made. made ≤ 16 + number) }
+) -> Result<(), NoMemory>
+    requires { drawn.old.drawn + number ≤ 65000 }
+    ensures { IfOk result (λ _. events.new.items ++ rest_of 0 drawn.new ≡ events.old.items ++ rest_of number drawn.old) }
 {
-    let mut generator = start(seed);
-    let mut made = FIRST_DATAGRAMS;
-    for i in 0..number {
-        let event = drawn_line(alloc, i + 1, made, &mut generator)?;
-        made += made_by(&event);
-        events.push(event)?;
+    for _ in 0..number {
+        events.push(drawn.next(alloc)?)?;
     }
-    Ok(made)
-}
-
-/// The generator of a seed.
-#[tactic(auto, unfolding(crate::specs::Generated::generator_of))]
-fn start(seed: u64) -> Lcg64Xsh32
-    ensures { result ≡ generator_of seed }
-{
-    Lcg64Xsh32::seed_from_u64(seed)
+    Ok(())
 }
 
 /// Puts the closing lines behind others.

@@ -46,6 +46,14 @@ fn script_of_one_drawn_line(rt: HostRuntime) {
     assert_eq!(rt; print_script(&events, &mut out), Ok(()));
 }
 
+#[test]
+fn lines_around_the_drawn_ones(rt: HostRuntime) {
+    let opening = opening_lines(rt.alloc()).expect(&rt, "memory");
+    assert_eq!(rt; opening.len(), 122);
+    let closing = closing_lines(rt.alloc(), &Drawn::new(0)).expect(&rt, "memory");
+    assert_eq!(rt; closing.len(), 404);
+}
+
 /// What a trial of this seed counts: its datagrams, and the commands of clients.
 #[test]
 fn script_of_a_seed(rt: HostRuntime) {

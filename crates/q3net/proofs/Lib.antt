@@ -2,6 +2,7 @@ pub mod Reading
 pub mod Loading
 pub mod Looking
 pub mod Stepping
+pub mod Totals
 pub mod Ending
 pub mod Replaying
 pub mod Trying

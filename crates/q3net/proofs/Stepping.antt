@@ -18,19 +18,19 @@ use Rattle.q3_world.specs.Counts.{counted, counted_all, Counting}
 use Rattle.q3_world.specs.World.{Whole, step, answers}
 use Rattle.q3_world.specs.StandsFor.{StandsFor}
 use Rattle.q3_world.specs.Report.{answer_text}
-use Rattle.q3net.specs.Run.{AddsLines, AddsCounts}
+use Rattle.q3net.specs.Run.{AddsLines}
 
 -- the lines of these answers
 abbrev pub lines_of : List Answered → List ℕ
 lines_of all = flat_map answer_text all
 
 -- one event and the others
-answers-next : (profile : Profile) (whole : Whole) (event : Event) (events : List Event)
+pub answers-next : (profile : Profile) (whole : Whole) (event : Event) (events : List Event)
     → answers profile whole (event ∷ events) ≡ (step profile whole event).answer ∷ answers profile (step profile whole event).whole events
 unfolding answers
 answers-next profile whole event events = refl
 
-answers-none : (profile : Profile) (whole : Whole) → answers profile whole [] ≡ []
+pub answers-none : (profile : Profile) (whole : Whole) → answers profile whole [] ≡ []
 unfolding answers
 answers-none profile whole = refl
 

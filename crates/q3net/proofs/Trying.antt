@@ -1,6 +1,5 @@
 -- How a trial ends.
-use Rattle.std.proofs.Common.{◌≡◌, ℕ, List, [], ◌∷◌, Option, Some, Result, Ok, Err, refl, sym, ap, subst, ◌∙◌, inl, inr, arith}
-use Rattle.std.specs.Prelude.{◌⊎◌}
+use Rattle.std.proofs.Common.{◌≡◌, ℕ, List, [], ◌∷◌, Option, Some, Result, Ok, Err, refl, sym, ap, subst, ◌∙◌, inl, inr}
 use Rattle.q3_profile.specs.declared.profile.Profile.{Profile}
 use Rattle.q3_bits.specs.ResultBind.{◌>>=◌}
 use Rattle.q3_script.specs.declared.event.Event.{Event}
@@ -9,20 +8,17 @@ use Rattle.q3_io.specs.Written.{Written}
 use Rattle.q3_io.specs.Told.{Told}
 use Rattle.q3_make.specs.Generated.{generated}
 use Rattle.q3_make.specs.Printed.{script_text}
-use Rattle.q3_world.specs.declared.world.StepError.{StepError}
-use Rattle.q3_world.specs.declared.world.StepError.TheVariants as step
 use Rattle.q3_world.specs.declared.counts.Counts.{Counts}
 use Rattle.q3_world.specs.Counts.{counted_all, no_counts}
-use Rattle.q3_world.specs.Outcome.{HasStepCause}
 use Rattle.q3_world.specs.World.{opening, answers}
 use Rattle.q3net.specs.declared.command.Draws.{Draws}
 use Rattle.q3net.specs.declared.fault.Fault.{Fault}
 use Rattle.q3net.specs.declared.fault.Fault.TheVariants as faults
 use Rattle.q3net.specs.Command.{Make, Trial}
-use Rattle.q3net.specs.Faults.{step_fault, ReadCause, WriteCause}
+use Rattle.q3net.specs.Faults.{ReadCause}
 use Rattle.q3net.specs.Summary.{summary_text}
 use Rattle.q3net.specs.Verdict.{Verdict, IsVerdict, settled, profile_in, summary, tried, GetsFrom}
-use Rattle.q3net.specs.Run.{AddsCounts, Stops, Executes, PrintsAll}
+use Rattle.q3net.specs.Run.{Stops, Executes, PrintsAll}
 use Rattle.q3net.proofs.Looking.{got_ok}
 use Rattle.q3net.proofs.Ending.{part_ended, wants_memory, text_executes}
 
@@ -88,28 +84,11 @@ pub trial_stopped : (follow : TextsFollow) (told : Option Told) (profile : List 
 trial_stopped follow told profile draws by old passes =
     wants_memory follow (Some (Trial profile draws)) told old (settled (profile ∷ []) (Ok (summary by (generated draws.number draws.seed)))) (verdict_of told profile draws by passes) tt
 
--- a sink that takes every write doesn't fail
-pub never_fails : (e : StepError) → HasStepCause 0 0 (Err e) → e ≡ step.NoMemory
-never_fails step.NoMemory cause = refl
-never_fails step.WriteFault cause = absurd (elim cause.1 [ inl more ↦ omega (arith, more) | inr most ↦ omega (arith, most) ])
-
-pub trial_unstepped : (follow : TextsFollow) (told : Option Told) (profile : List ℕ) (draws : Draws) (by : Profile) (old : Option Written) (e : StepError) → GetsFrom profile_in told profile (Ok by)
-    → HasStepCause 0 0 (Err e) → Executes (Some (Trial profile draws)) told old old (Err (step_fault e))
-trial_unstepped follow told profile draws by old e passes cause =
-    subst (λ (f : StepError). Executes (Some (Trial profile draws)) told old old (Err (step_fault f))) (sym (never_fails e cause))
-    (trial_stopped follow told profile draws by old passes)
-
-pub unstepped_write_cause : (before : ℕ) (e : StepError) → HasStepCause 0 0 (Err e) → WriteCause before before (Err (step_fault e))
-unstepped_write_cause before e cause =
-    subst (λ (f : StepError). WriteCause before before (Err (step_fault f))) (sym (never_fails e cause)) refl
-
 -- what a new world counted of all events
-pub summed : (by : Profile) (draws : Draws) (events : List Event) (start now : Counts) → events ≡ generated draws.number draws.seed → start ≡ no_counts
-    → AddsCounts (answers by (opening by) events) start now (Ok tt) → summary_text now ≡ summary by (generated draws.number draws.seed)
+pub summed : (by : Profile) (draws : Draws) (start now : Counts) → start ≡ no_counts
+    → now ≡ counted_all start (answers by (opening by) (generated draws.number draws.seed)) → summary_text now ≡ summary by (generated draws.number draws.seed)
 unfolding summary
-summed by draws events start now is none adds =
-    ap summary_text (adds ∙ (ap (λ (c : Counts). counted_all c (answers by (opening by) events)) none
-    ∙ ap (λ (all : List Event). counted_all no_counts (answers by (opening by) all)) is))
+summed by draws start now none is = ap summary_text (is ∙ ap (λ (c : Counts). counted_all c (answers by (opening by) (generated draws.number draws.seed))) none)
 
 pub trial_done : (told : Option Told) (profile : List ℕ) (draws : Draws) (by : Profile) (text : List ℕ) (old now : Option Written) (ended : Result (Unit {0}) Fault)
     → GetsFrom profile_in told profile (Ok by) → text ≡ summary by (generated draws.number draws.seed) → PrintsAll text old now ended

@@ -5,3 +5,4 @@ pub mod Summary
 pub mod Input
 pub mod Verdict
 pub mod Run
+pub mod Trying

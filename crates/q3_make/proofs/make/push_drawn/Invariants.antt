@@ -1,7 +1,8 @@
-use Rattle.std.proofs.Common.{◌-◌}
-use Rattle.q3_make.specs.Generated.{generator_of}
-use Rattle.q3_make.proofs.Rows.{HasDrawn}
+use Rattle.std.proofs.Common.{◌≡◌, ◌+◌, ◌-◌, ◌++◌}
+use Rattle.q3_make.specs.Generated.{rest_of}
 use Rattle.q3_make.proofs.make.push_drawn.Given as goal
 
-abbrev pub invariant-loop-i : goal.invariant-loop-i
-invariant-loop-i l = HasDrawn l.number (l.number - l.i) l.i l.made (generator_of l.seed) l.generator l.initial.events.items l.events.items
+abbrev pub invariant-loop : goal.invariant-loop
+invariant-loop l =
+    (l.events.items ++ rest_of (l.number - l.counter) l.drawn ≡ l.initial.events.items ++ rest_of l.number l.initial.drawn)
+    × (l.drawn.drawn ≡ l.initial.drawn.drawn + l.counter)
