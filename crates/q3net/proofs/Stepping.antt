@@ -13,8 +13,7 @@ use Rattle.q3_io.specs.Laws.{TextsFollow}
 use Rattle.q3_io.specs.Written.{Written, Wrote}
 use Rattle.q3_world.specs.Outcome.{Prints}
 use Rattle.q3_world.specs.Ends.{Answered}
-use Rattle.q3_world.specs.declared.counts.Counts.{Counts}
-use Rattle.q3_world.specs.Counts.{counted, counted_all, Counting}
+use Rattle.q3_world.specs.Counts.{Counting}
 use Rattle.q3_world.specs.World.{Whole, step, answers}
 use Rattle.q3_world.specs.StandsFor.{StandsFor}
 use Rattle.q3_world.specs.Report.{answer_text}

@@ -7,8 +7,6 @@ use Rattle.q3_world.specs.declared.world.StepError.{StepError}
 use Rattle.q3_world.specs.declared.world.StepError.TheVariants as step
 use Rattle.q3_world.specs.Ends.{Answered}
 use Rattle.q3_world.specs.Report.{answer_text}
-use Rattle.q3_world.specs.Counts.{counted_all}
-use Rattle.q3_world.specs.declared.counts.Counts.{Counts}
 use Rattle.q3net.specs.Command.{Command, Help, Version, Replay, Trial}
 use Rattle.q3net.specs.Input.{IsFront, LooksUpTold, LooksUpFirst, Gives}
 use Rattle.q3net.specs.Lines.{ending_line, ending_status}
