@@ -40,28 +40,16 @@ lines-more all k one others parts =
     ap lines_of (take-add k 1 all ∙ ap (λ (left : List Answered). take k all ++ take 1 left) parts)
     ∙ (flat_map-append answer_text (take k all) (one ∷ []) ∙ ap (λ (text : List ℕ). lines_of (take k all) ++ text) (append-nil (answer_text one)))
 
--- answers counted, and one more
-counted-push : (start : Counts) (first : List Answered) (one : Answered) → counted_all start (first ++ one ∷ []) ≡ counted (counted_all start first) one
-unfolding counted_all
-counted-push start [] one = refl
-counted-push start (x ∷ first) one = counted-push (counted start x) first one
-
-counts-more : (all : List Answered) (k : ℕ) (one : Answered) (others : List Answered) (start : Counts) → drop k all ≡ one ∷ others
-    → counted_all start (take (k + 1) all) ≡ counted (counted_all start (take k all)) one
-counts-more all k one others start parts =
-    ap (counted_all start) (take-add k 1 all ∙ ap (λ (left : List Answered). take k all ++ take 1 left) parts) ∙ counted-push start (take k all) one
-
 pub lines-all : (all : List Answered) (k : ℕ) → lines_of all ≡ lines_of (take k all) ++ lines_of (drop k all)
 lines-all all k = ap lines_of (sym (take-append-drop k all)) ∙ flat_map-append answer_text (take k all) (drop k all)
 
--- the events before the k-th were done, the lines of their answers written, and these counted; the other answers are those that come
+-- the events before the k-th were done, and the lines of their answers written; the other answers are those that come
 abbrev pub HasStepped : Profile → Counting → Counting → Option Written → Option Written → List Event → ℕ → Type 0
 HasStepped profile start now had written events k =
     (whole : Whole) → StandsFor profile start.kept whole
     → (next : Whole) × StandsFor profile now.kept next
     × Wrote had written (lines_of (take k (answers profile whole events))) true
     × (drop k (answers profile whole events) ≡ answers profile next (drop k events))
-    × (now.counts ≡ counted_all start.counts (take k (answers profile whole events)))
 
 -- the answers that come are that of the k-th event and the others
 comes : (profile : Profile) (all : List Answered) (next : Whole) (events : List Event) (k : ℕ) (event : Event) → event ≡ get_or events k event → k < length events
@@ -72,16 +60,14 @@ comes profile all next events k event is lt left =
     ∙ answers-next profile next event (drop (k + 1) events))
 
 pub HasStepped-begin : (follow : TextsFollow) (profile : Profile) (start : Counting) (had : Option Written) (events : List Event) → HasStepped profile start start had had events 0
-unfolding counted_all
-HasStepped-begin follow profile start had events = λ whole begun. (whole, begun, follow.none, refl, refl)
+HasStepped-begin follow profile start had events = λ whole begun. (whole, begun, follow.none, refl)
 
 pub HasStepped-more : (follow : TextsFollow) (profile : Profile) (start now after : Counting) (had written more : Option Written) (events : List Event) (k : ℕ) (event : Event) → event ≡ get_or events k event → k < length events
     → HasStepped profile start now had written events k
     → ((whole : Whole) → StandsFor profile now.kept whole → StandsFor profile after.kept (step profile whole event).whole)
     → ((whole : Whole) → StandsFor profile now.kept whole → Wrote written more (answer_text (step profile whole event).answer) true)
-    → ((whole : Whole) → StandsFor profile now.kept whole → after.counts ≡ counted now.counts (step profile whole event).answer)
     → HasStepped profile start after had more events (k + 1)
-HasStepped-more follow profile start now after had written more events k event is lt stepped stands lines counts = λ whole begun.
+HasStepped-more follow profile start now after had written more events k event is lt stepped stands lines = λ whole begun.
     let was = stepped whole begun in
     let done = step profile was.0 event in
     let all = answers profile whole events in
@@ -91,7 +77,6 @@ HasStepped-more follow profile start now after had written more events k event i
       stands was.0 was.1,
       follow.more was.2 (lines was.0 was.1) (lines-more all k done.answer others parts),
       sym (drop-drop 1 k all) ∙ ap (λ (left : List Answered). drop 1 left) parts,
-      counts was.0 was.1 ∙ (ap (λ (so : Counts). counted so done.answer) was.4 ∙ sym (counts-more all k done.answer others start.counts parts)),
     )
 
 -- the sink or memory failed at the k-th event
@@ -131,10 +116,3 @@ HasStepped-all profile start now had written events k le stepped whole begun =
     let all = answers profile whole events in
     subst (λ (first : List Answered). Wrote had written (lines_of first) true) (taken_all all k (all_done profile start now had written events k le stepped whole begun))
     (stepped whole begun).2
-
-pub HasStepped-counts : (profile : Profile) (start now : Counting) (had written : Option Written) (events : List Event) (k : ℕ) → length events ≤ k
-    → HasStepped profile start now had written events k
-    → (whole : Whole) → StandsFor profile start.kept whole → now.counts ≡ counted_all start.counts (answers profile whole events)
-HasStepped-counts profile start now had written events k le stepped whole begun =
-    let all = answers profile whole events in
-    (stepped whole begun).4 ∙ ap (counted_all start.counts) (taken_all all k (all_done profile start now had written events k le stepped whole begun))

@@ -108,8 +108,3 @@ abbrev pub AddsLines : List Answered → Option Written → Option Written → R
 AddsLines all old now (Ok x) = Wrote old now (flat_map answer_text all) true
 AddsLines all old now (Err step.NoMemory) = (k : ℕ) × Wrote old now (flat_map answer_text (take k all)) true
 AddsLines all old now (Err step.WriteFault) = Wrote old now (flat_map answer_text all) false
-
--- each answer was counted, where all events were done
-abbrev pub AddsCounts : List Answered → Counts → Counts → Result (Unit {0}) StepError → Type 0
-AddsCounts all old now (Ok x) = now ≡ counted_all old all
-AddsCounts all old now (Err e) = Unit {0}

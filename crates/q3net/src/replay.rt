@@ -13,7 +13,7 @@ ghost use Rattle.q3net.specs.Command.{Replay};
 ghost use Rattle.q3net.specs.Faults.{ReadCause, WriteCause};
 ghost use Rattle.q3net.specs.Input.{Gives};
 ghost use Rattle.q3net.specs.Verdict.{GetsFrom, profile_in, events_in, with_events};
-ghost use Rattle.q3net.specs.Run.{Executes, GivesNames, AddsLines, AddsCounts};
+ghost use Rattle.q3net.specs.Run.{Executes, GivesNames, AddsLines};
 
 use crate::fault::Fault;
 use crate::input::read_file;
@@ -76,8 +76,8 @@ fn load_events<F: Files>(alloc: Global, name: &str, files: &mut F) -> Result<Vec
     Ok(read_script(alloc, ScriptKind::Replay, &bytes)?)
 }
 
-/// Steps over the events, prints their lines, and counts what these say.
-pub fn step_all<F: Files, O: Sink>(
+/// Steps over the events, and prints their lines.
+fn step_all<F: Files, O: Sink>(
     world: &mut World,
     events: &[Event],
     files: &mut F,
@@ -87,8 +87,6 @@ pub fn step_all<F: Files, O: Sink>(
     requires few { length world.old.kept.datagrams + length events.now < most_datagrams }
     ensures adds { (profile : ProfileValue) (whole : Whole) → StandsFor profile world.old.kept whole
         → AddsLines (answers profile whole events.now) (O.written out.old) (O.written out.new) result }
-    ensures counts { (profile : ProfileValue) (whole : Whole) → StandsFor profile world.old.kept whole
-        → AddsCounts (answers profile whole events.now) world.old.counts world.new.counts result }
     ensures cause { HasStepCause (O.faults out.old) (O.faults out.new) result }
     ensures files { files.new ≡ files.old }
 {

@@ -1,7 +1,7 @@
 use Rattle.std.proofs.Common.{refl, arith}
 use Rattle.std.proofs.lemmas.Grind.{common_steps}
 use Rattle.std.proofs.lemmas.Result.{err_from_is_err_and}
-use Rattle.q3net.proofs.Stepping.{HasStepped-begin, HasStepped-more, HasStepped-early, HasStepped-all, HasStepped-counts}
+use Rattle.q3net.proofs.Stepping.{HasStepped-begin, HasStepped-more, HasStepped-early, HasStepped-all}
 use Rattle.q3net.proofs.replay.step_all.Goals as goal
 
 pub returns-in_err-step-clause-adds : goal.returns-in_err-step-clause-adds
@@ -21,7 +21,7 @@ loop-event-init g c = (
 pub loop-event-preserved : goal.loop-event-preserved
 loop-event-preserved g c = (
   λ profile. HasStepped-more c.texts_follow.ensures profile c.args.world.now c.loop-event.world c.step.new.self _ (g.O.Sink.written c.loop-event.out) (g.O.Sink.written c.step.new.out) c.args.events.now c.loop-event.event-index c.event-item.result c.event-item.is
-      c.loop-event-test.true (c.loop-event.invariant.0 profile) (c.in_ok-step.ensures.stands profile) (c.in_ok-step.ensures.lines profile) (c.in_ok-step.ensures.counts_whole profile),
+      c.loop-event-test.true (c.loop-event.invariant.0 profile) (c.in_ok-step.ensures.stands profile) (c.in_ok-step.ensures.lines profile),
   omega (arith, c.loop-event.invariant.1, c.in_ok-step.ensures.few),
   grind (arith, common_steps),
   grind (arith, common_steps),
@@ -30,7 +30,3 @@ loop-event-preserved g c = (
 pub returns-clause-adds : goal.returns-clause-adds
 returns-clause-adds g c =
     λ profile. HasStepped-all profile c.args.world.now c.loop-event.world _ (g.O.Sink.written c.loop-event.out) c.args.events.now c.loop-event.event-index c.loop-event-test.false (c.loop-event.invariant.0 profile)
-
-pub returns-clause-counts : goal.returns-clause-counts
-returns-clause-counts g c =
-    λ profile. HasStepped-counts profile c.args.world.now c.loop-event.world _ (g.O.Sink.written c.loop-event.out) c.args.events.now c.loop-event.event-index c.loop-event-test.false (c.loop-event.invariant.0 profile)
