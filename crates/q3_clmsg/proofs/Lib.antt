@@ -11,3 +11,4 @@ pub mod MovesSpelled
 pub mod MessageSpelled
 pub mod MessageRead
 pub mod CommandRows
+mod PrintedMoves

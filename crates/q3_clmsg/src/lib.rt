@@ -7,6 +7,7 @@ pub mod laws;
 pub mod message;
 pub mod moves;
 mod operations;
+pub mod print;
 pub mod reading;
 pub mod report;
 #[cfg(test)]
@@ -17,5 +18,6 @@ pub use error::ClientIllegible;
 pub use heads::{Heads, read_heads};
 pub use message::{ClientMessage, SaidParts};
 pub use moves::{Move, message_key};
+pub use print::print_move;
 pub use reading::read_client_message;
 pub use writing::{write_client_message, write_said};

@@ -1,3 +1,4 @@
 pub mod Lines
 pub mod Accepting
 pub mod Commands
+mod Printing

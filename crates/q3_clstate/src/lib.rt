@@ -11,5 +11,5 @@ pub mod state;
 mod tests;
 
 pub use applied::{Applied, Log, SnapOutcome};
-pub use print::print_applied;
+pub use print::{print_applied, print_snapshot};
 pub use state::ClState;

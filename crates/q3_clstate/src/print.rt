@@ -1,15 +1,19 @@
-//! Prints what became of a message, as reports have it.
+//! Prints what became of a message, and a snapshot, as reports have them. The spelling is this project's own.
 
 ghost use Rattle.std.specs.Prelude.{◌≡◌, [], ◌∷◌, codes, decimal};
-ghost use Rattle.std.specs.List.{concat};
+ghost use Rattle.std.specs.List.{concat, flat_map};
 ghost use Rattle.q3_io.specs.Faults.{HasCause};
 ghost use Rattle.q3_io.specs.Written.{Adds};
-ghost use Rattle.q3_clstate.specs.Report.{cause_text, outcome_text, game_text, applied_text};
+ghost use Rattle.q3_clstate.specs.Report.{cause_text, outcome_text, game_text, applied_text, start_text, head_text, entity_text, snapshot_text};
+ghost use Rattle.q3_rings.specs.Loans.{snapshot_of};
+ghost use Rattle.q3_entity.specs.Entities.{run_of};
 
 use crate::applied::{Applied, Log, SnapOutcome};
 use crate::state::ClState;
-use q3_io::{Failed, Piece, Sink, laws, print_all};
-use q3_rings::NoBase;
+use q3_entity::{EntityState, Run, print_fields};
+use q3_io::{Failed, Piece, Sink, laws, print_all, print_hex_word};
+use q3_player::print_words;
+use q3_rings::{NoBase, SnapView};
 use q3_window::print_commands;
 
 /// Prints the lines under an applied message, by the state behind it: one for each command that was executed, and those of its
@@ -142,4 +146,91 @@ fn print_cause<O: Sink>(cause: NoBase, out: &mut O) -> Result<(), Failed>
             print_all(&[Piece::Text(b"entitiesgone "), Piece::Number(age)], out)
         }
     }
+}
+
+/// Prints a snapshot, behind the words for whose it is: its number, time, flags and area, its player in a line of its own, and each
+/// entity in one. `Failed` comes where the sink failed, behind a front of the lines.
+pub fn print_snapshot<O: Sink>(snapshot: SnapView, out: &mut O) -> Result<(), Failed>
+    ensures adds { Adds (O.written out.old) (O.written out.new) (snapshot_text (snapshot_of snapshot.entry)) result }
+    ensures cause { HasCause (O.faults out.old) (O.faults out.new) result }
+{
+    laws::texts_follow();
+    print_head(snapshot, out)?;
+    print_words(snapshot.player, out)?;
+    out.write_all(b"\n")?;
+    print_run(snapshot.entities, out)
+}
+
+/// Prints what stands in front of the player's words.
+fn print_head<O: Sink>(snapshot: SnapView, out: &mut O) -> Result<(), Failed>
+    ensures adds { Adds (O.written out.old) (O.written out.new) (head_text (snapshot_of snapshot.entry).head) result }
+    ensures cause { HasCause (O.faults out.old) (O.faults out.new) result }
+{
+    laws::texts_follow();
+    print_start(snapshot, out)?;
+    print_hex_word(snapshot.area, out)?;
+    out.write_all(b"\n+ player")
+}
+
+/// Prints what stands in front of the area.
+fn print_start<O: Sink>(snapshot: SnapView, out: &mut O) -> Result<(), Failed>
+    ensures adds { Adds (O.written out.old) (O.written out.new) (start_text (snapshot_of snapshot.entry).head) result }
+    ensures cause { HasCause (O.faults out.old) (O.faults out.new) result }
+{
+    print_all(
+        &[
+            Piece::Text(b" snapshot "),
+            Piece::Number(u64::from(snapshot.number)),
+            Piece::Text(b" time "),
+            Piece::Number(u64::from(snapshot.time)),
+            Piece::Text(b" flags "),
+            Piece::Number(u64::from(snapshot.flags)),
+            Piece::Text(b" area "),
+        ],
+        out,
+    )
+}
+
+/// Prints a line for each entity of a run.
+fn print_run<O: Sink>(run: Run, out: &mut O) -> Result<(), Failed>
+    ensures adds { Adds (O.written out.old) (O.written out.new) (flat_map entity_text (run_of run.entry)) result }
+    ensures cause { HasCause (O.faults out.old) (O.faults out.new) result }
+{
+    laws::texts_follow();
+    print_entities(run.head, out)?;
+    print_entities(run.tail, out)
+}
+
+/// Prints a line for each entity.
+fn print_entities<O: Sink>(entities: &[EntityState], out: &mut O) -> Result<(), Failed>
+    ensures adds { Adds (O.written out.old) (O.written out.new) (flat_map entity_text entities.now) result }
+    ensures cause { HasCause (O.faults out.old) (O.faults out.new) result }
+{
+    laws::items_follow::<EntityState>();
+    for entity in entities {
+        print_entity(entity, out)?;
+    }
+    Ok(())
+}
+
+/// Prints the line of an entity.
+fn print_entity<O: Sink>(entity: &EntityState, out: &mut O) -> Result<(), Failed>
+    ensures adds { Adds (O.written out.old) (O.written out.new) (entity_text entity.now) result }
+    ensures cause { HasCause (O.faults out.old) (O.faults out.new) result }
+{
+    laws::texts_follow();
+    print_number(entity.number, out)?;
+    print_fields(&entity.words, out)?;
+    out.write_all(b"\n")
+}
+
+/// Prints what stands in front of an entity's words.
+fn print_number<O: Sink>(number: u16, out: &mut O) -> Result<(), Failed>
+    ensures adds { Adds (O.written out.old) (O.written out.new) (concat (codes "+ entity " ∷ decimal number ∷ [])) result }
+    ensures cause { HasCause (O.faults out.old) (O.faults out.new) result }
+{
+    print_all(
+        &[Piece::Text(b"+ entity "), Piece::Number(u64::from(number))],
+        out,
+    )
 }

@@ -24,7 +24,12 @@ unfoldable pub words_text : List ℕ → ℕ → List ℕ → List ℕ
 words_text letter index [] = []
 words_text letter index (word ∷ words) = word_text letter index word ++ words_text letter (index + 1) words
 
--- a byte as two hex digits with small letters, and bytes so
+-- bytes as a word: each as two hex digits with small letters, and a `-` for none
+abbrev pub hex_word : List ℕ → List ℕ
+hex_word [] = codes "-"
+hex_word (byte ∷ bytes) = encode_lower (byte ∷ bytes)
+
+-- a byte as two digits, and bytes so, one by one
 abbrev pub digits_text : ℕ → List ℕ
 digits_text byte = encode_lower (byte ∷ [])
 

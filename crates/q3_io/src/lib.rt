@@ -16,7 +16,7 @@ pub use address::Address;
 pub use files::Files;
 pub use host::{HostFiles, HostSink};
 pub use line::Line;
-pub use print::{Piece, print_all, print_hex, print_indexed, print_number, print_text};
+pub use print::{Piece, print_all, print_hex_word, print_indexed, print_number, print_text};
 pub use sink::{Failed, NullSink, Sink};
 use std::alloc::AllocError;
 

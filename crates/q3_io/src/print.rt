@@ -8,7 +8,7 @@ ghost use Rattle.q3_io.specs.Faults.{HasCause};
 ghost use Rattle.q3_io.specs.Written.{Adds};
 ghost use Rattle.q3_io.specs.Quoted.{byte_spelling, quoted};
 ghost use Rattle.hex.specs.Hex.{encode_lower};
-ghost use Rattle.q3_io.specs.Print.{piece_text, words_text, word_text, digits_text, hex_text};
+ghost use Rattle.q3_io.specs.Print.{piece_text, words_text, word_text, digits_text, hex_text, hex_word};
 
 use crate::sink::{Failed, Sink};
 use itoa::Integer;
@@ -63,8 +63,20 @@ pub fn print_indexed<O: Sink>(letter: &[u8], words: &[u32], out: &mut O) -> Resu
     Ok(())
 }
 
-/// Writes each byte as two hex digits with small letters, and nothing for no bytes.
-pub fn print_hex<O: Sink>(bytes: &[u8], out: &mut O) -> Result<(), Failed>
+/// Writes bytes as a word: each as two hex digits with small letters, and `-` for none.
+/// `Failed` comes where the sink failed, behind a front of the word.
+pub fn print_hex_word<O: Sink>(bytes: &[u8], out: &mut O) -> Result<(), Failed>
+    ensures adds { Adds (O.written out.old) (O.written out.new) (hex_word bytes.now) result }
+    ensures cause { HasCause (O.faults out.old) (O.faults out.new) result }
+{
+    if bytes.is_empty() {
+        return out.write_all(b"-");
+    }
+    print_hex(bytes, out)
+}
+
+/// Writes each byte as two digits.
+fn print_hex<O: Sink>(bytes: &[u8], out: &mut O) -> Result<(), Failed>
     ensures adds { Adds (O.written out.old) (O.written out.new) (hex_text bytes.now) result }
     ensures cause { HasCause (O.faults out.old) (O.faults out.new) result }
 {

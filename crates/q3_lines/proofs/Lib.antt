@@ -1,2 +1,1 @@
-mod MoveLines
 mod Delivered

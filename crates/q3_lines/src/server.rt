@@ -1,7 +1,6 @@
 //! Prints what the server's end answers, as reports have it: what it begins and hands out, and what it took, executed and ran.
 
-ghost use Rattle.std.specs.Prelude.{◌≡◌, [], ◌∷◌, ◌++◌, map, codes, decimal, unsigned_abs};
-ghost use Rattle.std.specs.Fmt.{signed_decimal};
+ghost use Rattle.std.specs.Prelude.{◌≡◌, [], ◌∷◌, ◌++◌, codes, decimal};
 ghost use Rattle.std.specs.List.{concat, flat_map};
 ghost use Rattle.q3_io.specs.Faults.{HasCause};
 ghost use Rattle.q3_io.specs.Written.{Adds};
@@ -9,10 +8,9 @@ ghost use Rattle.q3_clmsg.specs.Report.{move_text, cause_word, cause_number};
 ghost use Rattle.q3_slot.specs.declared.answer.Emitted.TheVariants as emitted;
 ghost use Rattle.q3_lines.specs.ServerLines.{serve_text, slot_text, illegible_text, gap_text, ignored_text, owed_text, entered_text, ran_text, run_of, server_text};
 ghost use Rattle.q3_window.specs.Report.{commands_text};
-ghost use Rattle.q3_clmsg.specs.Report.{spaced};
 
 use q3_clmsg::report::{cause_number, cause_word};
-use q3_clmsg::{ClientIllegible, Move};
+use q3_clmsg::{ClientIllegible, Move, print_move};
 use q3_io::{Failed, Piece, Sink, laws, print_all};
 use q3_slot::{Emitted, Heard, ServerTook};
 use q3_text::Command;
@@ -335,81 +333,18 @@ fn print_moves<O: Sink>(moves: &[Move], out: &mut O) -> Result<(), Failed>
 {
     laws::items_follow::<Move>();
     for one in moves {
-        print_move(*one, out)?;
+        print_run_move(*one, out)?;
     }
     Ok(())
 }
 
 /// Prints the line of a move.
-fn print_move<O: Sink>(one: Move, out: &mut O) -> Result<(), Failed>
+fn print_run_move<O: Sink>(one: Move, out: &mut O) -> Result<(), Failed>
     ensures adds { Adds (O.written out.old) (O.written out.new) (move_text one) result }
     ensures cause { HasCause (O.faults out.old) (O.faults out.new) result }
 {
     laws::texts_follow();
-    print_start(one, out)?;
-    print_steps(one, out)?;
-    print_rest(one, out)
-}
-
-/// Prints the beginning of a move's line: its time and angles.
-fn print_start<O: Sink>(one: Move, out: &mut O) -> Result<(), Failed>
-    ensures adds { Adds (O.written out.old) (O.written out.new) (codes "+ move" ++ spaced (decimal one.time ∷ map decimal one.angles)) result }
-    ensures cause { HasCause (O.faults out.old) (O.faults out.new) result }
-{
-    print_all(
-        &[
-            Piece::Text(b"+ move "),
-            Piece::Number(u64::from(one.time)),
-            Piece::Text(b" "),
-            Piece::Number(u64::from(one.angles[0])),
-            Piece::Text(b" "),
-            Piece::Number(u64::from(one.angles[1])),
-            Piece::Text(b" "),
-            Piece::Number(u64::from(one.angles[2])),
-        ],
-        out,
-    )
-}
-
-/// Prints how fast a player moves, each behind a space.
-fn print_steps<O: Sink>(one: Move, out: &mut O) -> Result<(), Failed>
-    ensures adds { Adds (O.written out.old) (O.written out.new) (spaced (signed_decimal one.forward ∷ signed_decimal one.right ∷ signed_decimal one.up ∷ [])) result }
-    ensures cause { HasCause (O.faults out.old) (O.faults out.new) result }
-{
-    print_all(
-        &[
-            Piece::Text(sign(one.forward)),
-            Piece::Number(u64::from(one.forward.unsigned_abs())),
-            Piece::Text(sign(one.right)),
-            Piece::Number(u64::from(one.right.unsigned_abs())),
-            Piece::Text(sign(one.up)),
-            Piece::Number(u64::from(one.up.unsigned_abs())),
-        ],
-        out,
-    )
-}
-
-/// What stands in front of a signed number's digits: a space, and its sign.
-fn sign(step: i8) -> &'static [u8]
-    ensures { result.now ++ decimal (unsigned_abs step) ≡ codes " " ++ signed_decimal step }
-{
-    if step < 0 { b" -" } else { b" " }
-}
-
-/// Prints the end of a move's line: the buttons and the weapon.
-fn print_rest<O: Sink>(one: Move, out: &mut O) -> Result<(), Failed>
-    ensures adds { Adds (O.written out.old) (O.written out.new)
-        (concat (codes " " ∷ decimal one.buttons ∷ codes " " ∷ decimal one.weapon ∷ codes "\n" ∷ [])) result }
-    ensures cause { HasCause (O.faults out.old) (O.faults out.new) result }
-{
-    print_all(
-        &[
-            Piece::Text(b" "),
-            Piece::Number(u64::from(one.buttons)),
-            Piece::Text(b" "),
-            Piece::Number(u64::from(one.weapon)),
-            Piece::Text(b"\n"),
-        ],
-        out,
-    )
+    out.write_all(b"+ move")?;
+    print_move(one, out)?;
+    out.write_all(b"\n")
 }

@@ -1,6 +1,5 @@
 pub mod PrintedWords
 pub mod PrintedLines
-pub mod Printing
 pub mod Rows
 pub mod Lengths
 pub mod MadeLines

@@ -26,7 +26,7 @@ use Rattle.q3_text.proofs.Translation.{stays}
 use Rattle.q3_script.specs.declared.event.Event.{Event}
 use Rattle.q3_script.specs.declared.event.Event.TheVariants.{Client, Port, Map, Entity, Remove, Baseline, Player, Area, Time, Config, Say, TypeText, Move, Serve, Send, Deliver, Show, Bytes, Toclient, Toserver}
 use Rattle.q3_script.specs.Words.{words_of}
-use Rattle.q3_script.specs.Hex.{hex_text}
+use Rattle.q3_io.specs.Print.{hex_word}
 use Rattle.q3_script.specs.Script.{longest_script, most_events, lines_of, is_passed_over}
 use Rattle.q3_script.specs.Grammar.{IsSignedByte, IsHeldMove, IsReplayEvent, field_words, SpellsAddress, SpellsEntity, SpellsPlayer, SpellsText, HasWords, SpellsEvent, SpellEvents, SpellsScript}
 use Rattle.q3_make.specs.Printed.{event_text, script_text}
@@ -160,10 +160,10 @@ move_is one held =
 -- ---- lines with a last word
 
 -- a number and bytes in hex
-hex_prints : (c : ℕ) (bytes : List ℕ) → c < 2 ^ 64 → All (λ byte. byte < 256) bytes → Prints ((decimal c ++ (codes " " ++ [])) ++ hex_text bytes) (decimal c ∷ hex_text bytes ∷ [])
+hex_prints : (c : ℕ) (bytes : List ℕ) → c < 2 ^ 64 → All (λ byte. byte < 256) bytes → Prints ((decimal c ++ (codes " " ++ [])) ++ hex_word bytes) (decimal c ∷ hex_word bytes ∷ [])
 hex_prints c bytes small each =
-    let text : (decimal c ++ (codes " " ++ [])) ++ hex_text bytes ≡ decimal c ++ 32 ∷ hex_text bytes = append_assoc (decimal c) (codes " ") (hex_text bytes) in
-    rw text (before (decimal c) (hex_text bytes) (hex_text bytes ∷ []) (decimal_word c small) (only (hex_text bytes) (hex_text_is_word bytes each)))
+    let text : (decimal c ++ (codes " " ++ [])) ++ hex_word bytes ≡ decimal c ++ 32 ∷ hex_word bytes = append_assoc (decimal c) (codes " ") (hex_word bytes) in
+    rw text (before (decimal c) (hex_word bytes) (hex_word bytes ∷ []) (decimal_word c small) (only (hex_word bytes) (hex_text_is_word bytes each)))
 
 -- a number and bytes in quotes
 quotes_print : (n : ℕ) (bytes : List ℕ) → n < 2 ^ 64 → All (λ byte. (0 < byte) × (byte < 256)) bytes → Prints (decimal n ++ (codes " " ++ (quoted bytes ++ []))) (decimal n ∷ words_of (quoted bytes))
@@ -253,7 +253,7 @@ is_printed (Player c player) is =
       prints = subst (λ (text : List ℕ). Prints (codes "player " ++ text) (codes "player" ∷ decimal c ∷ found.fields)) (sym found.text) (row (codes "player") (decimal c ∷ found.fields) (record { no_space = refl; no_newline = refl }) found.are);
       has = (found.fields, found.spelled, refl);
     }
-is_printed (Area c area) is = record { words = codes "area" ∷ decimal c ∷ hex_text area.items ∷ []; prints = before (codes "area") _ _ (record { no_space = refl; no_newline = refl }) (hex_prints c area.items (omega arith) is.2); has = (hex_text area.items, refl, refl) }
+is_printed (Area c area) is = record { words = codes "area" ∷ decimal c ∷ hex_word area.items ∷ []; prints = before (codes "area") _ _ (record { no_space = refl; no_newline = refl }) (hex_prints c area.items (omega arith) is.2); has = (hex_word area.items, refl, refl) }
 is_printed (Time time) is = record { words = codes "time" ∷ decimal time ∷ []; prints = row (codes "time") (decimal time ∷ []) (record { no_space = refl; no_newline = refl }) (number_row time (omega arith)); has = refl }
 is_printed (Config index text) is =
     record {
@@ -285,8 +285,8 @@ is_printed (Send c) is = record { words = codes "send" ∷ decimal c ∷ []; pri
 is_printed (Deliver datagram) is = record { words = codes "deliver" ∷ decimal datagram ∷ []; prints = row (codes "deliver") (decimal datagram ∷ []) (record { no_space = refl; no_newline = refl }) (number_row datagram (omega arith)); has = refl }
 is_printed (Show c) is = record { words = codes "show" ∷ decimal c ∷ []; prints = row (codes "show") (decimal c ∷ []) (record { no_space = refl; no_newline = refl }) (number_row c (omega arith)); has = refl }
 is_printed (Bytes datagram) is = record { words = codes "bytes" ∷ decimal datagram ∷ []; prints = row (codes "bytes") (decimal datagram ∷ []) (record { no_space = refl; no_newline = refl }) (number_row datagram (omega arith)); has = refl }
-is_printed (Toclient c bytes) is = record { words = codes "toclient" ∷ decimal c ∷ hex_text bytes ∷ []; prints = before (codes "toclient") _ _ (record { no_space = refl; no_newline = refl }) (hex_prints c bytes (omega arith) is.2); has = (hex_text bytes, refl, refl) }
-is_printed (Toserver c bytes) is = record { words = codes "toserver" ∷ decimal c ∷ hex_text bytes ∷ []; prints = before (codes "toserver") _ _ (record { no_space = refl; no_newline = refl }) (hex_prints c bytes (omega arith) is.2); has = (hex_text bytes, refl, refl) }
+is_printed (Toclient c bytes) is = record { words = codes "toclient" ∷ decimal c ∷ hex_word bytes ∷ []; prints = before (codes "toclient") _ _ (record { no_space = refl; no_newline = refl }) (hex_prints c bytes (omega arith) is.2); has = (hex_word bytes, refl, refl) }
+is_printed (Toserver c bytes) is = record { words = codes "toserver" ∷ decimal c ∷ hex_word bytes ∷ []; prints = before (codes "toserver") _ _ (record { no_space = refl; no_newline = refl }) (hex_prints c bytes (omega arith) is.2); has = (hex_word bytes, refl, refl) }
 
 -- a line whose first byte is no `#` isn't passed over
 first_other : (text : List ℕ) (first : ℕ) (rest : List ℕ) → text ≡ first ∷ rest → eqb first 35 ≡ false → is_passed_over text ≡ false

@@ -18,7 +18,7 @@ use Rattle.q3_player.proofs.Maps.{changes-rise, with_changes-changes}
 use Rattle.q3_text.proofs.Cuts.{lacks}
 use Rattle.q3_text.proofs.Numerals.{lacks-decimal}
 use Rattle.q3_script.specs.Words.{words_of}
-use Rattle.q3_script.specs.Hex.{hex_text}
+use Rattle.q3_io.specs.Print.{hex_word}
 use Rattle.q3_script.specs.Fields.{values_of}
 use Rattle.q3_script.specs.Quotes.{is_printed}
 use Rattle.q3_script.specs.Grammar.{field_words, AreFields}
@@ -97,7 +97,7 @@ hex_is_word (byte ∷ bytes) each =
       no_newline = rw (no_newline_digit (byte / 16) (omega arith), no_newline_digit (byte % 16) (omega arith)) others.no_newline;
     }
 
-pub hex_text_is_word : (bytes : List ℕ) → All (λ byte. byte < 256) bytes → IsWord (hex_text bytes)
+pub hex_text_is_word : (bytes : List ℕ) → All (λ byte. byte < 256) bytes → IsWord (hex_word bytes)
 hex_text_is_word [] each = record { no_space = refl; no_newline = refl }
 hex_text_is_word (byte ∷ bytes) each = hex_is_word (byte ∷ bytes) each
 

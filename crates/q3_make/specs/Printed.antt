@@ -7,7 +7,7 @@ use Rattle.q3_entity.specs.Report.{fields_text}
 use Rattle.q3_player.specs.Report.{player_text}
 use Rattle.q3_script.specs.declared.event.Event.{Event}
 use Rattle.q3_script.specs.declared.event.Event.TheVariants.{Client, Port, Map, Entity, Remove, Baseline, Player, Area, Time, Config, Say, TypeText, Move, Serve, Send, Deliver, Show, Bytes, Toclient, Toserver}
-use Rattle.q3_script.specs.Hex.{hex_text}
+use Rattle.q3_io.specs.Print.{hex_word}
 use Rattle.q3_script.specs.Script.{longest_script, most_events}
 use Rattle.q3_script.specs.Grammar.{IsReplayEvent, SpellsScript}
 
@@ -25,7 +25,7 @@ quoted_text word number bytes = concat (word ∷ decimal number ∷ codes " " �
 
 -- a word, a number and bytes in hex
 abbrev pub bytes_text : List ℕ → ℕ → List ℕ → List ℕ
-bytes_text word number bytes = concat (word ∷ decimal number ∷ codes " " ∷ []) ++ hex_text bytes
+bytes_text word number bytes = concat (word ∷ decimal number ∷ codes " " ∷ []) ++ hex_word bytes
 
 -- the line of an event, without its newline
 abbrev pub event_text : Event → List ℕ

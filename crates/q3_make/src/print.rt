@@ -1,12 +1,11 @@
 //! Prints events as the lines of a script.
 
-ghost use Rattle.std.specs.Prelude.{◌≡◌, ◌≤◌, [], ◌∷◌, ◌++◌, length, map, All, codes, decimal, unsigned_abs};
-ghost use Rattle.std.specs.Fmt.{signed_decimal};
+ghost use Rattle.std.specs.Prelude.{◌≡◌, ◌≤◌, [], ◌∷◌, ◌++◌, length, All, codes, decimal};
 ghost use Rattle.std.specs.List.{concat};
 ghost use Rattle.q3_io.specs.Faults.{HasCause};
 ghost use Rattle.q3_io.specs.Written.{Adds};
 ghost use Rattle.q3_clmsg.specs.Report.{move_words, spaced};
-ghost use Rattle.q3_script.specs.Hex.{hex_text};
+ghost use Rattle.q3_io.specs.Print.{hex_word};
 ghost use Rattle.q3_script.specs.Grammar.{IsReplayEvent, SpellsScript};
 ghost use Rattle.q3_script.specs.Script.{longest_script, most_events};
 ghost use Rattle.q3_entity.specs.Report.{fields_text};
@@ -15,7 +14,7 @@ ghost use Rattle.q3_make.specs.Printed.{number_text, numbers_text, quoted_text, 
 
 use q3_clmsg::Move;
 use q3_entity::EntityState;
-use q3_io::{Address, Failed, Piece, Sink, laws, print_all, print_hex};
+use q3_io::{Address, Failed, Piece, Sink, laws, print_all, print_hex_word};
 use q3_player::PlayerState;
 use q3_script::Event;
 
@@ -197,17 +196,6 @@ fn print_front<O: Sink>(word: &[u8], c: u8, out: &mut O) -> Result<(), Failed>
     )
 }
 
-/// Prints bytes in hex, and none as `-`.
-fn print_hex_word<O: Sink>(bytes: &[u8], out: &mut O) -> Result<(), Failed>
-    ensures adds { Adds (O.written out.old) (O.written out.new) (hex_text bytes.now) result }
-    ensures cause { HasCause (O.faults out.old) (O.faults out.new) result }
-{
-    if bytes.is_empty() {
-        return out.write_all(b"-");
-    }
-    print_hex(bytes, out)
-}
-
 /// Prints a word, and the number of an entity and its fields.
 fn print_state<O: Sink>(word: &[u8], state: &EntityState, out: &mut O) -> Result<(), Failed>
     ensures adds { Adds (O.written out.old) (O.written out.new) (number_text word.now state.now.number ++ fields_text state.now.words) result }
@@ -234,70 +222,6 @@ fn print_move<O: Sink>(c: u8, one: Move, out: &mut O) -> Result<(), Failed>
     ensures cause { HasCause (O.faults out.old) (O.faults out.new) result }
 {
     laws::texts_follow();
-    print_start(c, one, out)?;
-    print_steps(one, out)?;
-    print_rest(one, out)
-}
-
-/// Prints the beginning of a move's line: its client, its time and angles.
-fn print_start<O: Sink>(c: u8, one: Move, out: &mut O) -> Result<(), Failed>
-    ensures adds { Adds (O.written out.old) (O.written out.new) (concat (codes "move " ∷ decimal c ∷ spaced (decimal one.time ∷ map decimal one.angles) ∷ [])) result }
-    ensures cause { HasCause (O.faults out.old) (O.faults out.new) result }
-{
-    print_all(
-        &[
-            Piece::Text(b"move "),
-            Piece::Number(u64::from(c)),
-            Piece::Text(b" "),
-            Piece::Number(u64::from(one.time)),
-            Piece::Text(b" "),
-            Piece::Number(u64::from(one.angles[0])),
-            Piece::Text(b" "),
-            Piece::Number(u64::from(one.angles[1])),
-            Piece::Text(b" "),
-            Piece::Number(u64::from(one.angles[2])),
-        ],
-        out,
-    )
-}
-
-/// Prints how fast a player moves, each behind a space.
-fn print_steps<O: Sink>(one: Move, out: &mut O) -> Result<(), Failed>
-    ensures adds { Adds (O.written out.old) (O.written out.new) (spaced (signed_decimal one.forward ∷ signed_decimal one.right ∷ signed_decimal one.up ∷ [])) result }
-    ensures cause { HasCause (O.faults out.old) (O.faults out.new) result }
-{
-    print_all(
-        &[
-            Piece::Text(sign(one.forward)),
-            Piece::Number(u64::from(one.forward.unsigned_abs())),
-            Piece::Text(sign(one.right)),
-            Piece::Number(u64::from(one.right.unsigned_abs())),
-            Piece::Text(sign(one.up)),
-            Piece::Number(u64::from(one.up.unsigned_abs())),
-        ],
-        out,
-    )
-}
-
-/// What stands in front of a signed number's digits: a space, and its sign.
-fn sign(step: i8) -> &'static [u8]
-    ensures { result.now ++ decimal (unsigned_abs step) ≡ codes " " ++ signed_decimal step }
-{
-    if step < 0 { b" -" } else { b" " }
-}
-
-/// Prints the end of a move's line: the buttons and the weapon.
-fn print_rest<O: Sink>(one: Move, out: &mut O) -> Result<(), Failed>
-    ensures adds { Adds (O.written out.old) (O.written out.new) (spaced (decimal one.buttons ∷ decimal one.weapon ∷ [])) result }
-    ensures cause { HasCause (O.faults out.old) (O.faults out.new) result }
-{
-    print_all(
-        &[
-            Piece::Text(b" "),
-            Piece::Number(u64::from(one.buttons)),
-            Piece::Text(b" "),
-            Piece::Number(u64::from(one.weapon)),
-        ],
-        out,
-    )
+    print_number(b"move ", u32::from(c), out)?;
+    q3_clmsg::print_move(one, out)
 }

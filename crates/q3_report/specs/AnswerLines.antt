@@ -1,9 +1,10 @@
 -- The lines of an event's answer, and what is lent to be printed with it.
 use Rattle.std.specs.Prelude.{ℕ, List, [], ◌∷◌, codes, decimal, Option, Some, None, Result, Ok, Err}
-use Rattle.std.specs.List.{concat, flat_map}
+use Rattle.std.specs.List.{concat}
 use Rattle.q3_ring.specs.Snapshot.{Snapshot}
 use Rattle.q3_text.specs.declared.text.Command.{Command}
 use Rattle.q3_clstate.specs.State.{AppliedState}
+use Rattle.q3_clstate.specs.Report.{snapshot_text}
 use Rattle.q3_clstate.specs.declared.applied.Log.{Log}
 use Rattle.q3_slot.specs.declared.answer.NoClient.{NoClient}
 use Rattle.q3_slot.specs.declared.taking.Heard.{Heard}
@@ -20,11 +21,7 @@ use Rattle.q3_report.specs.declared.answer.Shown.TheVariants as shown
 use Rattle.q3_report.specs.declared.answer.Answer.{Answer}
 use Rattle.q3_report.specs.declared.answer.Answer.TheVariants as answers
 use Rattle.q3_report.specs.declared.answer.Answer.TheVariants.{Client, Port, Map, Entity, Remove, Baseline, Config, Time, Player, Area, Serve, Send, Unknown, Deliver, ToServer, Show, Toclient, Toserver}
-use Rattle.q3_io.specs.Print.{hex_text}
-use Rattle.q3_player.specs.declared.head.SnapHead.{SnapHead}
-use Rattle.q3_player.specs.Report.{player_text}
-use Rattle.q3_entity.specs.declared.state.EntityState.{EntityState}
-use Rattle.q3_entity.specs.Report.{fields_text}
+use Rattle.q3_io.specs.Print.{hex_word}
 
 -- what stands behind that which the game handed in, with the text of each error
 abbrev pub handed_in_text : {E : Type 0} → (E → List ℕ) → Result (Unit {0}) E → List ℕ
@@ -45,29 +42,6 @@ type_refused_text untyped.WindowFull = window_full_text (record {})
 abbrev pub move_refused_text : MoveRefused → List ℕ
 move_refused_text refused.NoClient = codes "noclient"
 move_refused_text (refused.Error e) = move_error_text e
-
--- bytes, of an area or of a datagram: two digits each, and `-` for none
-abbrev pub area_text : List ℕ → List ℕ
-area_text [] = codes "-"
-area_text (byte ∷ bytes) = hex_text (byte ∷ bytes)
-
--- what stands behind `show C` and in front of the area, where a snapshot is shown
-abbrev pub start_text : SnapHead → List ℕ
-start_text head =
-    concat (codes " snapshot " ∷ decimal head.number ∷ codes " time " ∷ decimal head.time ∷ codes " flags " ∷ decimal head.flags ∷ codes " area " ∷ [])
-
--- and what stands in front of the player's words, which are a line of their own
-abbrev pub head_text : SnapHead → List ℕ
-head_text head = concat (start_text head ∷ area_text head.area.items ∷ codes "\n+ player" ∷ [])
-
--- the line of an entity
-abbrev pub entity_text : EntityState → List ℕ
-entity_text entity = concat (codes "+ entity " ∷ decimal entity.number ∷ fields_text entity.words ∷ codes "\n" ∷ [])
-
--- a snapshot, as `show C` prints it: its head, the player in a line of its own, and each entity in one
-abbrev pub snapshot_text : Snapshot → List ℕ
-snapshot_text snapshot =
-    concat (head_text snapshot.head ∷ player_text snapshot.head.player ∷ codes "\n" ∷ flat_map entity_text snapshot.entities ∷ [])
 
 -- what stands behind `show C`: where a snapshot is shown, it is lent
 abbrev pub shown_text : Shown → Option Snapshot → List ℕ
@@ -92,7 +66,7 @@ given_text c (Err e) ran = concat (codes "toserver " ∷ decimal c ∷ codes " n
 -- what stands behind `bytes D`: where there is such a datagram, its bytes are lent
 abbrev pub bytes_text : Option (List ℕ) → List ℕ
 bytes_text None = codes " unknown\n"
-bytes_text (Some bytes) = concat (codes " " ∷ area_text bytes ∷ codes "\n" ∷ [])
+bytes_text (Some bytes) = concat (codes " " ∷ hex_word bytes ∷ codes "\n" ∷ [])
 
 -- the lines of an answer, with what is lent to be printed: a snapshot, the state of the client that took a datagram, what was
 -- executed and run, and the bytes of a datagram

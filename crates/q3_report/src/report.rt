@@ -2,25 +2,24 @@
 //! has room for them.
 
 ghost use Rattle.std.specs.Prelude.{◌≡◌, [], ◌∷◌, codes, decimal, option_map, OnOk};
-ghost use Rattle.std.specs.List.{concat, flat_map};
+ghost use Rattle.std.specs.List.{concat};
 ghost use Rattle.q3_io.specs.Faults.{HasCause};
 ghost use Rattle.q3_io.specs.Written.{Adds, NothingWaits};
 ghost use Rattle.q3_lines.specs.ServerLines.{run_of as what_ran, server_text};
 ghost use Rattle.q3_lines.specs.ClientLines.{client_text};
-ghost use Rattle.q3_report.specs.AnswerLines.{lines_of, ran_with, client_lines, handed_text, given_text, handed_in_text, issued_text, area_text, bytes_text, start_text, entity_text, shown_text, head_text, snapshot_text};
+ghost use Rattle.q3_report.specs.AnswerLines.{lines_of, ran_with, client_lines, handed_text, given_text, handed_in_text, issued_text, bytes_text, shown_text};
+ghost use Rattle.q3_io.specs.Print.{hex_word};
+ghost use Rattle.q3_clstate.specs.Report.{snapshot_text};
 ghost use Rattle.q3_rings.specs.Loans.{snapshot_of};
-ghost use Rattle.q3_entity.specs.Entities.{run_of};
 
 use crate::answer::{Answer, Shown};
 use crate::refusals::Refusal;
 use q3_client::{Client, ClientTook};
-use q3_clstate::Log;
-use q3_entity::{EntityState, Run, print_fields};
-use q3_io::{Failed, Piece, Sink, laws, print_all, print_hex};
+use q3_clstate::{Log, print_snapshot};
+use q3_io::{Failed, Piece, Sink, laws, print_all, print_hex_word};
 use q3_lines::client::{print_sent, print_took};
 use q3_lines::server;
 use q3_lines::server::print_emitted;
-use q3_player::print_words;
 use q3_rings::SnapView;
 use q3_server::{Heard, NoClient, ServerTook};
 
@@ -304,12 +303,12 @@ fn print_bytes<O: Sink>(datagram: u32, bytes: Option<&[u8]>, out: &mut O) -> Res
 /// Prints the line of a datagram's bytes, where it was made.
 fn print_all_bytes<O: Sink>(datagram: u32, bytes: &[u8], out: &mut O) -> Result<(), Failed>
     ensures adds { Adds (O.written out.old) (O.written out.new)
-        (concat (codes "bytes " ∷ decimal datagram ∷ concat (codes " " ∷ area_text bytes.now ∷ codes "\n" ∷ []) ∷ [])) result }
+        (concat (codes "bytes " ∷ decimal datagram ∷ concat (codes " " ∷ hex_word bytes.now ∷ codes "\n" ∷ []) ∷ [])) result }
     ensures cause { HasCause (O.faults out.old) (O.faults out.new) result }
 {
     laws::texts_follow();
     print_line(b"bytes ", datagram, b" ", out)?;
-    print_area(bytes, out)?;
+    print_hex_word(bytes, out)?;
     out.write_all(b"\n")
 }
 
@@ -324,7 +323,7 @@ fn print_shown<O: Sink>(
     ensures cause { HasCause (O.faults out.old) (O.faults out.new) result }
 {
     let word: &[u8] = match (shown, lent) {
-        (Shown::Newest, Some(snapshot)) => return print_snapshot(c, snapshot, out),
+        (Shown::Newest, Some(snapshot)) => return print_newest(c, snapshot, out),
         (Shown::NoClient, _) => b" noclient\n",
         _ => b" none\n",
     };
@@ -332,100 +331,11 @@ fn print_shown<O: Sink>(
 }
 
 /// Prints the lines of a `show` that shows a snapshot.
-fn print_snapshot<O: Sink>(c: u8, snapshot: SnapView, out: &mut O) -> Result<(), Failed>
+fn print_newest<O: Sink>(c: u8, snapshot: SnapView, out: &mut O) -> Result<(), Failed>
     ensures adds { Adds (O.written out.old) (O.written out.new) (concat (codes "show " ∷ decimal c ∷ snapshot_text (snapshot_of snapshot.entry) ∷ [])) result }
     ensures cause { HasCause (O.faults out.old) (O.faults out.new) result }
 {
     laws::texts_follow();
-    print_head(c, snapshot, out)?;
-    print_words(snapshot.player, out)?;
-    out.write_all(b"\n")?;
-    print_run(snapshot.entities, out)
-}
-
-/// Prints what stands in front of the player's words.
-fn print_head<O: Sink>(c: u8, snapshot: SnapView, out: &mut O) -> Result<(), Failed>
-    ensures adds { Adds (O.written out.old) (O.written out.new) (concat (codes "show " ∷ decimal c ∷ head_text (snapshot_of snapshot.entry).head ∷ [])) result }
-    ensures cause { HasCause (O.faults out.old) (O.faults out.new) result }
-{
-    laws::texts_follow();
-    print_start(c, snapshot, out)?;
-    print_area(snapshot.area, out)?;
-    out.write_all(b"\n+ player")
-}
-
-/// Prints what stands in front of the area.
-fn print_start<O: Sink>(c: u8, snapshot: SnapView, out: &mut O) -> Result<(), Failed>
-    ensures adds { Adds (O.written out.old) (O.written out.new) (concat (codes "show " ∷ decimal c ∷ start_text (snapshot_of snapshot.entry).head ∷ [])) result }
-    ensures cause { HasCause (O.faults out.old) (O.faults out.new) result }
-{
-    print_all(
-        &[
-            Piece::Text(b"show "),
-            Piece::Number(u64::from(c)),
-            Piece::Text(b" snapshot "),
-            Piece::Number(u64::from(snapshot.number)),
-            Piece::Text(b" time "),
-            Piece::Number(u64::from(snapshot.time)),
-            Piece::Text(b" flags "),
-            Piece::Number(u64::from(snapshot.flags)),
-            Piece::Text(b" area "),
-        ],
-        out,
-    )
-}
-
-/// Prints bytes, of an area or of a datagram.
-fn print_area<O: Sink>(area: &[u8], out: &mut O) -> Result<(), Failed>
-    ensures adds { Adds (O.written out.old) (O.written out.new) (area_text area.now) result }
-    ensures cause { HasCause (O.faults out.old) (O.faults out.new) result }
-{
-    if area.is_empty() {
-        return out.write_all(b"-");
-    }
-    print_hex(area, out)
-}
-
-/// Prints a line for each entity of a run.
-fn print_run<O: Sink>(run: Run, out: &mut O) -> Result<(), Failed>
-    ensures adds { Adds (O.written out.old) (O.written out.new) (flat_map entity_text (run_of run.entry)) result }
-    ensures cause { HasCause (O.faults out.old) (O.faults out.new) result }
-{
-    laws::texts_follow();
-    print_entities(run.head, out)?;
-    print_entities(run.tail, out)
-}
-
-/// Prints a line for each entity.
-fn print_entities<O: Sink>(entities: &[EntityState], out: &mut O) -> Result<(), Failed>
-    ensures adds { Adds (O.written out.old) (O.written out.new) (flat_map entity_text entities.now) result }
-    ensures cause { HasCause (O.faults out.old) (O.faults out.new) result }
-{
-    laws::items_follow::<EntityState>();
-    for entity in entities {
-        print_entity(entity, out)?;
-    }
-    Ok(())
-}
-
-/// Prints the line of an entity.
-fn print_entity<O: Sink>(entity: &EntityState, out: &mut O) -> Result<(), Failed>
-    ensures adds { Adds (O.written out.old) (O.written out.new) (entity_text entity.now) result }
-    ensures cause { HasCause (O.faults out.old) (O.faults out.new) result }
-{
-    laws::texts_follow();
-    print_number(entity.number, out)?;
-    print_fields(&entity.words, out)?;
-    out.write_all(b"\n")
-}
-
-/// Prints what stands in front of an entity's words.
-fn print_number<O: Sink>(number: u16, out: &mut O) -> Result<(), Failed>
-    ensures adds { Adds (O.written out.old) (O.written out.new) (concat (codes "+ entity " ∷ decimal number ∷ [])) result }
-    ensures cause { HasCause (O.faults out.old) (O.faults out.new) result }
-{
-    print_all(
-        &[Piece::Text(b"+ entity "), Piece::Number(u64::from(number))],
-        out,
-    )
+    print_front(b"show ", u32::from(c), out)?;
+    print_snapshot(snapshot, out)
 }

@@ -15,7 +15,8 @@ use Rattle.hex.specs.Hex.{lower_digits, encode_lower, decode_of, decode_sized, I
 use Rattle.hex.proofs.HexLemmas.{length-encode_with, decode_of-encode_lower, decode_of-even, decode_of-ok, decode_of-odd, decode_sized-twice, decode_sized-odd, decode_sized-ok}
 use Rattle.arrayvec.specs.ArrayVec.{ArrayVec}
 use Rattle.q3_bits.specs.OptionBind.{◌>>=◌}
-use Rattle.q3_script.specs.Hex.{hex_text, is_capital, hex_at, hex_within, most_area, area_at}
+use Rattle.q3_io.specs.Print.{hex_word}
+use Rattle.q3_script.specs.Hex.{is_capital, hex_at, hex_within, most_area, area_at}
 use Rattle.q3_script.specs.Grammar.{SpellsHex}
 use Rattle.q3_script.proofs.Addresses.{bind_some}
 use Rattle.q3_script.proofs.Digits.{pairs_spelled, pairs_small}
@@ -33,7 +34,7 @@ are_bytes [] each i = omega arith
 are_bytes (byte ∷ bytes) each zero = All-head (λ byte. byte < 256) byte bytes each
 are_bytes (byte ∷ bytes) each (suc i) = are_bytes bytes (All-tail (λ byte. byte < 256) byte bytes each) i
 
-hex_text_some : (bytes : List ℕ) → 0 < length bytes → hex_text bytes ≡ encode_lower bytes
+hex_text_some : (bytes : List ℕ) → 0 < length bytes → hex_word bytes ≡ encode_lower bytes
 hex_text_some [] some = absurd (omega arith)
 hex_text_some (byte ∷ bytes) some = refl
 
@@ -67,7 +68,7 @@ hex_at-spelled word bytes e =
     ]
 
 -- and what is spelled so is read
-hex_at-again : (bytes : List ℕ) → All (λ byte. byte < 256) bytes → hex_at (hex_text bytes) ≡ Some bytes
+hex_at-again : (bytes : List ℕ) → All (λ byte. byte < 256) bytes → hex_at (hex_word bytes) ≡ Some bytes
 unfolding hex_at
 hex_at-again [] each = refl
 hex_at-again (byte ∷ bytes) each =

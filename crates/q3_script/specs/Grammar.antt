@@ -15,7 +15,8 @@ use Rattle.q3_script.specs.declared.event.Event.{Event}
 use Rattle.q3_script.specs.declared.event.Event.TheVariants.{Client, Port, Map, Entity, Remove, Baseline, Player, Area, Time, Config, Say, TypeText, Move, Serve, Send, Deliver, Show, Bytes, Toclient, Toserver}
 use Rattle.q3_script.specs.Words.{words_of}
 use Rattle.q3_script.specs.Addresses.{host_of}
-use Rattle.q3_script.specs.Hex.{hex_text, most_area, most_handed}
+use Rattle.q3_io.specs.Print.{hex_word}
+use Rattle.q3_script.specs.Hex.{most_area, most_handed}
 use Rattle.q3_script.specs.Fields.{values_of, player_of}
 use Rattle.q3_script.specs.Lines.{last_client, last_entity, last_datagram, most_config}
 use Rattle.q3_script.specs.Script.{is_passed_over, lines_of, longest_script, most_events}
@@ -79,7 +80,7 @@ AreFields limit least fields = AreRising limit least fields × All (λ field. fi
 
 -- bytes in hex
 abbrev pub SpellsHex : List ℕ → List ℕ → Type 0
-SpellsHex word bytes = word ≡ hex_text bytes
+SpellsHex word bytes = word ≡ hex_word bytes
 
 -- an entity, but for its number: fields
 pub record SpellsEntity (words : List (List ℕ)) (entity : EntityState) : Type 0 where

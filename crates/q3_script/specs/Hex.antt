@@ -1,16 +1,11 @@
--- Bytes in hex, and the bytes that a word spells.
+-- The bytes that a word spells in hex.
 use Rattle.std.specs.Prelude.{ℕ, ◌==◌, ◌&&◌, ◌||◌, Bool, if◌then◌else◌, List, [], ◌∷◌, length, codes, nat_le, Option, Some, None}
 use Rattle.std.specs.List.{list_any}
 use Rattle.std.specs.Result.{result_ok}
 use Rattle.std.specs.Str.{bytes_eq}
-use Rattle.hex.specs.Hex.{encode_lower, decode_of}
+use Rattle.hex.specs.Hex.{decode_of}
 use Rattle.arrayvec.specs.ArrayVec.{ArrayVec}
 use Rattle.q3_bits.specs.OptionBind.{◌>>=◌}
-
--- bytes in hex: each as two digits, with small letters, and a `-` for none
-abbrev pub hex_text : List ℕ → List ℕ
-hex_text [] = codes "-"
-hex_text (byte ∷ bytes) = encode_lower (byte ∷ bytes)
 
 abbrev pub is_capital : ℕ → Bool
 is_capital byte = nat_le 65 byte && nat_le byte 90

@@ -7,11 +7,11 @@ use Rattle.q3_lines.proofs.server.print_moves.Goals as goal
 abbrev none : Move
 none = record { time = 0; angles = []; forward = pos 0; right = pos 0; up = pos 0; buttons = 0; weapon = 0 }
 
-pub returns-in_err-print_move-clause-adds : goal.returns-in_err-print_move-clause-adds
-returns-in_err-print_move-clause-adds g c =
+pub returns-in_err-print_run_move-clause-adds : goal.returns-in_err-print_run_move-clause-adds
+returns-in_err-print_run_move-clause-adds g c =
     let p = err_from_is_err_and c.from_residual.result c.from_residual.ensures.1 in
-    rw p.1 (c.items_follow.ensures.early move_text c.args.moves.now c.loop-one.one-index none (omega arith) c.loop-one.invariant.0 c.in_err-print_move.ensures.adds)
+    rw p.1 (c.items_follow.ensures.early move_text c.args.moves.now c.loop-one.one-index none (omega arith) c.loop-one.invariant.0 c.in_err-print_run_move.ensures.adds)
 
 pub loop-one-preserved : goal.loop-one-preserved
 loop-one-preserved g c =
-    (c.items_follow.ensures.more move_text c.args.moves.now c.loop-one.one-index none (omega arith) c.loop-one.invariant.0 c.in_ok-print_move.ensures.adds, search rules)
+    (c.items_follow.ensures.more move_text c.args.moves.now c.loop-one.one-index none (omega arith) c.loop-one.invariant.0 c.in_ok-print_run_move.ensures.adds, search rules)

@@ -1,12 +1,12 @@
 use Rattle.std.proofs.Common.{refl}
 use Rattle.std.proofs.lemmas.Result.{err_from_is_err_and}
-use Rattle.q3_script.specs.Hex.{hex_text}
+use Rattle.q3_io.specs.Print.{hex_word}
 use Rattle.q3_make.proofs.print.print_bytes.Goals as goal
 
 pub returns-in_err-print_front-clause-adds : goal.returns-in_err-print_front-clause-adds
 returns-in_err-print_front-clause-adds g c =
     let p = err_from_is_err_and c.from_residual.result c.from_residual.ensures.1 in
-    rw p.1 (c.texts_follow.ensures.early (hex_text c.args.bytes.now) c.in_err-print_front.ensures.adds refl)
+    rw p.1 (c.texts_follow.ensures.early (hex_word c.args.bytes.now) c.in_err-print_front.ensures.adds refl)
 
 pub returns-clause-adds : goal.returns-clause-adds
 returns-clause-adds g c = c.texts_follow.ensures.more c.in_ok-print_front.ensures.adds c.print_hex_word.ensures.adds refl

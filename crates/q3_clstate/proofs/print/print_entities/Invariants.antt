@@ -3,8 +3,8 @@ use Rattle.std.specs.List.{flat_map}
 use Rattle.q3_io.specs.Faults.{HasCause}
 use Rattle.q3_io.specs.Written.{Wrote}
 use Rattle.q3_io.specs.declared.sink.Failed.{Failed}
-use Rattle.q3_report.specs.AnswerLines.{entity_text}
-use Rattle.q3_report.proofs.report.print_entities.Given as goal
+use Rattle.q3_clstate.specs.Report.{entity_text}
+use Rattle.q3_clstate.proofs.print.print_entities.Given as goal
 
 abbrev pub invariant-loop-entity : goal.invariant-loop-entity
 invariant-loop-entity g l =

@@ -1,13 +1,10 @@
--- The line of a move, part by part.
+-- The words of a move, part by part.
 use Rattle.std.proofs.Common.{◌≡◌, ◌∙◌, List, ℕ, ℤ, [], ◌∷◌, ◌++◌, map, codes, decimal, unsigned_abs, w8, FitsSigned, to_z, of_z, sym, ap, append_assoc}
-use Rattle.std.specs.List.{concat}
 use Rattle.std.specs.Fmt.{signed_decimal}
 use Rattle.std.proofs.lemmas.Int.{to_z-of_z}
-use Rattle.std.proofs.lemmas.List.{append-nil}
 use Rattle.std.proofs.lemmas.List.Concat.{flat_map-append}
 use Rattle.q3_clmsg.specs.declared.moves.Move.{Move}
-use Rattle.q3_clmsg.specs.Report.{move_words, move_text}
-use Rattle.q3_clmsg.specs.Report.{spaced}
+use Rattle.q3_clmsg.specs.Report.{move_words, spaced}
 
 -- a number of 8 bits as it is handed on
 abbrev pub passed : ℤ → ℤ
@@ -24,24 +21,12 @@ pub three_in_pieces : (a a' b b' d d' first second third : List ℕ) → a ++ a'
     → a ++ (a' ++ (b ++ (b' ++ (d ++ (d' ++ []))))) ≡ first ++ (second ++ (third ++ []))
 three_in_pieces a a' b b' d d' first second third e e' e'' = rw (sym e, sym e', sym e'') (simp append_assoc)
 
-ending : (b w : List ℕ) → spaced (b ∷ w ∷ []) ++ codes "\n" ≡ concat (codes " " ∷ b ∷ codes " " ∷ w ∷ codes "\n" ∷ [])
-ending b w = simp append-nil (append_assoc (codes " " ++ b) (codes " " ++ w) (codes "\n"))
-
-grouped : (a first steps last end rest : List ℕ) → last ++ end ≡ rest → (a ++ (first ++ (steps ++ last))) ++ end ≡ (a ++ first) ++ (steps ++ rest)
-grouped a first steps last end rest e = rw (sym e) (simp append_assoc)
-
 -- the time and the angles, the three steps, and the rest
-pub move_in_parts : (one : Move) → move_text one
-    ≡ (codes "+ move" ++ spaced (decimal one.time ∷ map decimal one.angles))
-    ++ (spaced (signed_decimal one.forward ∷ signed_decimal one.right ∷ signed_decimal one.up ∷ [])
-    ++ concat (codes " " ∷ decimal one.buttons ∷ codes " " ∷ decimal one.weapon ∷ codes "\n" ∷ []))
+pub move_in_parts : (one : Move) → spaced (move_words one) ≡ spaced (decimal one.time ∷ map decimal one.angles)
+    ++ (spaced (signed_decimal one.forward ∷ signed_decimal one.right ∷ signed_decimal one.up ∷ []) ++ spaced (decimal one.buttons ∷ decimal one.weapon ∷ []))
 move_in_parts one =
     let space : List ℕ → List ℕ = λ word. codes " " ++ word in
     let first = decimal one.time ∷ map decimal one.angles in
     let steps = signed_decimal one.forward ∷ signed_decimal one.right ∷ signed_decimal one.up ∷ [] in
     let last = decimal one.buttons ∷ decimal one.weapon ∷ [] in
-    let words : spaced (move_words one) ≡ spaced first ++ (spaced steps ++ spaced last) =
-    flat_map-append space first (steps ++ last) ∙ ap (λ (rest : List ℕ). spaced first ++ rest) (flat_map-append space steps last) in
-    ap (λ (words : List ℕ). codes "+ move" ++ words ++ codes "\n") words
-    ∙ grouped (codes "+ move") (spaced first) (spaced steps) (spaced last) (codes "\n")
-    (concat (codes " " ∷ decimal one.buttons ∷ codes " " ∷ decimal one.weapon ∷ codes "\n" ∷ [])) (ending (decimal one.buttons) (decimal one.weapon))
+    flat_map-append space first (steps ++ last) ∙ ap (λ (rest : List ℕ). spaced first ++ rest) (flat_map-append space steps last)

@@ -1,8 +1,8 @@
 use Rattle.std.specs.List.{flat_map}
 use Rattle.std.proofs.lemmas.List.Concat.{flat_map-append}
 use Rattle.std.proofs.lemmas.Result.{err_from_is_err_and}
-use Rattle.q3_report.specs.AnswerLines.{entity_text}
-use Rattle.q3_report.proofs.report.print_run.Goals as goal
+use Rattle.q3_clstate.specs.Report.{entity_text}
+use Rattle.q3_clstate.proofs.print.print_run.Goals as goal
 
 pub returns-in_err-print_entities-clause-adds : goal.returns-in_err-print_entities-clause-adds
 returns-in_err-print_entities-clause-adds g c =

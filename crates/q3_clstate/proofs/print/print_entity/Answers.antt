@@ -1,8 +1,8 @@
 use Rattle.std.proofs.Common.{◌++◌, codes, refl}
 use Rattle.std.proofs.lemmas.Result.{err_from_is_err_and}
 use Rattle.q3_entity.specs.Report.{fields_text}
-use Rattle.q3_report.proofs.Printing.{entity_in_parts}
-use Rattle.q3_report.proofs.report.print_entity.Goals as goal
+use Rattle.q3_clstate.proofs.Printing.{entity_in_parts}
+use Rattle.q3_clstate.proofs.print.print_entity.Goals as goal
 
 pub returns-in_err-print_number-clause-adds : goal.returns-in_err-print_number-clause-adds
 returns-in_err-print_number-clause-adds g c =

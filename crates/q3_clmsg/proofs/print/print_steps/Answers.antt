@@ -1,8 +1,8 @@
 use Rattle.std.proofs.Common.{ℕ, List, decimal, FitsSigned, w8, rules, subst}
 use Rattle.std.specs.Result.{is_ok}
 use Rattle.q3_io.specs.Written.{Wrote}
-use Rattle.q3_make.proofs.Printing.{signed_in_pieces, three_in_pieces}
-use Rattle.q3_make.proofs.print.print_steps.Goals as goal
+use Rattle.q3_clmsg.proofs.PrintedMoves.{signed_in_pieces, three_in_pieces}
+use Rattle.q3_clmsg.proofs.print.print_steps.Goals as goal
 
 pub returns-clause-adds : goal.returns-clause-adds
 returns-clause-adds g c =

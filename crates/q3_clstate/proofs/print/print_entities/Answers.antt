@@ -1,8 +1,8 @@
 use Rattle.std.proofs.Common.{[], rules, arith}
 use Rattle.std.proofs.lemmas.Result.{err_from_is_err_and}
 use Rattle.q3_entity.specs.declared.state.EntityState.{EntityState}
-use Rattle.q3_report.specs.AnswerLines.{entity_text}
-use Rattle.q3_report.proofs.report.print_entities.Goals as goal
+use Rattle.q3_clstate.specs.Report.{entity_text}
+use Rattle.q3_clstate.proofs.print.print_entities.Goals as goal
 
 abbrev none : EntityState
 none = record { number = 0; words = [] }

@@ -2,8 +2,8 @@ use Rattle.std.proofs.Common.{ℕ, List, ◌<◌, length, subst, arith}
 use Rattle.std.proofs.lemmas.Bool.Decides.{nat_tests}
 use Rattle.std.specs.Result.{is_ok}
 use Rattle.q3_io.specs.Written.{Wrote}
-use Rattle.q3_make.proofs.Printing.{hex_in_digits}
-use Rattle.q3_make.proofs.print.print_hex_word.Goals as goal
+use Rattle.q3_io.proofs.HexWords.{hex_in_digits}
+use Rattle.q3_io.proofs.print.print_hex_word.Goals as goal
 
 pub returns-clause-adds : goal.returns-clause-adds
 returns-clause-adds g c =
