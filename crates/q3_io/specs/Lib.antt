@@ -6,3 +6,5 @@ pub mod Told
 pub mod HostCounts
 pub mod Quoted
 pub mod Print
+pub mod Traffic
+pub mod Readings

@@ -1,14 +1,18 @@
-//! The real files and standard output: thin, and trusted. They tell nothing of contents.
+//! The real files, standard output, socket and clock: thin, and trusted. They tell nothing of contents.
 
 ghost use Rattle.std.specs.Prelude.{◌≡◌};
 ghost use Rattle.q3_io.specs.Faults.{HasCause};
 
+pub mod clock;
 pub mod files;
 pub mod sink;
+pub mod wire;
 
 use crate::sink::Failed;
+pub use clock::HostClock;
 pub use files::HostFiles;
 pub use sink::HostSink;
+pub use wire::UdpWire;
 
 /// Counts a fault, and answers what it is given.
 fn counted<T>(answer: Result<T, Failed>, faults: &mut u64) -> Result<T, Failed>
