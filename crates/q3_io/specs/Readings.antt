@@ -1,5 +1,5 @@
 -- What is told of a clock, and what a reading changes.
-use Rattle.std.specs.Prelude.{◌≡◌, ℕ, ◌≤◌, ◌<◌, List, [], ◌∷◌, length, Option, Some, None}
+use Rattle.std.specs.Prelude.{◌≡◌, ℕ, ◌≤◌, List, [], ◌∷◌, Option, Some, None}
 
 -- the next of the readings that are still to come, and those after it: the last is given again and again
 abbrev pub reading_of : List ℕ → ℕ

@@ -1,6 +1,6 @@
 //! A clock.
 
-ghost use Rattle.std.specs.Prelude.{◌≡◌, ◌<◌, ◌≤◌, ℕ, Option, Some, List, length};
+ghost use Rattle.std.specs.Prelude.{◌≡◌, ◌<◌, ◌≤◌, ℕ, Option, List, length, IfSome};
 ghost use Rattle.q3_io.specs.Readings.{Reads};
 
 /// A clock that never goes back.
@@ -15,8 +15,6 @@ pub trait Clock {
     fn now(&mut self) -> u64
         ensures later { last self.old ≤ result }
         ensures last { last self.new ≡ result }
-        ensures told { Reads (readings self.old) (readings self.new) result };
-
-    /// Where readings are told, there is one.
-    ghost some: { (clock : Self) (list : List ℕ) → readings clock ≡ Some list → 0 < length list };
+        ensures told { Reads (readings self.old) (readings self.new) result }
+        ensures some { IfSome (readings self.new) (λ list. 0 < length list) };
 }

@@ -3,3 +3,5 @@ pub mod ToldHeld
 pub mod TextPlaces
 pub mod Numbered
 pub mod Sent
+pub mod ParcelPlaces
+pub mod Readings

@@ -4,3 +4,6 @@ pub mod Texts
 pub mod FileStore
 pub mod FileNumbers
 pub mod MemoryFiles
+pub mod Parcels
+pub mod MemoryWire
+pub mod MemoryClock

@@ -46,8 +46,6 @@ impl<R: SystemClock> Clock for HostClock<R> {
 
     ghost readings = { λ clock. None };
 
-    ghost some = { λ clock list is. absurd Prim.cc };
-
     fn now(&mut self) -> u64 {
         if let Ok(time) = Instant::now(&self.rt) {
             let start = *self.start.get_or_insert(time);
