@@ -13,7 +13,7 @@ record Left (last : ℕ) (left : List ℕ) : Type 0 where
 
 left_of : (last : ℕ) (left : List ℕ) → 0 < length left → DontFall last left → Left last left
 left_of last [] some rise = absurd (omega arith)
-left_of last (one ∷ []) some rise = record { later = rise.0; more = λ lt. absurd (omega (arith, lt)); none = λ le. (refl, omega arith, tt) }
+left_of last (one ∷ []) some rise = record { later = rise.0; more = λ lt. absurd (omega (arith, lt)); none = λ le. (refl, (omega arith, tt)) }
 left_of last (one ∷ two ∷ others) some rise = record { later = rise.0; more = λ lt. (refl, rise.1); none = λ le. absurd (omega (arith, le)) }
 
 reading_at : (place : ℕ) (readings : List ℕ) → reading_of (drop place readings) ≡ slice_index readings place
