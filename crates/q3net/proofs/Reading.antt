@@ -3,8 +3,9 @@ use Rattle.std.proofs.Common.{◌≡◌, ℕ, ◌+◌, ◌<◌, ◌≤◌, List,
 use Rattle.std.specs.Prelude.{◌⊎◌, true, false, IsSome, unwrap_or}
 use Rattle.std.proofs.lemmas.List.{take_all, take-append-drop, length-take, length-drop, length-append, take_at, append-nil}
 use Rattle.std.proofs.Math.Seq.{take-add, get_or-append_seam}
+use Rattle.q3_io.specs.declared.sink.Failed.{Failed}
 use Rattle.q3_io.specs.Told.{Told, Lookup, LooksUp, Gives, ReadsAt, contents_of, contents_at, after_asked, after_given, after_named}
-use Rattle.q3net.specs.Input.{ReadsFile, ReadsPieces, ReadsWhole, LooksUpTold}
+use Rattle.q3net.specs.Input.{looked_up, ReadsFile, ReadsPieces, ReadsWhole, LooksUpTold, LooksUpFirst}
 use Rattle.q3net.specs.declared.fault.Fault.{Fault}
 
 -- what was read is the front of the file, and only what was asked for has changed
@@ -125,3 +126,12 @@ file_given most (Some told) None now file name result looks reads = absurd (let 
 file_given most (Some told) (Some mid) now file name result looks reads =
     let is : mid ≡ after_given (after_named told name Lookup) name = same_told mid (after_given (after_named told name Lookup) name) looks.2 in
     (record mid { asked = reads.0 }, reads.1, record { files = ap (λ (t : Told). t.files) is; named = ap (λ (t : Told). t.named) is })
+
+-- a file that isn't there may have been named
+pub file_missing : (told now : Option Told) (name : List ℕ) (e : Failed) → LooksUp told now name (Err e) → LooksUpFirst told now (name ∷ [])
+file_missing None now name e looks = ([], [], (looked_up name ∷ [], refl), tt, looks)
+file_missing (Some told) now name e looks =
+    elim looks [
+      | inl same ↦ ([], [], (looked_up name ∷ [], refl), tt, (told, same, record { files = refl; named = sym (append-nil told.named) }))
+      | inr after ↦ (looked_up name ∷ [], [], ([], refl), tt, (after_named told name Lookup, after, record { files = refl; named = refl }))
+    ]

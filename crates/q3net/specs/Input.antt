@@ -1,7 +1,7 @@
--- The files that a run reads: what it reads of each, and which names it gives.
-use Rattle.std.specs.Prelude.{◌≡◌, ◌⊎◌, ℕ, ◌≤◌, List, [], ◌++◌, length, map, Option, Some, None, Result, Ok, Err}
+-- The files of a run: what it reads of each, which names it gives, and what it leaves.
+use Rattle.std.specs.Prelude.{◌≡◌, ◌⊎◌, ℕ, ◌≤◌, List, [], ◌∷◌, ◌++◌, length, map, Option, Some, None, Result, Ok, Err}
 use Rattle.std.specs.Global.{Vec}
-use Rattle.q3_io.specs.Told.{Told, Named, Lookup, contents_of, contents_at}
+use Rattle.q3_io.specs.Told.{Told, File, Named, Lookup, contents_of, contents_at, with_contents}
 use Rattle.q3net.specs.declared.fault.Fault.{Fault}
 use Rattle.q3net.specs.declared.fault.Fault.TheVariants.{NoMemory, Read}
 use Rattle.q3net.specs.Faults.{IsEarly}
@@ -40,25 +40,47 @@ ReadsPieces most file None now result = (now ≡ None) × (contents : List ℕ) 
 ReadsPieces most file (Some told) now result =
     (asked : List ℕ) × (now ≡ Some (record told { asked = asked })) × ReadsWhole most (contents_at told file) result
 
--- ---- which names are given
+-- ---- what becomes of the files
 
 abbrev pub looked_up : List ℕ → Named
 looked_up name = record { name = name; call = Lookup }
 
--- these names were given to `lookup`, once each and in this order; nothing was created, and every file stays
-pub record LooksUp (told now : Told) (names : List (List ℕ)) : Type 0 where
-  pub files : now.files ≡ told.files
-  pub named : now.named ≡ told.named ++ map looked_up names
+-- the files, with these in the place of those of their names, one after the other
+abbrev pub with_files : List File → List File → List File
+with_files files [] = files
+with_files files (file ∷ others) = with_files (with_contents files file.name file.contents) others
+
+-- these names were given, each with its call, in this order; the files that were made hold these bytes, and every other stays
+pub record Leaves (told now : Told) (names : List Named) (made : List File) : Type 0 where
+  pub named : now.named ≡ told.named ++ names
+  pub files : now.files ≡ with_files told.files made
 
 -- the same where the files are told
+abbrev pub LeavesTold : Option Told → Option Told → List Named → List File → Type 0
+LeavesTold None now named made = now ≡ None
+LeavesTold (Some told) now named made = (after : Told) × (now ≡ Some after) × Leaves told after named made
+
+-- of files that are made, the first ones as far as they are: each has a front of its bytes
+abbrev pub AreBegun : List File → List File → Type 0
+AreBegun [] made = Unit {0}
+AreBegun (begun ∷ others) [] = ⊥
+AreBegun (begun ∷ others) (file ∷ made) = (begun.name ≡ file.name) × IsFront begun.contents file.contents × AreBegun others made
+
+-- only the first of the names, so many, maybe none, and of the files as much as was made by then
+abbrev pub LeavesFirst : Option Told → Option Told → List Named → List File → Type 0
+LeavesFirst told now named made =
+    (first : List Named) × (begun : List File) × IsFront first named × AreBegun begun made × LeavesTold told now first begun
+
+-- all of this, or, where something from outside ended it early, the first of it
+abbrev pub Touches : {A : Type 0} → Result A Fault → List Named → List File → Option Told → Option Told → Type 0
+Touches ended named made told now = LeavesTold told now named made ⊎ (IsEarly ended × LeavesFirst told now named made)
+
+-- these names were given to `lookup`, once each and in this order; nothing was made, and every file stays
 abbrev pub LooksUpTold : Option Told → Option Told → List (List ℕ) → Type 0
-LooksUpTold None now names = now ≡ None
-LooksUpTold (Some told) now names = (after : Told) × (now ≡ Some after) × LooksUp told after names
+LooksUpTold told now names = LeavesTold told now (map looked_up names) []
 
--- only the first of the names, so many, maybe none
 abbrev pub LooksUpFirst : Option Told → Option Told → List (List ℕ) → Type 0
-LooksUpFirst told now names = (first : List (List ℕ)) × IsFront first names × LooksUpTold told now first
+LooksUpFirst told now names = LeavesFirst told now (map looked_up names) []
 
--- these names were given, or, where something from outside ended a part early, the first of them
 abbrev pub Gives : {A : Type 0} → Result A Fault → List (List ℕ) → Option Told → Option Told → Type 0
-Gives ended names told now = LooksUpTold told now names ⊎ (IsEarly ended × LooksUpFirst told now names)
+Gives ended names told now = Touches ended (map looked_up names) [] told now

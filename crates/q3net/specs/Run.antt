@@ -8,7 +8,7 @@ use Rattle.q3_world.specs.declared.world.StepError.TheVariants as step
 use Rattle.q3_world.specs.Ends.{Answered}
 use Rattle.q3_world.specs.Report.{answer_text}
 use Rattle.q3net.specs.Command.{Command, Help, Version, Replay, Trial}
-use Rattle.q3net.specs.Input.{IsFront, LooksUpTold, LooksUpFirst, Gives}
+use Rattle.q3net.specs.Input.{IsFront, LeavesTold, LeavesFirst, Touches}
 use Rattle.q3net.specs.Lines.{ending_line, ending_status}
 use Rattle.q3net.specs.Verdict.{Verdict, IsVerdict}
 use Rattle.q3net.specs.declared.fault.Fault.{Fault}
@@ -56,9 +56,9 @@ Executes command told old now ended =
     × (((printed : List ℕ) × Ends command verdict ended printed × Wrote old now printed true)
     ⊎ ((ended ≡ Err Write) × Wrote old now verdict.text false))
 
--- the names that a command has given by then: those of its verdict, or the first of them
-abbrev pub GivesNames : Option Command → Option Told → Option Told → Result (Unit {0}) Fault → Type 0
-GivesNames command told now ended = (verdict : Verdict) × IsVerdict told command verdict × Gives ended verdict.names told now
+-- what a command has done with the files by then: as its verdict says, or the first of it
+abbrev pub LeavesFiles : Option Command → Option Told → Option Told → Result (Unit {0}) Fault → Type 0
+LeavesFiles command told now ended = (verdict : Verdict) × IsVerdict told command verdict × Touches ended verdict.named verdict.made told now
 
 -- a text of the program's own
 abbrev pub PrintsAll : List ℕ → Option Written → Option Written → Result (Unit {0}) Fault → Type 0
@@ -95,11 +95,11 @@ abbrev pub IsComplete : Option Command → Option Told → ℕ → Type 0
 IsComplete command told status =
     (verdict : Verdict) × IsVerdict told command verdict × ((status ≡ ending_status verdict.ending) ⊎ (status ≡ 1))
 
--- the names that the run gave are those of its verdict, or the first of them, where something from outside ended it early
-abbrev pub HasGiven : Option Command → Option Told → Option Told → ℕ → Type 0
-HasGiven command told now status =
+-- what the run did with the files is what its verdict says, or the first of it, where something from outside ended it early
+abbrev pub HasLeft : Option Command → Option Told → Option Told → ℕ → Type 0
+HasLeft command told now status =
     (verdict : Verdict) × IsVerdict told command verdict
-    × (LooksUpTold told now verdict.names ⊎ (((status ≡ 1) ⊎ ((status ≡ 3) ⊎ (status ≡ 4))) × LooksUpFirst told now verdict.names))
+    × (LeavesTold told now verdict.named verdict.made ⊎ (((status ≡ 1) ⊎ ((status ≡ 3) ⊎ (status ≡ 4))) × LeavesFirst told now verdict.named verdict.made))
 
 -- ---- of the steps
 

@@ -1,5 +1,5 @@
 -- What the input of a run decides: what is printed, and how the run ends.
-use Rattle.std.specs.Prelude.{◌≡◌, ℕ, List, [], ◌∷◌, Option, Some, None, Result, Ok, Err, ok_or}
+use Rattle.std.specs.Prelude.{◌≡◌, ℕ, List, [], ◌∷◌, map, Option, Some, None, Result, Ok, Err, ok_or}
 use Rattle.std.specs.Result.{result_map_both}
 use Rattle.std.specs.Global.{Vec}
 use Rattle.q3_profile.specs.declared.profile.Profile.{Profile as ProfileValue}
@@ -8,7 +8,7 @@ use Rattle.q3_profile.specs.Profile.{checked}
 use Rattle.q3_script.specs.declared.event.Event.{Event}
 use Rattle.q3_script.specs.declared.cause.ScriptKind.TheVariants as kinds
 use Rattle.q3_script.specs.Script.{BadLine, script_at}
-use Rattle.q3_io.specs.Told.{Told}
+use Rattle.q3_io.specs.Told.{Told, File, Named}
 use Rattle.q3_make.specs.Printed.{script_text}
 use Rattle.q3_make.specs.Generated.{generated}
 use Rattle.q3_world.specs.World.{opening, answers}
@@ -17,22 +17,28 @@ use Rattle.q3_world.specs.Counts.{counts_of}
 use Rattle.q3net.specs.declared.command.Draws.{Draws}
 use Rattle.q3net.specs.Command.{Command, Help, Version, Replay, Make, Trial}
 use Rattle.q3net.specs.Faults.{Gets}
-use Rattle.q3net.specs.Input.{Holds}
+use Rattle.q3net.specs.Input.{Holds, looked_up}
 use Rattle.q3net.specs.Lines.{help_text, version_text}
 use Rattle.q3net.specs.Summary.{summary_text}
 use Rattle.q3net.specs.declared.fault.Fault.{Fault}
 use Rattle.q3net.specs.declared.fault.Fault.TheVariants.{Usage, Read, Profile, Script}
 
--- what a command prints, how it ends, done or by the first cause that its input decides, and the names that it gives to the files
+-- what a command prints before any fault line; how it ends, done or by the first cause that its input decides; the names that it gives,
+-- each with its call; and the files that it makes, with their bytes
 pub record Verdict : Type 0 where
   pub text : List ℕ
   pub ending : Result (Unit {0}) Fault
-  pub names : List (List ℕ)
+  pub named : List Named
+  pub made : List File
 
--- a text and nothing more, or a cause and no text
+-- of a command that makes no file: it looks up these names, and prints a text, and behind it may come a cause
+abbrev pub printing : List (List ℕ) → List ℕ → Result (Unit {0}) Fault → Verdict
+printing names text ending = record { text = text; ending = ending; named = map looked_up names; made = [] }
+
+-- of one that reads all its input before its first line: a text and nothing more, or a cause and no text
 abbrev pub settled : List (List ℕ) → Result (List ℕ) Fault → Verdict
-settled names (Ok text) = record { text = text; ending = Ok tt; names = names }
-settled names (Err cause) = record { text = []; ending = Err cause; names = names }
+settled names (Ok text) = printing names text (Ok tt)
+settled names (Err cause) = printing names [] (Err cause)
 
 -- the profile that a file spells, or its first broken rule; a file that isn't there doesn't read
 abbrev pub profile_in : Option (List ℕ) → Result ProfileValue Fault

@@ -12,7 +12,7 @@ ghost use Rattle.q3_world.specs.declared.counts.Counts.{Counts as CountsValue};
 ghost use Rattle.q3_world.specs.Kept.{most_datagrams};
 ghost use Rattle.q3net.specs.Command.{AreDraws, Make, Trial};
 ghost use Rattle.q3net.specs.Faults.{ReadCause, WriteCause};
-ghost use Rattle.q3net.specs.Run.{PrintsAll, Executes, GivesNames};
+ghost use Rattle.q3net.specs.Run.{PrintsAll, Executes, LeavesFiles};
 ghost use Rattle.q3net.specs.Summary.{summary_text};
 ghost use Rattle.q3net.specs.Trying.{CountsTo};
 
@@ -57,7 +57,7 @@ pub fn trial<F: Files, O: Sink>(
 ) -> Result<(), Fault>
     requires { AreDraws draws }
     ensures executes { Executes (Some (Trial profile.now draws)) (F.told files.old) (O.written out.old) (O.written out.new) result }
-    ensures gives { GivesNames (Some (Trial profile.now draws)) (F.told files.old) (F.told files.new) result }
+    ensures gives { LeavesFiles (Some (Trial profile.now draws)) (F.told files.old) (F.told files.new) result }
     ensures writes { F.write_faults files.new ≡ F.write_faults files.old }
     ensures read_cause { ReadCause (F.faults files.old) (F.faults files.new) result }
     ensures write_cause { WriteCause (O.faults out.old) (O.faults out.new) result }

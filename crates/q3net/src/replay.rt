@@ -13,7 +13,7 @@ ghost use Rattle.q3net.specs.Command.{Replay};
 ghost use Rattle.q3net.specs.Faults.{ReadCause, WriteCause};
 ghost use Rattle.q3net.specs.Input.{Gives};
 ghost use Rattle.q3net.specs.Verdict.{GetsFrom, profile_in, events_in, with_events};
-ghost use Rattle.q3net.specs.Run.{Executes, GivesNames, AddsLines};
+ghost use Rattle.q3net.specs.Run.{Executes, LeavesFiles, AddsLines};
 
 use crate::fault::Fault;
 use crate::input::read_file;
@@ -38,7 +38,7 @@ pub fn replay<F: Files, O: Sink>(
     out: &mut O,
 ) -> Result<(), Fault>
     ensures executes { Executes (Some (Replay profile.now script.now)) (F.told files.old) (O.written out.old) (O.written out.new) result }
-    ensures gives { GivesNames (Some (Replay profile.now script.now)) (F.told files.old) (F.told files.new) result }
+    ensures gives { LeavesFiles (Some (Replay profile.now script.now)) (F.told files.old) (F.told files.new) result }
     ensures writes { F.write_faults files.new ≡ F.write_faults files.old }
     ensures read_cause { ReadCause (F.faults files.old) (F.faults files.new) result }
     ensures write_cause { WriteCause (O.faults out.old) (O.faults out.new) result }

@@ -8,7 +8,7 @@ ghost use Rattle.q3net.specs.Command.{command_of, files_of};
 ghost use Rattle.q3net.specs.Faults.{ReadCause, WriteCause};
 ghost use Rattle.q3net.specs.Lines.{ending_line, ending_status};
 ghost use Rattle.q3net.specs.Input.{LooksUpFirst};
-ghost use Rattle.q3net.specs.Run.{PrintsAll, Executes, Took, Prints, Reports, IsDecided, IsComplete, HasGiven, GivesNames};
+ghost use Rattle.q3net.specs.Run.{PrintsAll, Executes, Took, Prints, Reports, IsDecided, IsComplete, HasLeft, LeavesFiles};
 
 use crate::command::{Command, parse};
 use crate::fault::Fault;
@@ -36,7 +36,7 @@ pub fn run<F: Files, O: Sink>(alloc: Global, words: &[String], files: &mut F, ou
     // The words that name files are given to `lookup`, once each and in the order in which they are read, or the first
     // of them where the run ends early; nothing is created or appended to, and every file stays.
     ensures touches { LooksUpFirst (F.told files.old) (F.told files.new) (files_of (command_of (map string_bytes words.now))) }
-    ensures looks_up { HasGiven (command_of (map string_bytes words.now)) (F.told files.old) (F.told files.new) result }
+    ensures looks_up { HasLeft (command_of (map string_bytes words.now)) (F.told files.old) (F.told files.new) result }
     ensures writes { F.write_faults files.new ≡ F.write_faults files.old }
 
     // When each status comes: it is that of the verdict, or 1, 3 or 4 by something from outside.
@@ -67,7 +67,7 @@ fn execute<F: Files, O: Sink>(
     out: &mut O,
 ) -> Result<(), Fault>
     ensures executes { Executes (command_of (map string_bytes words.now)) (F.told files.old) (O.written out.old) (O.written out.new) result }
-    ensures gives { GivesNames (command_of (map string_bytes words.now)) (F.told files.old) (F.told files.new) result }
+    ensures gives { LeavesFiles (command_of (map string_bytes words.now)) (F.told files.old) (F.told files.new) result }
     ensures writes { F.write_faults files.new ≡ F.write_faults files.old }
     ensures read_cause { ReadCause (F.faults files.old) (F.faults files.new) result }
     ensures write_cause { WriteCause (O.faults out.old) (O.faults out.new) result }

@@ -3,7 +3,7 @@ use Rattle.std.specs.Prelude.{map}
 use Rattle.std.specs.String.{string_bytes}
 use Rattle.q3net.specs.Command.{command_of}
 use Rattle.q3net.proofs.Ending.{prints}
-use Rattle.q3net.proofs.Looking.{touches, has_given}
+use Rattle.q3net.proofs.Looking.{touches, has_left}
 use Rattle.q3net.proofs.run.run.Goals as goal
 
 pub returns-clause-prints : goal.returns-clause-prints
@@ -17,5 +17,5 @@ returns-clause-touches g c =
 
 pub returns-clause-looks_up : goal.returns-clause-looks_up
 returns-clause-looks_up g c =
-    has_given (command_of (map string_bytes c.args.words.now)) (g.F.Files.told c.args.files.now) (g.F.Files.told c.execute-ended.new.files) c.execute-ended.result c.end.result c.execute-ended.ensures.gives
+    has_left (command_of (map string_bytes c.args.words.now)) (g.F.Files.told c.args.files.now) (g.F.Files.told c.execute-ended.new.files) c.execute-ended.result c.end.result c.execute-ended.ensures.gives
     (elim c.end.ensures.status [ inl said ↦ inl said.0 | inr failed ↦ inr failed.0 ])
