@@ -146,7 +146,9 @@ fn config_text(alloc: Global, left: &[u8]) -> Result<Result<(u32, Bytes), LineCa
     }
 }
 
+/// Such lines are few: apart, their code doesn't slow down the others.
 #[tactic(auto, unfolding(crate::specs::Lines::config_line))]
+#[inline(never)]
 fn config(alloc: Global, left: &[u8]) -> Result<Result<Event, LineCause>, NoMemory>
     ensures { IfOk result (λ answer. answer ≡ config_line (words_left left.now)) }
 {
@@ -254,6 +256,7 @@ fn hand(alloc: Global, left: &[u8]) -> Result<Result<(u8, Bytes), LineCause>, No
 }
 
 #[tactic(auto, unfolding(crate::specs::Lines::toclient_line))]
+#[inline(never)]
 fn toclient(alloc: Global, left: &[u8]) -> Result<Result<Event, LineCause>, NoMemory>
     ensures { IfOk result (λ answer. answer ≡ toclient_line (words_left left.now)) }
 {
@@ -264,6 +267,7 @@ fn toclient(alloc: Global, left: &[u8]) -> Result<Result<Event, LineCause>, NoMe
 }
 
 #[tactic(auto, unfolding(crate::specs::Lines::toserver_line))]
+#[inline(never)]
 fn toserver(alloc: Global, left: &[u8]) -> Result<Result<Event, LineCause>, NoMemory>
     ensures { IfOk result (λ answer. answer ≡ toserver_line (words_left left.now)) }
 {
