@@ -26,6 +26,8 @@ pub struct Run<'a> {
 }
 
 impl Default for EntityState {
+    ghost is_default = { λ state. state ≡ zero_entity 0 };
+
     fn default() -> EntityState {
         EntityState::zero(0)
     }

@@ -28,7 +28,7 @@ pub trait Files {
         ensures cause { HasCause (faults self.old) (faults self.new) result }
         ensures others { write_faults self.new ≡ write_faults self.old };
 
-    /// How many bytes the file has.
+    /// How many bytes the file has. `Failed` where the outside can't tell.
     fn size(&mut self, file: usize) -> Result<u64, Failed>
         requires { file < given self.old }
         ensures given { given self.new ≡ given self.old }
@@ -37,6 +37,7 @@ pub trait Files {
         ensures others { write_faults self.new ≡ write_faults self.old };
 
     /// Reads bytes of the file from a place on, and answers how many; 0 for a buffer that isn't empty is the file's end.
+    /// `Failed` where the outside can't read there; what the buffer holds then isn't said.
     fn read_at(&mut self, file: usize, at: u64, into: &mut [u8]) -> Result<usize, Failed>
         requires { file < given self.old }
         ensures given { given self.new ≡ given self.old }

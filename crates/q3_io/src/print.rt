@@ -1,5 +1,6 @@
 //! Prints numbers, texts, words by their index, and lines that are put together from pieces.
-//! Each call writes several times: a `Line` around the sink makes one write of what is printed.
+//! Each call writes several times: a `Line` around the sink makes one write of what is printed. Each answers `Failed` as soon as
+//! a write to the sink does, and then a front of the text was written.
 
 ghost use Rattle.std.specs.Prelude.{◌≡◌, [], ◌∷◌, ◌++◌, codes};
 ghost use Rattle.std.specs.Fmt.{signed_decimal};
@@ -16,7 +17,9 @@ use itoa::Integer;
 /// A piece of a line.
 #[derive(Clone, Copy)]
 pub enum Piece<'a> {
+    /// Bytes as they are.
     Text(&'a [u8]),
+    /// A number in decimal.
     Number(u64),
     /// A text in quotes, spelled as in a script.
     Quoted(&'a [u8]),

@@ -1,4 +1,5 @@
-//! The profile.
+//! The profile, this project's own: in the engine its code and tables are part of the program (msg.c), and the sizes of its
+//! rings are `numSnapshotEntities` (sv_init.c) and `MAX_PARSE_ENTITIES` (client.h).
 
 ghost use Rattle.std.specs.Prelude.{◌≡◌, IfOk};
 ghost use Rattle.q3_profile.specs.Profile.{IsCodec};

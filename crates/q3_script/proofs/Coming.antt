@@ -95,6 +95,23 @@ ends {bytes = bytes} {left = left} limit word came end short =
     let all : bytes ++ [] ≡ bytes = append-nil bytes in
     rw (came.goes_on, last_turn came.most left came.enough end, all, le-leb (length bytes) limit short) refl
 
+-- ---- a word of any length
+
+-- without a first quote it spells nothing
+pub nothing_begun : (word : List ℕ) → no_bytes ≡ behind (codes "\"") word → no_bytes ≡ unquoted_at word
+unfolding unquoted_at
+nothing_begun word e = rw (← e) refl
+
+-- nor does one that goes on with no spelling
+pub nothing_stops : {bytes left : List ℕ} (word : List ℕ) → HasCome bytes left (unquoted_at word) → bytes_eq (codes "\"") left ≡ false → None ≡ front_at left → no_bytes ≡ unquoted_at word
+nothing_stops {bytes = bytes} {left = left} word came other none = rw (came.goes_on, no_turn came.most left other none) refl
+
+-- the last quote ends it
+pub ends_all : {bytes left : List ℕ} (word : List ℕ) → HasCome bytes left (unquoted_at word) → bytes_eq (codes "\"") left ≡ true → some_bytes bytes ≡ unquoted_at word
+ends_all {bytes = bytes} {left = left} word came end =
+    let all : bytes ++ [] ≡ bytes = append-nil bytes in
+    rw (came.goes_on, last_turn came.most left came.enough end, all) refl
+
 -- ---- the text of a word
 
 abbrev no_text : Result (List ℕ) LineCause

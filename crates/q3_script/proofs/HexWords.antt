@@ -1,5 +1,5 @@
 -- Bytes in hex against their grammar: what is read was spelled so, and what is spelled so is read.
-use Rattle.std.proofs.Common.{◌≡◌, ℕ, zero, suc, ◌/◌, ◌%◌, ◌<◌, ◌≤◌, true, false, cond, leb, eqb, is_err, take, drop, List, [], ◌∷◌, length, Option, Some, None, Result, Ok, Err, inl, inr, refl, sym, ap, subst, ◌∙◌, arith}
+use Rattle.std.proofs.Common.{◌≡◌, ℕ, zero, suc, ◌/◌, ◌%◌, ◌<◌, ◌≤◌, true, false, cond, leb, eqb, is_err, take, drop, List, [], ◌∷◌, ◌++◌, length, Option, Some, None, Result, Ok, Err, inl, inr, refl, sym, ap, subst, ◌∙◌, arith}
 use Rattle.std.specs.Prelude.{◌||◌, codes, option_map, All, MatchResult}
 use Rattle.std.specs.List.{list_any, refill}
 use Rattle.std.specs.Result.{result_ok}
@@ -222,6 +222,10 @@ some_decoded limit word n answer out may half few left taken =
 -- so many places hold what was put into all of them
 pub refilled : (places out : List ℕ) → length out ≡ length places → refill (length places) places out ≡ out
 refilled places out size = rw (← size) (take-append_seam out (drop (length out) places))
+
+-- so do so many that are all there are
+pub all_of : (n : ℕ) (out rest : List ℕ) → n ≡ length out → take n (out ++ rest) ≡ out
+all_of n out rest e = rw e (take-append_seam out rest)
 
 -- places that were cut to so many
 pub size_of_cut : (n : ℕ) (places cut : List ℕ) → cut ≡ take n places → n ≤ length places → length cut ≡ n

@@ -37,6 +37,13 @@ impl Eq for Bytes {
 }
 
 impl Bytes {
+    /// Keeps these bytes where they lie.
+    pub(crate) fn keep(bytes: Vec<u8>) -> Bytes
+        ensures { result ≡ bytes.items }
+    {
+        Bytes { bytes }
+    }
+
     /// Keeps a copy of these bytes. `Err` is want of memory.
     pub fn of(alloc: Global, bytes: &[u8]) -> Result<Bytes, NoMemory>
         ensures { IfOk result (λ kept. kept ≡ bytes.now) }

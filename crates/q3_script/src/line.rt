@@ -1,30 +1,22 @@
 //! Reads one line of a script.
 
 ghost use Rattle.std.specs.Prelude.{◌≡◌, ◌∷◌, IfOk};
-ghost use Rattle.std.specs.Result.{result_map_both};
 ghost use Rattle.q3_script.specs.Words.{words_of, words_left};
 ghost use Rattle.q3_script.specs.Lines.{client_line, port_line, map_line, entity_line, remove_line, baseline_line, player_line, area_line, time_line, config_at, config_line, command_at, say_line, type_line, serve_line, send_line, deliver_line, show_line, bytes_line, hand_at, toclient_line, toserver_line, line_at};
 
 use crate::address::address;
-use crate::area::{area_bytes, hex_bytes};
+use crate::area::{area_bytes, handed_bytes};
 use crate::bytes::Bytes;
 use crate::cause::LineCause;
 use crate::event::Event;
 use crate::fields::{entity_state, player_state};
 use crate::moves::move_line;
 use crate::numbers::{client_word, entity_word, number_word};
-use crate::quotes::{bytes_word, text_word};
+use crate::quotes::{config_bytes, text_word};
 use crate::words::{first_word, is, next_word, only_word, text_left};
-use arrayvec::ArrayVec;
 use q3_bits::NoMemory;
 use q3_text::Text;
 use std::alloc::Global;
-
-/// The most bytes of the text of a config string in a script.
-const MOST_CONFIG: usize = 9_000;
-
-/// The most bytes that are handed to an end.
-const MOST_HANDED: usize = 16_400;
 
 #[tactic(auto, using(crate::proofs::Steps::client_steps))]
 fn client(left: &[u8]) -> Result<Event, LineCause>
@@ -133,29 +125,35 @@ fn time(left: &[u8]) -> Result<Event, LineCause>
     })
 }
 
-/// An index, and the text of its config string.
+/// An index, and the text of its config string. `Err` is want of memory.
 #[tactic(auto, using(crate::proofs::Steps::config_steps))]
-fn config_text(left: &[u8]) -> Result<(u32, ArrayVec<u8, MOST_CONFIG>), LineCause>
-    ensures { result_map_both (λ config. (config.0, config.1.items)) (λ cause. cause) result ≡ config_at (words_left left.now) }
+fn config_text(alloc: Global, left: &[u8]) -> Result<Result<(u32, Bytes), LineCause>, NoMemory>
+    ensures { IfOk result (λ answer. answer ≡ config_at (words_left left.now)) }
 {
-    let (index, left) = next_word(left).ok_or(LineCause::Count)?;
-    let text = text_left(left).ok_or(LineCause::Count)?;
-    Ok((
-        number_word(index, 0, u32::MAX)?,
-        bytes_word::<MOST_CONFIG>(text)?,
-    ))
+    let Some((index, left)) = next_word(left) else {
+        return Ok(Err(LineCause::Count));
+    };
+    let Some(text) = text_left(left) else {
+        return Ok(Err(LineCause::Count));
+    };
+    let index = match number_word(index, 0, u32::MAX) {
+        Ok(index) => index,
+        Err(cause) => return Ok(Err(cause)),
+    };
+    match config_bytes(alloc, text)? {
+        Some(text) => Ok(Ok((index, text))),
+        None => Ok(Err(LineCause::Text)),
+    }
 }
 
-/// The text is kept in memory of its own.
+/// Such lines are few: apart, their code doesn't slow down the others.
 #[tactic(auto, unfolding(crate::specs::Lines::config_line))]
+#[inline(never)]
 fn config(alloc: Global, left: &[u8]) -> Result<Result<Event, LineCause>, NoMemory>
     ensures { IfOk result (λ answer. answer ≡ config_line (words_left left.now)) }
 {
-    match config_text(left) {
-        Ok((index, bytes)) => Ok(Ok(Event::Config {
-            index,
-            text: Bytes::of(alloc, &bytes)?,
-        })),
+    match config_text(alloc, left)? {
+        Ok((index, text)) => Ok(Ok(Event::Config { index, text })),
         Err(cause) => Ok(Err(cause)),
     }
 }
@@ -236,42 +234,45 @@ fn bytes(left: &[u8]) -> Result<Event, LineCause>
     })
 }
 
-/// A client, and the bytes that are handed to it, or to the server from it.
+/// A client, and the bytes that are handed to it, or to the server from it. `Err` is want of memory.
 #[tactic(auto, using(crate::proofs::Steps::hand_steps))]
-fn hand(left: &[u8]) -> Result<(u8, ArrayVec<u8, MOST_HANDED>), LineCause>
-    ensures { result_map_both (λ hand. (hand.0, hand.1.items)) (λ cause. cause) result ≡ hand_at (words_left left.now) }
+fn hand(alloc: Global, left: &[u8]) -> Result<Result<(u8, Bytes), LineCause>, NoMemory>
+    ensures { IfOk result (λ answer. answer ≡ hand_at (words_left left.now)) }
 {
-    let (c, left) = next_word(left).ok_or(LineCause::Count)?;
-    let word = only_word(left).ok_or(LineCause::Count)?;
-    Ok((
-        client_word(c)?,
-        hex_bytes::<MOST_HANDED>(word).ok_or(LineCause::Number)?,
-    ))
+    let Some((c, left)) = next_word(left) else {
+        return Ok(Err(LineCause::Count));
+    };
+    let Some(word) = only_word(left) else {
+        return Ok(Err(LineCause::Count));
+    };
+    let c = match client_word(c) {
+        Ok(c) => c,
+        Err(cause) => return Ok(Err(cause)),
+    };
+    match handed_bytes(alloc, word)? {
+        Some(bytes) => Ok(Ok((c, bytes))),
+        None => Ok(Err(LineCause::Number)),
+    }
 }
 
-/// The bytes are kept in memory of their own.
 #[tactic(auto, unfolding(crate::specs::Lines::toclient_line))]
+#[inline(never)]
 fn toclient(alloc: Global, left: &[u8]) -> Result<Result<Event, LineCause>, NoMemory>
     ensures { IfOk result (λ answer. answer ≡ toclient_line (words_left left.now)) }
 {
-    match hand(left) {
-        Ok((c, bytes)) => Ok(Ok(Event::Toclient {
-            c,
-            bytes: Bytes::of(alloc, &bytes)?,
-        })),
+    match hand(alloc, left)? {
+        Ok((c, bytes)) => Ok(Ok(Event::Toclient { c, bytes })),
         Err(cause) => Ok(Err(cause)),
     }
 }
 
 #[tactic(auto, unfolding(crate::specs::Lines::toserver_line))]
+#[inline(never)]
 fn toserver(alloc: Global, left: &[u8]) -> Result<Result<Event, LineCause>, NoMemory>
     ensures { IfOk result (λ answer. answer ≡ toserver_line (words_left left.now)) }
 {
-    match hand(left) {
-        Ok((c, bytes)) => Ok(Ok(Event::Toserver {
-            c,
-            bytes: Bytes::of(alloc, &bytes)?,
-        })),
+    match hand(alloc, left)? {
+        Ok((c, bytes)) => Ok(Ok(Event::Toserver { c, bytes })),
         Err(cause) => Ok(Err(cause)),
     }
 }

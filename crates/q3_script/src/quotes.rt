@@ -1,17 +1,23 @@
 //! Texts and bytes in quotes. Their spelling is this project's own.
 
-ghost use Rattle.std.specs.Prelude.{◌≡◌, ◌<◌, length, option_map, IfSome};
-ghost use Rattle.std.specs.Result.{result_map_both};
-ghost use Rattle.q3_script.specs.Quotes.{hex_byte, coded_byte, coded_at, escaped_at, front_at, few_at, bytes_word, text_word};
+ghost use Rattle.std.specs.Prelude.{◌≡◌, ◌<◌, length, option_map, IfOk, IfSome};
+ghost use Rattle.q3_script.specs.Quotes.{hex_byte, coded_byte, coded_at, escaped_at, front_at, few_at, unquoted_at, text_word};
+ghost use Rattle.q3_script.specs.Lines.{most_config};
 
 use crate::area::has_capital;
+use crate::bytes::Bytes;
 use crate::cause::LineCause;
 use crate::words::{behind, is};
 use arrayvec::ArrayVec;
+use q3_bits::NoMemory;
 use q3_text::Text;
+use std::alloc::Global;
 
 /// The most bytes of a text.
 const MOST_BYTES: usize = 1_023;
+
+/// The most bytes of the text of a config string in a script.
+const MOST_CONFIG: usize = 9_000;
 
 /// The byte that two hex digits with small letters spell.
 fn hex_byte(high: u8, low: u8) -> Option<u8>
@@ -96,11 +102,46 @@ fn unquoted<const MOST: usize>(word: &[u8]) -> Option<ArrayVec<u8, MOST>>
     Some(bytes)
 }
 
-/// The bytes that a word in quotes spells, as they are, if they are at most `MOST`.
-pub fn bytes_word<const MOST: usize>(word: &[u8]) -> Result<ArrayVec<u8, MOST>, LineCause>
-    ensures { result_map_both (λ bytes. bytes.items) (λ cause. cause) result ≡ bytes_word MOST word.now }
+/// How many bytes a word in quotes spells.
+fn count_of(word: &[u8]) -> Option<usize>
+    ensures { result ≡ option_map length (unquoted_at word.now) }
 {
-    unquoted::<MOST>(word).ok_or(LineCause::Text)
+    let mut left = behind(b"\"", word)?;
+    let mut count = 0;
+    while !is(left, b"\"") {
+        left = front(left)?.1;
+        count += 1;
+    }
+    Some(count)
+}
+
+/// The bytes that a word in quotes spells, in memory that was taken for `count` of them. `Err` is want of memory.
+fn collect(alloc: Global, word: &[u8], count: usize) -> Result<Option<Bytes>, NoMemory>
+    ensures { IfOk result (λ bytes. bytes ≡ unquoted_at word.now) }
+{
+    let Some(mut left) = behind(b"\"", word) else {
+        return Ok(None);
+    };
+    let mut bytes = Vec::with_capacity(alloc, count)?;
+    while !is(left, b"\"") {
+        let Some((byte, rest)) = front(left) else {
+            return Ok(None);
+        };
+        bytes.push(byte)?;
+        left = rest;
+    }
+    Ok(Some(Bytes::keep(bytes)))
+}
+
+/// The bytes of a config string's text that a word in quotes spells, as they are, in as much memory as they are.
+/// `Err` is want of memory.
+pub fn config_bytes(alloc: Global, word: &[u8]) -> Result<Option<Bytes>, NoMemory>
+    ensures { IfOk result (λ bytes. bytes ≡ few_at most_config word.now) }
+{
+    match count_of(word) {
+        Some(count) if count <= MOST_CONFIG => collect(alloc, word, count),
+        _ => Ok(None),
+    }
 }
 
 /// The text that a word in quotes spells, translated.

@@ -54,6 +54,8 @@ pub struct CommandRun<'a> {
 }
 
 impl Default for Text {
+    ghost is_default = { λ text. text ≡ [] };
+
     fn default() -> Text {
         Text::new()
     }

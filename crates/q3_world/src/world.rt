@@ -102,7 +102,7 @@ impl World {
         ensures few { length self.new.kept.datagrams ≤ length self.old.kept.datagrams + 1 }
         ensures files { files.new ≡ files.old }
     {
-        // No event of this stage uses the files.
+        // No event uses the files yet.
         let _ = files;
         // What the clauses on the whole world cite.
         laws::step_follows();

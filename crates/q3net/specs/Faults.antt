@@ -1,5 +1,7 @@
 -- Which fault of a run an error of a part is, and when each comes.
 use Rattle.std.specs.Prelude.{◌≡◌, ◌⊎◌, ℕ, ◌≤◌, Result, Err}
+use Rattle.std.specs.declared.io.ErrorKind.{ErrorKind}
+use Rattle.std.specs.declared.io.ErrorKind.TheVariants.{OutOfMemory}
 use Rattle.q3_profile.specs.declared.error.ProfileError.{ProfileError}
 use Rattle.q3_profile.specs.declared.error.ProfileError.TheVariants as profile
 use Rattle.q3_script.specs.declared.cause.ScriptError.{ScriptError}
@@ -8,7 +10,7 @@ use Rattle.q3_world.specs.declared.world.StepError.{StepError}
 use Rattle.q3_world.specs.declared.world.StepError.TheVariants as step
 use Rattle.q3_io.specs.Faults.{Rose}
 use Rattle.q3net.specs.declared.fault.Fault.{Fault}
-use Rattle.q3net.specs.declared.fault.Fault.TheVariants.{NoMemory, Read, Write, Profile, Script}
+use Rattle.q3net.specs.declared.fault.Fault.TheVariants.{NoMemory, Usage, Read, Write, Profile, Script}
 
 abbrev pub profile_fault : ProfileError → Fault
 profile_fault profile.NoMemory = NoMemory
@@ -21,6 +23,15 @@ script_fault (script.Line line cause) = Script line cause
 abbrev pub step_fault : StepError → Fault
 step_fault step.NoMemory = NoMemory
 step_fault step.WriteFault = Write
+
+-- why there are no words: memory ran out, or one of them is no text
+abbrev pub words_fault : ErrorKind → Fault
+words_fault OutOfMemory = NoMemory
+words_fault _ = Usage
+
+-- such a fault
+abbrev pub KeepsWords : Fault → Type 0
+KeepsWords fault = (fault ≡ NoMemory) ⊎ (fault ≡ Usage)
 
 -- a part of a run answers what its input says, unless memory runs out or a read fails
 abbrev pub Gets : {A : Type 0} → Result A Fault → Result A Fault → Type 0

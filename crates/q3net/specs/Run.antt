@@ -1,6 +1,7 @@
 -- How a run goes: as its verdict says, or something from outside ends it early.
 use Rattle.std.specs.Prelude.{◌≡◌, ◌⊎◌, ℕ, true, false, List, [], ◌++◌, take, Option, Some, None, Result, Ok, Err}
 use Rattle.std.specs.List.{flat_map}
+use Rattle.q3_io.specs.Faults.{Rose}
 use Rattle.q3_io.specs.Told.{Told}
 use Rattle.q3_io.specs.Written.{Written, Wrote, NothingWaits}
 use Rattle.q3_world.specs.declared.world.StepError.{StepError}
@@ -9,7 +10,7 @@ use Rattle.q3_world.specs.Ends.{Answered}
 use Rattle.q3_world.specs.Report.{answer_text}
 use Rattle.q3net.specs.Command.{Command, Help, Version, Replay, Trial}
 use Rattle.q3net.specs.Input.{IsFront, LeavesTold, LeavesFirst, Touches}
-use Rattle.q3net.specs.Lines.{ending_line, ending_status}
+use Rattle.q3net.specs.Lines.{fault_status, ending_line, ending_status}
 use Rattle.q3net.specs.Verdict.{Verdict, IsVerdict}
 use Rattle.q3net.specs.declared.fault.Fault.{Fault}
 use Rattle.q3net.specs.declared.fault.Fault.TheVariants.{NoMemory, Read, Write}
@@ -94,6 +95,11 @@ IsDecided command told status =
 abbrev pub IsComplete : Option Command → Option Told → ℕ → Type 0
 IsComplete command told status =
     (verdict : Verdict) × IsVerdict told command verdict × ((status ≡ ending_status verdict.ending) ⊎ (status ≡ 1))
+
+-- a run's own status; where none began that of the fault, or 4 where the fault line can't be written
+abbrev pub Settles : Result ℕ Fault → ℕ → ℕ → ℕ → Type 0
+Settles (Ok status) before now settled = (settled ≡ status) × (now ≡ before)
+Settles (Err fault) before now settled = ((settled ≡ fault_status fault) × (now ≡ before)) ⊎ ((settled ≡ 4) × Rose before now)
 
 -- what the run did with the files is what its verdict says, or the first of it, where something from outside ended it early
 abbrev pub HasLeft : Option Command → Option Told → Option Told → ℕ → Type 0

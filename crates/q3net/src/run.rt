@@ -1,14 +1,14 @@
 //! The top call: does all that the program does.
 
-ghost use Rattle.std.specs.Prelude.{◌≡◌, ◌⊎◌, ◌≤◌, map, IsNone, IsOk};
+ghost use Rattle.std.specs.Prelude.{◌≡◌, ◌⊎◌, ◌≤◌, map, Err, IfErr, IsNone, IsOk};
 ghost use Rattle.std.specs.String.{string_bytes};
 ghost use Rattle.q3_io.specs.Faults.{HasCause, Rose};
 ghost use Rattle.q3_io.specs.Written.{Adds, NothingWaits};
 ghost use Rattle.q3net.specs.Command.{command_of, files_of};
 ghost use Rattle.q3net.specs.Faults.{ReadCause, WriteCause};
-ghost use Rattle.q3net.specs.Lines.{ending_line, ending_status};
+ghost use Rattle.q3net.specs.Lines.{fault_line, ending_line, ending_status};
 ghost use Rattle.q3net.specs.Input.{LooksUpFirst};
-ghost use Rattle.q3net.specs.Run.{PrintsAll, Executes, Took, Prints, Reports, IsDecided, IsComplete, HasLeft, LeavesFiles};
+ghost use Rattle.q3net.specs.Run.{PrintsAll, Executes, Took, Prints, Reports, IsDecided, IsComplete, HasLeft, LeavesFiles, Settles};
 
 use crate::command::{Command, parse};
 use crate::fault::Fault;
@@ -83,8 +83,19 @@ fn execute<F: Files, O: Sink>(
     }
 }
 
+/// The status of a run, or of a start without one: then its fault line is printed.
+pub(crate) fn settle<O: Sink>(started: Result<u8, Fault>, out: &mut O) -> u8
+    ensures took { IfErr started (λ fault. Took (Err fault) (fault_line fault) (O.written out.old) (O.written out.new) result) }
+    ensures status { Settles started (O.faults out.old) (O.faults out.new) result }
+{
+    match started {
+        Ok(status) => status,
+        Err(fault) => end(Err(fault), out),
+    }
+}
+
 /// Prints the fault line of a run that ended early, hands on all that waits, and answers the status.
-pub(crate) fn end<O: Sink>(ended: Result<(), Fault>, out: &mut O) -> u8
+fn end<O: Sink>(ended: Result<(), Fault>, out: &mut O) -> u8
     ensures took { Took ended (ending_line ended) (O.written out.old) (O.written out.new) result }
     ensures status { ((result ≡ ending_status ended) × (O.faults out.new ≡ O.faults out.old))
         ⊎ ((result ≡ 4) × (O.faults out.old ≤ O.faults out.new) × Rose (O.faults out.old) (O.faults out.new)) }
