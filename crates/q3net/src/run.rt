@@ -34,9 +34,10 @@ pub fn run<F: Files, O: Sink>(alloc: Global, words: &[String], files: &mut F, ou
     ensures prints { Prints (command_of (map string_bytes words.now)) (F.told files.old) (O.written out.old) (O.written out.new) result }
 
     // The words that name files are given to `lookup`, once each and in the order in which they are read, or the first
-    // of them where the run ends early; nothing is created or appended to, and every file stays.
+    // of them where the run ends early; nothing is created or appended to, and every file stays. What is done with the files is
+    // what the verdict says, or the first of it.
     ensures touches { LooksUpFirst (F.told files.old) (F.told files.new) (files_of (command_of (map string_bytes words.now))) }
-    ensures looks_up { HasLeft (command_of (map string_bytes words.now)) (F.told files.old) (F.told files.new) result }
+    ensures leaves { HasLeft (command_of (map string_bytes words.now)) (F.told files.old) (F.told files.new) result }
     ensures writes { F.write_faults files.new ≡ F.write_faults files.old }
 
     // When each status comes: it is that of the verdict, or 1, 3 or 4 by something from outside.

@@ -15,7 +15,7 @@ pub returns-clause-touches : goal.returns-clause-touches
 returns-clause-touches g c =
     touches (command_of (map string_bytes c.args.words.now)) (g.F.Files.told c.args.files.now) (g.F.Files.told c.execute-ended.new.files) c.execute-ended.result c.execute-ended.ensures.gives
 
-pub returns-clause-looks_up : goal.returns-clause-looks_up
-returns-clause-looks_up g c =
+pub returns-clause-leaves : goal.returns-clause-leaves
+returns-clause-leaves g c =
     has_left (command_of (map string_bytes c.args.words.now)) (g.F.Files.told c.args.files.now) (g.F.Files.told c.execute-ended.new.files) c.execute-ended.result c.end.result c.execute-ended.ensures.gives
     (elim c.end.ensures.status [ inl said ↦ inl said.0 | inr failed ↦ inr failed.0 ])
