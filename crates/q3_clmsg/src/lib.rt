@@ -9,8 +9,6 @@ pub mod moves;
 mod operations;
 pub mod reading;
 pub mod report;
-#[cfg(test)]
-mod tests;
 pub mod writing;
 
 pub use error::ClientIllegible;

@@ -14,5 +14,3 @@ pub use error::ConfigError;
 pub use shapes::shape;
 pub use writing::{piece, pieces};
 
-#[cfg(test)]
-mod tests;

@@ -9,8 +9,6 @@ pub mod laws;
 pub mod line;
 pub mod print;
 pub mod sink;
-#[cfg(test)]
-mod tests;
 
 pub use address::Address;
 pub use files::Files;

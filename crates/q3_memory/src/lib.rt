@@ -8,8 +8,6 @@ pub mod files;
 mod numbers;
 pub mod sink;
 mod store;
-#[cfg(test)]
-mod tests;
 mod texts;
 
 pub use files::MemFiles;

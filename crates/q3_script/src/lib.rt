@@ -20,5 +20,3 @@ pub use cause::{LineCause, ScriptError, ScriptKind};
 pub use event::Event;
 pub use script::read_script;
 
-#[cfg(test)]
-mod tests;

@@ -14,5 +14,3 @@ pub use key::hash_key;
 pub use number::{decimal, decimal_within};
 pub use text::{Command, CommandRun, Text, TextError, translate};
 
-#[cfg(test)]
-mod tests;

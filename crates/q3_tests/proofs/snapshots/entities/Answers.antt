@@ -2,7 +2,7 @@ use Rattle.std.proofs.Common.{◌≡◌, ℕ, ◌+◌, ◌^◌, ◌≤◌, List,
 use Rattle.std.proofs.lemmas.List.{length-append}
 use Rattle.q3_entity.specs.declared.state.EntityState.{EntityState}
 use Rattle.q3_entity.specs.Entities.{RiseFrom, zero_entity}
-use Rattle.q3_frames.proofs.tests.entities.Goals as goal
+use Rattle.q3_tests.proofs.snapshots.entities.Goals as goal
 
 rise-more : (limit more least : ℕ) (xs : List EntityState) → limit ≤ more → RiseFrom limit least xs → RiseFrom more least xs
 rise-more limit more least [] most rise = tt
@@ -17,14 +17,14 @@ pub loop-number-preserved : goal.loop-number-preserved
 unfolding zero_entity
 loop-number-preserved c =
     let list = c.loop-number.list.items in
-    let named : c.zero-state.result.number ≡ c.loop-number.number + 1 = ap (λ (state : EntityState). state.number) c.zero-state.ensures in
+    let named : c.zero.result.number ≡ c.loop-number.number + 1 = ap (λ (state : EntityState). state.number) c.zero.ensures in
     record {
       count = ap (λ (xs : List EntityState). length xs) c.push.ensures.items ∙ simp length-append (omega (arith, c.loop-number.invariant.count));
       rise = subst (RiseFrom (c.loop-number.number + 1 + 1) 0) (sym c.push.ensures.items) (rise-push (c.loop-number.number + 1) 0 list _ (omega arith) c.loop-number.invariant.rise named);
     }
 
-pub returns-clause-rises : goal.returns-clause-rises
-returns-clause-rises c = record {
+pub returns : goal.returns
+returns c = record {
   rise = rise-more (c.loop-number.number + 1) (2 ^ 16) 0 c.loop-number.list.items (omega arith) c.loop-number.invariant.rise;
   few = omega arith;
 }

@@ -1,6 +1,6 @@
 use Rattle.std.proofs.Common.{◌≡◌, ◌+◌, length}
 use Rattle.q3_entity.specs.Entities.{RiseFrom}
-use Rattle.q3_frames.proofs.tests.entities.Given as goal
+use Rattle.q3_tests.proofs.snapshots.entities.Given as goal
 
 -- so many entities, numbered from 1
 abbrev pub invariant-loop-number : goal.invariant-loop-number
