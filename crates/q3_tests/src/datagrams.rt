@@ -1,11 +1,11 @@
 //! Messages that are cut into datagrams, and datagrams that are put together, with bytes worked by hand.
 
+ghost use Rattle.std.specs.Prelude.{◌≡◌, length};
+
 use q3_chan::{Datagram, Gathered, Gatherer, SEQUENCE_END, Sender, Side};
 use std::alloc::{AllocError, Global};
 use std::process::Abort;
 use std::test::*;
-
-ghost use Rattle.std.specs.Prelude.{◌≡◌, length};
 
 /// A message of so many bytes is sent as so many datagrams, the last of which begins so and has so many bytes.
 fn cuts(rt: &impl Abort, alloc: Global, length: usize, count: usize, begins: &[u8], bytes: usize) {

@@ -1,8 +1,7 @@
 //! Changes of entity 5, by the plain code and field widths 0, 8 and -16.
 
-use q3_bits::{Code, Writer};
+use q3_bits::{Code, Reader, Writer};
 use q3_entity::{Baselines, EntityError, EntityState, List, Run, read_list, write_entity};
-use q3_bits::Reader;
 use q3_fields::Table;
 use std::alloc::Global;
 use std::process::Abort;
@@ -21,7 +20,10 @@ fn writes(rt: &impl Abort, alloc: Global, word: u32, force: bool, bytes: &[u8]) 
     let table = Table::of(&[0, 8, -16]).expect(rt, "a table");
     let mut writer = Writer::new(&code, 8);
     let (from, to) = (entity(0), entity(word));
-    assert_eq!(rt; write_entity(&mut writer, &table, &from, &to, force), Ok(()));
+    assert_eq!(rt;
+        write_entity(&mut writer, &table, &from, &to, force),
+        Ok(())
+    );
     assert_eq!(rt; writer.bytes(), bytes);
 }
 

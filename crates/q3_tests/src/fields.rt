@@ -7,14 +7,7 @@ use std::process::Abort;
 use std::test::*;
 
 /// A float has this small number, if any, is written as these bytes, and is read of them as this pattern.
-fn goes(
-    rt: &impl Abort,
-    alloc: Global,
-    word: u32,
-    number: Option<i32>,
-    bytes: &[u8],
-    back: u32,
-) {
+fn goes(rt: &impl Abort, alloc: Global, word: u32, number: Option<i32>, bytes: &[u8], back: u32) {
     assert_eq!(rt; small_of(word), number);
     let code = Code::plain(alloc).expect(rt, "memory");
     let mut writer = Writer::new(&code, 8);

@@ -4,23 +4,24 @@ use q3_io::{Failed, Files, HostFiles};
 use std::process::Abort;
 use std::test::*;
 
-#[test]
-fn files_of_the_system_are_written_and_read(rt: HostRuntime) {
-    let mut files = HostFiles::new(rt.alloc(), &rt).expect(&rt, "memory");
-    let log = files.create("log").expect(&rt, "a file");
-    let mut into = [0u8; 4];
-    assert_eq!(rt; files.append(log, b"one "), Ok(()));
-    assert_eq!(rt; files.append(log, b"two"), Ok(()));
-    assert_eq!(rt; files.read_at(log, 0, &mut into), Err(Failed));
-    assert_eq!(rt; files.append(log, b"!"), Ok(()));
-    let file = files.lookup("log").expect(&rt, "a file");
-    assert_eq!(rt; files.read_at(file, 4, &mut into), Ok(4));
-    assert_eq!(rt; into, *b"two!");
+/// Makes the file `log` and puts bytes behind one another into it. Answers whether it can't be read under this number.
+fn write_log(files: &mut impl Files) -> Result<bool, Failed> {
+    let log = files.create("log")?;
+    files.append(log, b"one ")?;
+    files.append(log, b"two")?;
+    let unread = files.read_at(log, 0, &mut [0; 4]).is_err();
+    files.append(log, b"!")?;
+    Ok(unread)
+}
+
+/// Up to four bytes of the file `log` from a place on, and how many there are.
+fn read_log(files: &mut impl Files, at: u64) -> Result<([u8; 4], usize), Failed> {
+    let log = files.lookup("log")?;
+    let mut into = [0; 4];
+    files.read_at(log, at, &mut into)?;
     // the same place once more
-    assert_eq!(rt; files.read_at(file, 4, &mut into), Ok(4));
-    assert_eq!(rt; into, *b"two!");
-    assert_eq!(rt; files.read_at(file, 8, &mut into), Ok(0));
-    numbers_end_at_32(&rt, &mut files, 2);
+    let count = files.read_at(log, at, &mut into)?;
+    Ok((into, count))
 }
 
 /// The file `log` gets each number from this one to 31, and no other.
@@ -32,11 +33,12 @@ fn numbers_end_at_32(rt: &impl Abort, files: &mut impl Files, first: usize) {
 }
 
 #[test]
-fn a_long_file_of_the_system(rt: HostRuntime) {
-    let long = vec![in rt.alloc(); b'.'; 2_000].expect(&rt, "memory");
+fn files_of_the_system_are_written_and_read(rt: HostRuntime) {
     let mut files = HostFiles::new(rt.alloc(), &rt).expect(&rt, "memory");
-    assert_eq!(rt; size_of_new(&mut files, &long), Ok(2_000));
-    assert_eq!(rt; read_far_behind(&mut files), Err(Failed));
+    assert_eq!(rt; write_log(&mut files), Ok(true));
+    assert_eq!(rt; read_log(&mut files, 4), Ok((*b"two!", 4)));
+    assert_eq!(rt; read_log(&mut files, 8), Ok(([0; 4], 0)));
+    numbers_end_at_32(&rt, &mut files, 3);
 }
 
 /// How many bytes a new file `long` has once these were put into it.
@@ -54,11 +56,29 @@ fn read_far_behind(files: &mut impl Files) -> Result<usize, Failed> {
 }
 
 #[test]
+fn a_long_file_of_the_system(rt: HostRuntime) {
+    let long = vec![in rt.alloc(); b'.'; 2_000].expect(&rt, "memory");
+    let mut files = HostFiles::new(rt.alloc(), &rt).expect(&rt, "memory");
+    assert_eq!(rt; size_of_new(&mut files, &long), Ok(2_000));
+    assert_eq!(rt; read_far_behind(&mut files), Err(Failed));
+}
+
+/// Whether bytes are put into a file of this name.
+fn takes_bytes(files: &mut impl Files, name: &str) -> Result<bool, Failed> {
+    let file = files.create(name)?;
+    Ok(files.append(file, b"lost").is_ok())
+}
+
+/// Whether a file of this name is read.
+fn gives_bytes(files: &mut impl Files, name: &str) -> Result<bool, Failed> {
+    let file = files.lookup(name)?;
+    Ok(files.read_at(file, 0, &mut [0; 4]).is_ok())
+}
+
+#[test]
 fn faults_of_the_system_are_told(rt: HostRuntime) {
     let mut files = HostFiles::new(rt.alloc(), &rt).expect(&rt, "memory");
-    assert_eq!(rt; files.lookup("."), Err(Failed));
-    let full = files.create("/dev/full").expect(&rt, "a file");
-    assert_eq!(rt; files.append(full, b"lost"), Err(Failed));
-    let memory = files.lookup("/proc/self/mem").expect(&rt, "a file");
-    assert_eq!(rt; files.read_at(memory, 0, &mut [0; 4]), Err(Failed));
+    assert_eq!(rt; gives_bytes(&mut files, "."), Err(Failed));
+    assert_eq!(rt; takes_bytes(&mut files, "/dev/full"), Ok(false));
+    assert_eq!(rt; gives_bytes(&mut files, "/proc/self/mem"), Ok(false));
 }

@@ -14,15 +14,25 @@ fn what_fails_or_does_not_fit_is_not_written(rt: HostRuntime) {
     assert_eq!(rt; sink.bytes(), b"firstend".as_slice());
 }
 
+/// Makes the file `log` with these bytes in it.
+fn write_log(files: &mut impl Files, bytes: &[u8]) -> Result<(), Failed> {
+    let log = files.create("log")?;
+    files.append(log, bytes)
+}
+
+/// What is read of the file `map` from this place on, up to four bytes.
+fn read_map(files: &mut impl Files, at: u64) -> Result<[u8; 4], Failed> {
+    let map = files.lookup("map")?;
+    let mut into = [0; 4];
+    files.read_at(map, at, &mut into)?;
+    Ok(into)
+}
+
 #[test]
 fn files_in_memory_are_written_and_read(rt: HostRuntime) {
     let mut files = MemFiles::new(rt.alloc(), 2, 64, 2, &[]).expect(&rt, "memory");
     assert!(rt; files.store("map", b"01234"));
-    let log = files.create("log").expect(&rt, "room");
-    assert_eq!(rt; files.append(log, b"one two"), Ok(()));
+    assert_eq!(rt; write_log(&mut files, b"one two"), Ok(()));
     assert_eq!(rt; files.contents("log"), Some(b"one two".as_slice()));
-    let map = files.lookup("map").expect(&rt, "a file");
-    let mut into = [0u8; 4];
-    assert_eq!(rt; files.read_at(map, 3, &mut into), Ok(2));
-    assert_eq!(rt; into, *b"34\0\0");
+    assert_eq!(rt; read_map(&mut files, 3), Ok(*b"34\0\0"));
 }
