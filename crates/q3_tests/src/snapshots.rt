@@ -5,6 +5,7 @@ ghost use Rattle.q3_entity.specs.Entities.{Rises};
 
 use q3_entity::{EntityState, List};
 use q3_player::SnapHead;
+use q3_ring::Ring;
 use q3_rings::{NoBase, Rings};
 use std::process::Abort;
 use std::test::*;
@@ -51,4 +52,25 @@ fn third_of_three_lies_round_the_end(rt: HostRuntime) {
     assert_eq!(rt; pieces(&rings, 3), Ok((112, 88)));
     assert_eq!(rt; pieces(&rings, 2), Err(NoBase::EntitiesGone(400)));
     assert_eq!(rt; pieces(&rings, 1), Err(NoBase::EntitiesGone(600)));
+}
+
+/// Places entities once, where the ring has room for them. Answers how many were placed before them.
+fn place_once(rt: &impl Abort, ring: &mut Ring, count: u16) -> u64
+    requires { count ≤ 256 }
+{
+    let entities = entities(count);
+    assert!(rt; entities.len() <= ring.room() && ring.placed() < 1_000);
+    ring.place_once(&entities)
+}
+
+// the contract of `place_once` lets it place the same entities again
+#[test]
+fn same_entities_lie_once(rt: HostRuntime) {
+    let mut ring = Ring::new(rt.alloc(), 512).expect(&rt, "memory");
+    assert_eq!(rt; place_once(&rt, &mut ring, 200), 0);
+    assert_eq!(rt; place_once(&rt, &mut ring, 200), 0);
+    assert_eq!(rt; place_once(&rt, &mut ring, 100), 200);
+    assert_eq!(rt; place_once(&rt, &mut ring, 100), 200);
+    assert_eq!(rt; place_once(&rt, &mut ring, 200), 300);
+    assert_eq!(rt; ring.placed(), 500);
 }
