@@ -16,10 +16,13 @@ NO_REPEATS = 'glibc.cpu.x86_rep_stosb_threshold=1000000000:glibc.cpu.x86_rep_mov
 
 
 def program():
-    """The program that the command line names, by default the one that was built here."""
+    """The program that the command line names, by default the one that was built here; or the script's text is printed."""
+    if sys.argv[1:] == ['--help']:
+        print(sys.modules['__main__'].__doc__.strip())
+        sys.exit()
     named = pathlib.Path(*sys.argv[1:2] or [PROGRAM]).resolve()
     if not named.is_file():
-        sys.exit(f'no program {named}')
+        sys.exit(f'no program {named}: `rt run` in crates/q3net builds it')
     return named
 
 

@@ -12,8 +12,6 @@ pub mod scrambling;
 pub mod sender;
 pub mod side;
 pub mod starts;
-#[cfg(test)]
-mod tests;
 
 pub use gatherer::{Gathered, Gatherer};
 pub use limits::{DATAGRAM_ROOM, FRAGMENT_SIZE, LONGEST_MESSAGE, SEQUENCE_END};

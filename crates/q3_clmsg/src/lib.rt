@@ -10,8 +10,6 @@ mod operations;
 pub mod print;
 pub mod reading;
 pub mod report;
-#[cfg(test)]
-mod tests;
 pub mod writing;
 
 pub use error::ClientIllegible;

@@ -13,6 +13,3 @@ pub use configs::Configs;
 pub use error::ConfigError;
 pub use shapes::shape;
 pub use writing::{piece, pieces};
-
-#[cfg(test)]
-mod tests;

@@ -9,13 +9,9 @@ pub mod list_reading;
 pub mod list_writing;
 pub mod print;
 pub mod reading;
-#[cfg(test)]
-mod reading_tests;
 mod run;
 pub mod state;
 pub mod writing;
-#[cfg(test)]
-mod writing_tests;
 
 pub use baselines::Baselines;
 pub use error::EntityError;

@@ -3,7 +3,5 @@
 
 pub mod frames;
 pub mod laws;
-#[cfg(test)]
-mod tests;
 
 pub use frames::{Base, Frames};

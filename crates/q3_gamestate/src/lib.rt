@@ -6,8 +6,6 @@ pub mod laws;
 pub mod numbers;
 pub mod operations;
 pub mod reading;
-#[cfg(test)]
-mod tests;
 pub mod writing;
 
 pub use error::GamestateError;

@@ -10,8 +10,6 @@ pub mod laws;
 pub mod line;
 pub mod print;
 pub mod sink;
-#[cfg(test)]
-mod tests;
 pub mod wire;
 
 pub use address::Address;

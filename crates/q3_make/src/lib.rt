@@ -10,6 +10,3 @@ pub mod print;
 pub use drawn::Drawn;
 pub use make::{closing_lines, make_script, opening_lines};
 pub use print::print_script;
-
-#[cfg(test)]
-mod tests;

@@ -4,7 +4,5 @@
 mod entities;
 pub mod laws;
 pub mod map;
-#[cfg(test)]
-mod tests;
 
 pub use map::{Late, Map, NotLater};

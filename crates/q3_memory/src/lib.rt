@@ -10,8 +10,6 @@ mod numbers;
 mod parcels;
 pub mod sink;
 mod store;
-#[cfg(test)]
-mod tests;
 mod texts;
 pub mod wire;
 

@@ -4,8 +4,6 @@
 pub mod kept;
 pub mod laws;
 pub mod ring;
-#[cfg(test)]
-mod tests;
 
 pub use kept::{Kept, Places};
 pub use ring::Ring;

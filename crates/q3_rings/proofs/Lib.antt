@@ -1,4 +1,3 @@
-pub mod Numbered
 pub mod Lists
 pub mod Aging
 pub mod Accepting

@@ -3,8 +3,6 @@
 
 pub mod laws;
 pub mod rings;
-#[cfg(test)]
-mod tests;
 pub mod views;
 
 pub use rings::{NoBase, Rings};

@@ -19,6 +19,3 @@ pub use bytes::Bytes;
 pub use cause::{LineCause, ScriptError, ScriptKind};
 pub use event::Event;
 pub use script::read_script;
-
-#[cfg(test)]
-mod tests;

@@ -4,8 +4,6 @@
 pub mod error;
 pub mod laws;
 pub mod reading;
-#[cfg(test)]
-mod tests;
 pub mod writing;
 
 pub use error::StringError;

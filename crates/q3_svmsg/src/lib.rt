@@ -8,8 +8,6 @@ pub mod message;
 mod operations;
 pub mod reading;
 pub mod report;
-#[cfg(test)]
-mod tests;
 pub mod writing;
 
 pub use bases::{BaseView, Bases};

@@ -13,6 +13,3 @@ pub use info::info_value;
 pub use key::hash_key;
 pub use number::{decimal, decimal_within};
 pub use text::{Command, CommandRun, Text, TextError, translate};
-
-#[cfg(test)]
-mod tests;

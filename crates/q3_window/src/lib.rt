@@ -6,8 +6,6 @@ pub mod incoming;
 pub mod laws;
 pub mod outgoing;
 pub mod print;
-#[cfg(test)]
-mod tests;
 
 pub use incoming::{Incoming, Taken};
 pub use outgoing::{BadAck, Outgoing, WindowFull};
