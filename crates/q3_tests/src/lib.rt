@@ -19,6 +19,10 @@ mod messages;
 #[cfg(test)]
 mod profiles;
 #[cfg(test)]
+mod sinks;
+#[cfg(test)]
 mod snapshots;
 #[cfg(test)]
 mod texts;
+#[cfg(test)]
+mod wires;

@@ -2,7 +2,6 @@
 
 use q3_io::{Address, Clock, Failed, HostClock, UdpWire, Wire};
 use q3_memory::{MemClock, MemWire};
-use std::process::Abort;
 use std::test::*;
 
 /// An address of this machine.
@@ -11,11 +10,6 @@ fn here(port: u16) -> Address {
         host: 0x7f00_0001,
         port,
     }
-}
-
-/// What the next receive finds: where it comes from, how many bytes, and the buffer.
-fn next(wire: &mut MemWire, into: &mut [u8; 2]) -> Result<Option<(Address, usize)>, Failed> {
-    wire.receive(into)
 }
 
 #[test]
@@ -40,4 +34,36 @@ fn a_clock_in_memory_gives_its_last_reading_again(rt: HostRuntime) {
     let mut clock = MemClock::new(rt.alloc(), &[3, 3, 7]).expect(&rt, "memory");
     let read = [clock.now(), clock.now(), clock.now(), clock.now()];
     assert_eq!(rt; read, [3, 3, 7, 7]);
+}
+
+/// Ports outside the range from which the system gives others.
+const ONE: u16 = 21_968;
+const OTHER: u16 = 21_969;
+const NOBODYS: u16 = 21_970;
+
+#[test]
+fn sockets_of_the_system_send_and_receive(rt: HostRuntime) {
+    let mut one = UdpWire::new(&rt);
+    let mut other = UdpWire::new(&rt);
+    let mut clock = HostClock::new(&rt);
+    let mut into = [0; 2];
+    assert_eq!(rt; one.bind(here(ONE)), Ok(()));
+    assert_eq!(rt; other.bind(here(OTHER)), Ok(()));
+    let first = clock.now();
+    assert_eq!(rt; other.receive(&mut into), Ok(None));
+    assert_eq!(rt; other.receive(&mut into), Ok(None));
+    assert!(rt; clock.now() > first);
+    assert_eq!(rt; one.send(here(OTHER), b"abc"), Ok(()));
+    assert_eq!(rt; other.receive(&mut into), Ok(Some((here(ONE), 2))));
+    assert_eq!(rt; into, *b"ab");
+    assert_eq!(rt; one.send(here(NOBODYS), b"abc"), Ok(()));
+    assert_eq!(rt; one.receive(&mut into), Ok(None));
+}
+
+#[test]
+fn a_port_that_is_taken_is_a_fault(rt: HostRuntime) {
+    let mut one = UdpWire::new(&rt);
+    let mut other = UdpWire::new(&rt);
+    assert_eq!(rt; one.bind(here(NOBODYS + 1)), Ok(()));
+    assert_eq!(rt; other.bind(here(NOBODYS + 1)), Err(Failed));
 }
