@@ -13,6 +13,13 @@ pub(crate) struct Ahead<'a> {
     ghost fits: { bits < 2 ^ count },
 }
 
+/// A run of marks: how many are 0, and how many bits it has.
+#[derive(Clone, Copy)]
+pub(crate) struct Marks {
+    pub(crate) zeros: u32,
+    pub(crate) length: u32,
+}
+
 impl<'a> Ahead<'a> {
     ghost use Rattle.std.specs.Prelude.{◌↔◌, ◌⊎◌, ◌-◌, ◌/◌, IsTrue, IfSome, IfNone, Ok, Err, min};
     ghost use Rattle.q3_bits.specs.Words.{run_at};
@@ -115,17 +122,19 @@ impl<'a> Ahead<'a> {
         (self.bits % (1 << 24)) as u32
     }
 
-    /// How many marks of 0 are next, up to a limit, where that many bits, and the mark of 1 behind fewer, were gathered.
-    pub(crate) fn run(self, limit: u32) -> Option<u32>
-        ensures found { IfSome result (λ zeros. run_at limit (bits_ahead self.entry) ≡ Ok (zeros, drop (min (zeros + 1) limit) (bits_ahead self.entry))) }
-        ensures gathered { IfSome result (λ zeros. (zeros ≤ limit) × (min (zeros + 1) limit ≤ self.entry.count)) }
+    /// The run of marks that is next, up to a limit, where its bits were gathered.
+    pub(crate) fn run(self, limit: u32) -> Option<Marks>
+        ensures found { IfSome result (λ run. run_at limit (bits_ahead self.entry) ≡ Ok (run.zeros, drop run.length (bits_ahead self.entry))) }
+        ensures gathered { IfSome result (λ run. (run.zeros ≤ limit) × (run.length ≤ self.entry.count)) }
         ensures none { IfNone result (limit ≤ 56 → (56 ≤ self.entry.count) ⊎ (length self.entry.rest.now ≡ 0) → run_at limit (bits_ahead self.entry) ≡ Err End) }
     {
         let zeros = self.bits.trailing_zeros();
-        if (zeros + 1).min(limit) > self.count {
+        let length = (zeros + 1).min(limit);
+        if length > self.count {
             return None;
         }
-        Some(zeros.min(limit))
+        let zeros = zeros.min(limit);
+        Some(Marks { zeros, length })
     }
 
     /// What is behind the next bits, so many.

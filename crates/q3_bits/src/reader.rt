@@ -85,9 +85,9 @@ impl<'a> Reader<'a> {
         ensures most { IfOk result (λ count. count ≤ limit) }
         ensures err { OnErr result (self.new ≡ self.old) }
     {
-        if let Some(zeros) = self.ahead.run(limit) {
-            self.ahead = self.ahead.skip((zeros + 1).min(limit));
-            return Ok(zeros);
+        if let Some(run) = self.ahead.run(limit) {
+            self.ahead = self.ahead.skip(run.length);
+            return Ok(run.zeros);
         }
         self.run_behind(limit)
     }
@@ -183,11 +183,11 @@ impl<'a> Reader<'a> {
         ensures err { OnErr result (self.new ≡ self.old) }
     {
         self.ahead.refill();
-        let Some(zeros) = self.ahead.run(limit) else {
+        let Some(run) = self.ahead.run(limit) else {
             return Err(ReadError::End);
         };
-        self.ahead = self.ahead.skip((zeros + 1).min(limit));
-        Ok(zeros)
+        self.ahead = self.ahead.skip(run.length);
+        Ok(run.zeros)
     }
 }
 
