@@ -8,3 +8,5 @@ pub mod WordTexts
 pub mod MessageBytes
 pub mod Written
 pub mod EightBytes
+pub mod Gathered
+pub mod Runs

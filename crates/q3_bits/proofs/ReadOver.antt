@@ -1,6 +1,7 @@
 -- Reading values one after the other over a list, as a loop does.
-use Rattle.std.proofs.Common.{◌≡◌, ℕ, ◌+◌, ◌<◌, List, [], ◌∷◌, ◌++◌, length, take, drop, get_or, set, Ok, Err, refl, sym, ap, ◌∙◌, append_assoc, arith}
+use Rattle.std.proofs.Common.{◌≡◌, ℕ, ◌+◌, ◌<◌, ◌≤◌, List, [], ◌∷◌, ◌++◌, length, take, drop, get_or, set, Ok, Err, refl, sym, ap, ◌∙◌, append_assoc, arith}
 use Rattle.std.proofs.lemmas.List.{drop-drop, drop-set-lt, get_or-drop, take-append-drop, take_more_set, length-set}
+use Rattle.std.proofs.Math.Seq.{take-add}
 use Rattle.q3_bits.specs.Streams.{Reading}
 use Rattle.q3_bits.specs.InPlace.{ListRead, with_front, with_first, HasRead}
 use Rattle.q3_bits.specs.declared.reader.ReadError.{ReadError}
@@ -44,6 +45,26 @@ HasRead-more start now next k from into left whole others y h within words place
       behind = drop-set-lt (k + 1) into k y (omega arith) ∙ sym (drop-drop 1 k into) ∙ ap (drop 1) h.behind ∙ drop-drop 1 k from;
       long = length-set into k y ∙ h.long;
       reads = rw take_more_set (sym one ∙ h.reads);
+    }
+
+-- a front behind a front is one
+regroup-front : (first second : List ℕ) (read : ListRead) → with_front first (with_front second read) ≡ with_front (first ++ second) read
+regroup-front first second (Ok x) = ap (λ (ys : List ℕ). Ok (ys, x.1)) (simp append_assoc)
+regroup-front first second (Err e) = refl
+
+-- more of them stay
+pub HasRead-keep : (start now next : Reading) (k n : ℕ) (from into : List ℕ) (left whole others : ListRead) → HasRead start now k from into left whole → k + n ≤ length from
+    → next.words ≡ now.words → next.place + length next.left ≡ now.place + length now.left → left ≡ with_front (take n (drop k from)) others
+    → HasRead start next (k + n) from into others whole
+HasRead-keep start now next k n from into left whole others h within words place read =
+    let parts : take (k + n) into ≡ take k into ++ take n (drop k from) =
+    take-add k n into ∙ ap (λ (ys : List ℕ). take k into ++ take n ys) h.behind in
+    record {
+      words = words ∙ h.words;
+      place = place ∙ h.place;
+      behind = sym (drop-drop n k into) ∙ ap (drop n) h.behind ∙ drop-drop n k from;
+      long = h.long;
+      reads = ap (λ (ys : List ℕ). with_front ys others) parts ∙ sym (regroup-front (take k into) (take n (drop k from)) others) ∙ ap (with_front (take k into)) (sym read) ∙ h.reads;
     }
 
 -- a fault ends it

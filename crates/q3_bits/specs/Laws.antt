@@ -1,12 +1,12 @@
 -- Laws of the code text, of texts that are written and read one after the other, and of the bytes of a message.
-use Rattle.std.specs.Prelude.{◌≡◌, ℕ, ◌+◌, ◌-◌, ◌*◌, ◌^◌, ◌<◌, Bool, false, List, [], ◌++◌, length, drop, replicate, All, slice_index, slice_set, Result, Ok, Err}
-use Rattle.q3_bits.specs.Bits.{bits_of, message_bytes, message_length}
+use Rattle.std.specs.Prelude.{◌≡◌, ℕ, ◌+◌, ◌-◌, ◌*◌, ◌^◌, ◌<◌, ◌≤◌, Bool, false, List, [], ◌∷◌, ◌++◌, length, take, drop, replicate, All, slice_index, slice_set, Result, Ok, Err}
+use Rattle.q3_bits.specs.Bits.{bit, bits_of, message_bytes, message_length}
 use Rattle.q3_bits.specs.declared.reader.ReadError.{ReadError}
 use Rattle.q3_bits.specs.declared.reader.ReadError.TheVariants.{End, NoWord}
 use Rattle.q3_bits.specs.declared.writer.Overflow.{Overflow}
 use Rattle.q3_bits.specs.Words.{IsCode, plain_words, field_bits, field_at, IsCutShort}
 use Rattle.q3_bits.specs.Streams.{Writing, Reading, IsOverlong, Writes, HasWritten}
-use Rattle.q3_bits.specs.InPlace.{ListRead, with_first, HasRead}
+use Rattle.q3_bits.specs.InPlace.{ListRead, with_front, with_first, HasRead}
 
 -- what is read was put: the value fits the width, and its text stands at the front
 abbrev pub ReadWasPut : Type 0
@@ -37,6 +37,11 @@ pub record MarksAreJoined : Type 0 where
   -- one behind another is one field
   pub join : (words : List (List Bool)) (first second mark other : ℕ) → first + second < 8 → mark < 2 ^ first
       → field_bits words (first + second) (mark + other * 2 ^ first) ≡ field_bits words first mark ++ field_bits words second other
+
+-- what holds of a field of one bit: it is the bit
+pub record MarksAreBits : Type 0 where
+  pub here : (words : List (List Bool)) (b : Bool) (bits : List Bool) → field_at words 1 (b ∷ bits) ≡ Ok (bit b, bits)
+  pub none : (words : List (List Bool)) → field_at words 1 [] ≡ Err End
 
 -- what holds of texts that are written one after the other
 pub record TextsAreWritten : Type 0 where
@@ -73,6 +78,10 @@ pub record ListsAreRead : Type 0 where
   pub more : (start now next : Reading) (k : ℕ) (from into : List ℕ) (left whole others : ListRead) (y : ℕ) → HasRead start now k from into left whole → k < length from
       → next.words ≡ now.words → next.place + length next.left ≡ now.place + length now.left → left ≡ with_first y others
       → HasRead start next (k + 1) from (slice_set into k y) others whole
+  -- more of them stay
+  pub keep : (start now next : Reading) (k n : ℕ) (from into : List ℕ) (left whole others : ListRead) → HasRead start now k from into left whole → k + n ≤ length from
+      → next.words ≡ now.words → next.place + length next.left ≡ now.place + length now.left → left ≡ with_front (take n (drop k from)) others
+      → HasRead start next (k + n) from into others whole
   -- a fault ends it
   pub stops : (start now : Reading) (k : ℕ) (from into : List ℕ) (left whole : ListRead) (e : ReadError) → HasRead start now k from into left whole → left ≡ Err e → whole ≡ Err e
   -- all were read

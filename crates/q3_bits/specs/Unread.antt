@@ -1,20 +1,19 @@
 -- What a reader has left of its bytes.
-use Rattle.std.specs.Prelude.{ℕ, ◌*◌, ◌-◌, ◌≤◌, Bool, List, length, drop, Result, Ok, Err}
-use Rattle.q3_bits.specs.declared.rest.Rest.{Rest}
+use Rattle.std.specs.Prelude.{◌≡◌, ◌⊎◌, ℕ, ◌*◌, ◌-◌, ◌≤◌, Bool, List, ◌++◌, length, Result, Ok, Err}
 use Rattle.q3_bits.specs.declared.ahead.Ahead.{Ahead}
 use Rattle.q3_bits.specs.declared.reader.ReadError.{ReadError}
 use Rattle.q3_bits.specs.declared.reader.Reader.TheInside.{Inside}
-use Rattle.q3_bits.specs.Bits.{bits_of}
+use Rattle.q3_bits.specs.Bits.{low_bits, bits_of}
 use Rattle.q3_bits.specs.Words.{IsCode}
 use Rattle.q3_bits.specs.Streams.{Reading}
 
--- the bits from the next one on
-abbrev pub rest_bits : Rest → List Bool
-rest_bits rest = drop rest.bit (bits_of rest.bytes.now)
-
--- the bits behind those that were taken
+-- the bits that are left: those that were gathered, and those of the bytes behind them
 abbrev pub bits_ahead : Ahead → List Bool
-bits_ahead ahead = drop ahead.taken (bits_of ahead.bytes.now)
+bits_ahead ahead = low_bits ahead.count ahead.bits ++ bits_of ahead.rest.now
+
+-- more bits are gathered than a word has, or all that are left
+abbrev pub IsFull : Ahead → Type 0
+IsFull ahead = (25 ≤ ahead.count) ⊎ (length ahead.rest.now ≡ 0)
 
 -- a value and what is behind it, by its bits
 abbrev pub found_ahead : Result (ℕ × Ahead) ReadError → Result (ℕ × List Bool) ReadError
@@ -22,9 +21,9 @@ found_ahead (Ok found) = Ok (found.0, bits_ahead found.1)
 found_ahead (Err e) = Err e
 
 abbrev pub reading_of : Inside → Reading
-reading_of r = record { words = r.code.now; left = rest_bits r.rest; place = 8 * r.total - length (rest_bits r.rest) }
+reading_of r = record { words = r.code.now; left = bits_ahead r.ahead; place = 8 * r.total - length (bits_ahead r.ahead) }
 
--- there were at least as many bytes as are left, and the words are a code
+-- there were at least as many bits as are left, and the words are a code
 pub record IsWithin (r : Inside) : Type 0 where
-  pub total : length r.rest.bytes.now ≤ r.total
+  pub total : length (bits_ahead r.ahead) ≤ 8 * r.total
   pub code : IsCode r.code.now

@@ -73,6 +73,15 @@ field_at words width bits = do
   bytes ← bytes_at words (width / 8) raw.1
   Ok (raw.0 + 2 ^ (width % 8) * bytes.0, bytes.1)
 
+-- how many marks of 0 stand at the front, up to a limit, and what is behind them and behind the mark of 1 that ends them
+unfoldable pub run_at : ℕ → List Bool → Result (ℕ × List Bool) ReadError
+run_at zero bits = Ok (0, bits)
+run_at (suc limit) [] = Err End
+run_at (suc limit) (true ∷ bits) = Ok (0, bits)
+run_at (suc limit) (false ∷ bits) = do
+  others ← run_at limit bits
+  Ok (others.0 + 1, others.1)
+
 -- the bits are the front of a field's text that goes on
 abbrev pub IsCutShort : List (List Bool) → ℕ → List Bool → Type 0
 IsCutShort words width bits = (value : ℕ) × (more : List Bool) × (bits ++ more ≡ field_bits words width value)

@@ -1,105 +1,151 @@
 //! The next bits of a message, gathered in one number. Keeps the rule "bit order of a field".
 
-ghost use Rattle.std.specs.Prelude.{◌≡◌, ◌*◌, ◌<◌, ◌≤◌, length, take, drop};
+ghost use Rattle.std.specs.Prelude.{◌≡◌, ◌+◌, ◌*◌, ◌<◌, ◌≤◌, ◌^◌, length, take, drop, MatchOption};
 ghost use Rattle.q3_bits.specs.Bits.{bits_of, number_of};
 
-use crate::rest::Rest;
-
-/// Bytes whose first 64 bits were gathered, with zeros behind the last, and how many of these bits were taken.
+/// The next bits, so many, as a number, the first of them least, and the bytes behind them.
 #[derive(Clone, Copy)]
 pub(crate) struct Ahead<'a> {
-    pub(crate) bytes: &'a [u8],
-    pub(crate) gathered: u64,
-    pub(crate) taken: u32,
-    ghost spells: { gathered ≡ number_of (take 64 (bits_of bytes.now)) },
-    ghost few: { taken < 64 },
-    ghost within: { taken ≤ 8 * length bytes.now },
+    pub(crate) bits: u64,
+    pub(crate) count: u32,
+    pub(crate) rest: &'a [u8],
+    ghost few: { count < 64 },
+    ghost fits: { bits < 2 ^ count },
+}
+
+/// A run of marks: how many are 0, and how many bits it has.
+#[derive(Clone, Copy)]
+pub(crate) struct Marks {
+    pub(crate) zeros: u32,
+    pub(crate) length: u32,
 }
 
 impl<'a> Ahead<'a> {
-    ghost use Rattle.std.specs.Prelude.{◌+◌, ◌^◌, ◌↔◌, IsTrue, min};
-    ghost use Rattle.q3_bits.specs.Unread.{rest_bits, bits_ahead};
+    ghost use Rattle.std.specs.Prelude.{◌↔◌, ◌⊎◌, ◌-◌, ◌/◌, IsTrue, IfSome, IfNone, Ok, Err, min};
+    ghost use Rattle.q3_bits.specs.Words.{run_at};
+    ghost use Rattle.q3_bits.specs.declared.reader.ReadError.TheVariants.{End};
+    ghost use Rattle.q3_bits.specs.Unread.{bits_ahead, IsFull};
 
-    /// Gathers the next bits.
-    pub(crate) fn of(rest: Rest<'a>) -> Ahead<'a>
-        ensures bits { bits_ahead result ≡ rest_bits rest.entry }
-        ensures bytes { length result.bytes.now ≡ length rest.entry.bytes.now }
-        ensures ready { result.taken < 8 }
+    /// All bits of these bytes, of which none is gathered.
+    pub(crate) fn new(bytes: &'a [u8]) -> Ahead<'a>
+        ensures { bits_ahead result ≡ bits_of bytes.now }
     {
         Ahead {
-            bytes: rest.bytes,
-            gathered: first_eight(rest.bytes),
-            taken: rest.bit,
+            bits: 0,
+            count: 0,
+            rest: bytes,
         }
     }
 
-    /// What is left behind the bits that were taken.
-    pub(crate) fn rest(self) -> Rest<'a>
-        ensures bits { rest_bits result ≡ bits_ahead self.entry }
-        ensures bytes { length result.bytes.now ≤ length self.entry.bytes.now }
+    /// Gathers as many bytes more as there is room for.
+    #[inline(never)]
+    pub(crate) fn refill(&mut self)
+        ensures bits { bits_ahead self.new ≡ bits_ahead self.old }
+        ensures full { (56 ≤ self.new.count) ⊎ (length self.new.rest.now ≡ 0) }
     {
-        Rest {
-            bytes: behind(self.bytes, (self.taken / 8) as usize),
-            bit: self.taken % 8,
+        let room = (63 - self.count) / 8;
+        // all but the last seven of a message's bytes have seven behind them
+        if let Some(word) = first_eight(self.rest) {
+            *self = self.with(word, room);
+            return;
+        }
+        self.refill_last(room);
+    }
+
+    /// The same of fewer than eight bytes.
+    #[cold]
+    #[inline(never)]
+    fn refill_last(&mut self, room: u32)
+        requires room { room ≡ (63 - self.old.count) / 8 }
+        requires last { length self.old.rest.now < 8 }
+        ensures bits { bits_ahead self.new ≡ bits_ahead self.old }
+        ensures full { (56 ≤ self.new.count) ⊎ (length self.new.rest.now ≡ 0) }
+    {
+        let more = room.min(self.rest.len() as u32);
+        *self = self.with(last_seven(self.rest), more);
+    }
+
+    /// The same, with the next bytes gathered, so many: `word` is the number that the first eight spell.
+    fn with(self, word: u64, more: u32) -> Ahead<'a>
+        requires word { word ≡ number_of (take 64 (bits_of self.rest.now)) }
+        requires room { self.count + 8 * more < 64 }
+        requires there { more ≤ length self.rest.now }
+        ensures bits { bits_ahead result ≡ bits_ahead self.entry }
+        ensures count { result.count ≡ self.entry.count + 8 * more }
+        ensures rest { length result.rest.now ≡ length self.entry.rest.now - more }
+    {
+        let next = word % (1 << (8 * more));
+        Ahead {
+            bits: self.bits + (next << self.count),
+            count: self.count + 8 * more,
+            rest: behind(self.rest, more as usize),
         }
     }
 
-    /// The same, gathered anew where fewer than 25 of the 64 bits are left: no word of a code has as many.
+    /// The same, with more gathered where fewer than 25 bits are: no word of a code has as many.
     pub(crate) fn ready(self) -> Ahead<'a>
         ensures bits { bits_ahead result ≡ bits_ahead self.entry }
-        ensures bytes { length result.bytes.now ≤ length self.entry.bytes.now }
-        ensures ready { result.taken ≤ 39 }
+        ensures full { IsFull result }
     {
-        if self.taken <= 39 {
-            return self;
+        let mut ready = self;
+        if self.count < 25 {
+            ready.refill();
         }
-        Ahead::of(self.rest())
+        ready
     }
 
     /// Whether so many bits are left.
     pub(crate) fn has(self, count: u32) -> bool
-        requires ready { self.taken ≤ 39 }
+        requires full { IsFull self }
         requires few { count ≤ 24 }
-        ensures { IsTrue result ↔ (count ≤ length (bits_ahead self.entry)) }
+        ensures gathered { IsTrue result ↔ (count ≤ self.entry.count) }
+        ensures left { (count ≤ self.entry.count → count ≤ length (bits_ahead self.entry)) × (count ≤ length (bits_ahead self.entry) → count ≤ self.entry.count) }
     {
-        if self.bytes.len() >= 8 {
-            return true;
-        }
-        self.taken + count <= 8 * self.bytes.len() as u32
+        count <= self.count
     }
 
     /// How many bits are left, and 25 where more are.
-    pub(crate) fn count(self) -> u32
-        requires { self.taken ≤ 39 }
-        ensures { result ≡ min 25 (length (bits_ahead self.entry)) }
+    pub(crate) fn left(self) -> u32
+        requires { IsFull self }
+        ensures left { result ≡ min 25 (length (bits_ahead self.entry)) }
+        ensures gathered { result ≤ self.entry.count }
     {
-        if self.bytes.len() >= 8 {
-            return 25;
-        }
-        (8 * self.bytes.len() as u32 - self.taken).min(25)
+        self.count.min(25)
     }
 
     /// The number that the next 24 bits spell, with zeros behind the last.
     pub(crate) fn window(self) -> u32
-        requires { self.taken ≤ 39 }
+        requires { IsFull self }
         ensures bits { result ≡ number_of (take 24 (bits_ahead self.entry)) }
         ensures fits { result < 2 ^ 24 }
     {
-        ((self.gathered >> self.taken) % (1 << 24)) as u32
+        (self.bits % (1 << 24)) as u32
+    }
+
+    /// The run of marks that is next, up to a limit, where its bits were gathered.
+    pub(crate) fn run(self, limit: u32) -> Option<Marks>
+        ensures found { IfSome result (λ run. run_at limit (bits_ahead self.entry) ≡ Ok (run.zeros, drop run.length (bits_ahead self.entry))) }
+        ensures gathered { IfSome result (λ run. (run.zeros ≤ limit) × (run.length ≤ self.entry.count)) }
+        ensures none { IfNone result (limit ≤ 56 → (56 ≤ self.entry.count) ⊎ (length self.entry.rest.now ≡ 0) → run_at limit (bits_ahead self.entry) ≡ Err End) }
+    {
+        let zeros = self.bits.trailing_zeros();
+        let length = (zeros + 1).min(limit);
+        if length > self.count {
+            return None;
+        }
+        let zeros = zeros.min(limit);
+        Some(Marks { zeros, length })
     }
 
     /// What is behind the next bits, so many.
     pub(crate) fn skip(self, count: u32) -> Ahead<'a>
-        requires ready { self.taken ≤ 39 }
-        requires few { count ≤ 24 }
-        requires within { count ≤ length (bits_ahead self) }
-        ensures bits { bits_ahead result ≡ drop count (bits_ahead self.entry) }
-        ensures bytes { length result.bytes.now ≡ length self.entry.bytes.now }
+        requires { count ≤ self.count }
+        ensures { bits_ahead result ≡ drop count (bits_ahead self.entry) }
     {
         Ahead {
-            bytes: self.bytes,
-            gathered: self.gathered,
-            taken: self.taken + count,
+            bits: self.bits >> count,
+            count: self.count - count,
+            rest: self.rest,
         }
     }
 }
@@ -112,18 +158,17 @@ fn behind(bytes: &[u8], count: usize) -> &[u8]
     &bytes[count..]
 }
 
-/// The number that the bits of the first eight bytes spell, with zeros behind the last byte.
-fn first_eight(bytes: &[u8]) -> u64
-    ensures { result ≡ number_of (take 64 (bits_of bytes.now)) }
+/// The number that the bits of the first eight bytes spell; nothing where there are fewer.
+fn first_eight(bytes: &[u8]) -> Option<u64>
+    ensures { MatchOption result (length bytes.now < 8) (λ word. (8 ≤ length bytes.now) × (word ≡ number_of (take 64 (bits_of bytes.now)))) }
 {
-    // all but the last seven of a message's bytes have seven behind them
     if let [a, b, c, d, e, f, g, h, ..] = bytes {
-        return u64::from_le_bytes([*a, *b, *c, *d, *e, *f, *g, *h]);
+        return Some(u64::from_le_bytes([*a, *b, *c, *d, *e, *f, *g, *h]));
     }
-    last_seven(bytes)
+    None
 }
 
-/// The same, of fewer bytes.
+/// The number that the bits of fewer than eight bytes spell.
 #[cold]
 #[inline(never)]
 fn last_seven(bytes: &[u8]) -> u64
@@ -133,7 +178,7 @@ fn last_seven(bytes: &[u8]) -> u64
     u64::from(first_four(bytes)) + (u64::from(high) << 32)
 }
 
-/// The same of the first four bytes.
+/// The number that the bits of the first four bytes spell, with zeros behind the last byte.
 fn first_four(bytes: &[u8]) -> u32
     ensures { result ≡ number_of (take 32 (bits_of bytes.now)) }
 {

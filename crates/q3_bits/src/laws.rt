@@ -2,7 +2,7 @@
 //! nothing. A proof above cites a law by calling it.
 
 ghost use Rattle.q3_bits.specs.Words.{IsCode, plain_words};
-ghost use Rattle.q3_bits.specs.Laws.{ReadWasPut, PutIsRead, FieldsEndCutShort, PlainBitsEnd, MarksAreJoined, TextsAreWritten, ListsAreRead, MessageHoldsBits, MessageIsBytes};
+ghost use Rattle.q3_bits.specs.Laws.{ReadWasPut, PutIsRead, FieldsEndCutShort, PlainBitsEnd, MarksAreJoined, MarksAreBits, TextsAreWritten, ListsAreRead, MessageHoldsBits, MessageIsBytes};
 
 /// The plain code has a word for each byte, and none begins another.
 pub fn plain_is_a_code()
@@ -33,6 +33,11 @@ pub fn plain_bits_end()
 /// Fields of fewer than eight bits that stand one behind the other are one field.
 pub fn marks_are_joined()
     ensures { MarksAreJoined }
+{}
+
+/// A field of one bit is the bit.
+pub fn marks_are_bits()
+    ensures { MarksAreBits }
 {}
 
 /// Texts that are written one after the other are written as one.

@@ -6,7 +6,6 @@ pub mod code;
 pub mod laws;
 mod lengths;
 pub mod reader;
-mod rest;
 pub mod words;
 pub mod writer;
 

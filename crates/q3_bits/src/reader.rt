@@ -1,14 +1,13 @@
 //! A reader of bit messages. Keeps the rules "bit order of a field" and "code words".
 
-ghost use Rattle.std.specs.Prelude.{◌≡◌, ◌+◌, ◌*◌, ◌^◌, ◌<◌, ◌≤◌, length, IfOk, OnOk, OnErr};
-ghost use Rattle.q3_bits.specs.Bits.{bits_of};
-ghost use Rattle.q3_bits.specs.Words.{IsCode, raw_at, byte_at, bytes_at, field_at};
+ghost use Rattle.std.specs.Prelude.{◌≡◌, ◌+◌, ◌-◌, ◌*◌, ◌/◌, ◌^◌, ◌<◌, ◌≤◌, ℕ, length, IfOk, IfSome, OnOk, OnErr, MatchOption, Ok};
+ghost use Rattle.q3_bits.specs.Bits.{bits_of, low_bits};
+ghost use Rattle.q3_bits.specs.Words.{IsCode, raw_at, byte_at, bytes_at, field_at, run_at};
 ghost use Rattle.q3_bits.specs.Streams.{Reads};
-ghost use Rattle.q3_bits.specs.Unread.{bits_ahead, found_ahead};
+ghost use Rattle.q3_bits.specs.Unread.{bits_ahead, found_ahead, IsFull};
 
 use crate::ahead::Ahead;
 use crate::code::Code;
-use crate::rest::Rest;
 use std::marker::Model;
 
 /// Why no value could be read.
@@ -24,7 +23,7 @@ pub enum ReadError {
 #[derive(Drop)]
 pub struct Reader<'a> {
     code: &'a Code,
-    rest: Rest<'a>,
+    ahead: Ahead<'a>,
     total: usize,
 }
 
@@ -49,7 +48,7 @@ impl<'a> Reader<'a> {
         prove!(code.word(0).length <= 24);
         Reader {
             code,
-            rest: Rest::new(bytes),
+            ahead: Ahead::new(bytes),
             total: bytes.len(),
         }
     }
@@ -57,6 +56,7 @@ impl<'a> Reader<'a> {
     /// Reads a field of `width` bits, 1 to 32.
     /// `End` comes exactly where the bits end in the field or in one of its words, `NoWord` exactly where
     /// those of a word begin no word, the first in reading order; the reader then stays as it was.
+    #[inline]
     pub fn get(&mut self, width: u32) -> Result<u32, ReadError>
         requires some { 1 ≤ width }
         requires most { width ≤ 32 }
@@ -66,11 +66,30 @@ impl<'a> Reader<'a> {
         ensures near { OnOk result (self.new.place ≤ self.old.place + 96) }
         ensures code { IsCode self.old.words }
     {
-        let raw = width % 8;
-        let (low, ahead) = raw_from(Ahead::of(self.rest), raw)?;
-        let (high, ahead) = bytes_from(self.code, ahead, width / 8)?;
-        self.rest = ahead.rest();
-        Ok(low + (high << raw))
+        if self.ahead.count < width % 8 + 12 * (width / 8) {
+            self.refill();
+        }
+        if let Some(value) = self.get_gathered(width) {
+            return Ok(value);
+        }
+        self.get_each(width)
+    }
+
+    /// Passes over marks of 0, at most `limit` (up to 56), and, where there are fewer, over the mark of 1 behind them, as
+    /// the marks of a delta's fields stand: how many were 0. `MSG_ReadDeltaEntity` reads them one by one.
+    /// `End` comes exactly where the bits end before; the reader then stays as it was.
+    #[inline]
+    pub fn get_run(&mut self, limit: u32) -> Result<u32, ReadError>
+        requires { limit ≤ 56 }
+        ensures reads { Reads self.old self.new (run_at limit self.old.left) result }
+        ensures most { IfOk result (λ count. count ≤ limit) }
+        ensures err { OnErr result (self.new ≡ self.old) }
+    {
+        if let Some(run) = self.ahead.run(limit) {
+            self.ahead = self.ahead.skip(run.length);
+            return Ok(run.zeros);
+        }
+        self.run_behind(limit)
     }
 
     /// How many bits were read.
@@ -78,17 +97,136 @@ impl<'a> Reader<'a> {
         requires { self.now.place < 2 ^ 64 }
         ensures { result ≡ self.now.place }
     {
-        8 * (self.total - self.rest.bytes.len()) + self.rest.bit as usize
+        let ahead = self.ahead;
+        let gathered = (ahead.count + 7) / 8;
+        8 * (self.total - ahead.rest.len() - gathered as usize)
+            + (8 * gathered - ahead.count) as usize
     }
+
+    /// Gathers more.
+    fn refill(&mut self)
+        ensures { self.new ≡ self.old }
+    {
+        self.ahead.refill();
+    }
+
+    /// Reads a field whose bits were gathered and whose words are short; where they aren't, nothing.
+    fn get_gathered(&mut self, width: u32) -> Option<u32>
+        requires some { 1 ≤ width }
+        requires most { width ≤ 32 }
+        ensures found { MatchOption result (self.new ≡ self.old) (λ value. Reads self.old self.new (field_at self.old.words width self.old.left) (Ok value)) }
+        ensures fits { IfSome result (λ value. value < 2 ^ width) }
+        ensures near { self.new.place ≤ self.old.place + 63 }
+    {
+        if width < 8 {
+            return self.raw_gathered(width);
+        }
+        self.words_gathered(width % 8, width / 8)
+    }
+
+    /// The same of a field that has no words.
+    fn raw_gathered(&mut self, width: u32) -> Option<u32>
+        requires { width < 8 }
+        ensures found { MatchOption result (self.new ≡ self.old) (λ value. Reads self.old self.new (field_at self.old.words width self.old.left) (Ok value)) }
+        ensures fits { IfSome result (λ value. value < 2 ^ width) }
+        ensures near { self.new.place ≤ self.old.place + 63 }
+    {
+        if self.ahead.count < width {
+            return None;
+        }
+        let value = (self.ahead.bits % (1 << width)) as u32;
+        self.ahead = self.ahead.skip(width);
+        Some(value)
+    }
+
+    /// The same of a field that has some.
+    #[inline(never)]
+    fn words_gathered(&mut self, raw: u32, bytes: u32) -> Option<u32>
+        requires raw { raw < 8 }
+        requires most { raw + 8 * bytes ≤ 32 }
+        ensures found { MatchOption result (self.new ≡ self.old) (λ value. Reads self.old self.new (field_at self.old.words (raw + 8 * bytes) self.old.left) (Ok value)) }
+        ensures fits { IfSome result (λ value. value < 2 ^ (raw + 8 * bytes)) }
+        ensures near { self.new.place ≤ self.old.place + 63 }
+    {
+        let spelled = field_in(self.code, self.ahead.bits, raw, bytes)?;
+        if spelled.length > self.ahead.count {
+            return None;
+        }
+        self.ahead = self.ahead.skip(spelled.length);
+        Some(spelled.value)
+    }
+
+    /// Reads any field, one word after the other.
+    #[cold]
+    #[inline(never)]
+    fn get_each(&mut self, width: u32) -> Result<u32, ReadError>
+        requires some { 1 ≤ width }
+        requires most { width ≤ 32 }
+        ensures reads { Reads self.old self.new (field_at self.old.words width self.old.left) result }
+        ensures fits { IfOk result (λ value. value < 2 ^ width) }
+        ensures err { OnErr result (self.new ≡ self.old) }
+        ensures near { OnOk result (self.new.place ≤ self.old.place + 96) }
+    {
+        let raw = width % 8;
+        let (low, ahead) = raw_from(self.ahead.ready(), raw)?;
+        let (high, ahead) = bytes_from(self.code, ahead, width / 8)?;
+        self.ahead = ahead;
+        Ok(low + (high << raw))
+    }
+
+    /// The same, with more gathered.
+    #[inline(never)]
+    fn run_behind(&mut self, limit: u32) -> Result<u32, ReadError>
+        requires { limit ≤ 56 }
+        ensures reads { Reads self.old self.new (run_at limit self.old.left) result }
+        ensures most { IfOk result (λ count. count ≤ limit) }
+        ensures err { OnErr result (self.new ≡ self.old) }
+    {
+        self.ahead.refill();
+        let Some(run) = self.ahead.run(limit) else {
+            return Err(ReadError::End);
+        };
+        self.ahead = self.ahead.skip(run.length);
+        Ok(run.zeros)
+    }
+}
+
+/// A field's value, and how many bits its text has.
+#[derive(Clone, Copy)]
+struct Spelled {
+    value: u32,
+    length: u32,
+}
+
+/// The field that bits spell, by words of at most 12 bits; nothing where one of the words is longer or there is none.
+fn field_in(code: &Code, bits: u64, raw: u32, bytes: u32) -> Option<Spelled>
+    requires raw { raw < 8 }
+    requires most { raw + 8 * bytes ≤ 32 }
+    ensures { IfSome result (λ spelled. (count : ℕ) → bits < 2 ^ count → spelled.length ≤ count
+        → field_at code.now (raw + 8 * bytes) (low_bits count bits) ≡ Ok (spelled.value, low_bits (count - spelled.length) (bits / 2 ^ spelled.length))) }
+{
+    let mut value = (bits % (1 << raw)) as u32;
+    let mut left = bits >> raw;
+    let mut length = raw;
+    for k in 0..bytes {
+        let entry = code.entry((left % (1 << 24)) as u32);
+        if entry.length == 0 {
+            return None;
+        }
+        value += u32::from(entry.byte) << (raw + 8 * k);
+        left >>= entry.length;
+        length += u32::from(entry.length);
+    }
+    Some(Spelled { value, length })
 }
 
 /// So many raw bits as a number, and what is behind them.
 fn raw_from(ahead: Ahead, count: u32) -> Result<(u32, Ahead), ReadError>
     requires few { count ≤ 24 }
-    requires ready { ahead.taken ≤ 39 }
+    requires full { IsFull ahead }
     ensures bits { found_ahead result ≡ raw_at count (bits_ahead ahead.entry) }
-    ensures bytes { IfOk result (λ found. length found.1.bytes.now ≤ length ahead.entry.bytes.now) }
     ensures near { IfOk result (λ found. length (bits_ahead ahead.entry) ≤ length (bits_ahead found.1) + count) }
+    ensures most { IfOk result (λ found. length (bits_ahead found.1) ≤ length (bits_ahead ahead.entry)) }
     ensures fits { IfOk result (λ found. found.0 < 2 ^ count) }
 {
     if !ahead.has(count) {
@@ -101,8 +239,8 @@ fn raw_from(ahead: Ahead, count: u32) -> Result<(u32, Ahead), ReadError>
 /// one.
 fn byte_from<'a>(code: &Code, ahead: Ahead<'a>) -> Result<(u8, Ahead<'a>), ReadError>
     ensures byte { found_ahead result ≡ byte_at code.now (bits_ahead ahead.entry) }
-    ensures bytes { IfOk result (λ found. length found.1.bytes.now ≤ length ahead.entry.bytes.now) }
     ensures near { IfOk result (λ found. length (bits_ahead ahead.entry) ≤ length (bits_ahead found.1) + 24) }
+    ensures most { IfOk result (λ found. length (bits_ahead found.1) ≤ length (bits_ahead ahead.entry)) }
     ensures small { IfOk result (λ found. found.0 < 256) }
 {
     let ready = ahead.ready();
@@ -112,10 +250,10 @@ fn byte_from<'a>(code: &Code, ahead: Ahead<'a>) -> Result<(u8, Ahead<'a>), ReadE
     if short > 0 && ready.has(short) {
         return Ok((entry.byte, ready.skip(short)));
     }
-    let count = ready.count();
-    match code.search(window, count) {
+    let left = ready.left();
+    match code.search(window, left) {
         Some((byte, length)) => Ok((byte, ready.skip(u32::from(length)))),
-        None if code.begins_with(window, count) => Err(ReadError::End),
+        None if code.begins_with(window, left) => Err(ReadError::End),
         None => Err(ReadError::NoWord),
     }
 }
@@ -124,8 +262,8 @@ fn byte_from<'a>(code: &Code, ahead: Ahead<'a>) -> Result<(u8, Ahead<'a>), ReadE
 fn bytes_from<'a>(code: &Code, ahead: Ahead<'a>, count: u32) -> Result<(u32, Ahead<'a>), ReadError>
     requires few { count ≤ 4 }
     ensures bytes_at { found_ahead result ≡ bytes_at code.now count (bits_ahead ahead.entry) }
-    ensures bytes { IfOk result (λ found. length found.1.bytes.now ≤ length ahead.entry.bytes.now) }
     ensures near { IfOk result (λ found. length (bits_ahead ahead.entry) ≤ length (bits_ahead found.1) + 24 * count) }
+    ensures most { IfOk result (λ found. length (bits_ahead found.1) ≤ length (bits_ahead ahead.entry)) }
     ensures fits { IfOk result (λ found. found.0 < 256 ^ count) }
 {
     let mut number = 0;

@@ -1,12 +1,15 @@
 -- The normal form of a word is its own normal form, and has the word's text.
-use Rattle.std.proofs.Common.{◌≡◌, ℕ, ◌+◌, ◌-◌, ◌*◌, ◌%◌, ◌^◌, ◌<◌, Bool, false, cond, eqb, ltb, List, refl, sym, arith, inl, inr}
+use Rattle.std.proofs.Common.{◌≡◌, ℕ, ◌+◌, ◌-◌, ◌*◌, ◌%◌, ◌^◌, ◌<◌, Bool, false, cond, eqb, ltb, List, Result, Ok, Err, IfOk, refl, sym, subst, arith, inl, inr}
 use Rattle.std.proofs.lemmas.Bool.{cases_Bool, eqb-true}
-use Rattle.std.proofs.Math.Nat.{mod-mod, mod-le, zero-mod}
+use Rattle.std.proofs.Math.Nat.{mod-mod, mod-le, mod-eq_of_lt, zero-mod}
 use Rattle.std.proofs.lemmas.Nat.{mod_below, mod-mul-add}
 use Rattle.q3_fields.specs.declared.kind.Kind.{Kind}
 use Rattle.q3_fields.specs.declared.kind.Kind.TheVariants.{Float, Unsigned, Signed}
 use Rattle.q3_fields.specs.Kinds.{IsKind, sign_extended, norm}
-use Rattle.q3_fields.specs.Texts.{player_field, entity_field}
+use Rattle.q3_bits.specs.Words.{field_at}
+use Rattle.q3_bits.specs.Streams.{Reading, Reads}
+use Rattle.q3_bits.specs.declared.reader.ReadError.{ReadError}
+use Rattle.q3_fields.specs.Texts.{player_field, entity_field, integer_at}
 use Rattle.q3_fields.proofs.FieldBits.{field_bits-cut, field_bits-same}
 use Rattle.q3_fields.proofs.SmallFloats.{small_float-zero, small_float-negative_zero}
 
@@ -117,3 +120,25 @@ player_field-norm words (Signed width) word allowed = field_bits-same words widt
 pub entity_field-norm : (words : List (List Bool)) (kind : Kind) (word : ℕ) → IsKind kind → entity_field words kind (norm kind word) ≡ entity_field words kind word
 unfolding entity_field
 entity_field-norm words kind word allowed = rw (norm-twice kind word allowed, player_field-norm words kind word allowed) refl
+
+-- what is read of an unsigned field is in normal form
+unsigned-at : (words : List (List Bool)) (width : ℕ) (old new : Reading) (result : Result ℕ ReadError) → Reads old new (field_at words width old.left) result → IfOk result (λ value. value < 2 ^ width)
+    → Reads old new (integer_at words (Unsigned width) width old.left) result
+unfolding norm
+unsigned-at words width old new (Ok value) h fits =
+    let same : value % 2 ^ width ≡ value = mod-eq_of_lt fits in
+    record {
+      value = rw (← h.value, same) refl;
+      words = h.words;
+      place = h.place;
+    }
+unsigned-at words width old new (Err e) h fits = record {
+  value = rw (← h.value) refl;
+  words = h.words;
+  place = h.place;
+}
+
+pub unsigned-read : (words : List (List Bool)) (width bits : ℕ) (old new : Reading) (result : Result ℕ ReadError) → bits ≡ width → Reads old new (field_at words bits old.left) result → IfOk result (λ value. value < 2 ^ bits)
+    → Reads old new (integer_at words (Unsigned width) width old.left) result
+unsigned-read words width bits old new result is h fits =
+    subst (λ (k : ℕ). Reads {T = ℕ} {E = ReadError} old new (integer_at words (Unsigned k) k old.left) result) is (unsigned-at words bits old new result h fits)

@@ -19,6 +19,9 @@ use q3_bits::{Overflow, ReadError, Reader, Writer, laws};
 /// How many words are compared at a time.
 const BLOCK: usize = 16;
 
+/// How many marks of unchanged fields are taken at a time.
+const RUN: usize = 56;
+
 /// Whose words they are. Of an entity a field that changed to zero takes one bit.
 #[derive(Clone, Copy, Debug, PartialEq, Eq)]
 pub enum StateKind {
@@ -231,7 +234,8 @@ pub fn read_counted(
     Ok(())
 }
 
-/// Reads the first fields, so many, over the words that stand there.
+/// Reads the first fields, so many, over the words that stand there. The marks of fields that didn't change are taken
+/// in runs.
 fn read_fields(
     r: &mut Reader,
     state: StateKind,
@@ -244,22 +248,19 @@ fn read_fields(
     ensures { Reads r.old r.new (fields_after state r.old.words (take count table.now.kinds) words.old r.old.left) (holding words.new result) }
 {
     laws::lists_are_read();
-    for k in 0..count {
-        words[k] = read_field(r, state, kind_at(table, k), words[k])?;
+    laws::marks_are_bits();
+    let mut k = 0;
+    while k < count {
+        let limit = (count - k).min(RUN);
+        let same = r.get_run(limit as u32)? as usize;
+        k += same;
+        if same == limit {
+            continue;
+        }
+        words[k] = read_changed(r, state, kind_at(table, k))?;
+        k += 1;
     }
     Ok(())
-}
-
-/// Reads a mark, and behind a mark of change the field.
-#[tactic(auto, unfolding(crate::specs::Deltas::field_after))]
-fn read_field(r: &mut Reader, state: StateKind, kind: Kind, from: u32) -> Result<u32, ReadError>
-    requires { IsKind kind }
-    ensures { Reads r.old r.new (field_after state r.old.words kind from r.old.left) result }
-{
-    if r.get(1)? == 0 {
-        return Ok(from);
-    }
-    read_changed(r, state, kind)
 }
 
 /// Reads a changed field.

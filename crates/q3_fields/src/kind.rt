@@ -32,7 +32,7 @@ pub fn norm(kind: Kind, word: u32) -> u32
 
 /// A float's pattern, with 0 for a negative zero.
 #[tactic(auto, unfolding(crate::specs::Kinds::norm))]
-fn positive_zero(word: u32) -> u32
+pub(crate) fn positive_zero(word: u32) -> u32
     ensures { result ≡ norm_of Float word }
 {
     if word == 1 << 31 { 0 } else { word }
@@ -51,7 +51,7 @@ fn cut(word: u32, width: u8) -> u32
 }
 
 /// A word's low bits, the last of them as its sign.
-fn sign_extended(word: u32, width: u8) -> u32
+pub(crate) fn sign_extended(word: u32, width: u8) -> u32
     requires some { 1 ≤ width }
     requires most { width ≤ 24 }
     ensures { result ≡ sign_extended width word }

@@ -2,26 +2,29 @@
 //! field, the engine's `MSG_ReadDeltaEntity` and `MSG_ReadDeltaPlayerstate`. That a float in full comes back in normal
 //! form is this project's own.
 
-ghost use Rattle.std.specs.Prelude.{◌≤◌};
+ghost use Rattle.std.specs.Prelude.{◌≡◌, ◌<◌, ◌≤◌, ◌^◌, ◌==◌, if◌then◌else◌};
 ghost use Rattle.q3_bits.specs.Streams.{Reads};
-ghost use Rattle.q3_fields.specs.Kinds.{IsKind};
-ghost use Rattle.q3_fields.specs.Texts.{float_at, integer_at, player_field_at, entity_field_at};
+ghost use Rattle.q3_fields.specs.declared.kind.Kind.TheVariants.{Float, Unsigned, Signed};
+ghost use Rattle.q3_fields.specs.Kinds.{IsKind, norm as norm_of};
+ghost use Rattle.q3_fields.specs.Floats.{pattern};
+ghost use Rattle.q3_fields.specs.Texts.{float_at, integer_at, player_field_at, entity_field_at, unbiased as of_biased};
 
 use crate::float::{pattern_of, unbiased};
-use crate::kind::{Kind, norm};
+use crate::kind::{Kind, positive_zero, sign_extended};
 use q3_bits::{ReadError, Reader};
 
 /// Reads a changed field of a player delta, in normal form. `Err` is the first fault in reading order; the reader then
 /// stands anywhere.
 #[tactic(auto, unfolding(crate::specs::Texts::player_field_at))]
+#[inline(always)]
 pub fn read_player_field(r: &mut Reader, kind: Kind) -> Result<u32, ReadError>
     requires { IsKind kind }
     ensures { Reads r.old r.new (player_field_at r.old.words kind r.old.left) result }
 {
     match kind {
         Kind::Float => read_float(r),
-        Kind::Unsigned(width) => read_integer(r, kind, width),
-        Kind::Signed(width) => read_integer(r, kind, width),
+        Kind::Unsigned(width) => read_unsigned(r, width),
+        Kind::Signed(width) => read_signed(r, width),
     }
 }
 
@@ -40,21 +43,52 @@ pub fn read_entity_field(r: &mut Reader, kind: Kind) -> Result<u32, ReadError>
 
 /// Reads a float: 13 bits behind bit 0, and its pattern behind bit 1.
 #[tactic(auto, unfolding(crate::specs::Texts::float_at))]
+#[inline(always)]
 fn read_float(r: &mut Reader) -> Result<u32, ReadError>
     ensures { Reads r.old r.new (float_at r.old.words r.old.left) result }
 {
-    if r.get(1)? == 0 {
-        return Ok(pattern_of(unbiased(r.get(13)?)));
-    }
-    Ok(norm(Kind::Float, r.get(32)?))
+    let full = r.get(1)?;
+    let value = r.get(float_width(full))?;
+    Ok(float_of(full, value))
 }
 
-/// Reads an integer of so many bits.
-fn read_integer(r: &mut Reader, kind: Kind, width: u8) -> Result<u32, ReadError>
-    requires kind { IsKind kind }
+/// In how many bits a float is, by its mark.
+fn float_width(full: u32) -> u32
+    ensures width { result ≡ (if full == 0 then 13 else 32) }
+    ensures some { 1 ≤ result }
+    ensures most { result ≤ 32 }
+{
+    if full == 0 { 13 } else { 32 }
+}
+
+/// The float that these bits spell, by its mark, in normal form.
+fn float_of(full: u32, value: u32) -> u32
+    requires { full ≡ 0 → value < 2 ^ 13 }
+    ensures { result ≡ (if full == 0 then pattern (of_biased value) else norm_of Float value) }
+{
+    if full == 0 {
+        return pattern_of(unbiased(value));
+    }
+    positive_zero(value)
+}
+
+/// Reads an unsigned integer of so many bits, which is in normal form.
+#[inline(always)]
+fn read_unsigned(r: &mut Reader, width: u8) -> Result<u32, ReadError>
     requires some { 1 ≤ width }
     requires most { width ≤ 32 }
-    ensures { Reads r.old r.new (integer_at r.old.words kind width r.old.left) result }
+    ensures { Reads r.old r.new (integer_at r.old.words (Unsigned width) width r.old.left) result }
 {
-    Ok(norm(kind, r.get(u32::from(width))?))
+    r.get(u32::from(width))
+}
+
+/// Reads a signed integer of so many bits, and extends its sign.
+#[tactic(auto, unfolding(crate::specs::Kinds::norm))]
+#[inline(always)]
+fn read_signed(r: &mut Reader, width: u8) -> Result<u32, ReadError>
+    requires some { 1 ≤ width }
+    requires most { width ≤ 24 }
+    ensures { Reads r.old r.new (integer_at r.old.words (Signed width) width r.old.left) result }
+{
+    Ok(sign_extended(r.get(u32::from(width))?, width))
 }

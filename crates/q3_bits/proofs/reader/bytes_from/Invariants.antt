@@ -8,7 +8,7 @@ use Rattle.q3_bits.proofs.reader.bytes_from.Given as goal
 abbrev pub invariant-loop-k : goal.invariant-loop-k
 invariant-loop-k l = record {
   fits : l.number < 256 ^ l.k;
-  bytes : length l.left.bytes.now ≤ length l.fn.ahead.bytes.now;
+  most : length (bits_ahead l.left) ≤ length (bits_ahead l.fn.ahead);
   near : length (bits_ahead l.fn.ahead) ≤ length (bits_ahead l.left) + 24 * l.k;
   reads : onto l.number (256 ^ l.k) (bytes_at l.code (l.count - l.k) (bits_ahead l.left)) ≡ bytes_at l.code l.count (bits_ahead l.fn.ahead);
 }

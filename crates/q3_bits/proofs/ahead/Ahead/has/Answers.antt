@@ -1,13 +1,5 @@
-use Rattle.std.proofs.Common.{refl, arith}
-use Rattle.std.proofs.lemmas.Bool.{le-leb, leb-true}
-use Rattle.q3_bits.proofs.Windows.{length-rest}
+use Rattle.q3_bits.proofs.Gathered.{has-left}
 use Rattle.q3_bits.proofs.ahead.Ahead.has.Goals as goal
 
-pub returns-then-self-ge8 : goal.returns-then-self-ge8
-returns-then-self-ge8 c = (λ _. omega (arith, length-rest c.args.self.bytes.now c.args.self.taken, c.requires.ready, c.requires.few), λ _. refl)
-
-pub returns : goal.returns
-returns c = (
-  λ fits. omega (arith, length-rest c.args.self.bytes.now c.args.self.taken, leb-true _ _ fits),
-  λ enough. le-leb _ _ (omega (arith, length-rest c.args.self.bytes.now c.args.self.taken, c.args.self.within)),
-)
+pub returns-clause-left : goal.returns-clause-left
+returns-clause-left c = has-left c.args.count c.args.self.count c.args.self.bits c.args.self.rest.now c.requires.few c.requires.full

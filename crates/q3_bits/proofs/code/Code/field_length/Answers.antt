@@ -1,4 +1,4 @@
-use Rattle.std.proofs.Common.{◌≡◌, ◌/◌, ◌%◌, ◌^◌, length, ap, arith}
+use Rattle.std.proofs.Common.{◌/◌, ◌%◌, ◌^◌, length, ap, arith}
 use Rattle.q3_bits.specs.Words.{bytes_bits}
 use Rattle.q3_bits.proofs.CodeText.{field_bits-is}
 use Rattle.q3_bits.proofs.Written.{gathered-all, length-gathered}
