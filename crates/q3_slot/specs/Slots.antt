@@ -7,10 +7,9 @@ use Rattle.q3_bits.specs.ResultBind.{◌>>=◌}
 use Rattle.q3_chan.specs.Datagrams.{longest_message}
 use Rattle.q3_chan.specs.Sending.{Sending, Piece}
 use Rattle.q3_chan.specs.Gathering.{Gathering}
-use Rattle.q3_chan.specs.Keys.{server_start}
+use Rattle.q3_chan.specs.Keys.{server_key}
 use Rattle.q3_text.specs.declared.text.Command.{Command}
 use Rattle.q3_window.specs.declared.outgoing.WindowFull.{WindowFull}
-use Rattle.q3_window.specs.Flow.{acknowledgement_of}
 use Rattle.q3_window.specs.Outgoing.{OutgoingState, acknowledge_at, carried, fits, issue_at, issued_of, text_at, total_of, with_texts}
 use Rattle.q3_config.specs.Commands.{Change, change_in}
 use Rattle.q3_entity.specs.Baselines.{Lines}
@@ -68,7 +67,7 @@ pub record HoldLists (frames : FramesState) : Type 0 where
 -- what the message of a number tells a client beside its snapshot
 abbrev pub told_under : OutgoingState → Joined → ℕ → Telling
 told_under issued client number =
-    record { ack = acknowledgement_of client.executed; commands = carried issued; last = issued_of issued; under = plays_under client.stage client.game; start = server_start client.challenge number }
+    record { ack = client.executed.executed; commands = carried issued; last = issued_of issued; under = plays_under client.stage client.game; key = server_key client.challenge number client.executed.last }
 
 -- the snapshot against which the next one for a client may be written
 abbrev pub asked_by : Joined → ℕ

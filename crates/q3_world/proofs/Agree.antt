@@ -33,14 +33,14 @@ use Rattle.q3_world.proofs.Holding.{Holds, with_client_of, same_clients}
 -- a message that was built is received from its bytes as its value
 abbrev pub ReadsBack : Profile → Type 0
 ReadsBack profile = (client : ClientState) (number : ℕ) (built : Built) → IsBuilt profile client.challenge number built → client.state.profile ≡ profile → AreLines profile.entity client.state.lines → IfSome built.under (λ game. client.state.lines ≡ built.lines)
-    → (acknowledge_at client.issued built.message.ack).answer ≡ Ok tt → text_at client.issued built.message.ack ≡ built.text
+    → (acknowledge_at client.issued built.message.ack).answer ≡ Ok tt → text_at client.issued built.message.ack ≡ built.key.text
     → AreBuilt profile client.state.held → IfSome built.base (λ base. IsSnapshot profile base × HoldsThis client.state.held base)
     → receive_bytes client number (built_bytes profile built) ≡ Ok (receive_message client number built.message)
 
 -- and one that a client said is read back
 abbrev pub HearsBack : Profile → Type 0
 HearsBack profile = (map : MapState) (slot : SlotState) (said : Said) → IsSaid profile slot.challenge said
-    → (acknowledge_at slot.issued said.message.command).answer ≡ Ok tt → text_at slot.issued said.message.command ≡ said.text
+    → (acknowledge_at slot.issued said.message.command).answer ≡ Ok tt → text_at slot.issued said.message.command ≡ said.key.text
     → (is_other map said.message.id ≡ false → said.feed ≡ map.feed)
     → said_by profile map slot (said_bytes profile said) ≡ Ok (came_as map said.message)
 
