@@ -6,7 +6,7 @@
 ghost use Rattle.std.specs.Prelude.{◌≡◌, ◌≤◌, length, option_map, take, None};
 ghost use Rattle.q3_chan.specs.Datagrams.{longest_message};
 ghost use Rattle.q3_chan.specs.Keys.{server_key, server_scrambled};
-ghost use Rattle.q3_map.specs.Map.{AreListed};
+ghost use Rattle.q3_entity.specs.Entities.{IsList};
 ghost use Rattle.q3_svmsg.specs.Values.{base_entities, base_viewed, IsNamed};
 ghost use Rattle.q3_svmsg.specs.Texts.{message_text};
 ghost use Rattle.q3_built.specs.Built.{is_unclear};
@@ -37,8 +37,8 @@ pub fn write_snapshot(
     buffer: &mut [u8],
 ) -> Result<Written, Overflow>
     requires named { IsNamed (option_map base_viewed snapshot.against) snapshot.head.now.number snapshot.base }
-    requires against { AreListed (base_entities (option_map base_viewed snapshot.against)) }
-    requires listed { AreListed snapshot.entities.now }
+    requires against { IsList profile.now.entity (base_entities (option_map base_viewed snapshot.against)) }
+    requires listed { IsList profile.now.entity snapshot.entities.now }
     requires buffer { length buffer.old ≡ longest_message }
     ensures { HoldsScrambled snapshot.entry.base (server_key telling.entry.challenge telling.entry.number telling.entry.executed.now.last)
         (message_text profile.now map.now.lines (option_map base_viewed snapshot.entry.against) (snapshot_in telling.entry snapshot.entry)) buffer.new result }
@@ -60,8 +60,8 @@ fn write_clear(
     buffer: &mut [u8],
 ) -> Result<usize, Overflow>
     requires named { IsNamed (option_map base_viewed snapshot.against) snapshot.head.now.number snapshot.base }
-    requires against { AreListed (base_entities (option_map base_viewed snapshot.against)) }
-    requires listed { AreListed snapshot.entities.now }
+    requires against { IsList profile.now.entity (base_entities (option_map base_viewed snapshot.against)) }
+    requires listed { IsList profile.now.entity snapshot.entities.now }
     requires buffer { length buffer.old ≡ longest_message }
     ensures { HoldsMessage (message_text profile.now map.now.lines (option_map base_viewed snapshot.entry.against) (snapshot_in telling.entry snapshot.entry)) buffer.new result }
 {
@@ -72,8 +72,6 @@ fn write_clear(
         head: snapshot.head,
         entities: snapshot.entities,
     };
-    // the entities' numbers are below the end mark
-    prove!(profile.entity.end() == 1023);
     write_parts(profile, parts, map.baselines(), snapshot.against, buffer)
 }
 

@@ -17,7 +17,7 @@ pub mod writing;
 #[cfg(test)]
 mod writing_tests;
 
-pub use baselines::Baselines;
+pub use baselines::{Baselines, MOST_LINES};
 pub use error::EntityError;
 pub use list_reading::{read_list, skip_list};
 pub use list_writing::write_list;

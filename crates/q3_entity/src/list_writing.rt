@@ -14,7 +14,7 @@ use crate::run::{skip_same, split_first, take_number};
 use crate::state::{EntityState, Run};
 use crate::writing::{write_entity, write_removal};
 use q3_bits::{Overflow, Writer, laws};
-use q3_fields::{Table, laws as fields};
+use q3_fields::{MOST_END, Table, laws as fields};
 
 /// Writes the entities that there are now against those of a base, by rising number: an entity that both have by what
 /// changed, a new one by force from its baseline, and a removal for one that is gone; and the end mark behind them.
@@ -33,7 +33,7 @@ pub fn write_list(
     laws::texts_are_written();
     // what stands there fits the room, and each number may have a baseline
     prove!(w.length() > 0);
-    prove!(table.end() <= 1023);
+    prove!(table.end() <= MOST_END);
     // an entity that both have as it was is passed over
     fields::last_changed_is_least();
     let (mut left, mut rest) = skip_same(base, now);

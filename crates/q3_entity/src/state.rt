@@ -9,7 +9,7 @@ use q3_fields::{Table, normalize};
 /// An entity as the game hands it in and as a snapshot carries it.
 #[derive(Clone, Copy, Debug, PartialEq, Eq)]
 pub struct EntityState {
-    /// The entity's number, 0 to 1022.
+    /// The entity's number, below the end mark of its table.
     pub number: u16,
     /// The word of each field of the table, at its place; a float is its pattern.
     pub words: [u32; 64],

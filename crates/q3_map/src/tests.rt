@@ -13,6 +13,7 @@ fn hand_in(map: &mut Map, table: &Table, number: u16, word: u32)
     requires { number < 1023 }
 {
     let words = [word; 64];
+    prove!(number < table.end());
     map.set_entity(table, &EntityState { number, words });
 }
 
@@ -72,6 +73,7 @@ fn set_line(map: &mut Map, table: &Table, number: u16, word: u32) -> Result<(), 
     requires { number < 1023 }
 {
     let words = [word; 64];
+    prove!(number < table.end());
     map.set_baseline(table, &EntityState { number, words })
 }
 

@@ -68,6 +68,7 @@ fn hand_in_line(server: &mut Server, number: u16) -> Result<(), Late>
     requires most { number < 1023 }
 {
     let words = [1; 64];
+    prove!(number < server.end());
     server.set_baseline(&EntityState { number, words })
 }
 

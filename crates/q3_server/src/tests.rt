@@ -361,6 +361,7 @@ fn other_move() -> Move {
 fn hand_in_5(server: &mut Server) {
     let mut words = [0; 64];
     words[1] = 7;
+    prove!(5 < server.end());
     server.set_entity(&EntityState { number: 5, words });
 }
 
@@ -425,6 +426,7 @@ pub(crate) fn hand_in(server: &mut Server, number: u16, word: u32)
     requires { number < 1023 }
 {
     let words = [word; 64];
+    prove!(number < server.end());
     server.set_entity(&EntityState { number, words });
 }
 

@@ -6,7 +6,7 @@ use Rattle.q3_profile.specs.declared.profile.Profile.{Profile}
 use Rattle.q3_player.specs.State.{zero_player, normal_player, IsState}
 use Rattle.q3_player.specs.declared.state.PlayerState.{PlayerState}
 use Rattle.q3_fields.specs.States.{AreWords}
-use Rattle.q3_fields.specs.Kinds.{end_mark}
+use Rattle.q3_fields.specs.Kinds.{least_end, end_mark}
 use Rattle.q3_entity.specs.declared.state.EntityState.{EntityState}
 use Rattle.q3_entity.specs.Entities.{normal_entity, IsNormal}
 use Rattle.q3_entity.specs.Baselines.{AreLines}
@@ -54,7 +54,7 @@ pub record Cited (profile : Profile) : Type 0 where
   pub normal : (player : PlayerState) → IsState player → IsHeld profile (normal_player profile.player.kinds player)
   pub normal_entity : (entity : EntityState) → AreWords 64 entity.words
       → AreWords 64 (normal_entity profile.entity entity).words × IsNormal profile.entity (normal_entity profile.entity entity)
-  pub end : 1023 ≤ end_mark profile.entity
+  pub end : least_end ≤ end_mark profile.entity
   pub ring : 512 ≤ profile.parse_ring
   pub tags : SentIsTagged
   pub qport : QportIsTold
