@@ -15,6 +15,7 @@ ghost use Rattle.q3_built.specs.Writing.{HoldsMessage, HoldsScrambled, game_mess
 use crate::parts::{SnapshotParts, TellingParts, Written};
 use q3_bits::Overflow;
 use q3_chan::{Side, scramble_server};
+use q3_entity::Run;
 use q3_gamestate::Numbers;
 use q3_map::Map;
 use q3_profile::Profile;
@@ -70,7 +71,7 @@ fn write_clear(
         commands: telling.issued.waiting(),
         base: snapshot.base,
         head: snapshot.head,
-        entities: snapshot.entities,
+        entities: Run::of(snapshot.entities),
     };
     write_parts(profile, parts, map.baselines(), snapshot.against, buffer)
 }

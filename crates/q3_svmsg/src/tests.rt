@@ -189,7 +189,7 @@ fn lent_parts_are_written_as_their_message(rt: HostRuntime) -> Result<(), Fail> 
         commands,
         base: 0,
         head: &message.head,
-        entities: &message.entities,
+        entities: Run::of(&message.entities),
     };
     let bytes = [
         0x09, 0x00, 0x00, 0x00, 0x05, 0x02, 0x00, 0x00, 0x00, 0x61, 0x00, 0x05, 0x03, 0x00, 0x00,
