@@ -1,5 +1,5 @@
 -- What the server builds: messages with a snapshot, whole or against a base, and messages with a gamestate.
-use Rattle.std.specs.Prelude.{◌≡◌, ℕ, ◌+◌, ◌^◌, ◌<◌, ◌≤◌, ◌⊎◌, Bool, false, nat_lt, List, [], ◌∷◌, length, All, Option, Some, None, IfSome, option_map}
+use Rattle.std.specs.Prelude.{◌≡◌, ℕ, ◌+◌, ◌^◌, ◌<◌, ◌≤◌, ◌⊎◌, Bool, false, List, [], ◌∷◌, length, All, Option, Some, None, IfSome, option_map}
 use Rattle.q3_bits.specs.Bits.{message_bytes}
 use Rattle.q3_bits.specs.Words.{row_bits}
 use Rattle.q3_text.specs.declared.text.Command.{Command}
@@ -10,8 +10,9 @@ use Rattle.q3_player.specs.declared.state.PlayerState.{PlayerState}
 use Rattle.q3_player.specs.State.{IsState, IsNormal}
 use Rattle.q3_entity.specs.Entities.{most_entities}
 use Rattle.q3_chan.specs.Datagrams.{sequence_end}
-use Rattle.q3_chan.specs.Scrambling.{scrambled}
-use Rattle.q3_chan.specs.Keys.{server_start}
+use Rattle.q3_chan.specs.declared.side.Side.TheVariants.{Server}
+use Rattle.q3_chan.specs.Keys.{Key, server_key, server_scrambled}
+use Rattle.q3_chan.specs.Keys as chan
 use Rattle.q3_entity.specs.Baselines.{Lines, AreLines}
 use Rattle.q3_gamestate.specs.Values.{Gamestate}
 use Rattle.q3_gamestate.specs.Laws.{IsGamestate}
@@ -21,52 +22,50 @@ use Rattle.q3_ring.specs.Snapshot.{Snapshot}
 use Rattle.q3_map.specs.Map.{AreHeld}
 
 -- a message that was begun, the number of the last command issued by then, that of the gamestate under which its client played, if it
--- did, the snapshot that it is written against, if it is, the baselines of the map, the number from which its keys start, and their
--- text: that of the last client command executed
+-- did, the snapshot that it is written against, if it is, the baselines of the map, and by what it is scrambled: its text is that of
+-- the last client command executed
 pub record Built : Type 0 where
   pub message : Message
   pub last : ℕ
   pub under : Option ℕ
   pub base : Option Snapshot
   pub lines : Lines
-  pub start : ℕ
-  pub text : List ℕ
+  pub key : Key
 
 -- the number of a base, 0 for none
 abbrev pub number_of : Option Snapshot → ℕ
 number_of None = 0
 number_of (Some base) = base.head.number
 
--- what a message says besides its section, and by what it is scrambled: the last client command executed with its text, the
--- commands that aren't acknowledged, the number of the last one issued, that of the gamestate under which the client plays, if it does,
--- and the number from which its keys start
+-- what a message says besides its section: the number of the last client command executed, the commands that aren't acknowledged, the
+-- number of the last one issued, and that of the gamestate under which the client plays, if it does; and by what it is scrambled
 pub record Telling : Type 0 where
-  pub ack : Command
+  pub ack : ℕ
   pub commands : List Command
   pub last : ℕ
   pub under : Option ℕ
-  pub start : ℕ
+  pub key : Key
 
 -- the message that carries a snapshot against a base
 abbrev pub message_of : Telling → Option Snapshot → Snapshot → Message
 message_of telling base snapshot =
-    record { ack = telling.ack.number; commands = telling.commands; section = Snap (number_of base) snapshot.head snapshot.entities }
+    record { ack = telling.ack; commands = telling.commands; section = Snap (number_of base) snapshot.head snapshot.entities }
 
 abbrev pub built_of : Telling → Lines → Option Snapshot → Snapshot → Built
 built_of telling lines base snapshot =
-    record { message = message_of telling base snapshot; last = telling.last; under = telling.under; base = base; lines = lines; start = telling.start; text = telling.ack.text }
+    record { message = message_of telling base snapshot; last = telling.last; under = telling.under; base = base; lines = lines; key = telling.key }
 
 -- the message that carries a gamestate
 abbrev pub game_message_of : Telling → Gamestate → Message
-game_message_of telling game = record { ack = telling.ack.number; commands = telling.commands; section = Game game }
+game_message_of telling game = record { ack = telling.ack; commands = telling.commands; section = Game game }
 
 abbrev pub game_built_of : Telling → Lines → Gamestate → Built
 game_built_of telling lines game =
-    record { message = game_message_of telling game; last = telling.last; under = telling.under; base = None; lines = lines; start = telling.start; text = telling.ack.text }
+    record { message = game_message_of telling game; last = telling.last; under = telling.under; base = None; lines = lines; key = telling.key }
 
--- whether the leading long of a message takes more than its 32 bits, so that scrambled bytes would hide a part of it
+-- whether the leading long of a message takes more bits than stay clear, so that scrambled bytes would hide a part of it
 abbrev pub is_unclear : Profile → ℕ → Bool
-is_unclear profile ack = nat_lt 32 (length (row_bits profile.code ((ack, 32) ∷ [])))
+is_unclear profile ack = chan.is_unclear Server (length (row_bits profile.code ((ack, 32) ∷ [])))
 
 -- the bits of a message
 abbrev pub built_bits : Profile → Built → List Bool
@@ -74,7 +73,7 @@ built_bits profile built = message_text profile built.lines (option_map base_fro
 
 -- and its bytes, scrambled behind the leading long
 abbrev pub built_bytes : Profile → Built → List ℕ
-built_bytes profile built = scrambled 4 built.start built.text (message_bytes (built_bits profile built))
+built_bytes profile built = server_scrambled built.key (message_bytes (built_bits profile built))
 
 -- a player as the server holds it: a state of the program's type, in normal form
 pub record IsHeld (profile : Profile) (player : PlayerState) : Type 0 where
@@ -104,12 +103,12 @@ pub record IsNear (n : ℕ) (base : Snapshot) : Type 0 where
 
 -- what a message under a number tells a client that joined with a challenge
 pub record IsTelling (profile : Profile) (challenge n : ℕ) (telling : Telling) : Type 0 where
-  pub ack : telling.ack.number < 2 ^ 32
-  pub text : IsText telling.ack.text
+  pub ack : telling.ack < 2 ^ 32
+  pub text : IsText telling.key.text
   pub few : length telling.commands ≤ 64
   pub commands : All IsCommand telling.commands
-  pub start : telling.start ≡ server_start challenge n
-  pub clear : is_unclear profile telling.ack.number ≡ false
+  pub key : telling.key ≡ server_key challenge n telling.key.text
+  pub clear : is_unclear profile telling.ack ≡ false
 
 -- a message with a snapshot as it is built under a number
 pub record BuildsSnapshot (profile : Profile) (telling : Telling) (n : ℕ) (built : Built) : Type 0 where

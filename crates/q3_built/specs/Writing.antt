@@ -3,7 +3,7 @@ use Rattle.std.specs.Prelude.{◌≡◌, ◌↔◌, ℕ, ◌<◌, Bool, List, le
 use Rattle.q3_bits.specs.Bits.{message_bytes, message_length}
 use Rattle.q3_bits.specs.declared.writer.Overflow.{Overflow}
 use Rattle.q3_chan.specs.Datagrams.{longest_message}
-use Rattle.q3_chan.specs.Scrambling.{scrambled}
+use Rattle.q3_chan.specs.Keys.{Key, server_scrambled}
 use Rattle.q3_window.specs.Outgoing.{carried, issued_of}
 use Rattle.q3_profile.specs.declared.profile.Profile.{Profile}
 use Rattle.q3_map.specs.Map.{MapState}
@@ -47,14 +47,14 @@ pub record HoldsMessage (bits : List Bool) (new : List ℕ) (answer : Result ℕ
   pub bytes : IfOk answer (λ count. take count new ≡ message_bytes bits)
   pub long : length new ≡ longest_message
 
--- the same where it is scrambled behind its leading long, by a start and a text, with the number of the base that it names
-pub record HoldsScrambled (base start : ℕ) (text : List ℕ) (bits : List Bool) (new : List ℕ) (answer : Result Written Overflow) : Type 0 where
+-- the same where it is scrambled behind its leading long, with the number of the base that it names
+pub record HoldsScrambled (base : ℕ) (key : Key) (bits : List Bool) (new : List ℕ) (answer : Result Written Overflow) : Type 0 where
   pub named : IfOk answer (λ written. written.base ≡ base)
   pub refused : IsErr answer ↔ (longest_message < message_length (length bits))
   pub count : IfOk answer (λ written. written.bytes ≡ message_length (length bits))
-  pub bytes : IfOk answer (λ written. take written.bytes new ≡ scrambled 4 start text (message_bytes bits))
+  pub bytes : IfOk answer (λ written. take written.bytes new ≡ server_scrambled key (message_bytes bits))
   pub long : length new ≡ longest_message
 
 -- and where it was built
 abbrev pub HoldsBuilt : Profile → Built → List ℕ → Result Written Overflow → Type 0
-HoldsBuilt profile built new answer = HoldsScrambled (number_of built.base) built.start built.text (built_bits profile built) new answer
+HoldsBuilt profile built new answer = HoldsScrambled (number_of built.base) built.key (built_bits profile built) new answer

@@ -5,9 +5,8 @@
 
 ghost use Rattle.std.specs.Prelude.{◌≡◌, ◌≤◌, length, option_map, take, None};
 ghost use Rattle.q3_chan.specs.Datagrams.{longest_message};
-ghost use Rattle.q3_chan.specs.Keys.{server_start};
-ghost use Rattle.q3_chan.specs.Scrambling.{scrambled};
-ghost use Rattle.q3_map.specs.Map.{AreListed};
+ghost use Rattle.q3_chan.specs.Keys.{server_key, server_scrambled};
+ghost use Rattle.q3_entity.specs.Entities.{IsList};
 ghost use Rattle.q3_svmsg.specs.Values.{base_entities, base_viewed, IsNamed};
 ghost use Rattle.q3_svmsg.specs.Texts.{message_text};
 ghost use Rattle.q3_built.specs.Built.{is_unclear};
@@ -15,23 +14,18 @@ ghost use Rattle.q3_built.specs.Writing.{HoldsMessage, HoldsScrambled, game_mess
 
 use crate::parts::{SnapshotParts, TellingParts, Written};
 use q3_bits::Overflow;
-use q3_chan::{scramble, server_start};
+use q3_chan::{Side, scramble_server};
+use q3_entity::Run;
 use q3_gamestate::Numbers;
 use q3_map::Map;
 use q3_profile::Profile;
 use q3_svmsg::{GameParts, SnapParts, write_game_parts, write_parts};
 
-/// A server's message is scrambled from this byte on, behind its leading long.
-const CLEAR: usize = 4;
-
-/// How many bits of a message stay clear.
-const CLEAR_BITS: usize = 32;
-
 /// Whether a leading long takes more bits than stay clear.
 pub fn is_unclear(profile: &Profile, ack: u32) -> bool
     ensures { result ≡ is_unclear profile.now ack }
 {
-    profile.code.row_length(&[(ack, 32)]) > CLEAR_BITS
+    q3_chan::is_unclear(Side::Server, profile.code.row_length(&[(ack, 32)]))
 }
 
 /// Writes a message with a snapshot, whose entities lie in the map, against its base, if it names one, with the commands that
@@ -44,10 +38,10 @@ pub fn write_snapshot(
     buffer: &mut [u8],
 ) -> Result<Written, Overflow>
     requires named { IsNamed (option_map base_viewed snapshot.against) snapshot.head.now.number snapshot.base }
-    requires against { AreListed (base_entities (option_map base_viewed snapshot.against)) }
-    requires listed { AreListed snapshot.entities.now }
+    requires against { IsList profile.now.entity (base_entities (option_map base_viewed snapshot.against)) }
+    requires listed { IsList profile.now.entity snapshot.entities.now }
     requires buffer { length buffer.old ≡ longest_message }
-    ensures { HoldsScrambled snapshot.entry.base (server_start telling.entry.challenge telling.entry.number) telling.entry.executed.now.last
+    ensures { HoldsScrambled snapshot.entry.base (server_key telling.entry.challenge telling.entry.number telling.entry.executed.now.last)
         (message_text profile.now map.now.lines (option_map base_viewed snapshot.entry.against) (snapshot_in telling.entry snapshot.entry)) buffer.new result }
 {
     let bytes = write_clear(profile, map, telling, snapshot, buffer)?;
@@ -67,8 +61,8 @@ fn write_clear(
     buffer: &mut [u8],
 ) -> Result<usize, Overflow>
     requires named { IsNamed (option_map base_viewed snapshot.against) snapshot.head.now.number snapshot.base }
-    requires against { AreListed (base_entities (option_map base_viewed snapshot.against)) }
-    requires listed { AreListed snapshot.entities.now }
+    requires against { IsList profile.now.entity (base_entities (option_map base_viewed snapshot.against)) }
+    requires listed { IsList profile.now.entity snapshot.entities.now }
     requires buffer { length buffer.old ≡ longest_message }
     ensures { HoldsMessage (message_text profile.now map.now.lines (option_map base_viewed snapshot.entry.against) (snapshot_in telling.entry snapshot.entry)) buffer.new result }
 {
@@ -77,10 +71,8 @@ fn write_clear(
         commands: telling.issued.waiting(),
         base: snapshot.base,
         head: snapshot.head,
-        entities: snapshot.entities,
+        entities: Run::of(snapshot.entities),
     };
-    // the entities' numbers are below the end mark
-    prove!(profile.entity.end() == 1023);
     write_parts(profile, parts, map.baselines(), snapshot.against, buffer)
 }
 
@@ -94,7 +86,7 @@ pub fn write_game(
     buffer: &mut [u8],
 ) -> Result<Written, Overflow>
     requires { length buffer.old ≡ longest_message }
-    ensures { HoldsScrambled 0 (server_start telling.entry.challenge telling.entry.number) telling.entry.executed.now.last
+    ensures { HoldsScrambled 0 (server_key telling.entry.challenge telling.entry.number telling.entry.executed.now.last)
         (message_text profile.now map.now.lines None (game_message_in telling.entry map.now slot)) buffer.new result }
 {
     let bytes = write_clear_game(profile, map, telling, slot, buffer)?;
@@ -131,9 +123,10 @@ fn write_clear_game(
 fn scramble_front(buffer: &mut [u8], bytes: usize, telling: TellingParts)
     requires { bytes ≤ length buffer.old }
     ensures scrambled { take bytes buffer.new
-        ≡ scrambled 4 (server_start telling.entry.challenge telling.entry.number) telling.entry.executed.now.last (take bytes buffer.old) }
+        ≡ server_scrambled (server_key telling.entry.challenge telling.entry.number telling.entry.executed.now.last) (take bytes buffer.old) }
     ensures long { length buffer.new ≡ length buffer.old }
 {
-    let start = server_start(telling.challenge, telling.number);
-    scramble(&mut buffer[..bytes], CLEAR, start, telling.executed.last());
+    let text = telling.executed.last();
+    let front = &mut buffer[..bytes];
+    scramble_server(front, telling.challenge, telling.number, text);
 }

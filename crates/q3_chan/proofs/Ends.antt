@@ -62,11 +62,11 @@ unfolding next_of
 Sends-next messages s h = Sends-hand_out messages s s.under_way h h.under_way
 
 abbrev IsSame : Sending → Sending → Type 0
-IsSame s now = (now.side ≡ s.side) × (now.qport ≡ s.qport) × (now.number ≡ s.number)
+IsSame s now = (now.header ≡ s.header) × (now.number ≡ s.number)
 
 hand_out-same : (s : Sending) (left : Option UnderWay) → IsSame s (hand_out s left).sending
-hand_out-same s None = (refl, refl, refl)
-hand_out-same s (Some way) = (refl, refl, refl)
+hand_out-same s None = (refl, refl)
+hand_out-same s (Some way) = (refl, refl)
 
 next_of-same : (s : Sending) → IsSame s (next_of s).sending
 unfolding next_of
@@ -78,7 +78,7 @@ HandsOut-piece messages s way h e =
     record {
       some = is.some;
       left = is.left;
-      bytes = ap (λ (t : Handed). t.datagram) (next_of-under_way s way e) ∙ ap (λ (message : List ℕ). datagram s.side s.qport s.number message way.next) is.message;
+      bytes = ap (λ (t : Handed). t.datagram) (next_of-under_way s way e) ∙ ap (λ (message : List ℕ). datagram s.header s.number message way.next) is.message;
     }
 
 pub ends_send : EndsSend

@@ -22,7 +22,7 @@ left_of-index message index next is =
 
 -- so many calls hand out the datagrams from an index on, and leave nothing
 record HasHandedOut (count index : ℕ) (s : Sending) (message : List ℕ) : Type 0 where
-  out : handed_out count s ≡ map (datagram s.side s.qport s.number message) (range_with_len index count)
+  out : handed_out count s ≡ map (datagram s.header s.number message) (range_with_len index count)
   idle : IsIdle (behind count s)
 
 HasHandedOut-next : (count index : ℕ) (s : Sending) (message : List ℕ) → s.under_way ≡ Some (record { message = message; next = index })
@@ -31,7 +31,7 @@ unfolding handed_out behind
 HasHandedOut-next count index s message is h =
     let handed = next_of-under_way s (record { message = message; next = index }) is in
     record {
-      out = ap (λ (t : Handed). t.datagram ∷ handed_out count t.sending) handed ∙ ap (λ (rest : List (List ℕ)). datagram s.side s.qport s.number message index ∷ rest) h.out;
+      out = ap (λ (t : Handed). t.datagram ∷ handed_out count t.sending) handed ∙ ap (λ (rest : List (List ℕ)). datagram s.header s.number message index ∷ rest) h.out;
       idle = ap (λ (t : Handed). (behind count t.sending).under_way) handed ∙ h.idle;
     }
 
@@ -52,5 +52,5 @@ unfolding datagrams
 hands_out_all s message idle =
     let count = length message / fragment_size in
     let h = HasHandedOut-all count 0 (started s message) message refl (omega arith) in
-    let P : ℕ → Type 0 = λ n. (handed_out n (started s message) ≡ map (datagram s.side s.qport (s.number + 1) message) (range_with_len 0 n)) × IsIdle (behind n (started s message)) in
+    let P : ℕ → Type 0 = λ n. (handed_out n (started s message) ≡ map (datagram s.header (s.number + 1) message) (range_with_len 0 n)) × IsIdle (behind n (started s message)) in
     subst P (sym (add-one count)) (h.out, h.idle)

@@ -4,7 +4,7 @@ use Rattle.std.specs.List.{All}
 use Rattle.std.proofs.lemmas.List.Elements.{All-head, All-tail}
 use Rattle.q3_chan.specs.declared.side.Side.{Side}
 use Rattle.q3_chan.specs.declared.gatherer.Gathered.TheVariants.{Whole}
-use Rattle.q3_chan.specs.Datagrams.{datagram}
+use Rattle.q3_chan.specs.Datagrams.{Header, datagram}
 use Rattle.q3_chan.specs.Gathering.{Gathering, Took, gathered, gathered_all, new_gathering}
 use Rattle.q3_chan.specs.Tags.{IsQuiet, tagged}
 use Rattle.q3_chan.specs.Laws.{HoldsFront, IsOneOf, GatheredIsOne}
@@ -33,28 +33,31 @@ record HasTook (side : Side) (messages : ℕ → List ℕ) (t : Took) : Type 0 w
   taken : HasTaken side messages t.gathering
   whole : (number count : ℕ) → t.answer ≡ Whole number count → t.message ≡ messages number
 
-HasTaken-more : (side : Side) (qport : ℕ) (messages : ℕ → List ℕ) (g : Gathering) (bytes : List ℕ) → qport < 65536 → HasTaken side messages g → IsOneOf side qport messages bytes
-    → HasTook side messages (gathered g bytes)
-HasTaken-more side qport messages g bytes port h one =
+HasTaken-more : (header : Header) (messages : ℕ → List ℕ) (g : Gathering) (bytes : List ℕ) → header.qport < 65536 → HasTaken header.side messages g → IsOneOf header messages bytes
+    → HasTook header.side messages (gathered g bytes)
+HasTaken-more header messages g bytes port h one =
+    let side = header.side in
+    let qport = header.qport in
     let number = one.0 in
     let index = one.1 in
     let law = sent_is_tagged messages g qport number index h.front port one.2 one.3 one.4 one.5 in
     let is : gathered g bytes ≡ tagged g number (messages number) index =
-    ap (gathered g) (one.6 ∙ ap (λ (s : Side). datagram s qport number (messages number) index) (sym h.side-is)) ∙ law.0 in
+    ap (gathered g) (one.6 ∙ ap (λ (s : Side). datagram (record { side = s; qport = qport }) number (messages number) index) (sym h.side-is)) ∙ law.0 in
     subst (HasTook side messages) (sym is) (record {
       taken = record { side-is = (tagged_does g number (messages number) index).side ∙ h.side-is; front = law.1 };
       whole = tagged-whole messages g number index;
     })
 
-HasTaken-all : (side : Side) (qport : ℕ) (messages : ℕ → List ℕ) (g : Gathering) (came : List (List ℕ)) → qport < 65536 → HasTaken side messages g → All (IsOneOf side qport messages) came
-    → HasTaken side messages (gathered_all g came)
+HasTaken-all : (header : Header) (messages : ℕ → List ℕ) (g : Gathering) (came : List (List ℕ)) → header.qport < 65536 → HasTaken header.side messages g → All (IsOneOf header messages) came
+    → HasTaken header.side messages (gathered_all g came)
 unfolding gathered_all
-HasTaken-all side qport messages g [] port h all = h
-HasTaken-all side qport messages g (bytes ∷ others) port h all =
-    HasTaken-all side qport messages (gathered g bytes).gathering others port
-    (HasTaken-more side qport messages g bytes port h (All-head (IsOneOf side qport messages) bytes others all)).taken (All-tail (IsOneOf side qport messages) bytes others all)
+HasTaken-all header messages g [] port h all = h
+HasTaken-all header messages g (bytes ∷ others) port h all =
+    HasTaken-all header messages (gathered g bytes).gathering others port
+    (HasTaken-more header messages g bytes port h (All-head (IsOneOf header messages) bytes others all)).taken (All-tail (IsOneOf header messages) bytes others all)
 
 pub gathered_is_one : GatheredIsOne
-gathered_is_one side qport messages came last number count port all one =
+gathered_is_one header messages came last number count port all one =
+    let side = header.side in
     let none : HasTaken side messages (new_gathering side) = record { side-is = refl; front = record { count = 0; not_all = omega arith; front = refl } } in
-    (HasTaken-more side qport messages (gathered_all (new_gathering side) came) last port (HasTaken-all side qport messages (new_gathering side) came port none all) one).whole number count
+    (HasTaken-more header messages (gathered_all (new_gathering side) came) last port (HasTaken-all header messages (new_gathering side) came port none all) one).whole number count

@@ -6,7 +6,8 @@ use Rattle.std.proofs.lemmas.Nat.{xor_of_8}
 use Rattle.std.proofs.lemmas.List.Elements.{All-nil, All-cons, All-tail, All-take, All-drop, All-append}
 use Rattle.q3_text.specs.Texts.{IsText}
 use Rattle.q3_chan.specs.Scrambling.{shifted_at, key_at, keyed}
-use Rattle.q3_chan.specs.Laws.{TwiceIsNone, FrontStays, BytesStayBytes}
+use Rattle.q3_chan.specs.Laws.{TwiceIsNone, FrontStays, BytesStayBytes, SideTwiceIsNone, SideFrontStays, SideBytesStay}
+use Rattle.q3_chan.specs.Keys.{clear_bytes}
 
 keyed_twice : (key : ℕ → ℕ) (place : ℕ) (bytes : List ℕ) → keyed key place (keyed key place bytes) ≡ bytes
 unfolding keyed
@@ -90,3 +91,14 @@ bytes_stay_bytes from start text bytes small is all =
     λ k. small_key (shifted_at from text) start from (k + 1 - from) (λ n. shifted_small from text n is) small
     in All-append P (take from bytes) (keyed (key_at from start text) from (drop from bytes)) (All-take P from bytes all)
     (keyed_bytes (key_at from start text) from (drop from bytes) keys (All-drop P from bytes all))
+
+-- ---- behind the leading longs
+
+pub side_twice_is_none : SideTwiceIsNone
+side_twice_is_none side key bytes = twice_is_none (clear_bytes side) key.start key.text bytes
+
+pub side_front_stays : SideFrontStays
+side_front_stays side key bytes = front_stays (clear_bytes side) key.start key.text bytes
+
+pub side_bytes_stay : SideBytesStay
+side_bytes_stay side key bytes = bytes_stay_bytes (clear_bytes side) key.start key.text bytes

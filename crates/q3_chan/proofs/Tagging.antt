@@ -4,8 +4,8 @@ use Rattle.std.proofs.Math.Seq.{take-add, take-length}
 use Rattle.std.proofs.lemmas.Bool.{cases_Bool, cases_lt, cond-true, cond-false, or_from, eqb-true, lt-ltb, le-ltb, le-leb, lt-leb}
 use Rattle.std.proofs.lemmas.List.{length-take, length-drop, length-take-le, take_all}
 use Rattle.q3_chan.specs.declared.gatherer.Gathered.TheVariants.{Partial, BadFragment}
-use Rattle.q3_chan.specs.Datagrams.{fragment_size, longest_message, sequence_end, piece_count, piece, header, fragment, datagram}
-use Rattle.q3_chan.specs.Gathering.{Gathering, answers, arrives, emptied, gathering_of, add_piece, take_piece, take_fragment, gathered}
+use Rattle.q3_chan.specs.Datagrams.{fragment_size, longest_message, sequence_end, piece_count, piece, header_bytes, fragment, datagram}
+use Rattle.q3_chan.specs.Gathering.{Gathering, header_heard, answers, arrives, emptied, gathering_of, add_piece, take_piece, take_fragment, gathered}
 use Rattle.q3_chan.specs.Tags.{tag_piece, tag_fragment, tagged}
 use Rattle.q3_chan.specs.Laws.{IsSendable, HoldsFront, SentIsTagged}
 use Rattle.q3_chan.proofs.Headers.{IsHeaded, IsWhole, IsFragment, whole_is, fragment_is}
@@ -93,7 +93,7 @@ unfolding tagged
 tagged-cut g number message index newer long =
     cond-false (leb number g.taken) _ _ (lt-leb _ _ newer) ∙ cond-false (ltb (length message) fragment_size) _ _ (le-ltb _ _ long)
 
-fragment_is_tagged : (messages : ℕ → List ℕ) (g : Gathering) (bytes : List ℕ) (number index : ℕ) → HoldsFront messages g
+fragment_is_tagged : (messages : ℕ → List ℕ) (g : Gathering) (bytes : List ℕ) (number index : ℕ) → HoldsFront messages (gathering_of g number)
     → IsFragment g.side bytes number (fragment_size * index) (piece (messages number) index)
     → fragment_size ≤ length (messages number) → length (messages number) ≤ longest_message → index < piece_count (length (messages number))
     → gathered g bytes ≡ tagged g number (messages number) index
@@ -108,29 +108,30 @@ fragment_is_tagged messages g bytes number index h fragment long most below =
       | inr old ↦ old_is_tagged g bytes number message index fragment.headed old
       | inl newer ↦
           gathered-fragment g bytes number (fragment_size * index) (piece message index) fragment newer
-          ∙ subst Q same (take_fragment-tagged messages k index (gathering_of-front messages g number h) below-k most-k)
+          ∙ subst Q same (take_fragment-tagged messages k index h below-k most-k)
           ∙ sym (tagged-cut g number message index newer long)
     ]
 
 -- a datagram that an end sent does what its tag does
-pub datagram_is_tagged : (messages : ℕ → List ℕ) (g : Gathering) (qport number index : ℕ) → HoldsFront messages g → number < sequence_end → IsSendable (messages number)
-    → index < piece_count (length (messages number)) → gathered g (datagram g.side qport number (messages number) index) ≡ tagged g number (messages number) index
+pub datagram_is_tagged : (messages : ℕ → List ℕ) (g : Gathering) (qport number index : ℕ) → HoldsFront messages (gathering_of g number) → number < sequence_end
+    → IsSendable (messages number) → index < piece_count (length (messages number)) → gathered g (datagram (header_heard g qport) number (messages number) index) ≡ tagged g number (messages number) index
 unfolding datagram
 datagram_is_tagged messages g qport number index h end sendable below =
     let message = messages number in
     let Q : List ℕ → Type 0 = λ bytes. gathered g bytes ≡ tagged g number message index in
     let short = length-piece message index in
+    let header = header_heard g qport in
     elim (cases_lt (length message) fragment_size) [
       | inl small ↦
           subst Q (sym (cond-true (ltb (length message) fragment_size) _ _ (lt-ltb _ _ small)))
-          (whole_is_tagged g (header g.side qport number ++ message) number message index (whole_is g.side qport number message end) small)
+          (whole_is_tagged g (header_bytes header number ++ message) number message index (whole_is header number message end) small)
       | inr long ↦
           let most = sendable.most in
           subst Q (sym (cond-false (ltb (length message) fragment_size) _ _ (le-ltb _ _ long)))
-          (fragment_is_tagged messages g (fragment g.side qport number (fragment_size * index) (piece message index)) number index h
-          (fragment_is g.side qport number (fragment_size * index) (piece message index) end (omega arith) (omega arith)) long most below)
+          (fragment_is_tagged messages g (fragment header number (fragment_size * index) (piece message index)) number index h
+          (fragment_is header number (fragment_size * index) (piece message index) end (omega arith) (omega arith)) long most below)
     ]
 
 pub sent_is_tagged : SentIsTagged
 sent_is_tagged messages g qport number index h port some end sendable below =
-    (datagram_is_tagged messages g qport number index h end sendable below, tagged-front messages g number index h)
+    (datagram_is_tagged messages g qport number index (gathering_of-front messages g number h) end sendable below, tagged-front messages g number index h)

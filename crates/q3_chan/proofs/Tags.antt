@@ -1,6 +1,6 @@
 -- What a piece does to an end by its tag.
 use Rattle.std.proofs.Common.{◌≡◌, ◌+◌, ◌*◌, ◌<◌, ℕ, ltb, leb, eqb, List, [], length, take, refl, sym, subst, inl, inr, arith}
-use Rattle.std.proofs.lemmas.Bool.{cond_both, eqb-true, ltb-true, leb-false}
+use Rattle.std.proofs.lemmas.Bool.{cond_both, cond-true, eqb-true, ltb-true, leb-false}
 use Rattle.q3_chan.specs.declared.gatherer.Gathered.TheVariants.{Partial, Old, OutOfOrder}
 use Rattle.q3_chan.specs.Datagrams.{fragment_size, piece_count}
 use Rattle.q3_chan.specs.Gathering.{Gathering, Took, answers, arrives, emptied, gathering_of}
@@ -76,4 +76,29 @@ tagged-front messages g number index h =
         front = subst (λ (n : ℕ). take (fragment_size * (index + 1)) (messages number) ≡ take (fragment_size * (index + 1)) (messages n)) same refl;
       };
       last = λ _. record { count = 0; not_all = omega arith; front = refl };
+    })
+
+-- the same of what would be gathered of the message under a number
+pub tagged-front_of : (messages : ℕ → List ℕ) (g : Gathering) (number index : ℕ) → HoldsFront messages (gathering_of g number)
+    → HoldsFront messages (gathering_of (tagged g number (messages number) index).gathering number)
+tagged-front_of messages g number index h =
+    let k = gathering_of g number in
+    let same = sym (gathering_of-number g number) in
+    let again = λ (one : Gathering) (front : HoldsFront messages one). gathering_of-front messages one number front in
+    tagged-each (λ t. HoldsFront messages (gathering_of t.gathering number)) g number (messages number) index (record {
+      old = h;
+      whole = λ _.
+          let taken = record g { taken = number } in
+          cond_both (eqb number g.number) taken (record taken { number = number; bytes = [] }) (HoldsFront messages)
+          (λ e.
+          let front = subst (HoldsFront messages) (cond-true (eqb number g.number) g (record g { number = number; bytes = [] }) e) h in
+          record { count = front.count; not_all = front.not_all; front = front.front })
+          (λ _. record { count = 0; not_all = omega arith; front = refl });
+      order = again k h;
+      more = λ more. again (record k { bytes = take (fragment_size * (index + 1)) (messages number) }) (record {
+        count = index + 1;
+        not_all = subst (λ (n : ℕ). index + 1 < piece_count (length (messages n))) same more;
+        front = subst (λ (n : ℕ). take (fragment_size * (index + 1)) (messages number) ≡ take (fragment_size * (index + 1)) (messages n)) same refl;
+      });
+      last = λ _. again (record (emptied k) { taken = number }) (record { count = 0; not_all = omega arith; front = refl });
     })

@@ -6,10 +6,10 @@ use Rattle.std.proofs.lemmas.List.FromFn.{map-range_with_len_more}
 use Rattle.q3_chan.specs.declared.side.Side.{Side}
 use Rattle.q3_chan.specs.declared.gatherer.Gathered.TheVariants.{Partial, OutOfOrder}
 use Rattle.q3_chan.specs.Datagrams.{fragment_size, sequence_end, piece_count, last_index, datagram}
-use Rattle.q3_chan.specs.Gathering.{Gathering, Took, answers, arrives, emptied, gathering_of, gathered, gathered_all}
+use Rattle.q3_chan.specs.Gathering.{Gathering, header_heard, Took, answers, arrives, emptied, gathering_of, gathered, gathered_all}
 use Rattle.q3_chan.specs.Tags.{tag_piece, tagged, tagged_all, Came}
 use Rattle.q3_chan.specs.Laws.{IsSendable, HoldsFront, PiecesAreTagged, FirstArePartial, gathered_first, PiecesComeWhole, FirstComePartial}
-use Rattle.q3_chan.proofs.Tags.{gathering_of-number, gathering_of-taken, gathering_of-front, tagged-front, tagged_does}
+use Rattle.q3_chan.proofs.Tags.{gathering_of-number, gathering_of-taken, gathering_of-front, tagged-front_of, tagged_does}
 use Rattle.q3_chan.proofs.Tagging.{length-front, tagged-cut, datagram_is_tagged}
 
 -- ---- by tags
@@ -110,13 +110,17 @@ comes-whole held g number message few h =
           (record { newer = h.newer; answer = refl; message_is = refl; taken = refl })
     ]
 
-pub pieces_are_tagged : PiecesAreTagged
-pieces_are_tagged messages g number h newer =
+come_tagged : (messages : ℕ → List ℕ) (g : Gathering) (number : ℕ) → HoldsFront messages (gathering_of g number) → g.taken < number
+    → Came (tagged_all g number (messages number) (last_index (messages number))) number (messages number)
+    (tagged (tagged_all g number (messages number) (last_index (messages number))) number (messages number) (last_index (messages number)))
+come_tagged messages g number there newer =
     let message = messages number in
-    let there = gathering_of-front messages g number h in
     let begin = HoldsFirst-front messages g number there newer in
     comes-whole there.count (tagged_all g number message (last_index message)) number message (omega (arith, begin.is, begin.not_all))
     (HoldsFirst-all there.count g number message (last_index message) begin (omega arith))
+
+pub pieces_are_tagged : PiecesAreTagged
+pieces_are_tagged messages g number h newer = come_tagged messages g number (gathering_of-front messages g number h) newer
 
 -- and where nothing was held, those before it are partial
 pub first_are_partial : FirstArePartial
@@ -137,24 +141,24 @@ gathered_all-push g (one ∷ others) last = gathered_all-push (gathered g one).g
 record FollowsTags (messages : ℕ → List ℕ) (g : Gathering) (qport number count : ℕ) : Type 0 where
   is : gathered_first g qport number (messages number) count ≡ tagged_all g number (messages number) count
   side : (tagged_all g number (messages number) count).side ≡ g.side
-  front : HoldsFront messages (tagged_all g number (messages number) count)
+  front : HoldsFront messages (gathering_of (tagged_all g number (messages number) count) number)
 
 -- the datagram behind them does what its tag does
 FollowsTags-next : (messages : ℕ → List ℕ) (g : Gathering) (qport number count : ℕ) → FollowsTags messages g qport number count → number < sequence_end
     → IsSendable (messages number) → count < piece_count (length (messages number))
-    → gathered (tagged_all g number (messages number) count) (datagram g.side qport number (messages number) count) ≡ tagged (tagged_all g number (messages number) count) number (messages number) count
+    → gathered (tagged_all g number (messages number) count) (datagram (header_heard g qport) number (messages number) count) ≡ tagged (tagged_all g number (messages number) count) number (messages number) count
 FollowsTags-next messages g qport number count f end sendable few =
     let t = tagged_all g number (messages number) count in
-    ap (λ (s : Side). gathered t (datagram s qport number (messages number) count)) (sym f.side)
+    ap (λ (s : Side). gathered t (datagram (record { side = s; qport = qport }) number (messages number) count)) (sym f.side)
     ∙ datagram_is_tagged messages t qport number count f.front end sendable few
 
-FollowsTags-all : (messages : ℕ → List ℕ) (g : Gathering) (qport number count : ℕ) → HoldsFront messages g → number < sequence_end → IsSendable (messages number)
+FollowsTags-all : (messages : ℕ → List ℕ) (g : Gathering) (qport number count : ℕ) → HoldsFront messages (gathering_of g number) → number < sequence_end → IsSendable (messages number)
     → count < piece_count (length (messages number)) → FollowsTags messages g qport number count
 unfolding gathered_all tagged_all
 FollowsTags-all messages g qport number zero h end sendable few = record { is = refl; side = refl; front = h }
 FollowsTags-all messages g qport number (suc count) h end sendable few =
     let message = messages number in
-    let bytes : ℕ → List ℕ = datagram g.side qport number message in
+    let bytes : ℕ → List ℕ = datagram (header_heard g qport) number message in
     let t = tagged_all g number message count in
     let f = FollowsTags-all messages g qport number count h end sendable (omega arith) in
     record {
@@ -164,26 +168,37 @@ FollowsTags-all messages g qport number (suc count) h end sendable few =
           ∙ ap (λ (k : Gathering). (gathered k (bytes count)).gathering) f.is
           ∙ ap (λ (took : Took). took.gathering) (FollowsTags-next messages g qport number count f end sendable (omega arith));
       side = (tagged_does t number message count).side ∙ f.side;
-      front = tagged-front messages t number count f.front;
+      front = tagged-front_of messages t number count f.front;
     }
 
 -- what holds of the tags holds of the bytes
-FollowsTags-then : (P : Gathering → Took → Type 0) (messages : ℕ → List ℕ) (g : Gathering) (qport number index : ℕ) → HoldsFront messages g → number < sequence_end → IsSendable (messages number)
+FollowsTags-then : (P : Gathering → Took → Type 0) (messages : ℕ → List ℕ) (g : Gathering) (qport number index : ℕ) → HoldsFront messages (gathering_of g number) → number < sequence_end → IsSendable (messages number)
     → index < piece_count (length (messages number))
     → P (tagged_all g number (messages number) index) (tagged (tagged_all g number (messages number) index) number (messages number) index)
-    → P (gathered_first g qport number (messages number) index) (gathered (gathered_first g qport number (messages number) index) (datagram g.side qport number (messages number) index))
+    → P (gathered_first g qport number (messages number) index) (gathered (gathered_first g qport number (messages number) index) (datagram (header_heard g qport) number (messages number) index))
 FollowsTags-then P messages g qport number index h end sendable few holds =
     let message = messages number in
     let f = FollowsTags-all messages g qport number index h end sendable few in
     let t = tagged_all g number message index in
-    let bytes = datagram g.side qport number message index in
+    let bytes = datagram (header_heard g qport) number message index in
     subst (λ (k : Gathering). P k (gathered k bytes)) (sym f.is) (subst (P t) (sym (FollowsTags-next messages g qport number index f end sendable few)) holds)
 
+-- some first pieces of a message, where it is gathered
+front_of : (g : Gathering) (number held : ℕ) (message : List ℕ) → held < piece_count (length message) → (g.number ≡ number → g.bytes ≡ take (fragment_size * held) message)
+    → HoldsFront (λ n. message) (gathering_of g number)
+front_of g number held message few is =
+    cond_both (eqb number g.number) g (record g { number = number; bytes = [] }) (HoldsFront (λ n. message))
+    (λ e. record { count = held; not_all = few; front = is (sym (eqb-true _ _ e)) })
+    (λ _. record { count = 0; not_all = omega arith; front = refl })
+
 pub pieces_come_whole : PiecesComeWhole
-pieces_come_whole messages g qport number h newer end sendable =
-    let message = messages number in
-    FollowsTags-then (λ k took. Came k number message took) messages g qport number (last_index message) h end sendable (omega arith) (pieces_are_tagged messages g number h newer)
+pieces_come_whole g qport number held message newer few is end sendable =
+    let messages : ℕ → List ℕ = λ n. message in
+    let there = front_of g number held message few is in
+    FollowsTags-then (λ k took. Came k number message took) messages g qport number (last_index message) there end sendable (omega arith) (come_tagged messages g number there newer)
 
 pub first_come_partial : FirstComePartial
-first_come_partial messages g qport number index h newer none end sendable few =
-    FollowsTags-then (λ k took. took.answer ≡ Partial) messages g qport number index h end sendable (omega arith) (first_are_partial g number (messages number) index newer none few)
+first_come_partial g qport number index message newer none end sendable few =
+    let messages : ℕ → List ℕ = λ n. message in
+    FollowsTags-then (λ k took. took.answer ≡ Partial) messages g qport number index (front_of g number 0 message (omega arith) none) end sendable (omega arith)
+    (first_are_partial g number message index newer none few)

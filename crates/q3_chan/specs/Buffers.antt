@@ -10,8 +10,7 @@ use Rattle.q3_chan.specs.Gathering.{Gathering}
 -- the message is the front of the buffer
 abbrev pub sending_of : SenderInside → Sending
 sending_of s = record {
-  side = s.side;
-  qport = s.qport;
+  header = s.header;
   number = s.number;
   under_way = option_map (λ index. record { message = take s.count s.buffer.items; next = index }) s.index;
 }

@@ -1,5 +1,5 @@
 -- Datagrams: the number of a message, from a client its qport, and a piece of the message; a short one goes whole.
-use Rattle.std.specs.Prelude.{ℕ, ◌+◌, ◌-◌, ◌*◌, ◌/◌, ◌%◌, ◌^◌, nat_lt, nat_le, if◌then◌else◌, Bool, List, ◌++◌, length, map, take, drop}
+use Rattle.std.specs.Prelude.{[], ℕ, ◌+◌, ◌-◌, ◌*◌, ◌/◌, ◌%◌, ◌^◌, nat_lt, nat_le, if◌then◌else◌, Bool, List, ◌++◌, length, map, take, drop}
 use Rattle.std.specs.List.{range_with_len}
 use Rattle.byteorder.specs.Endian.{little_bytes, little_number}
 use Rattle.q3_chan.specs.declared.side.Side.{Side}
@@ -40,25 +40,41 @@ piece message index = take fragment_size (drop (fragment_size * index) message)
 unfoldable pub pieces : List ℕ → List (List ℕ)
 pieces message = map (piece message) (range_with_len 0 (piece_count (length message)))
 
--- what a datagram begins with: a number in four bytes, and from a client its qport in two
-abbrev pub header : Side → ℕ → ℕ → List ℕ
-header Server qport number = little_bytes 4 number
-header Client qport number = little_bytes 4 number ++ little_bytes 2 qport
+-- what stands in front of each datagram of an end beside the number of its message: which end sends, and a client by which qport
+pub record Header : Type 0 where
+  pub side : Side
+  pub qport : ℕ
+
+-- that of a server, with what it sends no qport goes, and that of a client
+abbrev pub server_header : Header
+server_header = record { side = Server; qport = 0 }
+
+abbrev pub client_header : ℕ → Header
+client_header qport = record { side = Client; qport = qport }
+
+-- the qport in two bytes, which a server doesn't send
+abbrev pub qport_bytes : Side → ℕ → List ℕ
+qport_bytes Server qport = []
+qport_bytes Client qport = little_bytes 2 qport
+
+-- what a datagram begins with: a number in four bytes, and from a client its qport
+abbrev pub header_bytes : Header → ℕ → List ℕ
+header_bytes header number = little_bytes 4 number ++ qport_bytes header.side header.qport
 
 -- a fragment: the number with its mark, where the piece starts and how long it is, in two bytes each, and the piece
-abbrev pub fragment : Side → ℕ → ℕ → ℕ → List ℕ → List ℕ
-fragment side qport number start bytes =
-    header side qport (number + fragment_mark) ++ little_bytes 2 start ++ little_bytes 2 (length bytes) ++ bytes
+abbrev pub fragment : Header → ℕ → ℕ → List ℕ → List ℕ
+fragment header number start bytes =
+    header_bytes header (number + fragment_mark) ++ little_bytes 2 start ++ little_bytes 2 (length bytes) ++ bytes
 
 -- the datagram with the piece of a message at an index; a message that goes whole has one, which isn't a fragment
-unfoldable pub datagram : Side → ℕ → ℕ → List ℕ → ℕ → List ℕ
-datagram side qport number message index =
-    if nat_lt (length message) fragment_size then header side qport number ++ message
-    else fragment side qport number (fragment_size * index) (piece message index)
+unfoldable pub datagram : Header → ℕ → List ℕ → ℕ → List ℕ
+datagram header number message index =
+    if nat_lt (length message) fragment_size then header_bytes header number ++ message
+    else fragment header number (fragment_size * index) (piece message index)
 
 -- the datagrams of a message, in order
-unfoldable pub datagrams : Side → ℕ → ℕ → List ℕ → List (List ℕ)
-datagrams side qport number message = map (datagram side qport number message) (range_with_len 0 (piece_count (length message)))
+unfoldable pub datagrams : Header → ℕ → List ℕ → List (List ℕ)
+datagrams header number message = map (datagram header number message) (range_with_len 0 (piece_count (length message)))
 
 -- ---- what a receiver sees
 

@@ -4,7 +4,7 @@ use Rattle.std.specs.Str.{bytes_eq}
 use Rattle.q3_chan.specs.declared.side.Side.{Side}
 use Rattle.q3_chan.specs.declared.gatherer.Gathered.{Gathered}
 use Rattle.q3_chan.specs.declared.gatherer.Gathered.TheVariants.{Whole, Partial, Old, OutOfOrder, BadFragment, Runt, Connectionless}
-use Rattle.q3_chan.specs.Datagrams.{fragment_size, longest_message, is_fragment, number_in, header_length, start_in, count_in, behind_header}
+use Rattle.q3_chan.specs.Datagrams.{Header, fragment_size, longest_message, is_fragment, number_in, header_length, start_in, count_in, behind_header}
 
 -- which end sends, the newest number taken, 0 for none, and what was gathered: the number of its message, 0 for none, and
 -- its bytes so far
@@ -13,6 +13,10 @@ pub record Gathering : Type 0 where
   pub taken : ℕ
   pub number : ℕ
   pub bytes : List ℕ
+
+-- what stands in front of the datagrams that an end hears, by their qport
+abbrev pub header_heard : Gathering → ℕ → Header
+header_heard g qport = record { side = g.side; qport = qport }
 
 -- an end that has taken nothing
 abbrev pub new_gathering : Side → Gathering

@@ -4,11 +4,12 @@ use Rattle.std.specs.List.{concat, range_with_len}
 use Rattle.q3_text.specs.Texts.{IsText}
 use Rattle.q3_chan.specs.declared.side.Side.{Side}
 use Rattle.q3_chan.specs.declared.gatherer.Gathered.TheVariants.{Whole, Partial}
-use Rattle.q3_chan.specs.Datagrams.{fragment_size, longest_message, sequence_end, piece_count, last_index, pieces, datagram, datagrams, is_fragment, number_in, start_in, count_in, behind_header}
+use Rattle.q3_chan.specs.Datagrams.{Header, fragment_size, longest_message, sequence_end, piece_count, last_index, pieces, datagram, datagrams, is_fragment, number_in, start_in, count_in, behind_header}
 use Rattle.q3_chan.specs.Sending.{Sending, UnderWay, IsIdle, new_sending, started, next_of, handed_out, behind}
-use Rattle.q3_chan.specs.Gathering.{Gathering, gathered, gathered_all, new_gathering}
+use Rattle.q3_chan.specs.Gathering.{Gathering, gathered, gathered_all, header_heard, new_gathering}
 use Rattle.q3_chan.specs.Tags.{tagged, tagged_all, Came, PieceDoes}
 use Rattle.q3_chan.specs.Scrambling.{scrambled}
+use Rattle.q3_chan.specs.Keys.{Key, clear_bytes, side_scrambled}
 
 -- the pieces of a message, one behind the other, are the message
 abbrev pub PiecesAreWhole : Type 0
@@ -17,7 +18,7 @@ PiecesAreWhole = (message : List ℕ) → concat (pieces message) ≡ message
 -- an idle end that begins a message hands out its datagrams, in order, and then is idle
 abbrev pub HandsOutAll : Type 0
 HandsOutAll = (s : Sending) (message : List ℕ) → IsIdle s
-    → (handed_out (piece_count (length message)) (started s message) ≡ datagrams s.side s.qport (s.number + 1) message)
+    → (handed_out (piece_count (length message)) (started s message) ≡ datagrams s.header (s.number + 1) message)
     × IsIdle (behind (piece_count (length message)) (started s message))
 
 -- a message as an end may send it
@@ -36,14 +37,14 @@ pub record HoldsFront (messages : ℕ → List ℕ) (g : Gathering) : Type 0 whe
 abbrev pub SentIsTagged : Type 0
 SentIsTagged = (messages : ℕ → List ℕ) (g : Gathering) (qport number index : ℕ) → HoldsFront messages g → qport < 2 ^ 16
     → 1 ≤ number → number < sequence_end → IsSendable (messages number) → index < piece_count (length (messages number))
-    → (gathered g (datagram g.side qport number (messages number) index) ≡ tagged g number (messages number) index)
+    → (gathered g (datagram (header_heard g qport) number (messages number) index) ≡ tagged g number (messages number) index)
     × HoldsFront messages (tagged g number (messages number) index).gathering
 
 -- a datagram of one of these messages
-abbrev pub IsOneOf : Side → ℕ → (ℕ → List ℕ) → List ℕ → Type 0
-IsOneOf side qport messages bytes =
+abbrev pub IsOneOf : Header → (ℕ → List ℕ) → List ℕ → Type 0
+IsOneOf header messages bytes =
     (number : ℕ) × (index : ℕ) × (1 ≤ number) × (number < sequence_end) × IsSendable (messages number)
-    × (index < piece_count (length (messages number))) × (bytes ≡ datagram side qport number (messages number) index)
+    × (index < piece_count (length (messages number))) × (bytes ≡ datagram header number (messages number) index)
 
 -- what a piece does, whatever was gathered
 abbrev pub TaggedDoes : Type 0
@@ -64,26 +65,28 @@ FirstArePartial = (g : Gathering) (number : ℕ) (message : List ℕ) (index : �
 
 -- an end after so many first datagrams of a message
 abbrev pub gathered_first : Gathering → ℕ → ℕ → List ℕ → ℕ → Gathering
-gathered_first g qport number message count = gathered_all g (map (datagram g.side qport number message) (range_with_len 0 count))
+gathered_first g qport number message count = gathered_all g (map (datagram (header_heard g qport) number message) (range_with_len 0 count))
 
--- the same by bytes: where all datagrams of a newer message but the last came in order, with the last it comes whole
+-- the same by bytes: where nothing of a newer message was gathered but some first pieces, and not the last, and all its datagrams but
+-- the last came in order, with the last it comes whole
 abbrev pub PiecesComeWhole : Type 0
-PiecesComeWhole = (messages : ℕ → List ℕ) (g : Gathering) (qport number : ℕ) → HoldsFront messages g → g.taken < number → number < sequence_end → IsSendable (messages number)
-    → Came (gathered_first g qport number (messages number) (last_index (messages number))) number (messages number)
-    (gathered (gathered_first g qport number (messages number) (last_index (messages number))) (datagram g.side qport number (messages number) (last_index (messages number))))
+PiecesComeWhole = (g : Gathering) (qport number held : ℕ) (message : List ℕ) → g.taken < number → held < piece_count (length message)
+    → (g.number ≡ number → g.bytes ≡ take (fragment_size * held) message) → number < sequence_end → IsSendable message
+    → Came (gathered_first g qport number message (last_index message)) number message
+    (gathered (gathered_first g qport number message (last_index message)) (datagram (header_heard g qport) number message (last_index message)))
 
 -- and where nothing of it was gathered before, each but the last is partial
 abbrev pub FirstComePartial : Type 0
-FirstComePartial = (messages : ℕ → List ℕ) (g : Gathering) (qport number index : ℕ) → HoldsFront messages g → g.taken < number → (g.number ≡ number → g.bytes ≡ [])
-    → number < sequence_end → IsSendable (messages number) → index < last_index (messages number)
-    → (gathered (gathered_first g qport number (messages number) index) (datagram g.side qport number (messages number) index)).answer ≡ Partial
+FirstComePartial = (g : Gathering) (qport number index : ℕ) (message : List ℕ) → g.taken < number → (g.number ≡ number → g.bytes ≡ [])
+    → number < sequence_end → IsSendable message → index < last_index message
+    → (gathered (gathered_first g qport number message index) (datagram (header_heard g qport) number message index)).answer ≡ Partial
 
 -- whatever of one sender's datagrams came, in whatever order: a message that comes whole is the one under its number
 abbrev pub GatheredIsOne : Type 0
-GatheredIsOne = (side : Side) (qport : ℕ) (messages : ℕ → List ℕ) (came : List (List ℕ)) (last : List ℕ) (number count : ℕ) → qport < 2 ^ 16
-    → All (IsOneOf side qport messages) came → IsOneOf side qport messages last
-    → (gathered (gathered_all (new_gathering side) came) last).answer ≡ Whole number count
-    → (gathered (gathered_all (new_gathering side) came) last).message ≡ messages number
+GatheredIsOne = (header : Header) (messages : ℕ → List ℕ) (came : List (List ℕ)) (last : List ℕ) (number count : ℕ) → header.qport < 2 ^ 16
+    → All (IsOneOf header messages) came → IsOneOf header messages last
+    → (gathered (gathered_all (new_gathering header.side) came) last).answer ≡ Whole number count
+    → (gathered (gathered_all (new_gathering header.side) came) last).message ≡ messages number
 
 -- datagrams with pieces of the message under a number, each of which starts where those before it end
 abbrev pub ArePieces : Side → ℕ → ℕ → List (List ℕ) → List ℕ → Type 0
@@ -141,7 +144,7 @@ pub record Sends (messages : ℕ → List ℕ) (s : Sending) : Type 0 where
 pub record HandsOut (messages : ℕ → List ℕ) (s : Sending) (index : ℕ) : Type 0 where
   pub some : 1 ≤ s.number
   pub left : index < piece_count (length (messages s.number))
-  pub bytes : (next_of s).datagram ≡ datagram s.side s.qport s.number (messages s.number) index
+  pub bytes : (next_of s).datagram ≡ datagram s.header s.number (messages s.number) index
 
 -- where an end that sends is so, and what it hands out
 pub record EndsSend : Type 0 where
@@ -151,13 +154,13 @@ pub record EndsSend : Type 0 where
   pub start : (messages : ℕ → List ℕ) (s : Sending) (message : List ℕ) → messages (s.number + 1) ≡ message → Sends messages (started s message)
   -- a piece is handed out
   pub next : (messages : ℕ → List ℕ) (s : Sending) → Sends messages s → Sends messages (next_of s).sending
-  -- and then side, qport and number are as they were
-  pub stays : (s : Sending) → ((next_of s).sending.side ≡ s.side) × ((next_of s).sending.qport ≡ s.qport) × ((next_of s).sending.number ≡ s.number)
+  -- and then header and number are as they were
+  pub stays : (s : Sending) → ((next_of s).sending.header ≡ s.header) × ((next_of s).sending.number ≡ s.number)
   -- of a message under way it is the piece that is left
   pub piece : (messages : ℕ → List ℕ) (s : Sending) (way : UnderWay) → Sends messages s → s.under_way ≡ Some way → HandsOut messages s way.next
   -- and it is one of the messages' datagrams
   pub one : (messages : ℕ → List ℕ) (s : Sending) (index : ℕ) → HandsOut messages s index → s.number < sequence_end → IsSendable (messages s.number)
-      → IsOneOf s.side s.qport messages (next_of s).datagram
+      → IsOneOf s.header messages (next_of s).datagram
 
 -- ---- scrambling
 
@@ -174,3 +177,15 @@ FrontStays = (from start : ℕ) (text bytes : List ℕ) → (length (scrambled f
 abbrev pub BytesStayBytes : Type 0
 BytesStayBytes = (from start : ℕ) (text bytes : List ℕ) → start < 2 ^ 8 → IsText text → All (λ byte. byte < 2 ^ 8) bytes
     → All (λ byte. byte < 2 ^ 8) (scrambled from start text bytes)
+
+-- the same of what an end scrambles
+abbrev pub SideTwiceIsNone : Type 0
+SideTwiceIsNone = (side : Side) (key : Key) (bytes : List ℕ) → side_scrambled side key (side_scrambled side key bytes) ≡ bytes
+
+abbrev pub SideFrontStays : Type 0
+SideFrontStays = (side : Side) (key : Key) (bytes : List ℕ) → (length (side_scrambled side key bytes) ≡ length bytes)
+    × ((k : ℕ) → k ≤ clear_bytes side → take k (side_scrambled side key bytes) ≡ take k bytes)
+
+abbrev pub SideBytesStay : Type 0
+SideBytesStay = (side : Side) (key : Key) (bytes : List ℕ) → key.start < 2 ^ 8 → IsText key.text → All (λ byte. byte < 2 ^ 8) bytes
+    → All (λ byte. byte < 2 ^ 8) (side_scrambled side key bytes)

@@ -4,7 +4,7 @@ use Rattle.byteorder.specs.Endian.{little_number}
 use Rattle.q3_chan.specs.declared.qport.NoQport.{NoQport}
 use Rattle.q3_chan.specs.declared.qport.NoQport.TheVariants.{Runt, Connectionless}
 use Rattle.q3_chan.specs.declared.side.Side.TheVariants.{Client}
-use Rattle.q3_chan.specs.Datagrams.{sequence_end, piece_count, is_fragment, header_length, datagram}
+use Rattle.q3_chan.specs.Datagrams.{Header, sequence_end, piece_count, is_fragment, header_length, datagram}
 use Rattle.q3_chan.specs.Gathering.{is_connectionless}
 use Rattle.q3_chan.specs.Laws.{IsSendable}
 
@@ -21,5 +21,5 @@ qport_of bytes =
 
 -- a client's datagram tells its qport
 abbrev pub QportIsTold : Type 0
-QportIsTold = (qport number index : ℕ) (message : List ℕ) → qport < 2 ^ 16 → number < sequence_end → IsSendable message
-    → index < piece_count (length message) → qport_of (datagram Client qport number message index) ≡ Ok qport
+QportIsTold = (header : Header) (number index : ℕ) (message : List ℕ) → header.side ≡ Client → header.qport < 2 ^ 16 → number < sequence_end → IsSendable message
+    → index < piece_count (length message) → qport_of (datagram header number message index) ≡ Ok header.qport

@@ -1,23 +1,22 @@
 -- What an end that sends keeps: the message under way, and which of its pieces goes next.
 use Rattle.std.specs.Prelude.{◌≡◌, ℕ, zero, suc, ◌+◌, ◌<◌, nat_lt, if◌then◌else◌, List, [], ◌∷◌, length, Option, Some, None}
 use Rattle.q3_chan.specs.declared.side.Side.{Side}
-use Rattle.q3_chan.specs.Datagrams.{piece_count, datagram}
+use Rattle.q3_chan.specs.Datagrams.{Header, piece_count, datagram}
 
 -- a message whose pieces from an index on are still to be handed out
 pub record UnderWay : Type 0 where
   pub message : List ℕ
   pub next : ℕ
 
--- which end sends, by which qport, the number of the last message begun, 0 for none, and what is left of it
+-- what stands in front of each datagram, the number of the last message begun, 0 for none, and what is left of it
 pub record Sending : Type 0 where
-  pub side : Side
-  pub qport : ℕ
+  pub header : Header
   pub number : ℕ
   pub under_way : Option UnderWay
 
 -- an end that has sent nothing
 abbrev pub new_sending : Side → ℕ → Sending
-new_sending side qport = record { side = side; qport = qport; number = 0; under_way = None }
+new_sending side qport = record { header = record { side = side; qport = qport }; number = 0; under_way = None }
 
 -- nothing is left to be handed out
 abbrev pub IsIdle : Sending → Type 0
@@ -41,7 +40,7 @@ abbrev pub hand_out : Sending → Option UnderWay → Handed
 hand_out s None = record { sending = s; datagram = [] }
 hand_out s (Some left) = record {
   sending = record s { under_way = left_of left };
-  datagram = datagram s.side s.qport s.number left.message left.next;
+  datagram = datagram s.header s.number left.message left.next;
 }
 
 -- the next piece is handed out

@@ -3,13 +3,14 @@
 
 ghost use Rattle.std.specs.Prelude.{◌≡◌, ◌<◌, ◌+◌, ◌≤◌, ◌++◌, nat_lt, length};
 ghost use Rattle.byteorder.specs.Endian.{little_bytes};
-ghost use Rattle.q3_chan.specs.Datagrams.{header, is_fragment, number_in, short_header, header_length, start_in, count_in, behind_header};
+ghost use Rattle.q3_chan.specs.Datagrams.{header_bytes, is_fragment, number_in, short_header, header_length, start_in, count_in, behind_header};
 ghost use Rattle.q3_chan.specs.Gathering.{is_connectionless};
 
 use crate::limits::DATAGRAM_ROOM;
 use crate::sender::Datagram;
 use crate::side::Side;
 use byteorder::{ByteOrder, LittleEndian};
+use std::marker::Model;
 
 /// What is added to the number of a message in its fragments: the top bit, the engine's `FRAGMENT_BIT`.
 pub(crate) const FRAGMENT_MARK: u32 = 0x8000_0000;
@@ -43,15 +44,33 @@ pub(crate) fn put_short(out: &mut Datagram, number: u16)
     put_bytes(out, &bytes);
 }
 
+/// What stands in front of each datagram of an end beside the number of its message.
+#[derive(Clone, Copy, Drop)]
+pub(crate) struct Header {
+    pub side: Side,
+    /// With what a server sends no qport goes.
+    pub qport: u16,
+}
+
+impl Model for Header {
+    ghost use Rattle.q3_chan.specs.Datagrams.{Header};
+
+    ghost Value = { Header };
+
+    ghost view = { λ h. record { side = h.side; qport = h.qport } };
+
+    ghost inverse = { λ value. record { side = value.side; qport = value.qport } };
+}
+
 /// Puts what begins each datagram: the number of its message, with or without the mark, and from a client its qport.
-pub(crate) fn put_header(out: &mut Datagram, side: Side, qport: u16, number: u32)
+pub(crate) fn put_header(out: &mut Datagram, header: Header, number: u32)
     requires { length out.old.items + 6 ≤ DATAGRAM_ROOM }
-    ensures bytes { out.new.items ≡ out.old.items ++ header side qport number }
+    ensures bytes { out.new.items ≡ out.old.items ++ header_bytes header number }
     ensures some { 0 < length out.new.items }
 {
     put_long(out, number);
-    if side == Side::Client {
-        put_short(out, qport);
+    if header.side == Side::Client {
+        put_short(out, header.qport);
     }
 }
 

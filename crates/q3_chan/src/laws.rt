@@ -1,7 +1,7 @@
 //! Laws of messages that are cut, gathered and scrambled, each the contract of a call that does nothing. A proof above cites a law by
 //! calling it.
 
-ghost use Rattle.q3_chan.specs.Laws.{PiecesAreWhole, HandsOutAll, SentIsTagged, TaggedDoes, PiecesAreTagged, FirstArePartial, PiecesComeWhole, FirstComePartial, GatheredIsOne, WholeArePieces, EndsGather, EndsSend, TwiceIsNone, FrontStays, BytesStayBytes};
+ghost use Rattle.q3_chan.specs.Laws.{PiecesAreWhole, HandsOutAll, SentIsTagged, TaggedDoes, PiecesAreTagged, FirstArePartial, PiecesComeWhole, FirstComePartial, GatheredIsOne, WholeArePieces, EndsGather, EndsSend, TwiceIsNone, FrontStays, BytesStayBytes, SideTwiceIsNone, SideFrontStays, SideBytesStay};
 ghost use Rattle.q3_chan.specs.Senders.{QportIsTold};
 
 /// The pieces of a message, one behind the other, are the message.
@@ -31,7 +31,8 @@ pub fn pieces_are_tagged()
     ensures partial { FirstArePartial }
 {}
 
-/// The same by bytes: where all datagrams of a newer message but the last came in order, with the last it comes whole.
+/// The same by bytes: where all datagrams of a newer message but the last came in order, with the last it comes whole; and if
+/// nothing of it was gathered before, the others are partial.
 pub fn pieces_come_whole()
     ensures whole { PiecesComeWhole }
     ensures partial { FirstComePartial }
@@ -63,6 +64,13 @@ pub fn ends_send()
 /// A datagram that a client sent tells its qport.
 pub fn qport_is_told()
     ensures { QportIsTold }
+{}
+
+/// What an end scrambles twice is as it was; the length and the leading longs stay, and bytes stay bytes.
+pub fn ends_scramble()
+    ensures twice { SideTwiceIsNone }
+    ensures front { SideFrontStays }
+    ensures bytes { SideBytesStay }
 {}
 
 /// What is scrambled twice is as it was; the length and what stands before the place stay, and bytes stay bytes.

@@ -3,6 +3,7 @@
 #![tactic(auto)]
 
 mod buffer;
+pub mod clear;
 pub mod gatherer;
 mod header;
 pub mod laws;
@@ -13,6 +14,7 @@ pub mod sender;
 pub mod side;
 pub mod starts;
 
+pub use clear::{is_unclear, scramble_client, scramble_server};
 pub use gatherer::{Gathered, Gatherer};
 pub use limits::{DATAGRAM_ROOM, FRAGMENT_SIZE, LONGEST_MESSAGE, SEQUENCE_END};
 pub use qport::{NoQport, qport_of};

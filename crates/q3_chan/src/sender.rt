@@ -7,7 +7,7 @@ ghost use Rattle.q3_chan.specs.Datagrams.{fragment_size, longest_message, sequen
 ghost use Rattle.q3_chan.specs.Sending.{IsIdle, new_sending, started, next_of};
 
 use crate::buffer::{new_buffer, put_at};
-use crate::header::{FRAGMENT_MARK, put_bytes, put_header, put_short};
+use crate::header::{FRAGMENT_MARK, Header, put_bytes, put_header, put_short};
 use crate::limits::{DATAGRAM_ROOM, FRAGMENT_SIZE};
 use crate::side::Side;
 use arrayvec::ArrayVec;
@@ -20,8 +20,7 @@ pub type Datagram = ArrayVec<u8, DATAGRAM_ROOM>;
 /// Cuts messages into datagrams, one a call. It has memory of its own, which `new` takes and no other call does.
 #[derive(Drop)]
 pub struct Sender {
-    side: Side,
-    qport: u16,
+    header: Header,
     number: u32,
     buffer: Vec<u8>,
     count: usize,
@@ -47,8 +46,7 @@ impl Sender {
         ensures { IfOk result (λ sender. sender ≡ new_sending side qport) }
     {
         Ok(Sender {
-            side,
-            qport,
+            header: Header { side, qport },
             number: 0,
             buffer: new_buffer(alloc)?,
             count: 0,
@@ -79,7 +77,7 @@ impl Sender {
     {
         if let Some(index) = self.index {
             let message = &self.buffer[..self.count];
-            write_datagram(out, self.side, self.qport, self.number, message, index);
+            write_datagram(out, self.header, self.number, message, index);
             self.index = index_behind(message, index);
         }
     }
@@ -101,26 +99,19 @@ impl Sender {
 
 /// Writes the datagram with the piece of a message at an index.
 #[tactic(auto, unfolding(crate::specs::Datagrams::datagram))]
-fn write_datagram(
-    out: &mut Datagram,
-    side: Side,
-    qport: u16,
-    number: u32,
-    message: &[u8],
-    index: usize,
-)
+fn write_datagram(out: &mut Datagram, header: Header, number: u32, message: &[u8], index: usize)
     requires number { number < sequence_end }
     requires most { length message.now ≤ longest_message }
     requires within { fragment_size * index ≤ length message.now }
-    ensures bytes { out.new.items ≡ datagram side qport number message.now index }
+    ensures bytes { out.new.items ≡ datagram header number message.now index }
     ensures some { 0 < length out.new.items }
 {
     out.clear();
     if message.len() < FRAGMENT_SIZE {
-        put_header(out, side, qport, number);
+        put_header(out, header, number);
         put_bytes(out, message);
     } else {
-        put_header(out, side, qport, number + FRAGMENT_MARK);
+        put_header(out, header, number + FRAGMENT_MARK);
         put_piece(out, message, index);
     }
 }

@@ -109,7 +109,7 @@ begins_new client is =
         | inl hidden ↦ rw (goes, hidden) tt
         | inr clear ↦ elim (cases_Bool (nat_lt longest_message (message_length (length bits)))) [
           | inl long ↦ rw (goes, clear, long) tt
-          | inr short ↦ rw (goes, clear, short) (record { message = next_is_message client is; feed = is.feed; start = refl; text = is.last; clear = clear })
+          | inr short ↦ rw (goes, clear, short) (record { message = next_is_message client is; feed = is.feed; key = refl; text = is.last; clear = clear })
         ]
       ]
     ]

@@ -12,8 +12,7 @@ use Rattle.q3_chan.specs.declared.gatherer.Gathered.{Gathered}
 use Rattle.q3_chan.specs.declared.gatherer.Gathered.TheVariants as gathered
 use Rattle.q3_chan.specs.Gathering.{Gathering, Took, new_gathering, gathered as gathered_of}
 use Rattle.q3_chan.specs.Sending.{Sending, new_sending}
-use Rattle.q3_chan.specs.Scrambling.{scrambled}
-use Rattle.q3_chan.specs.Keys.{server_start}
+use Rattle.q3_chan.specs.Keys.{server_key, server_scrambled}
 use Rattle.q3_svmsg.specs.declared.error.Illegible as cause
 use Rattle.q3_svmsg.specs.declared.error.Illegible.TheVariants as causes
 use Rattle.q3_svmsg.specs.Values.{Message}
@@ -109,7 +108,7 @@ ack_taken ack (Err e) = Err (causes.Ack ack)
 
 -- a message of a number cleared, by the text of the command that it acknowledges
 abbrev pub cleared : ℕ → ℕ → List ℕ → List ℕ → List ℕ
-cleared challenge number text bytes = scrambled 4 (server_start challenge number) text bytes
+cleared challenge number text bytes = server_scrambled (server_key challenge number text) bytes
 
 -- what bytes are as a message of a number, by what was applied, the commands that were issued, and the challenge: the leading long
 -- counts as it is read before the message is cleared

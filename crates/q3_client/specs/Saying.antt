@@ -3,11 +3,11 @@ use Rattle.std.specs.Prelude.{◌≡◌, ◌↔◌, ℕ, ◌<◌, Bool, List, ta
 use Rattle.q3_bits.specs.Bits.{message_bytes, message_length}
 use Rattle.q3_bits.specs.declared.writer.Overflow.{Overflow}
 use Rattle.q3_chan.specs.Datagrams.{longest_message}
-use Rattle.q3_chan.specs.Scrambling.{scrambled}
+use Rattle.q3_chan.specs.Keys.{Key, client_scrambled}
 
 -- a message's bytes stand at the front of a buffer, scrambled behind the three leading longs; it is refused exactly where it is
 -- too long
-pub record FillsScrambled (start : ℕ) (text : List ℕ) (bits : List Bool) (new : List ℕ) (result : Result ℕ Overflow) : Type 0 where
+pub record FillsScrambled (key : Key) (bits : List Bool) (new : List ℕ) (result : Result ℕ Overflow) : Type 0 where
   pub refused : IsErr result ↔ (longest_message < message_length (length bits))
-  pub ok : IfOk result (λ count. (count ≡ message_length (length bits)) × (take count new ≡ scrambled 12 start text (message_bytes bits)))
+  pub ok : IfOk result (λ count. (count ≡ message_length (length bits)) × (take count new ≡ client_scrambled key (message_bytes bits)))
   pub room : length new ≡ longest_message

@@ -6,8 +6,9 @@ use Rattle.q3_text.specs.declared.text.Command.{Command}
 use Rattle.q3_window.specs.Outgoing.{issued_of, carried as waiting_of}
 use Rattle.q3_chan.specs.Datagrams.{sequence_end, longest_message}
 use Rattle.q3_chan.specs.Sending.{UnderWay, Piece, started, next_of}
-use Rattle.q3_chan.specs.Scrambling.{scrambled}
-use Rattle.q3_chan.specs.Keys.{client_start}
+use Rattle.q3_chan.specs.declared.side.Side.TheVariants.{Client}
+use Rattle.q3_chan.specs.Keys.{Key, client_key, client_scrambled}
+use Rattle.q3_chan.specs.Keys as chan
 use Rattle.q3_clmsg.specs.declared.moves.Move.{Move}
 use Rattle.q3_clmsg.specs.Moves.{message_key}
 use Rattle.q3_clmsg.specs.Texts.{client_text}
@@ -21,14 +22,13 @@ use Rattle.q3_client.specs.declared.client.Sent.TheVariants as sent
 use Rattle.q3_client.specs.Client.{ClientState}
 use Rattle.q3_client.specs.Moves.{carried, asks_delta}
 
--- a message that was begun, the number of the last command issued by then, the checksum feed by which its moves are written, the
--- number from which its keys start, and their text: that of the last server command executed
+-- a message that was begun, the number of the last command issued by then, the checksum feed by which its moves are written, and by
+-- what it is scrambled: its text is that of the last server command executed, by which its moves are written, too
 pub record Said : Type 0 where
   pub message : Message
   pub last : ℕ
   pub feed : ℕ
-  pub start : ℕ
-  pub text : List ℕ
+  pub key : Key
 
 -- a message of a map with these commands and moves, which acknowledges a server message and a server command
 abbrev pub message_with : ℕ → ℕ → ℕ → List Command → Bool → List Move → Message
@@ -47,28 +47,28 @@ next_said client = record {
   message = next_message client;
   last = issued_of client.issued;
   feed = client.state.feed;
-  start = client_start client.challenge client.state.id client.gathering.taken;
-  text = client.state.executed.last;
+  key = client_key client.challenge client.state.id client.gathering.taken client.state.executed.last;
 }
 
 -- the bits of a message
 abbrev pub said_bits : Profile → Said → List Bool
-said_bits profile said = client_text profile.code (message_key said.feed said.message.acknowledged said.text) said.message
+said_bits profile said = client_text profile.code (message_key said.feed said.message.acknowledged said.key.text) said.message
 
 -- and its bytes, scrambled behind the three leading longs
 abbrev pub said_bytes : Profile → Said → List ℕ
-said_bytes profile said = scrambled 12 said.start said.text (message_bytes (said_bits profile said))
+said_bytes profile said = client_scrambled said.key (message_bytes (said_bits profile said))
 
--- whether the leading longs of a message take more than their 96 bits, so that scrambled bytes would hide a part of them
+-- whether the leading longs of a message take more bits than stay clear, so that scrambled bytes would hide a part of them
 abbrev pub is_unclear : Profile → Message → Bool
-is_unclear profile message = nat_lt 96 (length (row_bits profile.code ((message.id, 32) ∷ (message.acknowledged, 32) ∷ (message.command, 32) ∷ [])))
+is_unclear profile message =
+    chan.is_unclear Client (length (row_bits profile.code ((message.id, 32) ∷ (message.acknowledged, 32) ∷ (message.command, 32) ∷ [])))
 
 -- a message as a client begins it that joined with a challenge
 pub record IsSaid (profile : Profile) (challenge : ℕ) (said : Said) : Type 0 where
   pub message : IsMessage said.message
   pub feed : said.feed < 2 ^ 32
-  pub start : said.start ≡ client_start challenge said.message.id said.message.acknowledged
-  pub text : IsText said.text
+  pub key : said.key ≡ client_key challenge said.message.id said.message.acknowledged said.key.text
+  pub text : IsText said.key.text
   pub clear : is_unclear profile said.message ≡ false
 
 -- what an emit gives: the client after it, the answer, the message that it began, and the datagram that it hands out
@@ -95,7 +95,7 @@ hand_out client index answer began = record {
 abbrev pub emit_bits : ClientState → Said → List Bool → Emission
 emit_bits client said bits =
     if nat_lt longest_message (message_length (length bits)) then nothing client sent.Overlong
-    else hand_out (record client { sending = started client.sending (scrambled 12 said.start said.text (message_bytes bits)) }) 0
+    else hand_out (record client { sending = started client.sending (client_scrambled said.key (message_bytes bits)) }) 0
     (sent.Message (client.sending.number + 1) (message_length (length bits))) (Some said)
 
 -- the next message, unless message numbers have ended, or its leading longs would be hidden

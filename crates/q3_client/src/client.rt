@@ -75,7 +75,7 @@ pub enum Sent {
     Fragment { number: u32 },
     /// Message numbers have ended.
     SequenceEnd,
-    /// The message's leading longs take more than their 96 bits, so that scrambling would hide a part of them; its number
+    /// The message's leading longs take more bits than stay clear, so that scrambling would hide a part of them; its number
     /// is used again.
     Unclear,
     /// The message has more than 16,384 bytes; its number is used again.

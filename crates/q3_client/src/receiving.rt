@@ -9,13 +9,10 @@ ghost use Rattle.q3_client.specs.Client.{receive_by};
 ghost use Rattle.q3_client.specs.Receiving.{acknowledged_by, state_received, issued_received, answer_received, heard_received};
 
 use q3_bits::Code;
-use q3_chan::{Gathered, Gatherer, scramble, server_start};
+use q3_chan::{Gathered, Gatherer, scramble_server};
 use q3_clstate::{Applied, ClState, Log};
 use q3_svmsg::{Illegible, read_ack};
 use q3_window::Outgoing;
-
-/// From which byte on a server's message is scrambled: behind its leading long.
-const SCRAMBLED_FROM: usize = 4;
 
 /// Takes a datagram. A message that it completes stands at the front of `whole`.
 pub(crate) fn gather(gatherer: &mut Gatherer, datagram: &[u8], whole: &mut Vec<u8>) -> Gathered
@@ -67,8 +64,7 @@ fn receive(
     ensures log { log.new.commands.items ≡ heard_received (receive_by state.old outgoing.old challenge number bytes.old) }
 {
     let ack = acknowledged_by(&state.profile().code, outgoing, bytes)?;
-    let start = server_start(challenge, number);
-    scramble(bytes, SCRAMBLED_FROM, start, outgoing.text(ack));
+    scramble_server(bytes, challenge, number, outgoing.text(ack));
     let applied = state.apply(number, bytes, log)?;
     let _ = outgoing.acknowledge(ack);
     Ok(applied)

@@ -2,10 +2,11 @@
 //! engine's `CL_WritePacket` (cl_input.c) and `CL_Netchan_Encode` (cl_net_chan.c). That an unclear message isn't sent is
 //! this project's own.
 
-ghost use Rattle.std.specs.Prelude.{◌≡◌, ◌≤◌, [], ◌∷◌, length, nat_lt};
+ghost use Rattle.std.specs.Prelude.{◌≡◌, ◌≤◌, [], ◌∷◌, length};
 ghost use Rattle.q3_bits.specs.Words.{row_bits};
 ghost use Rattle.q3_chan.specs.Datagrams.{longest_message};
-ghost use Rattle.q3_chan.specs.Keys.{client_start};
+ghost use Rattle.q3_chan.specs.Keys.{client_key, is_unclear};
+ghost use Rattle.q3_chan.specs.declared.side.Side.TheVariants.{Client};
 ghost use Rattle.q3_window.specs.Outgoing.{carried as waiting_of};
 ghost use Rattle.q3_clmsg.specs.Moves.{message_key};
 ghost use Rattle.q3_clmsg.specs.Texts.{client_text};
@@ -15,23 +16,17 @@ ghost use Rattle.q3_client.specs.Sending.{message_with};
 ghost use Rattle.q3_client.specs.Saying.{FillsScrambled};
 
 use q3_bits::Overflow;
-use q3_chan::{client_start, scramble};
+use q3_chan::{Side, scramble_client};
 use q3_clmsg::{Move, SaidParts, message_key, write_said};
 use q3_clstate::ClState;
 use q3_window::Outgoing;
 
-/// From which byte on a client's message is scrambled: behind its three leading longs.
-const SCRAMBLED_FROM: usize = 12;
-
-/// How many bits the leading longs may take: as many as the bytes that aren't scrambled have.
-const CLEAR_BITS: usize = 96;
-
-/// Whether the leading longs of the message that goes to the server next take more bits than aren't scrambled.
+/// Whether the leading longs of the message that goes to the server next take more bits than stay clear.
 pub(crate) fn is_unclear(state: &ClState, acknowledged: u32) -> bool
-    ensures { result ≡ nat_lt 96 (length (row_bits state.now.profile.code ((state.now.id, 32) ∷ (acknowledged, 32) ∷ (state.now.executed.executed, 32) ∷ []))) }
+    ensures { result ≡ is_unclear Client (length (row_bits state.now.profile.code ((state.now.id, 32) ∷ (acknowledged, 32) ∷ (state.now.executed.executed, 32) ∷ []))) }
 {
     let longs = [(state.id(), 32), (acknowledged, 32), (state.executed(), 32)];
-    state.profile().code.row_length(&longs) > CLEAR_BITS
+    q3_chan::is_unclear(Side::Client, state.profile().code.row_length(&longs))
 }
 
 /// Writes the message that goes to the server next, with these moves, to the front of a buffer, and answers how many bytes it
@@ -48,7 +43,7 @@ pub(crate) fn write_scrambled(
 ) -> Result<usize, Overflow>
     requires room { length into.old ≡ longest_message }
     requires few { length moves.now ≤ most_moves }
-    ensures { FillsScrambled (client_start challenge state.now.id acknowledged) state.now.executed.last
+    ensures { FillsScrambled (client_key challenge state.now.id acknowledged state.now.executed.last)
         (client_text state.now.profile.code (message_key state.now.feed acknowledged state.now.executed.last)
         (message_with state.now.id acknowledged state.now.executed.executed (waiting_of outgoing.now) delta moves.now)) into.new result }
 {
@@ -56,8 +51,8 @@ pub(crate) fn write_scrambled(
     let key = message_key(state.feed(), acknowledged, text);
     let parts = parts_of(state, outgoing, acknowledged, delta, moves);
     let bytes = write_said(&state.profile().code, parts, key, into)?;
-    let start = client_start(challenge, state.id(), acknowledged);
-    scramble(&mut into[..bytes], SCRAMBLED_FROM, start, text);
+    let id = state.id();
+    scramble_client(&mut into[..bytes], challenge, id, acknowledged, text);
     Ok(bytes)
 }
 

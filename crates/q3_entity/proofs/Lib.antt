@@ -20,3 +20,4 @@ pub mod ListRead
 pub mod ListSkipped
 pub mod SetLines
 pub mod SkippedSpelled
+pub mod Noted

@@ -1,10 +1,11 @@
 -- Baselines of which none is set, and those with one more.
 use Rattle.std.proofs.Common.{◌≡◌, ℕ, ◌<◌, length, replicate, Option, Some, None, IfSome, unwrap_or, refl, sym, ap, subst, ◌∙◌, arith, inl, inr}
 use Rattle.std.proofs.lemmas.Bool.{cases_lt, cases_eq}
-use Rattle.std.proofs.lemmas.List.{length-replicate, get_or-replicate, get_or_past, length-set, get_or-set_same, get_or-set_other}
+use Rattle.std.proofs.lemmas.List.{length-replicate, get_or-replicate, get_or_past, length-set, set_past, get_or-set_same, get_or-set_other}
 use Rattle.q3_entity.specs.declared.state.EntityState.{EntityState}
 use Rattle.q3_entity.specs.Entities.{zero_entity, IsNormal}
-use Rattle.q3_entity.specs.Baselines.{Lines, most_lines, no_lines, set_at, with_line}
+use Rattle.q3_entity.specs.Baselines.{Lines, AreLines, most_lines, no_lines, set_at, with_line}
+use Rattle.q3_fields.specs.Kinds.{end_mark}
 use Rattle.q3_fields.specs.States.{AreWords}
 use Rattle.q3_entity.specs.Laws.{NoLinesAreLines, LineIsAdded}
 use Rattle.q3_entity.specs.Lists.{words_from}
@@ -27,6 +28,7 @@ pub no_lines_are_lines : NoLinesAreLines
 no_lines_are_lines table = record {
   places = length-replicate {A = Option EntityState} most_lines None;
   numbers = λ number. rw (none_set number) tt;
+  below = λ number. rw (none_set number) tt;
   states = λ number. rw (none_set number) tt;
   normal = λ number. rw (none_set number) tt;
 }
@@ -44,10 +46,14 @@ added P lines state within each one number =
 
 pub line_is_added : LineIsAdded
 line_is_added table lines state are below words normal =
-    let within : state.number < length lines = omega (arith, below, are.places) in
-    record {
-      places = length-set lines state.number (Some state) ∙ are.places;
-      numbers = added (λ number state. state.number ≡ number) lines state within are.numbers refl;
-      states = added (λ number state. AreWords 64 state.words) lines state within are.states words;
-      normal = added (λ number. IsNormal table) lines state within are.normal normal;
-    }
+    elim (cases_lt state.number (length lines)) [
+      | inl within ↦
+          record {
+            places = length-set lines state.number (Some state) ∙ are.places;
+            numbers = added (λ number state. state.number ≡ number) lines state within are.numbers refl;
+            below = added (λ number state. state.number < end_mark table) lines state within are.below below;
+            states = added (λ number state. AreWords 64 state.words) lines state within are.states words;
+            normal = added (λ number. IsNormal table) lines state within are.normal normal;
+          }
+      | inr past ↦ subst (AreLines table) (sym (set_past lines state.number (Some state) past)) are
+    ]

@@ -12,3 +12,21 @@ share-both head now now' tail tail' now'' share behind = record {
       ∙ sym (append_assoc share.front behind.front tail');
   now-is = share.now-is ∙ ap (λ entities. share.front ++ entities) behind.now-is ∙ sym (append_assoc share.front behind.front now'');
 }
+
+-- more stands behind one of them
+pub share-more : (base head base' head' tail : List EntityState) → ShareFront base head base' head' → ShareFront base (head ++ tail) base' (head' ++ tail)
+share-more base head base' head' tail share = record {
+  front = share.front;
+  base-is = share.base-is;
+  now-is = ap (λ entities. entities ++ tail) share.now-is ∙ append_assoc share.front head' tail;
+}
+
+-- and where it is in two pieces, of which the first is used up
+pub share-on : (base base' base'' head tail tail' : List EntityState) → ShareFront base head base' [] → ShareFront base' tail base'' tail' → ShareFront base (head ++ tail) base'' tail'
+share-on base base' base'' head tail tail' share behind = record {
+  front = share.front ++ behind.front;
+  base-is = share.base-is ∙ ap (λ entities. share.front ++ entities) behind.base-is ∙ sym (append_assoc share.front behind.front base'');
+  now-is =
+      ap (λ entities. entities ++ tail) share.now-is ∙ append_assoc share.front [] tail ∙ ap (λ entities. share.front ++ entities) behind.now-is
+      ∙ sym (append_assoc share.front behind.front tail');
+}

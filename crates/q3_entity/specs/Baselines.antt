@@ -1,7 +1,7 @@
 -- Baselines: a state for some of the numbers, from which an entity is written that is new.
-use Rattle.std.specs.Prelude.{◌≡◌, ℕ, List, length, replicate, Option, Some, None, slice_index_or, slice_set, unwrap_or, IfSome}
+use Rattle.std.specs.Prelude.{◌≡◌, ◌<◌, ℕ, List, length, replicate, Option, Some, None, slice_index_or, slice_set, unwrap_or, IfSome}
 use Rattle.q3_fields.specs.States.{AreWords}
-use Rattle.q3_fields.specs.Kinds.{Layout}
+use Rattle.q3_fields.specs.Kinds.{Layout, end_mark, most_end}
 use Rattle.q3_entity.specs.declared.state.EntityState.{EntityState}
 use Rattle.q3_entity.specs.Entities.{zero_entity, IsNormal}
 
@@ -9,9 +9,9 @@ use Rattle.q3_entity.specs.Entities.{zero_entity, IsNormal}
 abbrev pub Lines : Type 0
 Lines = List (Option EntityState)
 
--- how many numbers may have a baseline: 0 to 1022
+-- how many numbers may have a baseline: those below the end mark of the widest table
 abbrev pub most_lines : ℕ
-most_lines = 1023
+most_lines = most_end
 
 abbrev pub no_lines : Lines
 no_lines = replicate most_lines None
@@ -28,9 +28,10 @@ line_of lines number = unwrap_or (set_at lines number) (zero_entity number)
 abbrev pub with_line : Lines → EntityState → Lines
 with_line lines state = slice_set lines state.number (Some state)
 
--- each state that is set stands under its number, and is one of the program's type in normal form
+-- each state that is set stands under its number, which is below the end mark, and is one of the program's type in normal form
 pub record AreLines (table : Layout) (lines : Lines) : Type 0 where
   pub places : length lines ≡ most_lines
   pub numbers : (number : ℕ) → IfSome (set_at lines number) (λ state. state.number ≡ number)
+  pub below : (number : ℕ) → IfSome (set_at lines number) (λ state. state.number < end_mark table)
   pub states : (number : ℕ) → IfSome (set_at lines number) (λ state. AreWords 64 state.words)
   pub normal : (number : ℕ) → IfSome (set_at lines number) (IsNormal table)

@@ -1,5 +1,5 @@
--- How baselines are kept: a line for each number.
-use Rattle.std.specs.Prelude.{◌≡◌, ℕ, ◌<◌, false, if◌then◌else◌, List, length, Option, Some, None, slice_index_or, unwrap_or}
+-- How baselines are kept: a line for each number, and the numbers whose lines are set.
+use Rattle.std.specs.Prelude.{◌≡◌, ◌⊎◌, ℕ, ◌+◌, ◌<◌, true, false, if◌then◌else◌, List, [], ◌∷◌, length, All, Option, Some, None, slice_index_or, unwrap_or}
 use Rattle.q3_entity.specs.declared.state.EntityState.{EntityState}
 use Rattle.q3_entity.specs.declared.baselines.Line.{Line}
 use Rattle.q3_entity.specs.Entities.{zero_entity}
@@ -23,3 +23,23 @@ AreKept lines = (number : ℕ) → number < length lines → IsKept number (slic
 pub record IsFull (lines : List Line) : Type 0 where
   pub places : length lines ≡ most_lines
   pub kept : AreKept lines
+
+-- a number is one of these
+abbrev pub IsAmong : ℕ → List ℕ → Type 0
+IsAmong number [] = ⊥
+IsAmong number (one ∷ others) = (number ≡ one) ⊎ IsAmong number others
+
+-- how many lines are set
+unfoldable pub count_set : List Line → ℕ
+count_set [] = 0
+count_set (line ∷ lines) = (if line.set then 1 else 0) + count_set lines
+
+-- the number of each line that is set is among these
+abbrev pub AreAmong : List Line → List ℕ → Type 0
+AreAmong lines numbers = (number : ℕ) → (slice_index_or lines number no_line).set ≡ true → IsAmong number numbers
+
+-- these numbers are those of the lines that are set, each once
+pub record AreNoted (lines : List Line) (numbers : List ℕ) : Type 0 where
+  pub below : All (λ number. number < most_lines) numbers
+  pub among : AreAmong lines numbers
+  pub count : length numbers ≡ count_set lines

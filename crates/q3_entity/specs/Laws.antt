@@ -7,7 +7,7 @@ use Rattle.q3_entity.specs.declared.state.EntityState.{EntityState}
 use Rattle.q3_entity.specs.declared.reading.Entry.{Entry}
 use Rattle.q3_entity.specs.declared.reading.Entry.TheVariants.{Removed}
 use Rattle.q3_entity.specs.Entities.{zero_entity, normal_entity, IsNormal, IsList, Rises, AreStates, AreNormal}
-use Rattle.q3_entity.specs.Baselines.{Lines, AreLines, most_lines, no_lines, with_line}
+use Rattle.q3_entity.specs.Baselines.{Lines, AreLines, no_lines, with_line}
 use Rattle.q3_entity.specs.Delta.{entity_delta, entry_of, removal, entity_at}
 use Rattle.q3_entity.specs.Lists.{list_text, list_after, list_skipped}
 use Rattle.q3_entity.specs.Spelling.{Entered, words_there, SpellsEntry, SpellsList, SpellsSkipped}
@@ -29,7 +29,7 @@ abbrev pub NoLinesAreLines : Type 0
 NoLinesAreLines = (table : Layout) → AreLines table no_lines
 
 abbrev pub LineIsAdded : Type 0
-LineIsAdded = (table : Layout) (lines : Lines) (state : EntityState) → AreLines table lines → state.number < most_lines
+LineIsAdded = (table : Layout) (lines : Lines) (state : EntityState) → AreLines table lines → state.number < end_mark table
     → AreWords 64 state.words → IsNormal table state → AreLines table (with_line lines state)
 
 -- what is written of an entity against a state in normal form is read back: its number, and behind it the words in

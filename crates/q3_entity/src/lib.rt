@@ -13,10 +13,10 @@ mod run;
 pub mod state;
 pub mod writing;
 
-pub use baselines::Baselines;
+pub use baselines::{Baselines, MOST_LINES};
 pub use error::EntityError;
 pub use list_reading::{read_list, skip_list};
-pub use list_writing::write_list;
+pub use list_writing::{write_list, write_run};
 pub use print::print_fields;
 pub use reading::{Entry, read_entity};
 pub use run::count_same;

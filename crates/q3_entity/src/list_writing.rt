@@ -14,7 +14,7 @@ use crate::run::{skip_same, split_first, take_number};
 use crate::state::{EntityState, Run};
 use crate::writing::{write_entity, write_removal};
 use q3_bits::{Overflow, Writer, laws};
-use q3_fields::{Table, laws as fields};
+use q3_fields::{MOST_END, Table, laws as fields};
 
 /// Writes the entities that there are now against those of a base, by rising number: an entity that both have by what
 /// changed, a new one by force from its baseline, and a removal for one that is gone; and the end mark behind them.
@@ -30,14 +30,29 @@ pub fn write_list(
     requires now { IsList table.now now.now }
     ensures { Writes w.old w.new (list_text w.old.words table.now baselines.now (run_of base.entry) now.now) result }
 {
+    write_run(w, table, baselines, base, Run::of(now))
+}
+
+/// The same of entities in two pieces, as a ring lends them.
+pub fn write_run(
+    w: &mut Writer,
+    table: &Table,
+    baselines: &Baselines,
+    base: Run,
+    now: Run,
+) -> Result<(), Overflow>
+    requires base { IsList table.now (run_of base) }
+    requires now { IsList table.now (run_of now) }
+    ensures { Writes w.old w.new (list_text w.old.words table.now baselines.now (run_of base.entry) (run_of now.entry)) result }
+{
     laws::texts_are_written();
     // what stands there fits the room, and each number may have a baseline
     prove!(w.length() > 0);
-    prove!(table.end() <= 1023);
+    prove!(table.end() <= MOST_END);
     // an entity that both have as it was is passed over
     fields::last_changed_is_least();
     let (mut left, mut rest) = skip_same(base, now);
-    while let Some((entity, others)) = rest.split_first() {
+    while let Some((entity, others)) = split_first(rest) {
         let behind = write_entry(w, table, baselines, left, entity)?;
         (left, rest) = skip_same(behind, others);
     }

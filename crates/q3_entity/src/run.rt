@@ -42,10 +42,20 @@ pub(crate) fn take_number<'a>(run: Run<'a>, number: u16) -> (Option<&'a EntitySt
 }
 
 /// Passes over the entities, the same in both, with which both begin.
-pub(crate) fn skip_same<'a, 'b>(
-    base: Run<'a>,
-    now: &'b [EntityState],
-) -> (Run<'a>, &'b [EntityState])
+pub(crate) fn skip_same<'a, 'b>(base: Run<'a>, now: Run<'b>) -> (Run<'a>, Run<'b>)
+    ensures { ShareFront (run_of base.entry) (run_of now.entry) (run_of result.0) (run_of result.1) }
+{
+    let (left, head) = skip_piece(base, now.head);
+    let tail = now.tail;
+    if !head.is_empty() {
+        return (left, Run { head, tail });
+    }
+    let (left, tail) = skip_piece(left, tail);
+    (left, Run { head, tail })
+}
+
+/// The same, where those that there are now are in one piece.
+fn skip_piece<'a, 'b>(base: Run<'a>, now: &'b [EntityState]) -> (Run<'a>, &'b [EntityState])
     ensures { ShareFront (run_of base.entry) now.now (run_of result.0) result.1.now }
 {
     let (head, now) = behind_same(base.head, now);

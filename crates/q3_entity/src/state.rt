@@ -1,7 +1,7 @@
 //! The state of an entity, and lists of them. Keeps the rule "normal form", the engine's `entityState_t`.
 
 ghost use Rattle.std.specs.Prelude.{◌≡◌};
-ghost use Rattle.q3_entity.specs.Entities.{zero_entity, normal_entity};
+ghost use Rattle.q3_entity.specs.Entities.{zero_entity, normal_entity, run_of};
 
 use arrayvec::ArrayVec;
 use q3_fields::{Table, normalize};
@@ -9,7 +9,7 @@ use q3_fields::{Table, normalize};
 /// An entity as the game hands it in and as a snapshot carries it.
 #[derive(Clone, Copy, Debug, PartialEq, Eq)]
 pub struct EntityState {
-    /// The entity's number, 0 to 1022.
+    /// The entity's number, below the end mark of its table.
     pub number: u16,
     /// The word of each field of the table, at its place; a float is its pattern.
     pub words: [u32; 64],
@@ -23,6 +23,18 @@ pub type List = ArrayVec<EntityState, 256>;
 pub struct Run<'a> {
     pub head: &'a [EntityState],
     pub tail: &'a [EntityState],
+}
+
+impl<'a> Run<'a> {
+    /// Entities in one piece.
+    pub fn of(entities: &'a [EntityState]) -> Run<'a>
+        ensures { run_of result ≡ entities.now }
+    {
+        Run {
+            head: entities,
+            tail: &[],
+        }
+    }
 }
 
 impl Default for EntityState {

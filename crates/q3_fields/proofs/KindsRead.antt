@@ -8,7 +8,7 @@ use Rattle.q3_fields.specs.declared.kind.Kind.{Kind}
 use Rattle.q3_fields.specs.declared.table.TableError.{TableError}
 use Rattle.q3_fields.specs.declared.table.TableError.TheVariants.{Width}
 use Rattle.q3_bits.specs.ResultBind.{◌>>=◌}
-use Rattle.q3_fields.specs.Kinds.{Layout, IsKind, kind_of, kinds_from, table_of}
+use Rattle.q3_fields.specs.Kinds.{Layout, IsKind, kind_of, kinds_from, table_of, least_number_bits}
 
 -- what was read before, and what is still read
 abbrev pub with_front : List Kind → Result (List Kind) TableError → Result (List Kind) TableError
@@ -78,7 +78,7 @@ HasKinds-all widths k kinds h past =
 
 -- 1 to 64 widths are read from the first on
 abbrev pub laid_out : List Kind → Result Layout TableError
-laid_out kinds = Ok (record { kinds = kinds; number_bits = 10 })
+laid_out kinds = Ok (record { kinds = kinds; number_bits = least_number_bits })
 
 pub table_of-some : (widths : List ℤ) → 1 ≤ length widths → length widths ≤ 64 → table_of widths ≡ (kinds_from 0 widths >>= laid_out)
 unfolding table_of

@@ -30,16 +30,23 @@ kinds_from i (width ∷ widths) = do
   kinds ← kinds_from (i + 1) widths
   Ok (kind ∷ kinds)
 
+-- how many bits a number of an entity may have: at least and at most
+abbrev pub least_number_bits : ℕ
+least_number_bits = 10
+
+abbrev pub most_number_bits : ℕ
+most_number_bits = 10
+
 -- a table: the kinds of its fields, and how many bits a number of an entity has
 pub record Layout : Type 0 where
   pub kinds : List Kind
   pub number_bits : ℕ
 
--- the table of 1 to 64 widths; entity numbers have 10 bits
+-- the table of 1 to 64 widths; entity numbers have the least number of bits
 unfoldable pub table_of : List ℤ → Result Layout TableError
 table_of widths = do
   kinds ← if nat_le 1 (length widths) && nat_le (length widths) 64 then kinds_from 0 widths else Err Fields
-  Ok (record { kinds = kinds; number_bits = 10 })
+  Ok (record { kinds = kinds; number_bits = least_number_bits })
 
 -- 1 to 64 fields of allowed kinds
 pub record AreKinds (kinds : List Kind) : Type 0 where
@@ -47,14 +54,21 @@ pub record AreKinds (kinds : List Kind) : Type 0 where
   pub few : length kinds ≤ 64
   pub each : All IsKind kinds
 
--- a table has such fields, and numbers of 1 to 16 bits
+-- a table has such fields, and numbers of so many bits
 pub record IsTable (table : Layout) : Type 0 where
   pub kinds : AreKinds table.kinds
-  pub number_bits : (1 ≤ table.number_bits) × (table.number_bits ≤ 16)
+  pub number_bits : (least_number_bits ≤ table.number_bits) × (table.number_bits ≤ most_number_bits)
 
 -- the end mark of the entity numbers: all bits 1
 abbrev pub end_mark : Layout → ℕ
 end_mark table = 2 ^ table.number_bits - 1
+
+-- the least and the most that it may be
+abbrev pub least_end : ℕ
+least_end = 2 ^ least_number_bits - 1
+
+abbrev pub most_end : ℕ
+most_end = 2 ^ most_number_bits - 1
 
 -- a word cut to so many bits, with the last of them as its sign
 abbrev pub sign_extended : ℕ → ℕ → ℕ

@@ -1,7 +1,7 @@
 //! Tables of fields. Keeps the rule "field tables", the engine's `entityStateFields` and `playerStateFields`.
 
 ghost use Rattle.std.specs.Prelude.{◌≡◌, ◌≤◌, length, slice_get, IfOk, IfSome};
-ghost use Rattle.q3_fields.specs.Kinds.{IsKind, IsTable, kind_of, table_of, end_mark};
+ghost use Rattle.q3_fields.specs.Kinds.{IsKind, IsTable, kind_of, table_of, end_mark, least_number_bits, most_number_bits, least_end, most_end};
 
 use crate::kind::Kind;
 use std::marker::Model;
@@ -16,7 +16,13 @@ pub enum TableError {
 }
 
 /// How many bits a number of an entity has in this protocol.
-const NUMBER_BITS: u32 = 10;
+const LEAST_NUMBER_BITS: u32 = 10;
+
+/// How many bits a number of an entity has at most.
+const MOST_NUMBER_BITS: u32 = 10;
+
+/// The end mark of the widest entity numbers: each entity's number is below it.
+pub const MOST_END: u16 = (1 << MOST_NUMBER_BITS) - 1;
 
 /// The kinds of 1 to 64 fields, in order. To a caller it is a record of the kinds and of how many bits a number of an
 /// entity has.
@@ -59,7 +65,7 @@ impl Table {
         Ok(Table {
             count: widths.len(),
             kinds,
-            number_bits: NUMBER_BITS,
+            number_bits: LEAST_NUMBER_BITS,
         })
     }
 
@@ -67,7 +73,6 @@ impl Table {
     pub fn copy(&self) -> Table
         ensures copy { result ≡ self.now }
         ensures is_table { IsTable self.now }
-        ensures numbers { self.now.number_bits ≡ 10 }
     {
         Table {
             count: self.count,
@@ -95,20 +100,20 @@ impl Table {
         self.count
     }
 
-    /// How many bits a number of an entity has in a message: 1 to 10.
+    /// How many bits a number of an entity has in a message.
     pub fn number_bits(&self) -> u32
         ensures bits { result ≡ self.now.number_bits }
-        ensures some { 1 ≤ result }
-        ensures most { result ≤ 10 }
+        ensures some { least_number_bits ≤ result }
+        ensures most { result ≤ most_number_bits }
     {
         self.number_bits
     }
 
-    /// The end mark of an entity list, 1023. The numbers of entities are below it.
+    /// The end mark of an entity list. The numbers of entities are below it.
     pub fn end(&self) -> u16
         ensures mark { result ≡ end_mark self.now }
-        ensures most { result ≤ 1023 }
-        ensures least { 1023 ≤ result }
+        ensures least { least_end ≤ result }
+        ensures most { result ≤ most_end }
     {
         ((1u32 << self.number_bits) - 1) as u16
     }

@@ -1,17 +1,16 @@
 -- What settings leave: strings within their limits, and baselines in normal form.
-use Rattle.std.proofs.Common.{◌≡◌, ◌+◌, ◌≤◌, ◌==◌, ℕ, zero, suc, false, ltb, nat_lt, List, [], ◌∷◌, length, map, replicate, None, refl, sym, ap, subst, ◌∙◌, arith, inl, inr}
+use Rattle.std.proofs.Common.{◌≡◌, ◌<◌, ◌+◌, ◌≤◌, ◌==◌, ℕ, zero, suc, false, nat_lt, List, [], ◌∷◌, length, map, replicate, None, refl, sym, ap, subst, ◌∙◌, arith}
 use Rattle.std.specs.List.{All, sum_by}
-use Rattle.std.proofs.lemmas.Bool.{cases_Bool, ltb-true, ltb-false}
 use Rattle.std.proofs.lemmas.Bool.Decides.{nat_tests}
-use Rattle.std.proofs.lemmas.List.{length-set, length-map, length-replicate, set_past}
+use Rattle.std.proofs.lemmas.List.{length-set, length-map, length-replicate}
 use Rattle.std.proofs.lemmas.List.Elements.{All-head, All-tail, All-set, All-nil, All-replicate}
 use Rattle.std.proofs.lemmas.List.Sums.{sum_by-cons, sum-map}
 use Rattle.q3_text.specs.Texts.{translated, IsTextByte}
-use Rattle.q3_fields.specs.Kinds.{Layout}
+use Rattle.q3_fields.specs.Kinds.{Layout, end_mark}
 use Rattle.q3_fields.specs.States.{AreWords}
 use Rattle.q3_entity.specs.declared.state.EntityState.{EntityState}
 use Rattle.q3_entity.specs.Entities.{IsNormal}
-use Rattle.q3_entity.specs.Baselines.{Lines, AreLines, most_lines, no_lines, with_line}
+use Rattle.q3_entity.specs.Baselines.{Lines, AreLines, no_lines, with_line}
 use Rattle.q3_entity.specs.Laws.{NoLinesAreLines, LineIsAdded}
 use Rattle.q3_config.specs.Strings.{Strings, AreStrings, places, longest_string, most_size, size_of, config_size, no_strings, with_string}
 
@@ -83,17 +82,12 @@ with_string_are table strings lines index text so_far bytes short small = record
   lines_are = so_far.lines_are;
 }
 
--- another baseline; one past the last place changes nothing
-pub with_line_are : LineIsAdded → (table : Layout) (strings : Strings) (lines : Lines) (state : EntityState) → AreSettings table strings lines → AreWords 64 state.words → IsNormal table state
-    → AreSettings table strings (with_line lines state)
-with_line_are law table strings lines state so_far words normal = record {
+-- another baseline
+pub with_line_are : LineIsAdded → (table : Layout) (strings : Strings) (lines : Lines) (state : EntityState) → AreSettings table strings lines → state.number < end_mark table
+    → AreWords 64 state.words → IsNormal table state → AreSettings table strings (with_line lines state)
+with_line_are law table strings lines state so_far below words normal = record {
   are = so_far.are;
   texts = so_far.texts;
   pending = so_far.pending;
-  lines_are = elim (cases_Bool (ltb state.number most_lines)) [
-    | inl low ↦ law table lines state so_far.lines_are (ltb-true state.number most_lines low) words normal
-    | inr past ↦
-        let beyond = ltb-false state.number most_lines past in
-        subst (AreLines table) (sym (set_past lines state.number _ (omega (arith, beyond, so_far.lines_are.places)))) so_far.lines_are
-  ];
+  lines_are = law table lines state so_far.lines_are below words normal;
 }

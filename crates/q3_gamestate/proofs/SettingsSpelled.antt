@@ -261,7 +261,7 @@ baseline_first law profile strings lines bits left baseline found is first other
       strings_are = others.strings_are;
       lines_are = others.lines_are ∙ ap (λ (l : Lines). lines_after l others.settings) first.is;
       kept = λ so_far.
-          others.kept (subst (AreSettings profile.entity strings) (sym first.is) (with_line_are law profile.entity strings lines first.state so_far first.words first.normal));
+          others.kept (subst (AreSettings profile.entity strings) (sym first.is) (with_line_are law profile.entity strings lines first.state so_far first.within first.words first.normal));
       parts =
           is
           ∙ ap (λ (left : List Bool). operation ++ left) first.parts

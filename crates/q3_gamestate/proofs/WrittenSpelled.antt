@@ -1,6 +1,5 @@
 -- What is written of a gamestate spells it.
-use Rattle.std.proofs.Common.{◌≡◌, ◌+◌, ◌^◌, ◌<◌, ◌≤◌, ℕ, suc, Bool, true, List, [], ◌∷◌, ◌++◌, length, map, replicate, get_or, Option, Some, None, refl, sym, ap, subst, ◌∙◌, append_assoc, arith}
-use Rattle.std.proofs.Math.Pow.{pow_mono}
+use Rattle.std.proofs.Common.{◌≡◌, ◌+◌, ◌<◌, ◌≤◌, ℕ, suc, Bool, true, List, [], ◌∷◌, ◌++◌, length, map, replicate, get_or, Option, Some, None, refl, sym, ap, subst, ◌∙◌, append_assoc, arith}
 use Rattle.std.specs.List.{All}
 use Rattle.std.specs.Option.{IfSome}
 use Rattle.std.proofs.lemmas.List.{append-nil, length-append}
@@ -173,34 +172,33 @@ line_settings (Some state ∷ lines) = Baseline state ∷ line_settings lines
 -- a line that stands at a number
 record IsLine (table : Layout) (number : ℕ) (state : EntityState) : Type 0 where
   number_is : state.number ≡ number
+  below : state.number < end_mark table
   words : AreWords 64 state.words
   normal : IsNormal table state
 
 -- its text spells it
-baseline_spelled : WasWritten → (profile : Profile) → IsCodec profile → (state : EntityState) → state.number < most_lines → AreWords 64 state.words → IsNormal profile.entity state
+baseline_spelled : WasWritten → (profile : Profile) → IsCodec profile → (state : EntityState) → state.number < end_mark profile.entity → AreWords 64 state.words → IsNormal profile.entity state
     → SpellsSetting profile.code profile.entity (Baseline state) (baseline_bits profile.code profile.entity (Some state))
 unfolding zero_entity
-baseline_spelled laws profile codec state low are normal =
+baseline_spelled laws profile codec state below are normal =
     let words = profile.code in
     let table = profile.entity in
     let zero = zero_entity state.number in
     let none = laws.no_entity table state.number codec.entity in
     let entry = entity_delta words table zero state true in
     let spelled = laws.entry words table zero state codec.code codec.entity none.0 none.1 are in
-    let wide : 2 ^ 10 ≤ 2 ^ table.number_bits = pow_mono codec.numbers in
-    let below : state.number < end_mark table = omega (arith, low, wide) in
     (entry, below, subst (λ (s : EntityState). SpellsEntry words table (replicate 64 0) (record { number = state.number; words = Some s.words }) entry) normal spelled, refl)
 
-lines_spelled : WasWritten → (profile : Profile) → IsCodec profile → (at : ℕ → Option EntityState) (k : ℕ) (lines : Lines) → k + length lines ≤ most_lines
+lines_spelled : WasWritten → (profile : Profile) → IsCodec profile → (at : ℕ → Option EntityState) (k : ℕ) (lines : Lines)
     → ((i : ℕ) → i < length lines → at (k + i) ≡ get_or lines i None)
     → ((number : ℕ) → IfSome (at number) (IsLine profile.entity number))
     → SpellsSettings profile.code profile.entity (line_settings lines) (numbered (length lines) k (λ number. baseline_bits profile.code profile.entity (at number)))
 unfolding line_settings
-lines_spelled laws profile codec at k [] few is are = numbered-none k (λ number. baseline_bits profile.code profile.entity (at number))
-lines_spelled laws profile codec at k (line ∷ lines) few is are =
+lines_spelled laws profile codec at k [] is are = numbered-none k (λ number. baseline_bits profile.code profile.entity (at number))
+lines_spelled laws profile codec at k (line ∷ lines) is are =
     let words = profile.code in
     let table = profile.entity in
-    let others = lines_spelled laws profile codec at (k + 1) lines (omega (arith, few))
+    let others = lines_spelled laws profile codec at (k + 1) lines
     (λ i more.
     let next : k + 1 + i ≡ k + suc i = omega arith in
     ap at next ∙ is (suc i) (omega (arith, more))) are in
@@ -210,14 +208,14 @@ lines_spelled laws profile codec at k (line ∷ lines) few is are =
     let rest = numbered (length lines) (k + 1) (λ number. baseline_bits words table (at number)) in
     let whole = numbered-first (length lines) k (λ number. baseline_bits words table (at number)) ∙ ap (λ (line : Option EntityState). baseline_bits words table line ++ rest) first in
     subst (SpellsSettings words table (line_settings (line ∷ lines))) (sym whole)
-    (one laws profile codec k line lines rest (omega (arith, few)) (subst (λ (line : Option EntityState). IfSome line (IsLine table k)) first (are k)) others)
+    (one laws profile codec k line lines rest (subst (λ (line : Option EntityState). IfSome line (IsLine table k)) first (are k)) others)
   where
-    one : WasWritten → (profile : Profile) → IsCodec profile → (k : ℕ) (line : Option EntityState) (lines : Lines) (rest : List Bool) → k < most_lines → IfSome line (IsLine profile.entity k)
+    one : WasWritten → (profile : Profile) → IsCodec profile → (k : ℕ) (line : Option EntityState) (lines : Lines) (rest : List Bool) → IfSome line (IsLine profile.entity k)
         → SpellsSettings profile.code profile.entity (line_settings lines) rest
         → SpellsSettings profile.code profile.entity (line_settings (line ∷ lines)) (baseline_bits profile.code profile.entity line ++ rest)
-    one laws profile codec k None lines rest few is others = others
-    one laws profile codec k (Some state) lines rest few is others =
-        (baseline_bits profile.code profile.entity (Some state), rest, refl, baseline_spelled laws profile codec state (omega (arith, few, is.number_is)) is.words is.normal, others)
+    one laws profile codec k None lines rest is others = others
+    one laws profile codec k (Some state) lines rest is others =
+        (baseline_bits profile.code profile.entity (Some state), rest, refl, baseline_spelled laws profile codec state is.below is.words is.normal, others)
 
 shift : (front : Lines) (line : Option EntityState) (i : ℕ) → length front + suc i ≡ length (front ++ line ∷ []) + i
 shift front line i = omega (arith, length-append front (line ∷ []))
@@ -264,11 +262,11 @@ lines_stay_within strings (Some state ∷ lines) = lines_stay_within strings lin
 
 -- each line stands at its number
 is_line : (table : Layout) (lines : Lines) → AreLines table lines → (number : ℕ) → IfSome (set_at lines number) (IsLine table number)
-is_line table lines are number = go (set_at lines number) (are.numbers number) (are.states number) (are.normal number)
+is_line table lines are number = go (set_at lines number) (are.numbers number) (are.below number) (are.states number) (are.normal number)
   where
-    go : (line : Option EntityState) → IfSome line (λ state. state.number ≡ number) → IfSome line (λ state. AreWords 64 state.words) → IfSome line (IsNormal table) → IfSome line (IsLine table number)
-    go None a b c = tt
-    go (Some state) a b c = record { number_is = a; words = b; normal = c }
+    go : (line : Option EntityState) → IfSome line (λ state. state.number ≡ number) → IfSome line (λ state. state.number < end_mark table) → IfSome line (λ state. AreWords 64 state.words) → IfSome line (IsNormal table) → IfSome line (IsLine table number)
+    go None a below b c = tt
+    go (Some state) a below b c = record { number_is = a; below = below; words = b; normal = c }
 
 -- the strings at the beginning, and at the end
 strings_begin : no_strings ≡ so_far [] places
@@ -316,7 +314,7 @@ gamestate_is_spelled laws profile game codec is =
           (subst (λ (n : ℕ). SpellsSettings words table strings (numbered n 0 (λ index. config_bits words index (string_at game.strings index)))) count
           (strings_spelled laws.string words table (string_at game.strings) 0 texts are (omega (arith, count)) (λ i more. ap (string_at game.strings) (from_none i))))
           (subst (λ (n : ℕ). SpellsSettings words table lines (numbered n 0 (λ number. baseline_bits words table (set_at game.lines number)))) places_are
-          (lines_spelled laws profile codec (set_at game.lines) 0 game.lines (omega (arith, places_are)) (λ i more. ap (set_at game.lines) (from_none i)) (is_line table game.lines is.lines)));
+          (lines_spelled laws profile codec (set_at game.lines) 0 game.lines (λ i more. ap (set_at game.lines) (from_none i)) (is_line table game.lines is.lines)));
       within = within_both no_strings strings lines
           (subst (λ (s : Strings). StayWithin s strings) begin (strings_within [] texts are is.strings.size))
           (lines_stay_within (strings_after no_strings strings) game.lines);

@@ -11,16 +11,13 @@ use crate::numbers::Numbers;
 use crate::operations::{BASELINE, CONFIG_STRING, EOF, GAMESTATE};
 use q3_bits::{Overflow, Writer, laws};
 use q3_config::Configs;
-use q3_entity::{Baselines, EntityState, write_entity};
+use q3_entity::{Baselines, EntityState, MOST_LINES, write_entity};
 use q3_fields::Table;
 use q3_profile::Profile;
 use q3_strings::write_string;
 
 /// How many config strings there are.
 const STRINGS: u32 = 1_024;
-
-/// How many numbers may have a baseline.
-const NUMBERS: u16 = 1_023;
 
 /// Writes a gamestate with its operation: the last server command's number, the config strings that aren't empty, the
 /// baselines that are set, and the end, the slot and the feed. `Overflow` comes exactly where the text doesn't fit the
@@ -76,7 +73,7 @@ fn write_baselines(w: &mut Writer, table: &Table, baselines: &Baselines) -> Resu
     laws::texts_are_written();
     // what stands there fits the room
     prove!(w.length() > 0);
-    for number in 0..NUMBERS {
+    for number in 0..MOST_LINES {
         write_baseline(w, table, baselines, number)?;
     }
     Ok(())

@@ -1,5 +1,5 @@
 -- Entities by rising number: one is put in, one is taken away, one is looked for, and the lowest are taken.
-use Rattle.std.proofs.Common.{◌≡◌, ℕ, zero, suc, ◌+◌, ◌<◌, ◌≤◌, Bool, true, false, cond, eqb, ltb, List, [], ◌∷◌, ◌++◌, length, get_or, set, take, Option, Some, None, refl, sym, ap, subst, ◌∙◌, inl, inr, arith}
+use Rattle.std.proofs.Common.{◌≡◌, ℕ, zero, suc, ◌+◌, ◌^◌, ◌<◌, ◌≤◌, Bool, true, false, cond, eqb, ltb, List, [], ◌∷◌, ◌++◌, length, get_or, set, take, Option, Some, None, refl, sym, ap, subst, ◌∙◌, inl, inr, arith}
 use Rattle.std.specs.Prelude.{All, not, nat_le, nat_lt}
 use Rattle.std.specs.List.Sorted.{IsPartitionedBy, IsPartitionPoint}
 use Rattle.std.specs.List.{insert, remove, position, position_or_len}
@@ -11,8 +11,9 @@ use Rattle.std.proofs.lemmas.List.Sums.{fails_before_first, position_or_len_is}
 use Rattle.std.proofs.lemmas.List.Sorted.{IsPartitionedBy-ltb}
 use Rattle.std.proofs.lemmas.Bool.{cases_Bool, cases_lt, ltb-true, ltb-false, le-leb, lt-leb, lt-ltb, le-ltb, leb-true, leb-false, ne_eqb, eqb-false, cond-true}
 use Rattle.q3_entity.specs.declared.state.EntityState.{EntityState}
-use Rattle.q3_entity.specs.Entities.{RiseFrom, most_entities}
-use Rattle.q3_map.specs.Map.{most_numbers, with_entity, without_entity, AreListed}
+use Rattle.q3_fields.specs.Kinds.{Layout, end_mark, most_end}
+use Rattle.q3_entity.specs.Entities.{RiseFrom, IsList, Rises, most_entities}
+use Rattle.q3_map.specs.Map.{with_entity, without_entity, AreNumbered}
 
 -- ---- rising numbers
 
@@ -34,9 +35,20 @@ rise_take limit least (suc count) (entity ∷ others) rise = (rise.0, rise.1, ri
 pub few_taken : {X : Type 0} (count : ℕ) (xs : List X) → length (take count xs) ≤ count
 few_taken count xs = omega (arith, length-take count xs)
 
+-- numbers below a limit are below a wider one
+pub rise_wider : (limit wider least : ℕ) (entities : List EntityState) → limit ≤ wider → RiseFrom limit least entities → RiseFrom wider least entities
+rise_wider limit wider least [] le rise = tt
+rise_wider limit wider least (entity ∷ others) le rise =
+    (rise.0, omega (arith, rise.1, le), rise_wider limit wider (entity.number + 1) others le rise.2)
+
 -- the lowest of entities whose numbers rise are those of a snapshot
-pub lowest_are : (entities : List EntityState) → RiseFrom most_numbers 0 entities → AreListed (take most_entities entities)
-lowest_are entities rise = record { rise = rise_take most_numbers 0 most_entities entities rise; few = few_taken most_entities entities }
+pub lowest_listed : (table : Layout) (entities : List EntityState) → AreNumbered table entities → IsList table (take most_entities entities)
+lowest_listed table entities numbered =
+    record { rise = rise_take (end_mark table) 0 most_entities entities numbered.rise; few = few_taken most_entities entities }
+
+pub lowest_rise : (entities : List EntityState) → RiseFrom most_end 0 entities → Rises (take most_entities entities)
+lowest_rise entities rise =
+    record { rise = rise_wider most_end (2 ^ 16) 0 (take most_entities entities) (omega arith) (rise_take most_end 0 most_entities entities rise); few = few_taken most_entities entities }
 
 -- ---- an entity is put in
 

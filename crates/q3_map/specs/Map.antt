@@ -1,18 +1,14 @@
 -- What the game hands in for all clients of a server: its map with the map's baselines and config strings, the time, and the
 -- entities.
-use Rattle.std.specs.Prelude.{ℕ, ◌==◌, ◌≤◌, ◌||◌, if◌then◌else◌, not, Bool, true, false, List, [], ◌∷◌, ◌++◌, length, codes, decimal, nat_le, nat_lt, Result, Ok, Err}
+use Rattle.std.specs.Prelude.{ℕ, ◌==◌, ◌||◌, if◌then◌else◌, not, Bool, true, false, List, [], ◌∷◌, ◌++◌, codes, decimal, nat_le, nat_lt, Result, Ok, Err}
 use Rattle.std.specs.List.{filter}
 use Rattle.q3_fields.specs.Kinds.{Layout, end_mark}
 use Rattle.q3_config.specs.Strings.{Strings, no_strings, with_string}
 use Rattle.q3_entity.specs.declared.state.EntityState.{EntityState}
 use Rattle.q3_entity.specs.Baselines.{Lines, no_lines, with_line}
-use Rattle.q3_entity.specs.Entities.{RiseFrom, AreStates, AreNormal, normal_entity, most_entities}
+use Rattle.q3_entity.specs.Entities.{RiseFrom, AreStates, AreNormal, normal_entity}
 use Rattle.q3_map.specs.declared.map.NotLater.{NotLater}
 use Rattle.q3_map.specs.declared.map.Late.{Late}
-
--- how many numbers entities may have: 0 to 1022
-abbrev pub most_numbers : ℕ
-most_numbers = 1023
 
 -- what the game handed in for all clients: the map's id, 0 before the first, and its checksum feed; the count bit, which changes
 -- with each map; whether a gamestate of the map was begun, its baselines in normal form, and its config strings; the time, and the
@@ -121,7 +117,6 @@ pub record AreHeld (table : Layout) (entities : List EntityState) : Type 0 where
   pub states : AreStates entities
   pub normal : AreNormal table entities
 
--- a snapshot's entities: their numbers rise and are those that entities may have, and there are at most 256
-pub record AreListed (entities : List EntityState) : Type 0 where
-  pub rise : RiseFrom most_numbers 0 entities
-  pub few : length entities ≤ most_entities
+-- entities by rising number, below the end mark of a table
+pub record AreNumbered (table : Layout) (entities : List EntityState) : Type 0 where
+  pub rise : RiseFrom (end_mark table) 0 entities

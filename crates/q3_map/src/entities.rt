@@ -4,7 +4,8 @@ ghost use Rattle.std.specs.Prelude.{◌≡◌, ◌<◌, ◌≤◌, length, posit
 ghost use Rattle.std.specs.List.{position_or_len};
 ghost use Rattle.std.specs.Vec.{vec_capacity};
 ghost use Rattle.q3_entity.specs.Entities.{RiseFrom, most_entities};
-ghost use Rattle.q3_map.specs.Map.{most_numbers, with_entity, without_entity};
+ghost use Rattle.q3_fields.specs.Kinds.{most_end};
+ghost use Rattle.q3_map.specs.Map.{with_entity, without_entity};
 
 use q3_entity::EntityState;
 
@@ -13,12 +14,12 @@ const MOST_ENTITIES: usize = 256;
 
 /// Puts an entity at its place by number, for the one that has its number, if there is one.
 pub(crate) fn put_entity(entities: &mut Vec<EntityState>, entity: EntityState)
-    requires rise { RiseFrom most_numbers 0 entities.old.items }
-    requires room { most_numbers ≤ vec_capacity entities.old }
-    requires number { entity.number < most_numbers }
+    requires rise { RiseFrom most_end 0 entities.old.items }
+    requires room { most_end ≤ vec_capacity entities.old }
+    requires number { entity.number < most_end }
     ensures items { entities.new.items ≡ with_entity entity entities.old.items }
-    ensures rise { RiseFrom most_numbers 0 entities.new.items }
-    ensures room { most_numbers ≤ vec_capacity entities.new }
+    ensures rise { RiseFrom most_end 0 entities.new.items }
+    ensures room { most_end ≤ vec_capacity entities.new }
 {
     let Some(place) = place_from(entities, entity.number) else {
         entities.push(entity).unwrap();
@@ -33,9 +34,9 @@ pub(crate) fn put_entity(entities: &mut Vec<EntityState>, entity: EntityState)
 
 /// Takes the entity of a number away, if there is one.
 pub(crate) fn drop_entity(entities: &mut Vec<EntityState>, number: u16)
-    requires rise { RiseFrom most_numbers 0 entities.old.items }
+    requires rise { RiseFrom most_end 0 entities.old.items }
     ensures items { entities.new.items ≡ without_entity number entities.old.items }
-    ensures rise { RiseFrom most_numbers 0 entities.new.items }
+    ensures rise { RiseFrom most_end 0 entities.new.items }
     ensures room { vec_capacity entities.new ≡ vec_capacity entities.old }
 {
     let Some(place) = place_from(entities, number) else {
@@ -48,7 +49,7 @@ pub(crate) fn drop_entity(entities: &mut Vec<EntityState>, number: u16)
 
 /// Where the first entity stands whose number is this one or above it.
 fn place_from(entities: &[EntityState], number: u16) -> Option<usize>
-    requires { RiseFrom most_numbers 0 entities.now }
+    requires { RiseFrom most_end 0 entities.now }
     ensures { result ≡ position (λ entity. nat_le number entity.number) entities.now }
 {
     let place = first_from(entities, number);
@@ -61,7 +62,7 @@ fn place_from(entities: &[EntityState], number: u16) -> Option<usize>
 
 /// How many entities stand in front of those whose numbers are this one or above it.
 fn first_from(entities: &[EntityState], number: u16) -> usize
-    requires { RiseFrom most_numbers 0 entities.now }
+    requires { RiseFrom most_end 0 entities.now }
     ensures { result ≡ position_or_len (λ entity. nat_le number entity.number) entities.now }
 {
     entities.partition_point(

@@ -5,9 +5,9 @@
 ghost use Rattle.std.specs.Prelude.{◌≡◌, ◌==◌, ◌^◌, ◌<◌, ◌≤◌, ◌+◌, ◌++◌, not, length, take, None, IfOk};
 ghost use Rattle.arrayvec.specs.ArrayVec.{array_vec_len};
 ghost use Rattle.q3_config.specs.Strings.{admit_fault, no_strings, with_string};
-ghost use Rattle.q3_entity.specs.Baselines.{most_lines};
-ghost use Rattle.q3_entity.specs.Entities.{most_entities};
-ghost use Rattle.q3_map.specs.Map.{most_numbers, no_map, id_text, new_map_at, is_other, set_baseline_at, with_config, begins_game, set_time_at, set_entity_at, remove_entity_at, AreListed};
+ghost use Rattle.q3_fields.specs.Kinds.{Layout, end_mark};
+ghost use Rattle.q3_entity.specs.Entities.{IsList, Rises, most_entities};
+ghost use Rattle.q3_map.specs.Map.{no_map, id_text, new_map_at, is_other, set_baseline_at, with_config, begins_game, set_time_at, set_entity_at, remove_entity_at, AreNumbered};
 
 use crate::entities::{drop_entity, front, put_entity};
 use arrayvec::ArrayVec;
@@ -15,12 +15,9 @@ use itoa::Buffer;
 use q3_bits::NoMemory;
 use q3_config::Configs;
 use q3_entity::{Baselines, EntityState};
-use q3_fields::Table;
+use q3_fields::{MOST_END, Table};
 use std::alloc::Global;
 use std::marker::Model;
-
-/// How many numbers entities may have.
-const MOST_NUMBERS: usize = 1_023;
 
 /// The index of the config string that tells the map's id, the engine's `CS_SYSTEMINFO` (q_shared.h).
 const SYSTEM_INFO: u32 = 1;
@@ -57,7 +54,8 @@ impl Model for Map {
     ghost use Rattle.std.specs.Prelude.{◌≤◌};
     ghost use Rattle.std.specs.Vec.{vec_capacity};
     ghost use Rattle.q3_entity.specs.Entities.{RiseFrom};
-    ghost use Rattle.q3_map.specs.Map.{MapState, most_numbers};
+    ghost use Rattle.q3_fields.specs.Kinds.{most_end};
+    ghost use Rattle.q3_map.specs.Map.{MapState};
 
     ghost Value = { MapState };
 
@@ -72,7 +70,7 @@ impl Model for Map {
       entities = m.entities.items;
     } };
 
-    ghost invariant = { λ m. RiseFrom most_numbers 0 m.entities.items × (most_numbers ≤ vec_capacity m.entities) };
+    ghost invariant = { λ m. RiseFrom most_end 0 m.entities.items × (most_end ≤ vec_capacity m.entities) };
 }
 
 impl Map {
@@ -88,7 +86,7 @@ impl Map {
             baselines: Baselines::new(alloc)?,
             configs: Configs::new(alloc)?,
             time: 0,
-            entities: Vec::with_capacity(alloc, MOST_NUMBERS)?,
+            entities: Vec::with_capacity(alloc, usize::from(MOST_END))?,
         })
     }
 
@@ -147,10 +145,10 @@ impl Map {
         Ok(())
     }
 
-    /// Takes over the baseline of an entity, whose number is at most 1022, in the normal form of the table. `Late` comes exactly
-    /// where a gamestate of the map was begun, and nothing changes then.
+    /// Takes over the baseline of an entity, whose number is below the table's end mark, in the normal form of the table. `Late`
+    /// comes exactly where a gamestate of the map was begun, and nothing changes then.
     pub fn set_baseline(&mut self, table: &Table, state: &EntityState) -> Result<(), Late>
-        requires { state.now.number < most_lines }
+        requires { state.now.number < end_mark table.now }
         ensures { set_baseline_at table.now self.old state.now ≡ record { map = self.new; answer = result } }
     {
         if self.begun {
@@ -158,6 +156,8 @@ impl Map {
         }
         let mut line = *state;
         line.normalize(table);
+        // each number below the end mark may have a baseline
+        prove!(table.end() <= MOST_END);
         self.baselines.set(&line);
         Ok(())
     }
@@ -205,13 +205,15 @@ impl Map {
         self.time = time;
     }
 
-    /// Takes over the state of an entity, whose number is at most 1022, in the normal form of the table.
+    /// Takes over the state of an entity, whose number is below the table's end mark, in the normal form of the table.
     pub fn set_entity(&mut self, table: &Table, state: &EntityState)
-        requires { state.now.number < most_numbers }
+        requires { state.now.number < end_mark table.now }
         ensures { self.new ≡ set_entity_at table.now self.old state.now }
     {
         let mut state = *state;
         state.normalize(table);
+        // there is room for each number below the end mark
+        prove!(table.end() <= MOST_END);
         put_entity(&mut self.entities, state);
     }
 
@@ -225,7 +227,8 @@ impl Map {
     /// Lends the entities of the lowest numbers, at most 256.
     pub fn lowest(&self) -> &[EntityState]
         ensures front { result.now ≡ take most_entities self.now.entities }
-        ensures listed { AreListed result.now }
+        ensures rises { Rises result.now }
+        ensures listed { (table : Layout) → AreNumbered table self.now.entities → IsList table result.now }
     {
         front(&self.entities)
     }

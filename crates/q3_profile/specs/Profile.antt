@@ -76,13 +76,11 @@ checked bytes = do
   document ← if nat_lt longest_profile (length bytes) then Err (errors.Limit File) else ok_or (document_of bytes) errors.NotToml
   profile_at (mark_of bytes) document
 
--- what every profile of the program's type is, as its code and its tables tell: a code, and tables; the numbers of
--- entities have at least 10 bits
+-- what every profile of the program's type is, as its code and its tables tell: a code, and tables
 pub record IsCodec (profile : Profile) : Type 0 where
   pub code : IsCode profile.code
   pub entity : IsTable profile.entity
   pub player : IsTable profile.player
-  pub numbers : 10 ≤ profile.entity.number_bits
 
 -- a profile whose rings and protocol passed their checks
 pub record IsProfile (profile : Profile) : Type 0 where

@@ -77,7 +77,7 @@ module _ (below : Below) (profile : Profile) (map : MapState) (slot : SlotState)
         text = is.last;
         few = omega (arith, few, numbered_count first slot.issued.waiting);
         commands = numbered_are first slot.issued.waiting (omega (arith, numbers)) is.window.texts;
-        start = refl;
+        key = refl;
         clear = clear;
       }
 

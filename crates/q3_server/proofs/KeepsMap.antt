@@ -1,7 +1,6 @@
 -- The map stays as the game handed it in.
 use Rattle.std.proofs.Common.{◌≡◌, ℕ, ◌^◌, ◌<◌, ◌≤◌, true, false, List, [], ◌∷◌, length, Option, Some, None, Ok, Err, refl, sym, ap, subst, ◌∙◌, inl, inr, arith, lit<}
 use Rattle.std.specs.Prelude.{◌==◌, ◌&&◌, not, nat_lt, nat_le, find, map as map_list, All, IfSome, codes, option_and_then}
-use Rattle.std.proofs.Math.Pow.{pow_mono}
 use Rattle.std.proofs.lemmas.Bool.{cases_Bool, cond_both, leb-true, ltb-true, not-false, and_parts, eqb-false}
 use Rattle.std.proofs.lemmas.List.{get_or-set_other}
 use Rattle.std.proofs.lemmas.List.Elements.{All-nil, All-cons, All-weaker}
@@ -59,13 +58,11 @@ pub map_timed : (profile : Profile) (map : MapState) (time : ℕ) → time < 2 ^
 map_timed profile map time short is = map_given profile map time map.entities short is.entities is
 
 -- an entity in normal form
-pub map_entered : Below → (profile : Profile) (map : MapState) (state : EntityState) → IsCodec profile → state.number < 1023 → AreWords 64 state.words → IsMap profile map
+pub map_entered : Below → (profile : Profile) (map : MapState) (state : EntityState) → IsCodec profile → state.number < end_mark profile.entity → AreWords 64 state.words → IsMap profile map
     → IsMap profile (set_entity_at profile.entity map state)
 map_entered below profile map state codec le words is =
-    let wide : 2 ^ 10 ≤ 2 ^ profile.entity.number_bits = pow_mono codec.numbers in
-    let end : 1023 ≤ end_mark profile.entity = omega (arith, wide) in
     let normal = below.entity profile.entity state codec.entity words in
-    let held = below.lists.put profile.entity (normal_entity profile.entity state) map.entities (omega (arith, le, end)) normal.0 normal.1 is.entities in
+    let held = below.lists.put profile.entity (normal_entity profile.entity state) map.entities le normal.0 normal.1 is.entities in
     map_given profile map map.time _ is.time held is
 
 -- one entity less
@@ -106,7 +103,7 @@ map_new below profile map id feed least short is =
 
 -- ---- a baseline
 
-pub map_lined : Below → (profile : Profile) (map : MapState) (state : EntityState) → IsCodec profile → state.number < 1023 → AreWords 64 state.words → IsMap profile map
+pub map_lined : Below → (profile : Profile) (map : MapState) (state : EntityState) → IsCodec profile → state.number < end_mark profile.entity → AreWords 64 state.words → IsMap profile map
     → IsMap profile (set_baseline_at profile.entity map state).map
 map_lined below profile map state codec lt words is =
     let line = normal_entity profile.entity state in

@@ -4,6 +4,7 @@ use Rattle.std.specs.Prelude.{nat_le, replicate, map as map_list}
 use Rattle.std.proofs.lemmas.Bool.{cases_Bool, cond_both}
 use Rattle.q3_profile.specs.declared.profile.Profile.{Profile}
 use Rattle.q3_profile.specs.Profile.{IsCodec}
+use Rattle.q3_fields.specs.Kinds.{end_mark}
 use Rattle.q3_fields.specs.States.{AreWords}
 use Rattle.q3_entity.specs.declared.state.EntityState.{EntityState}
 use Rattle.q3_entity.specs.Baselines.{with_line}
@@ -31,7 +32,7 @@ module _ (profile : Profile) (map next : MapState) (slots : List (Option SlotSta
   server_timed time short after is =
       subst (λ (m : MapState). IsServer profile m slots) (sym after) (server_mapped profile map (set_time_at map time) slots refl (map_timed profile map time short is.is_map) is)
 
-  pub server_entered : Below → (state : EntityState) → state.number < 1023 → AreWords 64 state.words → next ≡ set_entity_at profile.entity map state → IsServer profile map slots
+  pub server_entered : Below → (state : EntityState) → state.number < end_mark profile.entity → AreWords 64 state.words → next ≡ set_entity_at profile.entity map state → IsServer profile map slots
       → IsServer profile next slots
   server_entered below state number words after is =
       subst (λ (m : MapState). IsServer profile m slots) (sym after)
@@ -42,7 +43,7 @@ module _ (profile : Profile) (map next : MapState) (slots : List (Option SlotSta
       subst (λ (m : MapState). IsServer profile m slots) (sym after)
       (server_mapped profile map (remove_entity_at map number) slots refl (map_removed below profile map number is.is_map) is)
 
-  pub server_lined : Below → (state : EntityState) (answer : Result (Unit {0}) Late) → state.number < 1023 → AreWords 64 state.words
+  pub server_lined : Below → (state : EntityState) (answer : Result (Unit {0}) Late) → state.number < end_mark profile.entity → AreWords 64 state.words
       → set_baseline_at profile.entity map state ≡ record { map = next; answer = answer } → IsServer profile map slots → IsServer profile next slots
   server_lined below state answer number words after is =
       let made = (set_baseline_at profile.entity map state).map in

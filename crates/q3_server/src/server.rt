@@ -7,8 +7,7 @@
 ghost use Rattle.std.specs.Prelude.{◌≡◌, ◌^◌, ◌<◌, ◌≤◌, None, IfOk, IfSome, option_map, length, nat_lt, position, replicate};
 ghost use Rattle.q3_chan.specs.Sending.{HandsOut};
 ghost use Rattle.q3_frames.specs.Frames.{no_frames};
-ghost use Rattle.q3_map.specs.Map.{most_numbers};
-ghost use Rattle.q3_entity.specs.Baselines.{most_lines};
+ghost use Rattle.q3_fields.specs.Kinds.{Layout, end_mark, least_end};
 ghost use Rattle.q3_slot.specs.Slot.{is_of};
 ghost use Rattle.q3_slot.specs.Slots.{HoldLists};
 ghost use Rattle.q3_chan.specs.Datagrams.{longest_message};
@@ -95,7 +94,7 @@ impl Model for Server {
 
     ghost view = { λ s. record { profile = s.profile; map = s.map; slots = s.slots.items; frames = s.frames } };
 
-    ghost invariant = { λ s. (length s.slots.items ≤ places) × (length s.frames.slots ≡ length s.slots.items) × HoldLists s.frames
+    ghost invariant = { λ s. (length s.slots.items ≤ places) × (length s.frames.slots ≡ length s.slots.items) × HoldLists s.profile.entity s.frames
         × (length s.buffer.items ≡ longest_message) × (length s.whole.items ≡ longest_message) × IsServer s.profile s.map s.slots.items };
 }
 
@@ -169,11 +168,11 @@ impl Server {
         Ok(())
     }
 
-    /// Takes over the baseline of an entity, whose number is 1 to 1022. `Late` comes exactly where a gamestate of the map was begun,
-    /// and nothing changes then.
+    /// Takes over the baseline of an entity, whose number isn't 0 and is below the end mark of the profile's entity table. `Late`
+    /// comes exactly where a gamestate of the map was begun, and nothing changes then.
     pub fn set_baseline(&mut self, state: &EntityState) -> Result<(), Late>
         requires some { 1 ≤ state.now.number }
-        requires most { state.now.number < most_lines }
+        requires most { state.now.number < end_mark self.old.profile.entity }
         ensures { set_baseline_at self.old state.now ≡ record { server = self.new; answer = result } }
     {
         below();
@@ -220,9 +219,17 @@ impl Server {
         self.map.set_time(time);
     }
 
-    /// Takes over the state of an entity, whose number is at most 1022.
+    /// The end mark of the profile's entity table: entities have the numbers below it.
+    pub fn end(&self) -> u16
+        ensures mark { result ≡ end_mark self.now.profile.entity }
+        ensures least { least_end ≤ result }
+    {
+        self.profile.entity.end()
+    }
+
+    /// Takes over the state of an entity, whose number is below the end mark of the profile's entity table.
     pub fn set_entity(&mut self, state: &EntityState)
-        requires { state.now.number < most_numbers }
+        requires { state.now.number < end_mark self.old.profile.entity }
         ensures { self.new ≡ set_entity_at self.old state.now }
     {
         below();
@@ -392,7 +399,7 @@ fn of_parts(
 ) -> Server
     requires slots { length slots.items ≤ places }
     requires frames { length frames.slots ≡ length slots.items }
-    requires lists { HoldLists frames }
+    requires lists { HoldLists profile.entity frames }
     requires buffer { length buffer.items ≡ longest_message }
     requires whole { length whole.items ≡ longest_message }
     requires stands { IsServer profile map slots.items }
@@ -440,7 +447,7 @@ fn empty_frames(alloc: Global, slots: u8, ring: u32) -> Result<Frames, NoMemory>
     requires ring_least { 256 ≤ ring }
     requires ring_most { ring ≤ 262144 }
     ensures frames { IfOk result (λ frames. frames ≡ no_frames slots ring) }
-    ensures lists { IfOk result (λ frames. HoldLists frames) }
+    ensures lists { (table : Layout) → IfOk result (λ frames. HoldLists table frames) }
 {
     nothing_is_listed();
     Frames::new(alloc, slots, ring)

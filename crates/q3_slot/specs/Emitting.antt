@@ -3,10 +3,8 @@ use Rattle.std.specs.Prelude.{ℕ, ◌+◌, ◌^◌, ◌||◌, if◌then◌else�
 use Rattle.q3_bits.specs.Bits.{message_bytes, message_length}
 use Rattle.q3_chan.specs.Datagrams.{sequence_end, longest_message}
 use Rattle.q3_chan.specs.Sending.{UnderWay, Piece, started, next_of}
-use Rattle.q3_chan.specs.Scrambling.{scrambled}
-use Rattle.q3_chan.specs.Keys.{server_start}
+use Rattle.q3_chan.specs.Keys.{server_key, server_scrambled}
 use Rattle.q3_window.specs.Outgoing.{carried, issued_of}
-use Rattle.q3_window.specs.Flow.{acknowledgement_of}
 use Rattle.q3_profile.specs.declared.profile.Profile.{Profile}
 use Rattle.q3_entity.specs.Entities.{most_entities}
 use Rattle.q3_player.specs.State.{zero_player}
@@ -52,11 +50,11 @@ next_frames map frames c slot = build_at frames c (next_snapshot map slot)
 -- what it says besides: all commands that aren't acknowledged
 abbrev pub telling_of : SlotState → Telling
 telling_of slot = record {
-  ack = acknowledgement_of slot.executed;
+  ack = slot.executed.executed;
   commands = carried slot.issued;
   last = issued_of slot.issued;
   under = plays_under slot.stage slot.game;
-  start = server_start slot.challenge (slot.sending.number + 1);
+  key = server_key slot.challenge (slot.sending.number + 1) slot.executed.last;
 }
 
 -- the message that goes to a client next: its snapshot, against the base that these frames have for it
@@ -113,7 +111,7 @@ is_overlong bits = nat_lt longest_message (message_length (length bits))
 -- a message of these bits is begun, with this answer, and its first piece is handed out
 abbrev pub begin : SlotState → MapState → FramesState → Emitted → Built → List Bool → SlotEmission
 begin slot map frames answer built bits =
-    hand_out (record slot { sending = started slot.sending (scrambled 4 built.start built.text (message_bytes bits)) }) map frames 0 answer (Some built)
+    hand_out (record slot { sending = started slot.sending (server_scrambled built.key (message_bytes bits)) }) map frames 0 answer (Some built)
 
 -- a message with a snapshot, unless it is too long
 abbrev pub emit_bits : SlotState → MapState → FramesState → Built → List Bool → SlotEmission

@@ -7,12 +7,13 @@ use Rattle.q3_bits.specs.ResultBind.{◌>>=◌}
 use Rattle.q3_chan.specs.Datagrams.{longest_message}
 use Rattle.q3_chan.specs.Sending.{Sending, Piece}
 use Rattle.q3_chan.specs.Gathering.{Gathering}
-use Rattle.q3_chan.specs.Keys.{server_start}
+use Rattle.q3_chan.specs.Keys.{server_key}
 use Rattle.q3_text.specs.declared.text.Command.{Command}
 use Rattle.q3_window.specs.declared.outgoing.WindowFull.{WindowFull}
-use Rattle.q3_window.specs.Flow.{acknowledgement_of}
 use Rattle.q3_window.specs.Outgoing.{OutgoingState, acknowledge_at, carried, fits, issue_at, issued_of, text_at, total_of, with_texts}
 use Rattle.q3_config.specs.Commands.{Change, change_in}
+use Rattle.q3_fields.specs.Kinds.{Layout}
+use Rattle.q3_entity.specs.Entities.{IsList}
 use Rattle.q3_entity.specs.Baselines.{Lines}
 use Rattle.q3_clmsg.specs.declared.moves.Move.{Move}
 use Rattle.q3_clmsg.specs.declared.error.ClientIllegible.{ClientIllegible}
@@ -24,7 +25,7 @@ use Rattle.q3_svmsg.specs.Values.{Game}
 use Rattle.q3_profile.specs.declared.profile.Profile.{Profile}
 use Rattle.q3_ring.specs.Snapshot.{Snapshot}
 use Rattle.q3_frames.specs.Frames.{FramesState, held_frame}
-use Rattle.q3_map.specs.Map.{MapState, AreListed}
+use Rattle.q3_map.specs.Map.{MapState}
 use Rattle.q3_slot.specs.declared.joined.Joined.{Joined}
 use Rattle.q3_slot.specs.declared.answer.Emitted.{Emitted}
 use Rattle.q3_slot.specs.declared.answer.Emitted.TheVariants as emitted
@@ -61,14 +62,14 @@ slot_of sending gathering issued client = record {
   delayed = client.delayed;
 }
 
--- every frame that a slot holds has such entities
-pub record HoldLists (frames : FramesState) : Type 0 where
-  pub listed : (slot number : ℕ) (held : Snapshot) → held_frame frames slot number ≡ Some held → AreListed held.entities
+-- every frame that a slot holds has a list of entities of a table
+pub record HoldLists (table : Layout) (frames : FramesState) : Type 0 where
+  pub listed : (slot number : ℕ) (held : Snapshot) → held_frame frames slot number ≡ Some held → IsList table held.entities
 
 -- what the message of a number tells a client beside its snapshot
 abbrev pub told_under : OutgoingState → Joined → ℕ → Telling
 told_under issued client number =
-    record { ack = acknowledgement_of client.executed; commands = carried issued; last = issued_of issued; under = plays_under client.stage client.game; start = server_start client.challenge number }
+    record { ack = client.executed.executed; commands = carried issued; last = issued_of issued; under = plays_under client.stage client.game; key = server_key client.challenge number client.executed.last }
 
 -- the snapshot against which the next one for a client may be written
 abbrev pub asked_by : Joined → ℕ

@@ -7,8 +7,7 @@ use Rattle.q3_bits.specs.ResultBind.{◌>>=◌}
 use Rattle.q3_chan.specs.declared.gatherer.Gathered.{Gathered}
 use Rattle.q3_chan.specs.declared.gatherer.Gathered.TheVariants as gathered
 use Rattle.q3_chan.specs.Gathering.{Took, gathered as gathered_of}
-use Rattle.q3_chan.specs.Scrambling.{scrambled}
-use Rattle.q3_chan.specs.Keys.{client_start}
+use Rattle.q3_chan.specs.Keys.{client_key, client_scrambled}
 use Rattle.q3_text.specs.declared.text.Command.{Command}
 use Rattle.q3_window.specs.declared.outgoing.BadAck.{BadAck}
 use Rattle.q3_window.specs.Outgoing.{acknowledge_at, text_at}
@@ -206,7 +205,7 @@ ack_taken ack (Err e) = Err (causes.Ack ack)
 
 -- a message cleared, by its leading longs and the text of the server command that it acknowledges
 abbrev pub cleared : ℕ → Heads → List ℕ → List ℕ → List ℕ
-cleared challenge heads text bytes = scrambled 12 (client_start challenge heads.id heads.acknowledged) text bytes
+cleared challenge heads text bytes = client_scrambled (client_key challenge heads.id heads.acknowledged text) bytes
 
 -- a message with the leading longs as they are read before it is cleared
 abbrev pub with_heads : Heads → Message → Message

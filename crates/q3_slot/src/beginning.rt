@@ -7,6 +7,7 @@ ghost use Rattle.q3_chan.specs.Datagrams.{longest_message, sequence_end};
 ghost use Rattle.q3_chan.specs.Gathering.{Gathering};
 ghost use Rattle.q3_chan.specs.Sending.{HandsOut, IsIdle};
 ghost use Rattle.q3_frames.specs.Frames.{FramesState};
+ghost use Rattle.q3_map.specs.Map.{AreNumbered};
 ghost use Rattle.q3_slot.specs.Emitting.{most_placed};
 ghost use Rattle.q3_slot.specs.Slots.{HoldLists, game_emission, slot_of, snapshot_emission};
 
@@ -82,7 +83,8 @@ pub(crate) fn begin_snapshot(
     requires number { sender.old.number + 1 < sequence_end }
     requires slot { to.slot < length frames.old.slots }
     requires placed { frames.old.placed ≤ most_placed }
-    requires lists { HoldLists frames.old }
+    requires numbered { AreNumbered profile.now.entity map.now.entities }
+    requires lists { HoldLists profile.now.entity frames.old }
     requires buffer { length buffer.old ≡ longest_message }
     requires out { out.old.items ≡ [] }
     ensures slot { (gathering : Gathering) → slot_of sender.new gathering to.entry.issued.now to.entry.client.now
@@ -96,7 +98,7 @@ pub(crate) fn begin_snapshot(
     ensures piece { (gathering : Gathering)
         → HandsOut (snapshot_emission profile.now map.now frames.old to.entry.slot (slot_of sender.old gathering to.entry.issued.now to.entry.client.now)).piece out.new.items }
     ensures slots { length frames.new.slots ≡ length frames.old.slots }
-    ensures lists { HoldLists frames.new }
+    ensures lists { HoldLists profile.now.entity frames.new }
     ensures number { sender.new.number < sequence_end }
     ensures buffer { length buffer.new ≡ longest_message }
 {

@@ -6,7 +6,9 @@ ghost use Rattle.q3_chan.specs.Datagrams.{longest_message, sequence_end};
 ghost use Rattle.q3_chan.specs.Gathering.{new_gathering};
 ghost use Rattle.q3_chan.specs.declared.side.Side.TheVariants.{Client};
 ghost use Rattle.q3_frames.specs.Frames.{base_of, build_at};
-ghost use Rattle.q3_map.specs.Map.{AreListed};
+ghost use Rattle.q3_fields.specs.Kinds.{Layout};
+ghost use Rattle.q3_entity.specs.Entities.{IsList, Rises};
+ghost use Rattle.q3_map.specs.Map.{AreNumbered};
 ghost use Rattle.q3_svmsg.specs.Values.{base_viewed, base_from, base_entities, IsNamed};
 ghost use Rattle.q3_built.specs.Built.{built_of, number_of};
 ghost use Rattle.q3_built.specs.Writing.{HoldsBuilt};
@@ -47,10 +49,10 @@ pub fn has_ended(number: u32, placed: u64) -> bool
 pub fn build(frames: &mut Frames, slot: u8, head: &SnapHead, entities: &[EntityState])
     requires slot { slot < length frames.old.slots }
     requires placed { frames.old.placed ≤ most_placed }
-    requires listed { AreListed entities.now }
+    requires rises { Rises entities.now }
     ensures built { frames.new ≡ build_at frames.old slot (record { head = head.now; entities = entities.now }) }
     ensures slots { length frames.new.slots ≡ length frames.old.slots }
-    ensures lists { HoldLists frames.old → HoldLists frames.new }
+    ensures lists { (table : Layout) → IsList table entities.now → HoldLists table frames.old → HoldLists table frames.new }
 {
     laws::build_keeps();
     laws::held_was_built();
@@ -71,13 +73,14 @@ pub(crate) fn write_next(
     requires number { sender.now.number + 1 < sequence_end }
     requires slot { to.slot < length frames.old.slots }
     requires placed { frames.old.placed ≤ most_placed }
-    requires lists { HoldLists frames.old }
+    requires numbered { AreNumbered profile.now.entity map.now.entities }
+    requires lists { HoldLists profile.now.entity frames.old }
     requires buffer { length buffer.old ≡ longest_message }
     ensures written { HoldsBuilt profile.now (begun_next map.now frames.old to.entry.slot (slot_of sender.now (new_gathering Client) to.entry.issued.now to.entry.client.now))
         buffer.new result }
     ensures frames { frames.new ≡ next_frames map.now frames.old to.entry.slot (slot_of sender.now (new_gathering Client) to.entry.issued.now to.entry.client.now) }
     ensures slots { length frames.new.slots ≡ length frames.old.slots }
-    ensures lists { HoldLists frames.new }
+    ensures lists { HoldLists profile.now.entity frames.new }
 {
     to.client.fill(sender, map, head);
     let entities = to.client.seen(map);
@@ -96,8 +99,8 @@ fn write_against(
     entities: &[EntityState],
     buffer: &mut [u8],
 ) -> Result<Written, Overflow>
-    requires lists { HoldLists frames.now }
-    requires listed { AreListed entities.now }
+    requires lists { HoldLists profile.now.entity frames.now }
+    requires listed { IsList profile.now.entity entities.now }
     requires buffer { length buffer.old ≡ longest_message }
     ensures { HoldsBuilt profile.now (built_of (told_under to.entry.issued.now to.entry.client.now head.now.number) map.now.lines
         (base_of frames.now to.entry.slot head.now.number (asked_by to.entry.client.now)) (record { head = head.now; entities = entities.now })) buffer.new result }
@@ -120,11 +123,10 @@ fn write_against(
 
 /// The base of a message, if the client's delta number names one: its number, 0 for none, and what it is.
 fn base_in<'a>(frames: &'a Frames, slot: u8, number: u32, delta: u32) -> (u32, Option<BaseView<'a>>)
-    requires { HoldLists frames.now }
     ensures number { result.0 ≡ number_of (base_of frames.now slot number delta) }
     ensures base { option_map base_viewed result.1 ≡ option_map base_from (base_of frames.now slot number delta) }
     ensures named { IsNamed (option_map base_viewed result.1) number result.0 }
-    ensures listed { AreListed (base_entities (option_map base_viewed result.1)) }
+    ensures listed { (table : Layout) → HoldLists table frames.now → IsList table (base_entities (option_map base_viewed result.1)) }
 {
     laws::base_is_near();
     match frames.base_for(slot, number, delta) {

@@ -13,7 +13,7 @@ ghost use Rattle.q3_slot.specs.Slots.{came_of, said_with};
 ghost use Rattle.q3_slot.specs.Taking.{ack_taken, came_under, said_under, with_heads, delta_behind, runs, last_run_of};
 
 use arrayvec::ArrayVec;
-use q3_chan::{client_start, scramble};
+use q3_chan::scramble_client;
 use q3_clmsg::{
     ClientIllegible, ClientMessage, Heads, Move, message_key, read_client_message, read_heads,
 };
@@ -21,9 +21,6 @@ use q3_map::Map;
 use q3_profile::Profile;
 use q3_text::{Command, Text};
 use q3_window::{Incoming, Outgoing};
-
-/// A client's message is scrambled from this byte on, behind its three leading longs.
-const CLEAR: usize = 12;
 
 /// What the server's take answers.
 #[derive(Clone, Copy, Debug, PartialEq, Eq)]
@@ -165,8 +162,7 @@ fn read_under(
 ) -> Result<(), ClientIllegible>
     ensures { holding (said_of into.new) result ≡ said_under profile.now feed challenge heads text.now bytes.old }
 {
-    let start = client_start(challenge, heads.id, heads.acknowledged);
-    scramble(bytes, CLEAR, start, text);
+    scramble_client(bytes, challenge, heads.id, heads.acknowledged, text);
     let key = message_key(feed, heads.acknowledged, text);
     read_client_message(&profile.code, bytes, key, into)?;
     put_heads(into, heads);

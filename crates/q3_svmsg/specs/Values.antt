@@ -79,7 +79,7 @@ abbrev pub parts_told : SnapParts → Message
 parts_told parts = record {
   ack = parts.ack;
   commands = commands_of parts.commands;
-  section = Snap parts.base parts.head.now parts.entities.now;
+  section = Snap parts.base parts.head.now (run_of parts.entities);
 }
 
 -- and what those of a gamestate say

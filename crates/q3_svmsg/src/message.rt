@@ -5,7 +5,7 @@ ghost use Rattle.std.specs.Prelude.{◌≡◌, [], IfOk};
 use arrayvec::ArrayVec;
 use q3_bits::NoMemory;
 use q3_config::Configs;
-use q3_entity::{Baselines, EntityState, List};
+use q3_entity::{Baselines, List, Run};
 use q3_gamestate::{BigString, Numbers};
 use q3_player::SnapHead;
 use q3_text::{Command, CommandRun};
@@ -47,14 +47,14 @@ pub struct ServerMessage {
 }
 
 /// A message with a snapshot, its parts lent by those who keep them: the number of the last client command executed, the
-/// commands, the number of the base, 0 for none, the head, and the entities by rising number.
+/// commands, the number of the base, 0 for none, the head, and the entities by rising number, as a ring lends them.
 #[derive(Clone, Copy)]
 pub struct SnapParts<'a> {
     pub ack: u32,
     pub commands: CommandRun<'a>,
     pub base: u32,
     pub head: &'a SnapHead,
-    pub entities: &'a [EntityState],
+    pub entities: Run<'a>,
 }
 
 /// A message with a gamestate, its parts lent by those who keep them: the number of the last client command executed, the

@@ -7,7 +7,7 @@ ghost use Rattle.q3_bits.specs.Words.{row_bits};
 ghost use Rattle.q3_text.specs.Commands.{commands_of};
 ghost use Rattle.q3_strings.specs.Commands.{commands_bits};
 ghost use Rattle.q3_entity.specs.Baselines.{Lines, no_lines};
-ghost use Rattle.q3_entity.specs.Entities.{IsList};
+ghost use Rattle.q3_entity.specs.Entities.{IsList, run_of};
 ghost use Rattle.q3_svmsg.specs.Values.{HasSnap, IsNamed, Game, base_viewed, base_entities, distance_to, game_of, told_of, parts_told, game_told};
 ghost use Rattle.q3_svmsg.specs.Texts.{head_bits, snapshot_bits, message_text};
 
@@ -15,7 +15,7 @@ use crate::bases::{BaseView, base_or};
 use crate::message::{GameParts, Section, ServerMessage, SnapParts};
 use crate::operations::{SERVER_COMMAND, SNAPSHOT};
 use q3_bits::{Overflow, Writer, laws};
-use q3_entity::{Baselines, EntityState, write_list};
+use q3_entity::{Baselines, Run, write_run};
 use q3_gamestate::operations::EOF;
 use q3_gamestate::{Numbers, write_gamestate};
 use q3_player::{PlayerState, SnapHead, write_player};
@@ -61,7 +61,7 @@ pub fn write_parts(
     into: &mut [u8],
 ) -> Result<usize, Overflow>
     requires named { IsNamed (option_map base_viewed base) parts.head.now.number parts.base }
-    requires entities { IsList profile.now.entity parts.entities.now }
+    requires entities { IsList profile.now.entity (run_of parts.entities) }
     requires base_entities { IsList profile.now.entity (base_entities (option_map base_viewed base)) }
     requires some { 1 ≤ length into.old }
     requires most { length into.old ≤ 16384 }
@@ -134,14 +134,14 @@ fn parts_of(message: &ServerMessage, base: u32) -> SnapParts<'_>
     ensures commands { commands_of result.commands ≡ message.now.commands.value.items }
     ensures base { result.base ≡ base }
     ensures head { result.head.now ≡ message.now.head }
-    ensures entities { result.entities.now ≡ message.now.entities.value.items }
+    ensures entities { run_of result.entities ≡ message.now.entities.value.items }
 {
     SnapParts {
         ack: message.ack,
         commands: run_of(&message.commands),
         base,
         head: &message.head,
-        entities: &message.entities,
+        entities: Run::of(&message.entities),
     }
 }
 
@@ -165,7 +165,7 @@ fn write_snap_bits(
     base: Option<BaseView>,
 ) -> Result<(), Overflow>
     requires named { IsNamed (option_map base_viewed base) parts.head.now.number parts.base }
-    requires entities { IsList profile.now.entity parts.entities.now }
+    requires entities { IsList profile.now.entity (run_of parts.entities) }
     requires base_entities { IsList profile.now.entity (base_entities (option_map base_viewed base)) }
     ensures { Writes w.old w.new (message_text (record profile.now { code = w.old.words }) baselines.now (option_map base_viewed base.entry) (parts_told parts.entry)) result }
 {
@@ -212,19 +212,19 @@ fn write_snapshot(
     number: u32,
     base: Option<BaseView>,
     head: &SnapHead,
-    entities: &[EntityState],
+    entities: Run,
 ) -> Result<(), Overflow>
     requires number { number ≤ head.now.number }
-    requires entities { IsList profile.now.entity entities.now }
+    requires entities { IsList profile.now.entity (run_of entities) }
     requires base_entities { IsList profile.now.entity (base_entities (option_map base_viewed base)) }
-    ensures { Writes w.old w.new (snapshot_bits (record profile.now { code = w.old.words }) baselines.now (option_map base_viewed base.entry) number head.now entities.now) result }
+    ensures { Writes w.old w.new (snapshot_bits (record profile.now { code = w.old.words }) baselines.now (option_map base_viewed base.entry) number head.now (run_of entities.entry)) result }
 {
     laws::texts_are_written();
     let zero = PlayerState::zero();
     let from = base_or(base, &zero);
     write_head(w, number, head)?;
     write_player(w, &profile.player, from.player, &head.player)?;
-    write_list(w, &profile.entity, baselines, from.entities, entities)
+    write_run(w, &profile.entity, baselines, from.entities, entities)
 }
 
 /// Writes the head of a snapshot against the base of a number, 0 for none: the operation, the time, how far below the

@@ -6,7 +6,7 @@ use Rattle.q3_profile.specs.declared.profile.Profile.{Profile}
 use Rattle.q3_player.specs.State.{zero_player, normal_player, IsState}
 use Rattle.q3_player.specs.declared.state.PlayerState.{PlayerState}
 use Rattle.q3_fields.specs.States.{AreWords}
-use Rattle.q3_fields.specs.Kinds.{end_mark}
+use Rattle.q3_fields.specs.Kinds.{least_end, end_mark}
 use Rattle.q3_entity.specs.declared.state.EntityState.{EntityState}
 use Rattle.q3_entity.specs.Entities.{normal_entity, IsNormal}
 use Rattle.q3_entity.specs.Baselines.{AreLines}
@@ -33,14 +33,14 @@ use Rattle.q3_world.proofs.Holding.{Holds, with_client_of, same_clients}
 -- a message that was built is received from its bytes as its value
 abbrev pub ReadsBack : Profile → Type 0
 ReadsBack profile = (client : ClientState) (number : ℕ) (built : Built) → IsBuilt profile client.challenge number built → client.state.profile ≡ profile → AreLines profile.entity client.state.lines → IfSome built.under (λ game. client.state.lines ≡ built.lines)
-    → (acknowledge_at client.issued built.message.ack).answer ≡ Ok tt → text_at client.issued built.message.ack ≡ built.text
+    → (acknowledge_at client.issued built.message.ack).answer ≡ Ok tt → text_at client.issued built.message.ack ≡ built.key.text
     → AreBuilt profile client.state.held → IfSome built.base (λ base. IsSnapshot profile base × HoldsThis client.state.held base)
     → receive_bytes client number (built_bytes profile built) ≡ Ok (receive_message client number built.message)
 
 -- and one that a client said is read back
 abbrev pub HearsBack : Profile → Type 0
 HearsBack profile = (map : MapState) (slot : SlotState) (said : Said) → IsSaid profile slot.challenge said
-    → (acknowledge_at slot.issued said.message.command).answer ≡ Ok tt → text_at slot.issued said.message.command ≡ said.text
+    → (acknowledge_at slot.issued said.message.command).answer ≡ Ok tt → text_at slot.issued said.message.command ≡ said.key.text
     → (is_other map said.message.id ≡ false → said.feed ≡ map.feed)
     → said_by profile map slot (said_bytes profile said) ≡ Ok (came_as map said.message)
 
@@ -54,7 +54,7 @@ pub record Cited (profile : Profile) : Type 0 where
   pub normal : (player : PlayerState) → IsState player → IsHeld profile (normal_player profile.player.kinds player)
   pub normal_entity : (entity : EntityState) → AreWords 64 entity.words
       → AreWords 64 (normal_entity profile.entity entity).words × IsNormal profile.entity (normal_entity profile.entity entity)
-  pub end : 1023 ≤ end_mark profile.entity
+  pub end : least_end ≤ end_mark profile.entity
   pub ring : 512 ≤ profile.parse_ring
   pub tags : SentIsTagged
   pub qport : QportIsTold

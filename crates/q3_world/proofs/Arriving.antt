@@ -24,7 +24,7 @@ use Rattle.q3_chan.specs.declared.side.Side.TheVariants.{Server, Client}
 use Rattle.q3_chan.specs.declared.gatherer.Gathered.{Gathered}
 use Rattle.q3_chan.specs.declared.gatherer.Gathered.TheVariants as gathered
 use Rattle.q3_chan.specs.declared.qport.NoQport.{NoQport}
-use Rattle.q3_chan.specs.Datagrams.{datagram}
+use Rattle.q3_chan.specs.Datagrams.{Header, server_header, client_header, datagram}
 use Rattle.q3_chan.specs.Sending.{Sending}
 use Rattle.q3_chan.specs.Gathering.{Gathering, Took, gathered as gathered_of}
 use Rattle.q3_chan.specs.Tags.{tagged, IsQuiet, PieceDoes}
@@ -73,15 +73,15 @@ use Rattle.std.proofs.lemmas.Bool.{cases_Bool}
 -- ---- what a datagram does
 
 -- by its bytes a datagram does what it does by its tag
-pub piece_is : (messages : ℕ → List ℕ) (g : Gathering) (side : Side) (qport count : ℕ) (sending : Sending) (tag : Tag) → SentIsTagged → HoldsFront messages g → g.side ≡ side
-    → qport < 2 ^ 16 → BeginsMessages side qport messages count sending → IsPiece side qport messages count tag
+pub piece_is : (messages : ℕ → List ℕ) (g : Gathering) (header : Header) (count : ℕ) (sending : Sending) (tag : Tag) → SentIsTagged → HoldsFront messages g → g.side ≡ header.side
+    → header.qport < 2 ^ 16 → BeginsMessages header messages count sending → IsPiece header messages count tag
     → gathered_of g tag.bytes ≡ tagged g tag.number (messages tag.number) tag.index
-piece_is messages g side qport count sending tag law front from fits begins is =
+piece_is messages g header count sending tag law front from fits begins is =
     let begun = is.begun in
     let short = begins.short in
     let n = tag.number in
-    ap (gathered_of g) (is.bytes ∙ ap (λ (s : Side). datagram s qport n (messages n) tag.index) (sym from))
-    ∙ (law messages g qport n tag.index front fits is.some (omega (arith, begun, short)) (begins.sendable n is.some is.begun) is.piece).0
+    ap (gathered_of g) (is.bytes ∙ ap (λ (s : Side). datagram (record { side = s; qport = header.qport }) n (messages n) tag.index) (sym from))
+    ∙ (law messages g header.qport n tag.index front fits is.some (omega (arith, begun, short)) (begins.sendable n is.some is.begun) is.piece).0
 
 -- ---- delivering to a client
 
@@ -134,7 +134,7 @@ taken_alike profile client took number built received does =
 abbrev pub IsFor : Profile → Whole → Tag → Type 0
 IsFor profile whole tag =
     (tag.client < places)
-    × IsPiece Server 0 (messages_of profile (history_at whole.histories tag.client).built) (length (history_at whole.histories tag.client).built) tag
+    × IsPiece server_header (messages_of profile (history_at whole.histories tag.client).built) (length (history_at whole.histories tag.client).built) tag
 
 -- its client is there
 pub client_of_tag : (profile : Profile) (whole : Whole) (tag : Tag) → IsFor profile whole tag → Holds profile whole
@@ -162,7 +162,7 @@ tag_is profile whole tag client cited is found holds =
     let messages = messages_of profile built in
     let had = has_client profile whole tag.client client is.0 found holds in
     let at = at_number profile built tag.number is.1.some in
-    piece_is messages client.gathering Server 0 (length built) had.0.sending tag cited.tags had.1.joined.of_client.gathers.front had.1.keeps.of_client.from (lit< tt) had.1.keeps.of_slot.sending is.1
+    piece_is messages client.gathering server_header (length built) had.0.sending tag cited.tags had.1.joined.of_client.gathers.front had.1.keeps.of_client.from (lit< tt) had.1.keeps.of_slot.sending is.1
     ∙ ap (λ (m : List ℕ). tagged client.gathering tag.number m tag.index) at
 
 -- and what is gathered then was begun
@@ -433,7 +433,7 @@ heard_alike profile map slot c took number said hears_back does from =
 abbrev pub IsOf : Profile → Whole → Tag → Address → Type 0
 IsOf profile whole tag from =
     (tag.client < places) × (from.host ≡ (history_at whole.histories tag.client).host)
-    × IsPiece Client (history_at whole.histories tag.client).qport (messages_said profile (history_at whole.histories tag.client).said) (length (history_at whole.histories tag.client).said) tag
+    × IsPiece (client_header (history_at whole.histories tag.client).qport) (messages_said profile (history_at whole.histories tag.client).said) (length (history_at whole.histories tag.client).said) tag
 
 -- the server takes it by what its bytes do to its client's slot
 pub heard_by_bytes : (profile : Profile) (whole : Whole) (tag : Tag) (from : Address) (slot : SlotState) → Cited profile → IsOf profile whole tag from
@@ -452,7 +452,7 @@ heard_by_bytes profile whole tag from slot cited is at holds =
     let short = keeps.of_client.sending.short in
     let told : qport_of tag.bytes ≡ Ok history.qport =
     ap qport_of is.2.bytes
-    ∙ cited.qport history.qport tag.number tag.index (messages tag.number) keeps.of_client.fits (omega (arith, begun, short))
+    ∙ cited.qport (client_header history.qport) tag.number tag.index (messages tag.number) refl keeps.of_client.fits (omega (arith, begun, short))
     (keeps.of_client.sending.sendable tag.number is.2.some is.2.begun) is.2.piece in
     let found : sender_of server from.host history.qport ≡ Some c =
     ap (λ (h : ℕ). sender_of server h history.qport) (is.1 ∙ sym keeps.of_slot.host)
@@ -634,7 +634,7 @@ said_tag_is profile whole tag from slot cited is at holds =
     let had = has_slot profile whole tag.client slot is.0 at holds in
     let keeps = had.1.keeps in
     let at_said = said_number profile history.said tag.number is.2.some in
-    piece_is (messages_said profile history.said) slot.gathering Client history.qport (length history.said) had.0.sending tag cited.tags had.1.joined.of_slot.gathers.front keeps.of_slot.from keeps.of_client.fits
+    piece_is (messages_said profile history.said) slot.gathering (client_header history.qport) (length history.said) had.0.sending tag cited.tags had.1.joined.of_slot.gathers.front keeps.of_slot.from keeps.of_client.fits
     keeps.of_client.sending is.2
     ∙ ap (λ (m : List ℕ). tagged slot.gathering tag.number m tag.index) at_said
 

@@ -2,50 +2,47 @@
 use Rattle.std.proofs.Common.{◌≡◌, ℕ, suc, ◌+◌, ◌<◌, ◌≤◌, List, length, Some, refl, sym, subst, ◌∙◌, inl, inr, arith, lit<}
 use Rattle.std.proofs.lemmas.Bool.{cases_eq}
 use Rattle.q3_chan.specs.declared.side.Side.{Side}
-use Rattle.q3_chan.specs.Datagrams.{sequence_end, piece_count}
+use Rattle.q3_chan.specs.Datagrams.{Header, sequence_end, piece_count}
 use Rattle.q3_chan.specs.Sending.{Sending, UnderWay, new_sending, started, next_of}
 use Rattle.q3_chan.specs.Laws.{IsSendable, EndsSend}
 use Rattle.q3_world.specs.World.{Tag}
 use Rattle.q3_world.specs.StandsFor.{BeginsMessages, IsPiece}
 
 -- an end that began nothing
-pub BeginsMessages-new : (side : Side) (qport : ℕ) (messages : ℕ → List ℕ) → EndsSend → BeginsMessages side qport messages 0 (new_sending side qport)
+pub BeginsMessages-new : (side : Side) (qport : ℕ) (messages : ℕ → List ℕ) → EndsSend → BeginsMessages (record { side = side; qport = qport }) messages 0 (new_sending side qport)
 BeginsMessages-new side qport messages chan =
     record {
       begun = refl;
       short = lit< tt;
-      side_is = refl;
-      qport_is = refl;
+      header_is = refl;
       sends = chan.begin messages side qport;
       sendable = λ number some few. absurd (omega (arith, some, few));
     }
 
 -- a piece was handed out
-pub BeginsMessages-handed : (side : Side) (qport : ℕ) (messages : ℕ → List ℕ) (count : ℕ) (sending : Sending) → EndsSend → BeginsMessages side qport messages count sending
-    → BeginsMessages side qport messages count (next_of sending).sending
-BeginsMessages-handed side qport messages count sending chan begins =
+pub BeginsMessages-handed : (header : Header) (messages : ℕ → List ℕ) (count : ℕ) (sending : Sending) → EndsSend → BeginsMessages header messages count sending
+    → BeginsMessages header messages count (next_of sending).sending
+BeginsMessages-handed header messages count sending chan begins =
     let same = chan.stays sending in
     record {
-      begun = same.2 ∙ begins.begun;
+      begun = same.1 ∙ begins.begun;
       short = begins.short;
-      side_is = same.0 ∙ begins.side_is;
-      qport_is = same.1 ∙ begins.qport_is;
+      header_is = same.0 ∙ begins.header_is;
       sends = chan.next messages sending begins.sends;
       sendable = begins.sendable;
     }
 
 -- one message more was begun, and is under way
-pub BeginsMessages-started : (side : Side) (qport : ℕ) (messages more : ℕ → List ℕ) (count count' : ℕ) (sending : Sending) (message : List ℕ) → EndsSend
+pub BeginsMessages-started : (header : Header) (messages more : ℕ → List ℕ) (count count' : ℕ) (sending : Sending) (message : List ℕ) → EndsSend
     → count' ≡ count + 1 → sending.number + 1 < sequence_end → ((number : ℕ) → number ≤ count → more number ≡ messages number) → more (suc count) ≡ message → IsSendable message
-    → BeginsMessages side qport messages count sending → BeginsMessages side qport more count' (started sending message)
-BeginsMessages-started side qport messages more count count' sending message chan longer fits stay last may begins =
+    → BeginsMessages header messages count sending → BeginsMessages header more count' (started sending message)
+BeginsMessages-started header messages more count count' sending message chan longer fits stay last may begins =
     let begun = begins.begun in
     let number : suc count ≡ sending.number + 1 = omega (arith, begun) in
     record {
       begun = omega (arith, begun, longer);
       short = omega (arith, begun, longer, fits);
-      side_is = begins.side_is;
-      qport_is = begins.qport_is;
+      header_is = begins.header_is;
       sends = chan.start more sending message (subst (λ (n : ℕ). more n ≡ message) number last);
       sendable = λ n some few. elim (cases_eq n (suc count)) [
         | inl same ↦ subst IsSendable (sym (subst (λ (k : ℕ). more k ≡ message) (sym same) last)) may
@@ -54,10 +51,10 @@ BeginsMessages-started side qport messages more count count' sending message cha
     }
 
 -- a datagram that is handed out has a piece of the message that is under way
-pub handed_piece : (side : Side) (qport : ℕ) (messages : ℕ → List ℕ) (count : ℕ) (sending : Sending) (left : UnderWay) (tag : Tag) → EndsSend
-    → BeginsMessages side qport messages count sending → sending.under_way ≡ Some left
-    → tag.number ≡ sending.number → tag.index ≡ left.next → tag.bytes ≡ (next_of sending).datagram → IsPiece side qport messages count tag
-handed_piece side qport messages count sending left tag chan begins way number index bytes =
+pub handed_piece : (header : Header) (messages : ℕ → List ℕ) (count : ℕ) (sending : Sending) (left : UnderWay) (tag : Tag) → EndsSend
+    → BeginsMessages header messages count sending → sending.under_way ≡ Some left
+    → tag.number ≡ sending.number → tag.index ≡ left.next → tag.bytes ≡ (next_of sending).datagram → IsPiece header messages count tag
+handed_piece header messages count sending left tag chan begins way number index bytes =
     let out = chan.piece messages sending left begins.sends way in
     let some = out.some in
     let begun = begins.begun in
@@ -66,5 +63,5 @@ handed_piece side qport messages count sending left tag chan begins way number i
       some = omega (arith, some, number);
       begun = omega (arith, number, begun);
       piece = rw (index, number) within;
-      bytes = bytes ∙ (out.bytes ∙ rw (begins.side_is, begins.qport_is, number, index) refl);
+      bytes = bytes ∙ (out.bytes ∙ rw (begins.header_is, number, index) refl);
     }

@@ -3,8 +3,7 @@ use Rattle.std.proofs.Common.{◌≡◌, ℕ, ◌+◌, ◌^◌, ◌<◌, List, [
 use Rattle.std.specs.Prelude.{IfSome}
 use Rattle.q3_profile.specs.declared.profile.Profile.{Profile}
 use Rattle.q3_io.specs.declared.address.Address.{Address}
-use Rattle.q3_chan.specs.declared.side.Side.TheVariants.{Server, Client}
-use Rattle.q3_chan.specs.Datagrams.{sequence_end}
+use Rattle.q3_chan.specs.Datagrams.{server_header, client_header, sequence_end}
 use Rattle.q3_chan.specs.Sending.{UnderWay, next_of}
 use Rattle.q3_chan.specs.Laws.{IsSendable, EndsGather, EndsSend}
 use Rattle.q3_window.specs.Flow.{acknowledgement_of, carriage_of}
@@ -69,7 +68,7 @@ Holds-handed profile whole c slot left sends lt found way holds =
         since = joined.since;
       };
       sent = sent_more profile whole c history (handed_tag c slot left) lt grows refl
-          (handed_piece Server 0 (messages_of profile history.built) (length history.built) slot.sending left (handed_tag c slot left) sends keeps.of_slot.sending way refl refl refl) holds;
+          (handed_piece server_header (messages_of profile history.built) (length history.built) slot.sending left (handed_tag c slot left) sends keeps.of_slot.sending way refl refl refl) holds;
       kept = frames_stay profile whole c history lt refl holds;
     }) holds
 
@@ -132,7 +131,7 @@ Holds-begun windows profile whole c slot client stage game owed built map frames
         since = joined.since;
       };
       sent = sent_more profile whole c noted (handed_tag c starts left) lt grows refl
-          (handed_piece Server 0 (messages_of profile more) (length more) starts.sending left (handed_tag c starts left) sends begun.sending way refl refl refl) holds;
+          (handed_piece server_header (messages_of profile more) (length more) starts.sending left (handed_tag c starts left) sends begun.sending way refl refl refl) holds;
       kept = kept;
     }) holds
 
@@ -192,7 +191,7 @@ Holds-goes profile whole c client left sends lt found way holds =
       joined = record { of_client = TakesBuilt-same profile client (client_handed client) history.built history.accepted (accepted_since history.games history.accepted) refl refl refl refl joined.of_client; of_slot = joined.of_slot; asked = joined.asked; commanded = record { to_client = joined.commanded.to_client; to_server = joined.commanded.to_server }; mapped = joined.mapped; since = joined.since };
       sent = sent_more profile whole c history tag lt grows refl (
         keeps.host,
-        handed_piece Client history.qport (messages_said profile history.said) (length history.said) client.sending left tag sends keeps.of_client.sending way refl refl refl,
+        handed_piece (client_header history.qport) (messages_said profile history.said) (length history.said) client.sending left tag sends keeps.of_client.sending way refl refl refl,
       ) holds;
       kept = frames_stay profile whole c history lt refl holds;
     }) holds
@@ -238,7 +237,7 @@ Holds-said windows profile whole c slot client left sends gathers lt had way fit
       };
       sent = sent_more profile whole c (record history { said = more }) tag lt grows refl (
         keeps.host,
-        handed_piece Client history.qport (messages_said profile more) (length more) begun.sending left tag sends starts.sending way refl refl refl,
+        handed_piece (client_header history.qport) (messages_said profile more) (length more) begun.sending left tag sends starts.sending way refl refl refl,
       ) holds;
       kept = frames_stay profile whole c (record history { said = more }) lt refl holds;
     }) holds

@@ -11,9 +11,9 @@ use Rattle.q3_strings.specs.Commands.{commands_bits}
 use Rattle.q3_strings.specs.Rows.{row-last}
 use Rattle.q3_window.specs.declared.outgoing.BadAck.{BadAck}
 use Rattle.q3_window.specs.Outgoing.{acknowledge_at, text_at}
-use Rattle.q3_chan.specs.Scrambling.{scrambled}
-use Rattle.q3_chan.specs.Keys.{server_start}
-use Rattle.q3_chan.specs.Laws.{TwiceIsNone, FrontStays}
+use Rattle.q3_chan.specs.declared.side.Side.TheVariants.{Server}
+use Rattle.q3_chan.specs.Keys.{Key, server_key, server_scrambled}
+use Rattle.q3_chan.specs.Laws.{SideTwiceIsNone, SideFrontStays}
 use Rattle.q3_profile.specs.declared.profile.Profile.{Profile}
 use Rattle.q3_profile.specs.Profile.{IsCodec}
 use Rattle.q3_entity.specs.Baselines.{Lines, AreLines}
@@ -89,15 +89,15 @@ read_with client n bytes profile = message_at profile (context_of client.state.h
 -- by what it is scrambled: its leading long stays in sight
 record IsHeaded (profile : Profile) (challenge n : ℕ) (built : Built) : Type 0 where
   ack : built.message.ack < 2 ^ 32
-  start : built.start ≡ server_start challenge n
+  key : built.key ≡ server_key challenge n built.key.text
   clear : is_unclear profile built.message.ack ≡ false
 
 is_headed : (profile : Profile) (challenge n : ℕ) (built : Built) → IsBuilt profile challenge n built → IsHeaded profile challenge n built
 is_headed profile challenge n built is =
     let tells = is.tells in
     elim is.section [
-      | inl one ↦ subst (IsHeaded profile challenge n) (sym one.is) (record { ack = tells.ack; start = tells.start; clear = tells.clear })
-      | inr made ↦ subst (IsHeaded profile challenge n) (sym made.is) (record { ack = tells.ack; start = tells.start; clear = tells.clear })
+      | inl one ↦ subst (IsHeaded profile challenge n) (sym one.is) (record { ack = tells.ack; key = tells.key; clear = tells.clear })
+      | inr made ↦ subst (IsHeaded profile challenge n) (sym made.is) (record { ack = tells.ack; key = tells.key; clear = tells.clear })
     ]
 
 -- its bits are read against all that a client has, whatever follows them
@@ -128,10 +128,10 @@ bits_are_read law skips profile codec client n built is are_lines same are known
           (λ rest. game_is_received profile client.challenge law codec held lines built.lines n telling made.game rest are_lines is.tells made.are are)
     ]
 
-module _ (put : PutIsRead) (holds : MessageHoldsBits) (twice : TwiceIsNone) (front : FrontStays) where
+module _ (put : PutIsRead) (holds : MessageHoldsBits) (twice : SideTwiceIsNone) (front : SideFrontStays) where
   -- a message whose bits are read is received from its bytes
   bytes_are_received : (profile : Profile) → IsCodec profile → (client : ClientState) (n : ℕ) (built : Built) → IsHeaded profile client.challenge n built → client.state.profile ≡ profile
-      → (acknowledge_at client.issued built.message.ack).answer ≡ Ok tt → text_at client.issued built.message.ack ≡ built.text → AreRead profile client n built
+      → (acknowledge_at client.issued built.message.ack).answer ≡ Ok tt → text_at client.issued built.message.ack ≡ built.key.text → AreRead profile client n built
       → receive_bytes client n (built_bytes profile built) ≡ Ok (receive_message client n built.message)
   bytes_are_received profile codec client n built headed of_profile taken same are_read =
       let words = profile.code in
@@ -143,11 +143,11 @@ module _ (put : PutIsRead) (holds : MessageHoldsBits) (twice : TwiceIsNone) (fro
       let row = long_of profile message in
       let few : length row ≤ 32 = ltb-false 32 (length row) headed.clear in
       let begins = begins_with_long profile built.lines (option_map base_from built.base) message rest in
-      let left = begins_both 4 row begins.0 plain bytes (omega (arith, few)) ((front 4 built.start built.text plain).1 4 (omega arith)) (holds bits ∙ begins.1) in
+      let left = begins_both 4 row begins.0 plain bytes (omega (arith, few)) ((front Server built.key plain).1 4 (omega arith)) (holds bits ∙ begins.1) in
       let found = long_is_read put words codec.code message.ack (drop (length row) (bits_of bytes)) headed.ack in
       let clear : cleared_at client n message.ack bytes ≡ plain =
-      ap (λ (t : List ℕ). scrambled 4 (server_start client.challenge n) t bytes) same
-      ∙ (ap (λ (start : ℕ). scrambled 4 start built.text bytes) (sym headed.start) ∙ twice 4 built.start built.text plain) in
+      ap (λ (t : List ℕ). server_scrambled (server_key client.challenge n t) bytes) same
+      ∙ (ap (λ (key : Key). server_scrambled key bytes) (sym headed.key) ∙ twice Server built.key plain) in
       received_by client n found.0 bytes message (ap (λ (p : Profile). ack_at p.code (bits_of bytes)) of_profile ∙ (ap (ack_at words) left ∙ found.1)) taken
       (ap (read_with client n (cleared_at client n message.ack bytes)) of_profile
       ∙ (ap (λ (l : List ℕ). read_with client n l profile) clear

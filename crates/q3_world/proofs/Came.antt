@@ -4,7 +4,7 @@ use Rattle.std.specs.Prelude.{All, Contains, ◌⊎◌}
 use Rattle.std.proofs.lemmas.List.Elements.{All-append}
 use Rattle.q3_profile.specs.declared.profile.Profile.{Profile}
 use Rattle.q3_io.specs.declared.address.Address.{Address}
-use Rattle.q3_chan.specs.declared.side.Side.TheVariants.{Server}
+use Rattle.q3_chan.specs.Datagrams.{server_header}
 use Rattle.q3_chan.specs.Gathering.{Gathering}
 use Rattle.q3_chan.specs.Laws.{Gathers}
 use Rattle.q3_text.specs.declared.text.Command.{Command}
@@ -143,7 +143,7 @@ Holds-heard profile whole c slot has client from g ran lt had host side same_gat
 
 -- the message that a server's tag names was built
 pub tag_was_built : (profile : Profile) (whole : Whole) (tag : Tag) (slot : SlotState) (client : ClientState)
-    → IsPiece Server 0 (messages_of profile (history_at whole.histories tag.client).built) (length (history_at whole.histories tag.client).built) tag
+    → IsPiece server_header (messages_of profile (history_at whole.histories tag.client).built) (length (history_at whole.histories tag.client).built) tag
     → Has profile whole tag.client slot client → IsBuilt profile client.challenge tag.number (named whole.histories tag)
 tag_was_built profile whole tag slot client is had =
     let some = is.some in
@@ -154,7 +154,7 @@ tag_was_built profile whole tag slot client is had =
 
 -- and so the snapshot that it names is one that was built
 pub names_built : (profile : Profile) (whole : Whole) (tag : Tag)
-    → IsPiece Server 0 (messages_of profile (history_at whole.histories tag.client).built) (length (history_at whole.histories tag.client).built) tag
+    → IsPiece server_header (messages_of profile (history_at whole.histories tag.client).built) (length (history_at whole.histories tag.client).built) tag
     → (telling : Telling) (built : BuildsSnapshot profile telling tag.number (named whole.histories tag)) → WasBuilt (history_at whole.histories tag.client).built built.snapshot
 names_built profile whole tag is telling built =
     let number = built.number in

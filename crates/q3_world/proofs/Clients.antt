@@ -10,7 +10,7 @@ use Rattle.q3_player.specs.State.{zero_player}
 use Rattle.q3_player.specs.declared.state.PlayerState.{PlayerState}
 use Rattle.q3_io.specs.declared.address.Address.{Address}
 use Rattle.q3_chan.specs.declared.side.Side.TheVariants.{Server, Client}
-use Rattle.q3_chan.specs.Datagrams.{sequence_end}
+use Rattle.q3_chan.specs.Datagrams.{server_header, client_header, sequence_end}
 use Rattle.q3_chan.specs.Sending.{started, next_of}
 use Rattle.q3_chan.specs.Gathering.{Gathering}
 use Rattle.q3_chan.specs.Laws.{IsSendable, EndsSend}
@@ -230,7 +230,7 @@ module _ (profile : Profile) (slot : SlotState) (qport host : ℕ) (built : List
       record {
         qport = keeps.qport;
         host = keeps.host;
-        sending = BeginsMessages-handed Server 0 (messages_of profile built) (length built) slot.sending chan keeps.sending;
+        sending = BeginsMessages-handed server_header (messages_of profile built) (length built) slot.sending chan keeps.sending;
         player = keeps.player;
         area = keeps.area;
         built = keeps.built;
@@ -342,7 +342,7 @@ pub next_tells : (profile : Profile) (slot : SlotState) → IsOutgoing slot.issu
     → IsTelling profile slot.challenge (slot.sending.number + 1) (telling_of slot)
 next_tells profile slot window names clear =
     let carries = may_carry slot.issued window in
-    record { ack = names.number; text = names.text; few = carries.few; commands = carries.each; start = refl; clear = clear }
+    record { ack = names.number; text = names.text; few = carries.few; commands = carries.each; key = refl; clear = clear }
 
 pub KeepsSlot-begun : (profile : Profile) (slot : SlotState) (qport host : ℕ) (built : List Built) (run : List Move) (commands : List (List ℕ)) (next : Built) → EndsSend
     → slot.sending.number + 1 < sequence_end → IsBuilt profile slot.challenge (slot.sending.number + 1) next → IsSendable (built_bytes profile next) → IfSome next.base (WasBuilt built)
@@ -357,7 +357,7 @@ KeepsSlot-begun profile slot qport host built run commands next chan fits is sen
     record {
       qport = keeps.qport;
       host = keeps.host;
-      sending = BeginsMessages-started Server 0 (messages_of profile built) (messages_of profile more) (length built) (length more) slot.sending (built_bytes profile next) chan
+      sending = BeginsMessages-started server_header (messages_of profile built) (messages_of profile more) (length built) (length more) slot.sending (built_bytes profile next) chan
           (omega (arith, longer)) fits (messages_stay profile built (next ∷ [])) last sendable keeps.sending;
       player = keeps.player;
       area = keeps.area;
@@ -455,7 +455,7 @@ module _ (profile : Profile) (client : ClientState) (qport : ℕ) (said : List S
         ring = keeps.ring;
         from = keeps.from;
         fits = keeps.fits;
-        sending = BeginsMessages-handed Client qport (messages_said profile said) (length said) client.sending chan keeps.sending;
+        sending = BeginsMessages-handed (client_header qport) (messages_said profile said) (length said) client.sending chan keeps.sending;
         said = keeps.said;
         last = keeps.last;
         rise = keeps.rise;
@@ -522,10 +522,10 @@ module _ (profile : Profile) (client : ClientState) (qport : ℕ) (said : List S
         ring = keeps.ring;
         from = keeps.from;
         fits = keeps.fits;
-        sending = BeginsMessages-started Client qport (messages_said profile said) (messages_said profile (said ++ next ∷ [])) (length said) (length (said ++ next ∷ [])) client.sending (said_bytes profile next) chan
+        sending = BeginsMessages-started (client_header qport) (messages_said profile said) (messages_said profile (said ++ next ∷ [])) (length said) (length (said ++ next ∷ [])) client.sending (said_bytes profile next) chan
             (omega (arith, longer)) fits (messages_said_stay profile said (next ∷ [])) last sendable keeps.sending;
         said = each_more (λ (k : ℕ) (s : Said). IsSaid profile client.challenge s) said next keeps.said
-            (record { message = next_is_message client (length said) issued id taken names keeps.window keeps.moves; feed = feed; start = refl; text = names.text; clear = clear });
+            (record { message = next_is_message client (length said) issued id taken names keeps.window keeps.moves; feed = feed; key = refl; text = names.text; clear = clear });
         last = keeps.last;
         rise = keeps.rise;
         moves = KeepsMoves-begun client.moves (length said) (length (said ++ next ∷ [])) issued (omega (arith, longer)) keeps.moves;

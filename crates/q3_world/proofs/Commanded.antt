@@ -91,10 +91,10 @@ may_carry window is =
 
 -- what a message acknowledges
 abbrev pub ack_built : Built → Command
-ack_built b = record { number = b.message.ack; text = b.text }
+ack_built b = record { number = b.message.ack; text = b.key.text }
 
 abbrev pub ack_said : Said → Command
-ack_said s = record { number = s.message.command; text = s.text }
+ack_said s = record { number = s.message.command; text = s.key.text }
 
 abbrev pub carriage_built : Built → Carriage
 carriage_built b = record { last = b.last; commands = b.message.commands }
@@ -180,7 +180,7 @@ executes_next laws outgoing incoming issued executed carries acks taken came n c
 -- a client takes a newer message that was built
 pub record ClientHears (slot : SlotState) (client : ClientState) (history : History) (n : ℕ) (built : Built) : Type 0 where
   pub takes : (acknowledge_at client.issued built.message.ack).answer ≡ Ok tt
-  pub text : text_at client.issued built.message.ack ≡ built.text
+  pub text : text_at client.issued built.message.ack ≡ built.key.text
   pub numbers : fresh_of client.state.executed.executed built.message.commands
       ≡ numbered (length history.client_executed + 1) (texts_of (fresh_of client.state.executed.executed built.message.commands))
   pub last : (executes client.state.executed built.message.commands).executed ≡ built.last
@@ -206,7 +206,7 @@ client_hears laws slot client history n newer within are =
 -- and a slot takes a newer one of its client, which it runs, or which is of another map
 pub record SlotHears (slot : SlotState) (client : ClientState) (history : History) (n : ℕ) (said : Said) : Type 0 where
   pub takes : (acknowledge_at slot.issued said.message.command).answer ≡ Ok tt
-  pub text : text_at slot.issued said.message.command ≡ said.text
+  pub text : text_at slot.issued said.message.command ≡ said.key.text
   pub gap : gap_in slot.executed.executed said.message.commands ≡ None
   pub numbers : fresh_of slot.executed.executed said.message.commands
       ≡ numbered (length history.server_executed + 1) (texts_of (fresh_of slot.executed.executed said.message.commands))

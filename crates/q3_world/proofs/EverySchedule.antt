@@ -9,6 +9,7 @@ use Rattle.std.proofs.lemmas.Option.{slice_get-map}
 use Rattle.std.proofs.Math.Pow.{pow_mono}
 use Rattle.std.proofs.lemmas.List.Elements.{All-nil, All-get_or, All-contains}
 use Rattle.std.proofs.lemmas.Bool.{and_parts, leb-true}
+use Rattle.q3_fields.specs.Kinds.{least_number_bits}
 use Rattle.q3_profile.specs.declared.profile.Profile.{Profile}
 use Rattle.q3_script.specs.declared.event.Event.{Event}
 use Rattle.q3_script.specs.declared.event.Event.TheVariants as events
@@ -79,7 +80,7 @@ cited_of below profile checked =
       zero = record { state = at_first.0; normal = at_first.1 };
       normal = λ player state. let made = below.normal profile.player.kinds player is.player.kinds state in record { state = made.0; normal = made.1 };
       normal_entity = λ state words. below.entity profile.entity state is.entity words;
-      end = let wide : 2 ^ 10 ≤ 2 ^ profile.entity.number_bits = pow_mono is.numbers in omega arith;
+      end = let wide : 2 ^ least_number_bits ≤ 2 ^ profile.entity.number_bits = pow_mono is.entity.number_bits.0 in omega (arith, wide);
       ring = leb-true 512 n least.0;
       tags = below.tags;
       qport = below.qport;

@@ -6,7 +6,7 @@ use Rattle.std.proofs.lemmas.Option.{get_or_from_slice_get, slice_get_within}
 use Rattle.q3_bits.specs.Bits.{message_bytes, message_length}
 use Rattle.q3_chan.specs.Datagrams.{longest_message, sequence_end}
 use Rattle.q3_chan.specs.Laws.{TaggedDoes}
-use Rattle.q3_chan.specs.Scrambling.{scrambled}
+use Rattle.q3_chan.specs.Keys.{client_scrambled}
 use Rattle.q3_chan.specs.Sending.{UnderWay, started}
 use Rattle.q3_chan.specs.Tags.{tagged}
 use Rattle.q3_client.specs.Client.{ClientState, receive_message, take_gathered, type_at}
@@ -66,7 +66,7 @@ Leaves client emission = emission.client.state ≡ client.state
 bits_stay : (client : ClientState) (said : Said) (bits : List Bool) → Leaves client (speaks.emit_bits client said bits)
 bits_stay client said bits =
     cond_both (nat_lt longest_message (message_length (length bits))) (speaks.nothing client answered_sent.Overlong)
-    (speaks.hand_out (record client { sending = started client.sending (scrambled 12 said.start said.text (message_bytes bits)) }) 0
+    (speaks.hand_out (record client { sending = started client.sending (client_scrambled said.key (message_bytes bits)) }) 0
     (answered_sent.Message (client.sending.number + 1) (message_length (length bits))) (Some said))
     (Leaves client) (λ e. refl) (λ e. refl)
 

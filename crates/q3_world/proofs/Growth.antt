@@ -3,9 +3,7 @@ use Rattle.std.proofs.Common.{◌≡◌, ℕ, zero, suc, ◌-◌, ◌<◌, ◌�
 use Rattle.std.proofs.lemmas.List.{append-nil, length-append, length_push, get_or_append_left, get_or_push, set-get_or}
 use Rattle.std.proofs.lemmas.Bool.{cases_eq, cases_lt}
 use Rattle.q3_profile.specs.declared.profile.Profile.{Profile}
-use Rattle.q3_chan.specs.declared.side.Side.{Side}
-use Rattle.q3_chan.specs.declared.side.Side.TheVariants.{Server, Client}
-use Rattle.q3_chan.specs.Datagrams.{piece_count, datagram}
+use Rattle.q3_chan.specs.Datagrams.{Header, server_header, client_header, piece_count, datagram}
 use Rattle.q3_ring.specs.Snapshot.{Snapshot}
 use Rattle.q3_built.specs.Built.{Built, built_bytes}
 use Rattle.q3_server.specs.Server.{places}
@@ -92,23 +90,23 @@ noted_same histories c = set-get_or histories c no_history
 -- ---- tags
 
 -- a piece stays one where more messages are begun
-piece_stays : (side : Side) (qport : ℕ) (messages messages' : ℕ → List ℕ) (last last' : ℕ) (tag : Tag) → last ≤ last'
-    → ((number : ℕ) → number ≤ last → messages' number ≡ messages number) → IsPiece side qport messages last tag → IsPiece side qport messages' last' tag
-piece_stays side qport messages messages' last last' tag le stay is =
+piece_stays : (header : Header) (messages messages' : ℕ → List ℕ) (last last' : ℕ) (tag : Tag) → last ≤ last'
+    → ((number : ℕ) → number ≤ last → messages' number ≡ messages number) → IsPiece header messages last tag → IsPiece header messages' last' tag
+piece_stays header messages messages' last last' tag le stay is =
     let begun = is.begun in
     let same = stay tag.number begun in
     record {
       some = is.some;
       begun = omega (arith, begun, le);
       piece = subst (λ (m : List ℕ). tag.index < piece_count (length m)) (sym same) is.piece;
-      bytes = is.bytes ∙ ap (λ (m : List ℕ). datagram side qport tag.number m tag.index) (sym same);
+      bytes = is.bytes ∙ ap (λ (m : List ℕ). datagram header tag.number m tag.index) (sym same);
     }
 
 way_stays : (profile : Profile) (old new : History) (tag : Tag) (direction : Direction) → HistoryGrows old new → IsWay profile old tag direction → IsWay profile new tag direction
 way_stays profile old new tag ToClient grows is =
     let grown = grows.built in
-    subst (λ (b : List Built). IsPiece Server 0 (messages_of profile b) (length b) tag) (sym grown.1)
-    (piece_stays Server 0 (messages_of profile old.built) (messages_of profile (old.built ++ grown.0)) (length old.built) (length (old.built ++ grown.0)) tag
+    subst (λ (b : List Built). IsPiece server_header (messages_of profile b) (length b) tag) (sym grown.1)
+    (piece_stays server_header (messages_of profile old.built) (messages_of profile (old.built ++ grown.0)) (length old.built) (length (old.built ++ grown.0)) tag
     (omega (arith, length-append old.built grown.0)) (messages_stay profile old.built grown.0) is)
 way_stays profile old new tag (ToServer from) grows is =
     let grown = grows.said in
@@ -116,9 +114,9 @@ way_stays profile old new tag (ToServer from) grows is =
     let begun = is.1.begun in
     let some : 1 ≤ length old.said = omega (arith, first, begun) in (
       is.0 ∙ sym (grows.host some),
-      subst (λ (q : ℕ). IsPiece Client q (messages_said profile new.said) (length new.said) tag) (sym (grows.qport some))
-          (subst (λ (s : List Said). IsPiece Client old.qport (messages_said profile s) (length s) tag) (sym grown.1)
-          (piece_stays Client old.qport (messages_said profile old.said) (messages_said profile (old.said ++ grown.0)) (length old.said) (length (old.said ++ grown.0)) tag
+      subst (λ (q : ℕ). IsPiece (client_header q) (messages_said profile new.said) (length new.said) tag) (sym (grows.qport some))
+          (subst (λ (s : List Said). IsPiece (client_header old.qport) (messages_said profile s) (length s) tag) (sym grown.1)
+          (piece_stays (client_header old.qport) (messages_said profile old.said) (messages_said profile (old.said ++ grown.0)) (length old.said) (length (old.said ++ grown.0)) tag
           (omega (arith, length-append old.said grown.0)) (messages_said_stay profile old.said grown.0) is.1)),
     )
 

@@ -12,6 +12,7 @@ use Rattle.q3_player.specs.State.{zero_player, normal_player}
 use Rattle.q3_player.specs.declared.state.PlayerState.{PlayerState}
 use Rattle.q3_io.specs.declared.address.Address.{Address}
 use Rattle.q3_script.specs.Grammar.{IsHeldMove}
+use Rattle.q3_script.specs.Lines.{last_entity}
 use Rattle.arrayvec.specs.ArrayVec.{ArrayVec}
 use Rattle.q3_fields.specs.States.{AreWords}
 use Rattle.q3_entity.specs.declared.state.EntityState.{EntityState}
@@ -107,7 +108,7 @@ holds_given profile whole time entities short held holds =
 pub holds_time : (profile : Profile) (whole : Whole) (time : ℕ) → time < 2 ^ 32 → Holds profile whole → Holds profile (record whole { ends = (set_time whole.ends time).ends })
 holds_time profile whole time short holds = holds_given profile whole time whole.ends.server.map.entities short holds.facts.map.entities holds
 
-pub holds_entity : (profile : Profile) (whole : Whole) (state : EntityState) → Cited profile → state.number ≤ 1022 → AreWords 64 state.words → Holds profile whole
+pub holds_entity : (profile : Profile) (whole : Whole) (state : EntityState) → Cited profile → state.number ≤ last_entity → AreWords 64 state.words → Holds profile whole
     → Holds profile (record whole { ends = (set_entity whole.ends state).ends })
 holds_entity profile whole state cited le words holds =
     let facts = holds.facts in
@@ -196,7 +197,7 @@ holds_new_map profile whole id feed cited least short holds =
     ]
 
 -- a baseline, which is refused once a gamestate of the map was begun
-pub holds_baseline : (profile : Profile) (whole : Whole) (state : EntityState) → Cited profile → state.number ≤ 1022 → AreWords 64 state.words → Holds profile whole
+pub holds_baseline : (profile : Profile) (whole : Whole) (state : EntityState) → Cited profile → state.number ≤ last_entity → AreWords 64 state.words → Holds profile whole
     → Holds profile (record whole { ends = (set_baseline whole.ends state).ends })
 holds_baseline profile whole state cited le words holds =
     let map = whole.ends.server.map in
@@ -207,7 +208,7 @@ holds_baseline profile whole state cited le words holds =
     (cond_both map.begun (record { map = map; answer = Err (record {}) }) (record { map = next; answer = Ok tt })
     (λ (handed : HandedMap Late). Holds profile (with_map whole handed.map))
     (λ begun. holds)
-    (λ before. Holds-map profile whole next (map_lined profile map entity (omega (arith, le)) normal.0 normal.1 holds.facts.map)
+    (λ before. Holds-map profile whole next (map_lined profile map entity (omega (arith, le)) (omega (arith, le, cited.end)) normal.0 normal.1 holds.facts.map)
     (joined_stays profile map next (AreMapped-lined map (with_line map.lines entity) before)) holds))
 
 -- ---- config strings

@@ -19,6 +19,7 @@ pub no_lines_are : (profile : Profile) → AreLines profile.entity no_lines
 no_lines_are profile = record {
   places = refl;
   numbers = λ number. rw (no_line number) tt;
+  below = λ number. rw (no_line number) tt;
   states = λ number. rw (no_line number) tt;
   normal = λ number. rw (no_line number) tt;
 }

@@ -10,7 +10,9 @@ use Rattle.q3_svmsg.specs.declared.error.Illegible.{Illegible}
 use Rattle.q3_chan.specs.Datagrams.{sequence_end, longest_message}
 use Rattle.q3_chan.specs.Sending.{UnderWay}
 use Rattle.q3_chan.specs.Laws.{IsSendable}
-use Rattle.q3_chan.specs.Scrambling.{scrambled}
+use Rattle.q3_chan.specs.declared.side.Side.{Side}
+use Rattle.q3_chan.specs.declared.side.Side.TheVariants.{Server, Client}
+use Rattle.q3_chan.specs.Keys.{Key, side_scrambled}
 use Rattle.q3_text.specs.Texts.{IsText}
 use Rattle.q3_slot.specs.declared.answer.Emitted.{Emitted}
 use Rattle.q3_slot.specs.declared.answer.Emitted.TheVariants as emitted
@@ -55,16 +57,16 @@ quiet profile whole c server answer same_as holds =
     (record { same = rw count refl; holds = unnoted profile whole c holds })
 
 -- a message of a length that fits is one that may be sent
-pub sendable : ScramblingLaws → (bits : List Bool) (from start : ℕ) (text : List ℕ) → MessageIsBytes → start < 2 ^ 8 → IsText text
-    → nat_lt longest_message (message_length (length bits)) ≡ false → IsSendable (scrambled from start text (message_bytes bits))
-sendable laws bits from start text law begins is fits =
+pub sendable : ScramblingLaws → (bits : List Bool) (side : Side) (key : Key) → MessageIsBytes → key.start < 2 ^ 8 → IsText key.text
+    → nat_lt longest_message (message_length (length bits)) ≡ false → IsSendable (side_scrambled side key (message_bytes bits))
+sendable laws bits side key law begins is fits =
     let bytes = law bits in
     let short = ltb-false longest_message (message_length (length bits)) fits in
-    let many = (laws.front from start text (message_bytes bits)).0 ∙ bytes.0 in
+    let many = (laws.front side key (message_bytes bits)).0 ∙ bytes.0 in
     record {
       some = subst (λ (k : ℕ). 1 ≤ k) (sym many) (omega arith);
       most = subst (λ (k : ℕ). k ≤ longest_message) (sym many) short;
-      bytes = laws.bytes from start text (message_bytes bits) begins is bytes.1;
+      bytes = laws.bytes side key (message_bytes bits) begins is bytes.1;
     }
 
 -- keys start from a byte
@@ -122,7 +124,7 @@ served_built profile whole c slot cited lt is fits clear holds =
     let has = asked_has slot history.said history.built history.accepted joined.of_client.accepted joined.asked in
     let base = next_base cited.server map frames c slot history.built begun are has in
     let names = executed_by_slot profile slot client history had.1.keeps.of_client joined.commanded in
-    let may = sendable cited.scrambles bits 4 next.start next.text cited.bytes (low_byte (bit_xor slot.challenge (slot.sending.number + 1))) names.text in
+    let may = sendable cited.scrambles bits Server next.key cited.bytes (low_byte (bit_xor slot.challenge (slot.sending.number + 1))) names.text in
     let count = length-map whole.sent bytes_of in
     elim (cases_Bool (nat_lt longest_message (message_length (length bits)))) [
       | inl long ↦ rw long (record { same = rw count refl; holds = Holds-too_long cited.server profile whole c slot lt is holds })
@@ -159,7 +161,7 @@ served_game profile whole c slot cited lt is owed fits clear holds =
     let keeps = had.1.keeps in
     let begun = keeps.of_slot.sending.begun in
     let names = executed_by_slot profile slot client history keeps.of_client joined.commanded in
-    let may = sendable cited.scrambles bits 4 next.start next.text cited.bytes (low_byte (bit_xor slot.challenge n)) names.text in
+    let may = sendable cited.scrambles bits Server next.key cited.bytes (low_byte (bit_xor slot.challenge n)) names.text in
     let count = length-map whole.sent bytes_of in
     elim (cases_Bool (nat_lt longest_message (message_length (length bits)))) [
       | inl long ↦ rw long (quiet profile whole c (with_slot server c slot) emitted.Overlong (same_server server c slot is) holds)
@@ -262,7 +264,7 @@ said_text profile whole c client cited lt found fits clear holds =
     let first : UnderWay = record { message = said_bytes profile next; next = 0 } in
     let had = has_client profile whole c client lt found holds in
     let names = executed_by_client profile had.0 client (history_at whole.histories c) had.1.keeps.of_slot had.1.joined.commanded in
-    let may = sendable cited.scrambles bits 12 next.start next.text cited.bytes (low_byte (bit_xor (bit_xor client.challenge client.state.id) client.gathering.taken)) names.text in
+    let may = sendable cited.scrambles bits Client next.key cited.bytes (low_byte (bit_xor (bit_xor client.challenge client.state.id) client.gathering.taken)) names.text in
     elim (cases_Bool (nat_lt longest_message (message_length (length bits)))) [
       | inl long ↦ rw long (silent profile whole c client answered_sent.Overlong found holds)
       | inr short ↦

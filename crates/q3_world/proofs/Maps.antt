@@ -6,7 +6,7 @@ use Rattle.std.proofs.lemmas.Bool.{cases_Bool, cases_eq, cond_both, ltb-true, ne
 use Rattle.std.proofs.lemmas.List.{get_or-set_same, get_or-set_other, length-set}
 use Rattle.std.proofs.lemmas.List.Elements.{All-nil, All-cons, All-weaker, All-map, All-take, All-drop, All-from_get_or}
 use Rattle.q3_profile.specs.declared.profile.Profile.{Profile}
-use Rattle.q3_fields.specs.Kinds.{Layout}
+use Rattle.q3_fields.specs.Kinds.{Layout, end_mark}
 use Rattle.q3_fields.specs.States.{AreWords}
 use Rattle.q3_entity.specs.declared.state.EntityState.{EntityState}
 use Rattle.q3_entity.specs.Entities.{IsNormal}
@@ -91,20 +91,22 @@ each_line P lines state lt here each number =
       | inr other ↦ rw (get_or-set_other lines state.number number (Some state) None other) (each number)
     ]
 
-lines_with : (table : Layout) (lines : Lines) (state : EntityState) → state.number < most_lines → AreWords 64 state.words → IsNormal table state → AreLines table lines
+lines_with : (table : Layout) (lines : Lines) (state : EntityState) → state.number < most_lines → state.number < end_mark table → AreWords 64 state.words → IsNormal table state → AreLines table lines
     → AreLines table (with_line lines state)
-lines_with table lines state lt words normal are =
+lines_with table lines state lt below words normal are =
     let within : state.number < length lines = subst (λ (count : ℕ). state.number < count) (sym are.places) lt in
     record {
       places = length-set lines state.number (Some state) ∙ are.places;
       numbers = each_line (λ number one. one.number ≡ number) lines state within refl are.numbers;
+      below = each_line (λ number one. one.number < end_mark table) lines state within below are.below;
       states = each_line (λ number one. AreWords 64 one.words) lines state within words are.states;
       normal = each_line (λ number one. IsNormal table one) lines state within normal are.normal;
     }
 
-pub map_lined : (profile : Profile) (map : MapState) (state : EntityState) → state.number < most_lines → AreWords 64 state.words → IsNormal profile.entity state → IsMap profile map
+pub map_lined : (profile : Profile) (map : MapState) (state : EntityState) → state.number < most_lines → state.number < end_mark profile.entity → AreWords 64 state.words → IsNormal profile.entity state
+    → IsMap profile map
     → IsMap profile (record map { lines = with_line map.lines state })
-map_lined profile map state lt words normal is =
+map_lined profile map state lt below words normal is =
     record {
       id = is.id;
       feed = is.feed;
@@ -113,7 +115,7 @@ map_lined profile map state lt words normal is =
       texts = is.texts;
       pending = is.pending;
       tells = is.tells;
-      lines = lines_with profile.entity map.lines state lt words normal is.lines;
+      lines = lines_with profile.entity map.lines state lt below words normal is.lines;
       entities = is.entities;
     }
 

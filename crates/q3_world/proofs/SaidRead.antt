@@ -10,8 +10,9 @@ use Rattle.q3_strings.specs.Commands.{commands_bits}
 use Rattle.q3_strings.specs.Rows.{row-first, row-last}
 use Rattle.q3_window.specs.declared.outgoing.BadAck.{BadAck}
 use Rattle.q3_window.specs.Outgoing.{acknowledge_at, text_at}
-use Rattle.q3_chan.specs.Scrambling.{scrambled}
-use Rattle.q3_chan.specs.Laws.{TwiceIsNone, FrontStays}
+use Rattle.q3_chan.specs.declared.side.Side.TheVariants.{Client}
+use Rattle.q3_chan.specs.Keys.{Key, client_scrambled}
+use Rattle.q3_chan.specs.Laws.{SideTwiceIsNone, SideFrontStays}
 use Rattle.q3_profile.specs.declared.profile.Profile.{Profile}
 use Rattle.q3_clmsg.specs.declared.error.ClientIllegible.{ClientIllegible}
 use Rattle.q3_clmsg.specs.declared.heads.Heads.{Heads}
@@ -96,11 +97,11 @@ by_bits words key heads bits = client_at words key bits >>= λ message. Ok (with
 abbrev by_rest : Heads → Result (Message × List Bool) ClientIllegible → Result Message ClientIllegible
 by_rest heads read = (read >>= λ one. Ok one.0) >>= λ message. Ok (with_heads heads message)
 
-pub said_is_read : PutIsRead → MessageHoldsBits → TwiceIsNone → FrontStays → WrittenIsRead → SaidIsRead
+pub said_is_read : PutIsRead → MessageHoldsBits → SideTwiceIsNone → SideFrontStays → WrittenIsRead → SaidIsRead
 said_is_read put holds twice front written profile codec map slot said is taken known feeds =
     let words = profile.code in
     let message = said.message in
-    let key = message_key said.feed message.acknowledged said.text in
+    let key = message_key said.feed message.acknowledged said.key.text in
     let text = said_bits profile said in
     let plain = message_bytes text in
     let bytes = said_bytes profile said in
@@ -108,16 +109,16 @@ said_is_read put holds twice front written profile codec map slot said is taken 
     let row = longs words message in
     let few : length row ≤ 96 = ltb-false 96 (length row) is.clear in
     let begins = begins_with_longs words key message rest in
-    let left = begins_both 12 row begins.0 plain bytes (omega (arith, few)) ((front 12 said.start said.text plain).1 12 (omega arith)) (holds text ∙ begins.1) in
+    let left = begins_both 12 row begins.0 plain bytes (omega (arith, few)) ((front Client said.key plain).1 12 (omega arith)) (holds text ∙ begins.1) in
     let found = longs_are_read put words codec.code message.id message.acknowledged message.command (drop (length row) (bits_of bytes)) is.message.id is.message.acknowledged is.message.command in
     let heads = heads_with message found.0 in
-    let clear : cleared slot.challenge heads said.text bytes ≡ plain =
-    ap (λ (start : ℕ). scrambled 12 start said.text bytes) (sym is.start) ∙ twice 12 said.start said.text plain in
-    let fits = message_key_fits said.feed message.acknowledged said.text is.feed is.message.acknowledged is.text in
-    let by_feed : said_under profile said.feed slot.challenge heads said.text bytes ≡ Ok message =
+    let clear : cleared slot.challenge heads said.key.text bytes ≡ plain =
+    ap (λ (key : Key). client_scrambled key bytes) (sym is.key) ∙ twice Client said.key plain in
+    let fits = message_key_fits said.feed message.acknowledged said.key.text is.feed is.message.acknowledged is.text in
+    let by_feed : said_under profile said.feed slot.challenge heads said.key.text bytes ≡ Ok message =
     ap (λ (l : List ℕ). by_bits words key heads (bits_of l)) clear
     ∙ (ap (by_bits words key heads) (holds text)
     ∙ ap (by_rest heads) (written words key message rest codec.code fits is.message)) in
-    came_by profile map slot bytes said.text heads (came_as map message) (ap (heads_at words) left ∙ found.1) taken known
-    (came_is profile map slot.challenge found.0 said.text bytes message
-    (λ own. subst (λ (feed : ℕ). said_under profile feed slot.challenge heads said.text bytes ≡ Ok message) (feeds own) by_feed))
+    came_by profile map slot bytes said.key.text heads (came_as map message) (ap (heads_at words) left ∙ found.1) taken known
+    (came_is profile map slot.challenge found.0 said.key.text bytes message
+    (λ own. subst (λ (feed : ℕ). said_under profile feed slot.challenge heads said.key.text bytes ≡ Ok message) (feeds own) by_feed))

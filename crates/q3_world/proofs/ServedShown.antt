@@ -16,8 +16,9 @@ use Rattle.q3_world.specs.Schedules.{IsScheduled}
 use Rattle.q3_ring.specs.Snapshot.{Snapshot}
 use Rattle.q3_frames.specs.Frames.{FramesState}
 use Rattle.q3_clstate.specs.declared.applied.Applied.{Applied as AppliedSo}
+use Rattle.q3_chan.specs.declared.side.Side.TheVariants.{Server}
 use Rattle.q3_chan.specs.Datagrams.{sequence_end, longest_message, piece_count, last_index}
-use Rattle.q3_chan.specs.Laws.{TaggedDoes, FrontStays}
+use Rattle.q3_chan.specs.Laws.{TaggedDoes, SideFrontStays}
 use Rattle.q3_chan.specs.Sending.{Sending, UnderWay, left_of, next_of}
 use Rattle.q3_clstate.specs.declared.applied.SnapOutcome.TheVariants.{Accepted}
 use Rattle.q3_slot.specs.declared.answer.Emitted.TheVariants as emitted
@@ -321,7 +322,7 @@ shown law accepted applied bytes does profile all c t slot client is are made_so
     some_one : {some other : SlotState} → Some some ≡ Some other → some ≡ other
     some_one same = cc
 
-pub served_is_shown : BytesFollowTags → InOrderIsAccepted → AppliedWasBuilt → MessageIsBytes → FrontStays → TaggedDoes → ServedIsShown
+pub served_is_shown : BytesFollowTags → InOrderIsAccepted → AppliedWasBuilt → MessageIsBytes → SideFrontStays → TaggedDoes → ServedIsShown
 served_is_shown law accepted applied bytes front does profile all c slot client is are made_so found there may there_base =
     let server = (whole_then profile all).ends.server in
     let first = length (whole_then profile all).sent + 1 in
@@ -330,5 +331,5 @@ served_is_shown law accepted applied bytes front does profile all c slot client 
     let one : suc t ≡ count = omega arith in
     let more : 1 + t ≡ count = omega arith in
     subst (λ (k : ℕ). (kept_step (kept_then profile (all ++ serve_and_deliver c first k)) (events.Show c)).answer.snapshot ≡ Some (next_snapshot server.map slot)) one
-    (shown law accepted applied (λ p b. (front 4 b.start b.text (message_bytes (built_bits p b))).0 ∙ (bytes (built_bits p b)).0) does profile all c t slot client is are (subst (λ (k : ℕ). AllByRecursion IsScheduled (serve_and_deliver c first k)) (sym one) made_so)
+    (shown law accepted applied (λ p b. (front Server b.key (message_bytes (built_bits p b))).0 ∙ (bytes (built_bits p b)).0) does profile all c t slot client is are (subst (λ (k : ℕ). AllByRecursion IsScheduled (serve_and_deliver c first k)) (sym one) made_so)
     found there may there_base more)

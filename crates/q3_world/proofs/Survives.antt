@@ -7,15 +7,14 @@ use Rattle.std.proofs.lemmas.List.Quantifiers.{position-Some}
 use Rattle.q3_profile.specs.declared.profile.Profile.{Profile}
 use Rattle.q3_io.specs.declared.address.Address.{Address}
 use Rattle.q3_chan.specs.declared.side.Side.{Side}
-use Rattle.q3_chan.specs.declared.side.Side.TheVariants.{Server, Client}
 use Rattle.q3_chan.specs.declared.gatherer.Gathered.{Gathered}
 use Rattle.q3_chan.specs.declared.gatherer.Gathered.TheVariants as gathered
 use Rattle.q3_chan.specs.declared.qport.NoQport.{NoQport}
-use Rattle.q3_chan.specs.Datagrams.{last_index, datagram}
+use Rattle.q3_chan.specs.Datagrams.{Header, server_header, client_header, last_index, datagram}
 use Rattle.q3_chan.specs.Gathering.{Gathering, gathered as gathered_of, gathered_all}
 use Rattle.q3_chan.specs.Tags.{Came}
 use Rattle.q3_chan.specs.Senders.{qport_of, QportIsTold}
-use Rattle.q3_chan.specs.Laws.{IsSendable, PiecesComeWhole, FirstComePartial}
+use Rattle.q3_chan.specs.Laws.{PiecesComeWhole, FirstComePartial}
 use Rattle.q3_svmsg.specs.declared.error.Illegible.{Illegible}
 use Rattle.q3_clmsg.specs.declared.error.ClientIllegible.{ClientIllegible}
 use Rattle.q3_map.specs.Map.{MapState}
@@ -37,46 +36,44 @@ use Rattle.q3_world.proofs.Arriving.{taken_by_bytes}
 -- ---- what an end gathers
 
 -- of so many first datagrams of a message
-abbrev gathers_first : Gathering → Side → ℕ → ℕ → List ℕ → ℕ → Gathering
-gathers_first g side qport number message count = gathered_all g (first_datagrams side qport number message count)
+abbrev gathers_first : Gathering → Header → ℕ → List ℕ → ℕ → Gathering
+gathers_first g header number message count = gathered_all g (first_datagrams header number message count)
 
 gathers_push : (g : Gathering) (came : List (List ℕ)) (last : List ℕ) → gathered_all g (came ++ last ∷ []) ≡ (gathered_of (gathered_all g came) last).gathering
 unfolding gathered_all
 gathers_push g [] last = refl
 gathers_push g (one ∷ others) last = gathers_push (gathered_of g one).gathering others last
 
-gathers_none : (g : Gathering) (side : Side) (qport number : ℕ) (message : List ℕ) → gathers_first g side qport number message 0 ≡ g
+gathers_none : (g : Gathering) (header : Header) (number : ℕ) (message : List ℕ) → gathers_first g header number message 0 ≡ g
 unfolding gathered_all
-gathers_none g side qport number message = refl
+gathers_none g header number message = refl
 
 -- one datagram more
-first_more : (side : Side) (qport number : ℕ) (message : List ℕ) (count : ℕ)
-    → first_datagrams side qport number message (suc count) ≡ first_datagrams side qport number message count ++ datagram side qport number message count ∷ []
-first_more side qport number message count =
-    ap (first_datagrams side qport number message) (sym (add-one count)) ∙ map-range_with_len_more (datagram side qport number message) 0 count count (omega arith)
+first_more : (header : Header) (number : ℕ) (message : List ℕ) (count : ℕ)
+    → first_datagrams header number message (suc count) ≡ first_datagrams header number message count ++ datagram header number message count ∷ []
+first_more header number message count =
+    ap (first_datagrams header number message) (sym (add-one count)) ∙ map-range_with_len_more (datagram header number message) 0 count count (omega arith)
 
-gathers_more : (g : Gathering) (side : Side) (qport number : ℕ) (message : List ℕ) (count : ℕ)
-    → gathers_first g side qport number message (suc count) ≡ (gathered_of (gathers_first g side qport number message count) (datagram side qport number message count)).gathering
-gathers_more g side qport number message count =
-    ap (gathered_all g) (first_more side qport number message count)
-    ∙ gathers_push g (first_datagrams side qport number message count) (datagram side qport number message count)
+gathers_more : (g : Gathering) (header : Header) (number : ℕ) (message : List ℕ) (count : ℕ)
+    → gathers_first g header number message (suc count) ≡ (gathered_of (gathers_first g header number message count) (datagram header number message count)).gathering
+gathers_more g header number message count =
+    ap (gathered_all g) (first_more header number message count)
+    ∙ gathers_push g (first_datagrams header number message count) (datagram header number message count)
 
 -- each datagram of a message but the last is partial, and with the last it comes whole
-record Comes (g : Gathering) (side : Side) (qport number : ℕ) (message : List ℕ) : Type 0 where
+record Comes (g : Gathering) (header : Header) (number : ℕ) (message : List ℕ) : Type 0 where
   partial : (index : ℕ) → index < last_index message
-      → (gathered_of (gathers_first g side qport number message index) (datagram side qport number message index)).answer ≡ gathered.Partial
-  whole : Came (gathers_first g side qport number message (last_index message)) number message
-      (gathered_of (gathers_first g side qport number message (last_index message)) (datagram side qport number message (last_index message)))
+      → (gathered_of (gathers_first g header number message index) (datagram header number message index)).answer ≡ gathered.Partial
+  whole : Came (gathers_first g header number message (last_index message)) number message
+      (gathered_of (gathers_first g header number message (last_index message)) (datagram header number message (last_index message)))
 
-comes : PiecesComeWhole → FirstComePartial → (g : Gathering) (side : Side) (qport number : ℕ) (message : List ℕ) → MayCome side number message g → Comes g side qport number message
-comes whole partial g side qport number message may =
-    let sendable = subst IsSendable (sym may.is) may.sendable in
-    subst (λ (s : Side). Comes g s qport number message) may.from
-    (subst (λ (m : List ℕ). Comes g g.side qport number m) may.is
+comes : PiecesComeWhole → FirstComePartial → (g : Gathering) (header : Header) (number : ℕ) (message : List ℕ) → MayCome header number message g → Comes g header number message
+comes whole partial g header number message may =
+    subst (λ (s : Side). Comes g (record { side = s; qport = header.qport }) number message) may.from
     (record {
-      partial = λ index before. partial may.messages g qport number index may.front may.newer may.none may.fits sendable before;
-      whole = whole may.messages g qport number may.front may.newer may.fits sendable;
-    }))
+      partial = λ index before. partial g header.qport number index message may.newer may.none may.fits may.sendable before;
+      whole = whole g header.qport number 0 message may.newer (omega arith) may.none may.fits may.sendable;
+    })
 
 -- ---- a client
 
@@ -107,27 +104,27 @@ client_whole client g bytes number message received legible came read =
     ∙ (ap (λ (m : List ℕ). applies_read then (receive_bytes client number m)) came.message_is ∙ ap (λ (r : Result Reception Illegible). applies_read then r) read))
 
 -- after so many first datagrams
-client_first : (client : ClientState) (number : ℕ) (message : List ℕ) (count : ℕ) → client.dropped ≡ None → Comes client.gathering Server 0 number message → count ≤ last_index message
-    → client_after client (first_datagrams Server 0 number message count) ≡ record client { gathering = gathers_first client.gathering Server 0 number message count }
+client_first : (client : ClientState) (number : ℕ) (message : List ℕ) (count : ℕ) → client.dropped ≡ None → Comes client.gathering server_header number message → count ≤ last_index message
+    → client_after client (first_datagrams server_header number message count) ≡ record client { gathering = gathers_first client.gathering server_header number message count }
 unfolding client_after gathered_all
 client_first client number message zero legible does few = refl
 client_first client number message (suc count) legible does few =
-    let bytes = datagram Server 0 number message count in
-    let g = gathers_first client.gathering Server 0 number message count in
-    ap (client_after client) (first_more Server 0 number message count)
-    ∙ (client_push client (first_datagrams Server 0 number message count) bytes
+    let bytes = datagram server_header number message count in
+    let g = gathers_first client.gathering server_header number message count in
+    ap (client_after client) (first_more server_header number message count)
+    ∙ (client_push client (first_datagrams server_header number message count) bytes
     ∙ (ap (λ (c : ClientState). (take_at c bytes).client) (client_first client number message count legible does (omega (arith, few)))
     ∙ (ap (λ (t : Taken). t.client) (client_piece client g bytes legible (does.partial count (omega (arith, few))))
-    ∙ ap (λ (x : Gathering). record client { gathering = x }) (sym (gathers_more client.gathering Server 0 number message count)))))
+    ∙ ap (λ (x : Gathering). record client { gathering = x }) (sym (gathers_more client.gathering server_header number message count)))))
 
 pub built_survives : BuiltIsRead → PiecesComeWhole → FirstComePartial → BuiltSurvives
 built_survives reads whole partial profile codec client number built legible may is of_profile are_lines under takes same are known =
     let message = built_bytes profile built in
-    let does = comes whole partial client.gathering Server 0 number message may in
+    let does = comes whole partial client.gathering server_header number message may in
     let read = reads profile codec client number built is of_profile are_lines under takes same are known in
     let last = last_index message in
-    let bytes : ℕ → List ℕ = datagram Server 0 number message in
-    let gathers : ℕ → Gathering = gathers_first client.gathering Server 0 number message in (
+    let bytes : ℕ → List ℕ = datagram server_header number message in
+    let gathers : ℕ → Gathering = gathers_first client.gathering server_header number message in (
       λ index before. (
         (gathered_of (gathers index) (bytes index)).gathering,
         ap (λ (c : ClientState). take_at c (bytes index)) (client_first client number message index legible does (omega (arith, before)))
@@ -228,46 +225,46 @@ slot_whole profile map slot c address from g bytes number message value came rea
 
 -- a message's datagrams tell its client's qport
 abbrev AllTell : ℕ → ℕ → List ℕ → Type 0
-AllTell qport number message = (index : ℕ) → index ≤ last_index message → qport_of (datagram Client qport number message index) ≡ Ok qport
+AllTell qport number message = (index : ℕ) → index ≤ last_index message → qport_of (datagram (client_header qport) number message index) ≡ Ok qport
 
-all_tell : QportIsTold → (qport number : ℕ) (message : List ℕ) (g : Gathering) → qport < 2 ^ 16 → MayCome Client number message g → AllTell qport number message
-all_tell tells qport number message g short may index within = tells qport number index message short may.fits may.sendable (omega (arith, within))
+all_tell : QportIsTold → (qport number : ℕ) (message : List ℕ) (g : Gathering) → qport < 2 ^ 16 → MayCome (client_header qport) number message g → AllTell qport number message
+all_tell tells qport number message g short may index within = tells (client_header qport) number index message refl short may.fits may.sendable (omega (arith, within))
 
 -- after so many first datagrams
 server_first : (server : ServerState) (from : Address) (qport c : ℕ) (slot : SlotState) (number : ℕ) (message : List ℕ) (count : ℕ)
-    → sender_of server from.host qport ≡ Some c → slot_at server c ≡ Some slot → AllTell qport number message → Comes slot.gathering Client qport number message → count ≤ last_index message
-    → HasGathered server (server_after server from (first_datagrams Client qport number message count)) from qport c slot (gathers_first slot.gathering Client qport number message count)
+    → sender_of server from.host qport ≡ Some c → slot_at server c ≡ Some slot → AllTell qport number message → Comes slot.gathering (client_header qport) number message → count ≤ last_index message
+    → HasGathered server (server_after server from (first_datagrams (client_header qport) number message count)) from qport c slot (gathers_first slot.gathering (client_header qport) number message count)
 unfolding server_after gathered_all
 server_first server from qport c slot number message zero found there tells does few =
     record { by = refl; map = refl; found = found; address = slot.address; there = there; same = λ other. refl }
 server_first server from qport c slot number message (suc count) found there tells does few =
-    let bytes = datagram Client qport number message count in
-    let g = gathers_first slot.gathering Client qport number message count in
-    let now = server_after server from (first_datagrams Client qport number message count) in
+    let bytes = datagram (client_header qport) number message count in
+    let g = gathers_first slot.gathering (client_header qport) number message count in
+    let now = server_after server from (first_datagrams (client_header qport) number message count) in
     let has = server_first server from qport c slot number message count found there tells does (omega (arith, few)) in
     let took = gathered_of g bytes in
     let next = record slot { address = from; gathering = took.gathering } in
     let taken : hears.take_at now from bytes ≡ taken_at server c (by_slot.answers next (SlotPartial c)) =
     comes_to server now from qport c slot g bytes (tells count (omega (arith, few))) has
     ∙ ap (taken_at server c) (slot_piece server.profile server.map slot c has.address from g bytes (does.partial count (omega (arith, few)))) in
-    let after : server_after server from (first_datagrams Client qport number message (suc count)) ≡ with_slot server c next =
-    ap (server_after server from) (first_more Client qport number message count)
-    ∙ (server_push server from (first_datagrams Client qport number message count) bytes ∙ ap (λ (t : hears.Taken). t.server) taken) in
-    subst (λ (s : ServerState). HasGathered server s from qport c slot (gathers_first slot.gathering Client qport number message (suc count))) (sym after)
-    (subst (λ (x : Gathering). HasGathered server (with_slot server c next) from qport c slot x) (sym (gathers_more slot.gathering Client qport number message count))
+    let after : server_after server from (first_datagrams (client_header qport) number message (suc count)) ≡ with_slot server c next =
+    ap (server_after server from) (first_more (client_header qport) number message count)
+    ∙ (server_push server from (first_datagrams (client_header qport) number message count) bytes ∙ ap (λ (t : hears.Taken). t.server) taken) in
+    subst (λ (s : ServerState). HasGathered server s from qport c slot (gathers_first slot.gathering (client_header qport) number message (suc count))) (sym after)
+    (subst (λ (x : Gathering). HasGathered server (with_slot server c next) from qport c slot x) (sym (gathers_more slot.gathering (client_header qport) number message count))
     (found_still server from qport c slot took.gathering found there))
 
 pub said_survives : SaidIsRead → PiecesComeWhole → FirstComePartial → QportIsTold → SaidSurvives
 said_survives hears_back whole partial tells_qport profile codec server from qport c slot number said by short found there may is takes same feeds =
     let message = said_bytes profile said in
-    let does = comes whole partial slot.gathering Client qport number message may in
+    let does = comes whole partial slot.gathering (client_header qport) number message may in
     let tells = all_tell tells_qport qport number message slot.gathering short may in
     let read : said_by server.profile server.map slot message ≡ Ok (came_as server.map said.message) =
     ap (λ (p : Profile). said_by p server.map slot message) by ∙ hears_back profile codec server.map slot said is takes same feeds in
     let last = last_index message in
-    let bytes : ℕ → List ℕ = datagram Client qport number message in
-    let gathers : ℕ → Gathering = gathers_first slot.gathering Client qport number message in
-    let now : ℕ → ServerState = λ index. server_after server from (first_datagrams Client qport number message index) in
+    let bytes : ℕ → List ℕ = datagram (client_header qport) number message in
+    let gathers : ℕ → Gathering = gathers_first slot.gathering (client_header qport) number message in
+    let now : ℕ → ServerState = λ index. server_after server from (first_datagrams (client_header qport) number message index) in
     let at_last = server_first server from qport c slot number message last found there tells does (omega arith) in (
       λ index before.
           let has = server_first server from qport c slot number message index found there tells does (omega (arith, before)) in (

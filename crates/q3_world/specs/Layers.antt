@@ -3,7 +3,7 @@ use Rattle.q3_bits.specs.Laws.{MessageIsBytes}
 use Rattle.q3_player.specs.Laws.{NormalIsNormal, ZeroIsNormal}
 use Rattle.q3_entity.specs.Laws.{NormalIsNormal as EntityNormalIsNormal}
 use Rattle.q3_chan.specs.Senders.{QportIsTold}
-use Rattle.q3_chan.specs.Laws.{SentIsTagged, TaggedDoes, EndsGather, EndsSend, FrontStays, BytesStayBytes}
+use Rattle.q3_chan.specs.Laws.{SentIsTagged, TaggedDoes, EndsGather, EndsSend, SideFrontStays, SideBytesStay}
 use Rattle.q3_frames.specs.Laws.{HeldWasBuilt, BuildKeeps, BaseIsNear}
 use Rattle.q3_map.specs.Laws.{ListsStayHeld, NewMapsTell}
 use Rattle.q3_config.specs.Laws.{StringsStay, TextsStay, PiecesAreTexts, PiecesMakeChange, SpelledIsRead}
@@ -31,8 +31,8 @@ pub record RingLaws : Type 0 where
 
 -- scrambled bytes are as many, and bytes
 pub record ScramblingLaws : Type 0 where
-  pub front : FrontStays
-  pub bytes : BytesStayBytes
+  pub front : SideFrontStays
+  pub bytes : SideBytesStay
 
 -- what config strings keep within, that those of a new map tell its id, and that the pieces of a change are texts of commands, which
 -- make the change

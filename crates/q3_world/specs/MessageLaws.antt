@@ -5,11 +5,9 @@ use Rattle.q3_profile.specs.declared.profile.Profile.{Profile}
 use Rattle.q3_profile.specs.Profile.{IsCodec}
 use Rattle.q3_io.specs.declared.address.Address.{Address}
 use Rattle.q3_entity.specs.Baselines.{AreLines}
-use Rattle.q3_chan.specs.declared.side.Side.{Side}
-use Rattle.q3_chan.specs.declared.side.Side.TheVariants.{Server, Client}
-use Rattle.q3_chan.specs.Datagrams.{sequence_end, last_index, datagram}
+use Rattle.q3_chan.specs.Datagrams.{Header, server_header, client_header, sequence_end, last_index, datagram}
 use Rattle.q3_chan.specs.Gathering.{Gathering}
-use Rattle.q3_chan.specs.Laws.{IsSendable, HoldsFront}
+use Rattle.q3_chan.specs.Laws.{IsSendable}
 use Rattle.q3_svmsg.specs.Values as told
 use Rattle.q3_clmsg.specs.Values as client_told
 use Rattle.q3_map.specs.Map.{MapState, is_other}
@@ -43,7 +41,7 @@ HoldsThis held base = (snapshot : Snapshot) → view_at held base.head.number �
 abbrev pub BuiltIsRead : Type 0
 BuiltIsRead = (profile : Profile) → IsCodec profile → (client : ClientState) (number : ℕ) (built : Built) → IsBuilt profile client.challenge number built
     → client.state.profile ≡ profile → AreLines profile.entity client.state.lines → IfSome built.under (λ game. client.state.lines ≡ built.lines)
-    → (acknowledge_at client.issued built.message.ack).answer ≡ Ok tt → text_at client.issued built.message.ack ≡ built.text
+    → (acknowledge_at client.issued built.message.ack).answer ≡ Ok tt → text_at client.issued built.message.ack ≡ built.key.text
     → AreBuilt profile client.state.held → IfSome built.base (λ base. IsSnapshot profile base × HoldsThis client.state.held base)
     → receive_bytes client number (built_bytes profile built) ≡ Ok (receive_message client number built.message)
 
@@ -51,27 +49,24 @@ BuiltIsRead = (profile : Profile) → IsCodec profile → (client : ClientState)
 -- and has the text by which the message is scrambled, and, where it is of the map, by the map's feed
 abbrev pub SaidIsRead : Type 0
 SaidIsRead = (profile : Profile) → IsCodec profile → (map : MapState) (slot : SlotState) (said : Said) → IsSaid profile slot.challenge said
-    → (acknowledge_at slot.issued said.message.command).answer ≡ Ok tt → text_at slot.issued said.message.command ≡ said.text
+    → (acknowledge_at slot.issued said.message.command).answer ≡ Ok tt → text_at slot.issued said.message.command ≡ said.key.text
     → (is_other map said.message.id ≡ false → said.feed ≡ map.feed)
     → said_by profile map slot (said_bytes profile said) ≡ Ok (came_as map said.message)
 
 -- ---- a message survives the network
 
 -- so many first datagrams of a message, in order
-abbrev pub first_datagrams : Side → ℕ → ℕ → List ℕ → ℕ → List (List ℕ)
-first_datagrams side qport number message count = map (datagram side qport number message) (range_with_len 0 count)
+abbrev pub first_datagrams : Header → ℕ → List ℕ → ℕ → List (List ℕ)
+first_datagrams header number message count = map (datagram header number message) (range_with_len 0 count)
 
--- a message may come to an end that gathers: its number is above every number taken, nothing was gathered under it, it may be
--- sent, and what was gathered is the front of one of some messages, of which it is the one under its number
-pub record MayCome (side : Side) (number : ℕ) (message : List ℕ) (g : Gathering) : Type 0 where
-  pub from : g.side ≡ side
+-- a message may come to an end that gathers: its number is above every number taken, nothing was gathered under it, and it may be
+-- sent
+pub record MayCome (header : Header) (number : ℕ) (message : List ℕ) (g : Gathering) : Type 0 where
+  pub from : g.side ≡ header.side
   pub newer : g.taken < number
   pub none : g.number ≡ number → g.bytes ≡ []
   pub fits : number < sequence_end
   pub sendable : IsSendable message
-  pub messages : ℕ → List ℕ
-  pub front : HoldsFront messages g
-  pub is : messages number ≡ message
 
 -- a client after these datagrams, one after the other
 unfoldable pub client_after : ClientState → List (List ℕ) → ClientState
@@ -93,15 +88,15 @@ AppliesIt client number message taken =
 -- dropped, the message may come to it, and it is received from its bytes as in BuiltIsRead
 abbrev pub BuiltSurvives : Type 0
 BuiltSurvives = (profile : Profile) → IsCodec profile → (client : ClientState) (number : ℕ) (built : Built) → client.dropped ≡ None
-    → MayCome Server number (built_bytes profile built) client.gathering → IsBuilt profile client.challenge number built
+    → MayCome server_header number (built_bytes profile built) client.gathering → IsBuilt profile client.challenge number built
     → client.state.profile ≡ profile → AreLines profile.entity client.state.lines → IfSome built.under (λ game. client.state.lines ≡ built.lines)
-    → (acknowledge_at client.issued built.message.ack).answer ≡ Ok tt → text_at client.issued built.message.ack ≡ built.text
+    → (acknowledge_at client.issued built.message.ack).answer ≡ Ok tt → text_at client.issued built.message.ack ≡ built.key.text
     → AreBuilt profile client.state.held → IfSome built.base (λ base. IsSnapshot profile base × HoldsThis client.state.held base)
     → ((index : ℕ) → index < last_index (built_bytes profile built)
-    → GathersMore client (take_at (client_after client (first_datagrams Server 0 number (built_bytes profile built) index)) (datagram Server 0 number (built_bytes profile built) index)))
+    → GathersMore client (take_at (client_after client (first_datagrams server_header number (built_bytes profile built) index)) (datagram server_header number (built_bytes profile built) index)))
     × AppliesIt client number built.message
-    (take_at (client_after client (first_datagrams Server 0 number (built_bytes profile built) (last_index (built_bytes profile built))))
-    (datagram Server 0 number (built_bytes profile built) (last_index (built_bytes profile built))))
+    (take_at (client_after client (first_datagrams server_header number (built_bytes profile built) (last_index (built_bytes profile built))))
+    (datagram server_header number (built_bytes profile built) (last_index (built_bytes profile built))))
 
 -- a server after these datagrams from an address, one after the other
 unfoldable pub server_after : ServerState → Address → List (List ℕ) → ServerState
@@ -125,12 +120,12 @@ RunsIt server c slot from number message taken =
 abbrev pub SaidSurvives : Type 0
 SaidSurvives = (profile : Profile) → IsCodec profile → (server : ServerState) (from : Address) (qport c : ℕ) (slot : SlotState) (number : ℕ) (said : Said)
     → server.profile ≡ profile → qport < 2 ^ 16 → sender_of server from.host qport ≡ Some c → slot_at server c ≡ Some slot
-    → MayCome Client number (said_bytes profile said) slot.gathering → IsSaid profile slot.challenge said
-    → (acknowledge_at slot.issued said.message.command).answer ≡ Ok tt → text_at slot.issued said.message.command ≡ said.text
+    → MayCome (client_header qport) number (said_bytes profile said) slot.gathering → IsSaid profile slot.challenge said
+    → (acknowledge_at slot.issued said.message.command).answer ≡ Ok tt → text_at slot.issued said.message.command ≡ said.key.text
     → (is_other server.map said.message.id ≡ false → said.feed ≡ server.map.feed)
     → ((index : ℕ) → index < last_index (said_bytes profile said)
     → SlotGathersMore server c slot from
-    (hears.take_at (server_after server from (first_datagrams Client qport number (said_bytes profile said) index)) from (datagram Client qport number (said_bytes profile said) index)))
+    (hears.take_at (server_after server from (first_datagrams (client_header qport) number (said_bytes profile said) index)) from (datagram (client_header qport) number (said_bytes profile said) index)))
     × RunsIt server c slot from number said.message
-    (hears.take_at (server_after server from (first_datagrams Client qport number (said_bytes profile said) (last_index (said_bytes profile said)))) from
-    (datagram Client qport number (said_bytes profile said) (last_index (said_bytes profile said))))
+    (hears.take_at (server_after server from (first_datagrams (client_header qport) number (said_bytes profile said) (last_index (said_bytes profile said)))) from
+    (datagram (client_header qport) number (said_bytes profile said) (last_index (said_bytes profile said))))

@@ -155,9 +155,9 @@ KeysAgree = (profile : Profile) (all : List Event) (c : ℕ) (slot : SlotState) 
     → AllByRecursion IsScheduled all → c < places
     → slot_at (kept_then profile all).ends.server c ≡ Some slot → client_at (kept_then profile all).ends c ≡ Some client
     → ((n : ℕ) → client.gathering.taken < n → n ≤ length (history_then profile all c).built
-    → text_at client.issued (built_at (history_then profile all c).built n).message.ack ≡ (built_at (history_then profile all c).built n).text)
+    → text_at client.issued (built_at (history_then profile all c).built n).message.ack ≡ (built_at (history_then profile all c).built n).key.text)
     × ((n : ℕ) → slot.gathering.taken < n → n ≤ length (history_then profile all c).said
-    → text_at slot.issued (said_at (history_then profile all c).said n).message.command ≡ (said_at (history_then profile all c).said n).text)
+    → text_at slot.issued (said_at (history_then profile all c).said n).message.command ≡ (said_at (history_then profile all c).said n).key.text)
 
 -- what an event prints as executed, at a client or at the server, goes on where that end stood: its numbers follow on the count of
 -- all executed before, and its texts are noted behind them

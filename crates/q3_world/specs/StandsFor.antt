@@ -5,9 +5,8 @@ use Rattle.std.specs.List.{last_or}
 use Rattle.q3_profile.specs.declared.profile.Profile.{Profile}
 use Rattle.q3_profile.specs.Profile.{IsCodec, IsProfile}
 use Rattle.q3_io.specs.declared.address.Address.{Address}
-use Rattle.q3_chan.specs.declared.side.Side.{Side}
 use Rattle.q3_chan.specs.declared.side.Side.TheVariants.{Server, Client}
-use Rattle.q3_chan.specs.Datagrams.{sequence_end, piece_count, datagram}
+use Rattle.q3_chan.specs.Datagrams.{Header, server_header, client_header, sequence_end, piece_count, datagram}
 use Rattle.q3_chan.specs.Sending.{Sending}
 use Rattle.q3_chan.specs.Laws.{IsSendable, Gathers, Sends}
 use Rattle.q3_text.specs.declared.text.Command.{Command}
@@ -61,12 +60,11 @@ abbrev pub messages_said : Profile → List Said → ℕ → List ℕ
 messages_said profile said zero = []
 messages_said profile said (suc number) = said_bytes profile (said_at said (suc number))
 
--- an end, by its side and its qport, began so many messages, each of which may be sent, and has one of them under way or none
-pub record BeginsMessages (side : Side) (qport : ℕ) (messages : ℕ → List ℕ) (count : ℕ) (sending : Sending) : Type 0 where
+-- an end, by its header, began so many messages, each of which may be sent, and has one of them under way or none
+pub record BeginsMessages (header : Header) (messages : ℕ → List ℕ) (count : ℕ) (sending : Sending) : Type 0 where
   pub begun : sending.number ≡ count
   pub short : count < sequence_end
-  pub side_is : sending.side ≡ side
-  pub qport_is : sending.qport ≡ qport
+  pub header_is : sending.header ≡ header
   pub sends : Sends messages sending
   pub sendable : (number : ℕ) → 1 ≤ number → number ≤ count → IsSendable (messages number)
 
@@ -97,7 +95,7 @@ AreOfBuilt frames c began = (number : ℕ) (snapshot : Snapshot) → held_frame 
 pub record KeepsSlot (profile : Profile) (slot : SlotState) (of_qport of_host : ℕ) (began : List Built) (ran : List Move) (commands : List (List ℕ)) : Type 0 where
   pub qport : slot.qport ≡ of_qport
   pub host : slot.address.host ≡ of_host
-  pub sending : BeginsMessages Server 0 (messages_of profile began) (length began) slot.sending
+  pub sending : BeginsMessages server_header (messages_of profile began) (length began) slot.sending
   pub player : IsHeld profile slot.player
   pub area : IsArea slot.area.items
   pub built : (k : ℕ) (d : Built) → k < length began → IsBuilt profile slot.challenge (k + 1) (slice_index_or began k d)
@@ -129,7 +127,7 @@ pub record KeepsClient (profile : Profile) (client : ClientState) (of_qport : �
   pub ring : client.state.held.ring ≡ profile.parse_ring
   pub from : client.gathering.side ≡ Server
   pub fits : of_qport < 2 ^ 16
-  pub sending : BeginsMessages Client of_qport (messages_said profile began) (length began) client.sending
+  pub sending : BeginsMessages (client_header of_qport) (messages_said profile began) (length began) client.sending
   pub said : (k : ℕ) (d : Said) → k < length began → IsSaid profile client.challenge (slice_index_or began k d)
   pub last : client.last_time ≡ last_time 0 issued
   pub rise : TimesRise 0 issued
@@ -152,17 +150,17 @@ IsClient profile (Some slot) (Some client) address history = AreEnds profile slo
 IsClient profile slot client address history = ⊥
 
 -- a datagram carries a piece of a message that was begun, and has its bytes
-pub record IsPiece (side : Side) (qport : ℕ) (messages : ℕ → List ℕ) (last : ℕ) (tag : Tag) : Type 0 where
+pub record IsPiece (header : Header) (messages : ℕ → List ℕ) (last : ℕ) (tag : Tag) : Type 0 where
   pub some : 1 ≤ tag.number
   pub begun : tag.number ≤ last
   pub piece : tag.index < piece_count (length (messages tag.number))
-  pub bytes : tag.bytes ≡ datagram side qport tag.number (messages tag.number) tag.index
+  pub bytes : tag.bytes ≡ datagram header tag.number (messages tag.number) tag.index
 
 -- of a message that was built for its client, or of one that its client began and sent from its host
 abbrev pub IsWay : Profile → History → Tag → Direction → Type 0
-IsWay profile history tag ToClient = IsPiece Server 0 (messages_of profile history.built) (length history.built) tag
+IsWay profile history tag ToClient = IsPiece server_header (messages_of profile history.built) (length history.built) tag
 IsWay profile history tag (ToServer from) =
-    (from.host ≡ history.host) × IsPiece Client history.qport (messages_said profile history.said) (length history.said) tag
+    (from.host ≡ history.host) × IsPiece (client_header history.qport) (messages_said profile history.said) (length history.said) tag
 
 -- a tag names a message that was begun, and has its bytes
 pub record IsSent (profile : Profile) (histories : List History) (tag : Tag) : Type 0 where
@@ -247,13 +245,13 @@ abbrev pub carried_built : List Built → List Carriage
 carried_built began = map (λ (b : Built). record { last = b.last; commands = b.message.commands }) began
 
 abbrev pub acks_built : List Built → List Command
-acks_built began = map (λ (b : Built). record { number = b.message.ack; text = b.text }) began
+acks_built began = map (λ (b : Built). record { number = b.message.ack; text = b.key.text }) began
 
 abbrev pub carried_said : List Said → List Carriage
 carried_said began = map (λ (s : Said). record { last = s.last; commands = s.message.commands }) began
 
 abbrev pub acks_said : List Said → List Command
-acks_said began = map (λ (s : Said). record { number = s.message.command; text = s.text }) began
+acks_said began = map (λ (s : Said). record { number = s.message.command; text = s.key.text }) began
 
 -- the commands of the server on their way to a client, and those of the client on theirs to the server: each end executed a front
 -- of what the other issued, and each window has the texts by which the messages to come are scrambled

@@ -8,8 +8,8 @@ use Rattle.q3_script.specs.declared.event.Event.{Event}
 use Rattle.q3_script.specs.declared.event.Event.TheVariants as events
 use Rattle.q3_chan.specs.Tags.{tagged}
 use Rattle.q3_chan.specs.Sending.{Piece}
+use Rattle.q3_chan.specs.Keys.{Key}
 use Rattle.q3_text.specs.declared.text.Command.{Command}
-use Rattle.q3_window.specs.Flow.{no_command}
 use Rattle.q3_clmsg.specs.declared.moves.Move.{Move}
 use Rattle.q3_clmsg.specs.Values.{empty_message}
 use Rattle.q3_ring.specs.Snapshot.{Snapshot}
@@ -113,13 +113,17 @@ history_at histories c = slice_index_or histories c no_history
 abbrev pub with_history : List History → ℕ → History → List History
 with_history histories c history = slice_set histories c history
 
+-- by what nothing is scrambled
+abbrev pub no_key : Key
+no_key = record { start = 0; text = [] }
+
 -- what stands where no message was built
 abbrev pub no_message : Built
-no_message = built_of (record { ack = no_command; commands = []; last = 0; under = None; start = 0 }) no_lines None (record { head = empty_head; entities = [] })
+no_message = built_of (record { ack = 0; commands = []; last = 0; under = None; key = no_key }) no_lines None (record { head = empty_head; entities = [] })
 
 -- and where none was said
 abbrev pub no_said : Said
-no_said = record { message = empty_message; last = 0; feed = 0; start = 0; text = [] }
+no_said = record { message = empty_message; last = 0; feed = 0; key = no_key }
 
 -- the message that was built under a number, and the one that a client began under it
 abbrev pub built_at : List Built → ℕ → Built

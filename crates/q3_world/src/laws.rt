@@ -23,7 +23,7 @@ pub fn built_is_read()
 {
     bits::put_is_read();
     bits::message_holds_bits();
-    chan::scrambled_twice();
+    chan::ends_scramble();
     svmsg::written_is_read();
     svmsg::read_is_skipped();
 }
@@ -34,7 +34,7 @@ pub fn said_is_read()
 {
     bits::put_is_read();
     bits::message_holds_bits();
-    chan::scrambled_twice();
+    chan::ends_scramble();
     clmsg::written_is_read();
 }
 
@@ -70,7 +70,7 @@ pub(crate) fn layers()
     chan::tagged_does();
     chan::ends_gather();
     chan::ends_send();
-    chan::scrambled_twice();
+    chan::ends_scramble();
     bits::message_holds_bits();
     map::lists_stay_held();
     map::new_maps_tell();
@@ -293,7 +293,7 @@ pub fn served_is_shown()
     in_order_is_accepted();
     applied_was_built();
     bits::message_holds_bits();
-    chan::scrambled_twice();
+    chan::ends_scramble();
     chan::tagged_does();
 }
 

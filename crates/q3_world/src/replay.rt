@@ -3,8 +3,7 @@
 ghost use Rattle.std.specs.Prelude.{◌≡◌, ◌+◌, ◌-◌, ◌^◌, ◌<◌, ◌≤◌, length, slice_get, option_map, IfOk, OnOk, OnErr};
 ghost use Rattle.q3_profile.specs.Profile.{IsProfile, IsCodec};
 ghost use Rattle.q3_script.specs.Grammar.{IsReplayEvent};
-ghost use Rattle.q3_entity.specs.Baselines.{most_lines};
-ghost use Rattle.q3_map.specs.Map.{most_numbers};
+ghost use Rattle.q3_fields.specs.Kinds.{least_end};
 ghost use Rattle.q3_server.specs.Server.{places, emit_at};
 ghost use Rattle.q3_rings.specs.Loans.{snapshot_of};
 ghost use Rattle.q3_clstate.specs.declared.applied.Log.{Log as LogValue};
@@ -185,10 +184,12 @@ impl Replay {
     /// The baseline of an entity.
     fn set_baseline(&mut self, state: &EntityState) -> Answer
         requires some { 1 ≤ state.now.number }
-        requires most { state.now.number < most_lines }
+        requires most { state.now.number < least_end }
         ensures { (log : LogValue) (heard : HeardValue) → kept_ends self.old (set_baseline self.old.ends state.now)
             ≡ record { kept = self.new; answer = answered_with self.new result log heard } }
     {
+        // a script's numbers are below the least end mark
+        prove!(state.number < self.server.end());
         Answer::Baseline {
             number: state.number,
             outcome: self.server.set_baseline(state),
@@ -207,10 +208,12 @@ impl Replay {
     }
 
     fn set_entity(&mut self, state: &EntityState) -> Answer
-        requires { state.now.number < most_numbers }
+        requires { state.now.number < least_end }
         ensures { (log : LogValue) (heard : HeardValue) → kept_ends self.old (set_entity self.old.ends state.now)
             ≡ record { kept = self.new; answer = answered_with self.new result log heard } }
     {
+        // a script's numbers are below the least end mark
+        prove!(state.number < self.server.end());
         self.server.set_entity(state);
         Answer::Entity {
             number: state.number,

@@ -1,6 +1,7 @@
 use Rattle.std.proofs.Common.{option_map}
 use Rattle.std.proofs.lemmas.Result.{err_from_is_err_and}
 use Rattle.q3_player.specs.Delta.{player_delta}
+use Rattle.q3_entity.specs.Entities.{run_of}
 use Rattle.q3_entity.specs.Lists.{list_text}
 use Rattle.q3_svmsg.specs.Values.{base_viewed, base_player, base_entities}
 use Rattle.q3_svmsg.specs.Texts.{snapshot_bits}
@@ -16,7 +17,7 @@ returns-in_err-write_player c =
     let p = err_from_is_err_and c.from_residual-in_err-write_player.result c.from_residual-in_err-write_player.ensures.1 in
     let player = rw c.base_or-from.ensures.player at c.in_err-write_player.ensures in
     let both = law.next (λ ws. player_delta ws profile.player.kinds (base_player base) c.args.head.now.player) c.in_ok-write_head.ensures player in
-    rw (p.1, p.2) (law.refused (list_text words profile.entity c.args.baselines.now (base_entities base) c.args.entities.now) both)
+    rw (p.1, p.2) (law.refused (list_text words profile.entity c.args.baselines.now (base_entities base) (run_of c.args.entities)) both)
 
 pub returns : goal.returns
 unfolding snapshot_bits
@@ -25,6 +26,6 @@ returns c =
     let profile = c.args.profile.now in
     let base = option_map base_viewed c.args.base in
     let player = rw c.base_or-from.ensures.player at c.in_ok-write_player.ensures in
-    let list = rw c.base_or-from.ensures.entities at c.write_list.ensures in
+    let list = rw c.base_or-from.ensures.entities at c.write_run.ensures in
     let both = law.next (λ ws. player_delta ws profile.player.kinds (base_player base) c.args.head.now.player) c.in_ok-write_head.ensures player in
-    law.next (λ ws. list_text ws profile.entity c.args.baselines.now (base_entities base) c.args.entities.now) both list
+    law.next (λ ws. list_text ws profile.entity c.args.baselines.now (base_entities base) (run_of c.args.entities)) both list

@@ -20,7 +20,7 @@ returns c = record {
     near = c.base_is_near.ensures;
   };
   windows = record { flow = c.commands_flow.ensures; stays = c.stays_outgoing.ensures };
-  scrambles = record { front = c.scrambled_twice.ensures.front; bytes = c.scrambled_twice.ensures.bytes };
+  scrambles = record { front = c.ends_scramble.ensures.front; bytes = c.ends_scramble.ensures.bytes };
   rings = record {
     none = c.nothing_stands.ensures;
     added = c.accept_is_added.ensures;

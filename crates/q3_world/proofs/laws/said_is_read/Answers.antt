@@ -3,5 +3,5 @@ use Rattle.q3_world.proofs.laws.said_is_read.Goals as goal
 
 pub returns : goal.returns
 returns c =
-    said_is_read c.put_is_read.ensures c.message_holds_bits.ensures.holds c.scrambled_twice.ensures.twice c.scrambled_twice.ensures.front
+    said_is_read c.put_is_read.ensures c.message_holds_bits.ensures.holds c.ends_scramble.ensures.twice c.ends_scramble.ensures.front
     c.written_is_read.ensures

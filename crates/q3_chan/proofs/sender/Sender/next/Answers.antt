@@ -16,10 +16,10 @@ returns-in-Some-clause-next c =
     let behind : Option ℕ = c.index_behind-self-inside.result in
     let next : behind ≡ cond (ltb (index + 1) (piece_count (length message))) (Some (index + 1)) None =
     c.index_behind-self-inside.ensures ∙ ap (λ (m : List ℕ). cond (ltb (index + 1) (piece_count (length m))) (Some (index + 1)) None) same in
-    let sent : c.write_datagram.new.out.items ≡ datagram s.side s.qport s.number message index =
-    c.write_datagram.ensures.bytes ∙ ap (λ (m : List ℕ). datagram s.side s.qport s.number m index) same in
+    let sent : c.write_datagram.new.out.items ≡ datagram s.header s.number message index =
+    c.write_datagram.ensures.bytes ∙ ap (λ (m : List ℕ). datagram s.header s.number m index) same in
     let after : Option UnderWay = option_map (λ i. record { message = message; next = i }) behind in
     ap next_of (sym c.self.view_is)
     ∙ next_of-under_way s (record { message = message; next = index }) (ap (option_map (λ i. record { message = message; next = i })) c.in-Some.is)
-    ∙ ap (λ (left : Option UnderWay). record { sending = record s { under_way = left }; datagram = datagram s.side s.qport s.number message index }) (left_of-index message index behind next)
+    ∙ ap (λ (left : Option UnderWay). record { sending = record s { under_way = left }; datagram = datagram s.header s.number message index }) (left_of-index message index behind next)
     ∙ ap (λ (bytes : List ℕ). record { sending = record s { under_way = after }; datagram = bytes }) (sym sent)

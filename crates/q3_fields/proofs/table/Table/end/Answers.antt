@@ -1,15 +1,19 @@
-use Rattle.std.proofs.Common.{◌≡◌, ℕ, ◌^◌, ap, arith}
+use Rattle.std.proofs.Common.{◌≤◌, ◌^◌, arith}
+use Rattle.std.proofs.Math.Pow.{pow_mono}
 use Rattle.std.proofs.lemmas.Nat.{one_shl}
+use Rattle.q3_fields.specs.Kinds.{least_number_bits, most_number_bits}
 use Rattle.q3_fields.proofs.table.Table.end.Goals as goal
 
 pub returns-clause-most : goal.returns-clause-most
 returns-clause-most c =
     let bits = c.self.inside.number_bits in
-    let ten : 2 ^ bits ≡ 2 ^ 10 = ap (λ (b : ℕ). 2 ^ b) c.self.invariant.numbers in
-    omega (arith, ten, one_shl bits 32 (omega (arith, c.self.invariant.numbers)))
+    let within = c.self.invariant.table.number_bits in
+    let most : 2 ^ bits ≤ 2 ^ most_number_bits = pow_mono within.1 in
+    omega (arith, most, one_shl bits 32 (omega (arith, within.1)))
 
 pub returns-clause-least : goal.returns-clause-least
 returns-clause-least c =
     let bits = c.self.inside.number_bits in
-    let ten : 2 ^ bits ≡ 2 ^ 10 = ap (λ (b : ℕ). 2 ^ b) c.self.invariant.numbers in
-    omega (arith, ten, one_shl bits 32 (omega (arith, c.self.invariant.numbers)))
+    let within = c.self.invariant.table.number_bits in
+    let least : 2 ^ least_number_bits ≤ 2 ^ bits = pow_mono within.0 in
+    omega (arith, least, one_shl bits 32 (omega (arith, within.1)))

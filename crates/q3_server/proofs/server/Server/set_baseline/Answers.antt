@@ -1,14 +1,18 @@
-use Rattle.std.proofs.Common.{rules, ◌≡◌, ℕ, List, Option, None, ◌++◌, take, drop, length}
+use Rattle.std.proofs.Common.{rules, ◌<◌, sym, subst}
+use Rattle.q3_fields.specs.Kinds.{end_mark}
+use Rattle.q3_server.specs.Server.{ServerState}
 use Rattle.q3_server.proofs.KeepsServer.{server_lined}
 use Rattle.q3_server.proofs.server.Server.set_baseline.Goals as goal
 
 pub invariant_of-self : goal.invariant_of-self
 invariant_of-self c =
-    let was = c.self.invariant in (
+    let was = c.self.invariant in
+    let below : c.args.state.now.number < end_mark c.self.inside.profile.entity =
+    subst (λ (server : ServerState). c.args.state.now.number < end_mark server.profile.entity) (sym c.self.view_is) c.requires.most in (
       search rules,
       search rules,
       search rules,
       search rules,
       search rules,
-      server_lined c.self.inside.profile c.self.inside.map c.set_baseline.new.self c.self.inside.slots.items c.below.ensures c.args.state.now c.set_baseline.result c.requires.most c.entity_fits.ensures c.set_baseline.ensures was.5,
+      server_lined c.self.inside.profile c.self.inside.map c.set_baseline.new.self c.self.inside.slots.items c.below.ensures c.args.state.now c.set_baseline.result below c.entity_fits.ensures c.set_baseline.ensures was.5,
     )

@@ -1,12 +1,11 @@
 use Rattle.std.proofs.Common.{◌++◌, sym, ap, subst, ◌∙◌, arith}
 use Rattle.std.proofs.lemmas.Result.{err_from_is_err_and}
-use Rattle.std.proofs.lemmas.List.{drop_all}
 use Rattle.q3_fields.specs.Kinds.{end_mark}
 use Rattle.q3_entity.specs.Entities.{RiseFrom, run_of}
 use Rattle.q3_entity.specs.Lists.{list_text}
 use Rattle.q3_entity.specs.Merging.{end_text, left_behind}
 use Rattle.q3_entity.proofs.ListTexts.{is_turn, is_skipped, list_text-ends}
-use Rattle.q3_entity.proofs.list_writing.write_list.Goals as goal
+use Rattle.q3_entity.proofs.list_writing.write_run.Goals as goal
 
 pub loop-entity-init : goal.loop-entity-init
 loop-entity-init c =
@@ -27,8 +26,8 @@ loop-entity-preserved c =
     let words = c.args.w.now.words in
     let left = run_of c.loop-entity.left in
     let to = c.in-Some.entity.now in
-    let others = c.in-Some.others.now in
-    let next = c.in-Some.ensures.cases.0 in
+    let others = run_of c.in-Some.others in
+    let next = c.in-Some.ensures in
     let t = is_turn words table lines c.loop-entity.w.words left to others (law.words _ _ _ _ h.written) h.base (subst (RiseFrom (end_mark table) 0) next h.now) in
     let written = law.more _ _ _ _ _ _ _ h.written (ap (list_text words table lines left) next ∙ t.text) c.in_ok-behind.ensures.writes in
     let behind = c.in_ok-behind.ensures.left in
@@ -46,9 +45,9 @@ returns-in_err-behind c =
     let table = c.args.table.now in
     let words = c.args.w.now.words in
     let left = run_of c.loop-entity.left in
-    let next = c.in-Some.ensures.cases.0 in
+    let next = c.in-Some.ensures in
     let p = err_from_is_err_and c.from_residual.result c.from_residual.ensures.1 in
-    let t = is_turn words table c.args.baselines.now c.loop-entity.w.words left c.in-Some.entity.now c.in-Some.others.now (law.words _ _ _ _ h.written) h.base
+    let t = is_turn words table c.args.baselines.now c.loop-entity.w.words left c.in-Some.entity.now (run_of c.in-Some.others) (law.words _ _ _ _ h.written) h.base
     (subst (RiseFrom (end_mark table) 0) next h.now) in
     rw (p.1, p.2) (law.stops _ _ _ _ _ _ _ _ h.written (ap (list_text words table c.args.baselines.now left) next ∙ t.text) c.in_err-behind.ensures.writes)
 
@@ -59,7 +58,6 @@ returns c =
     let words = c.args.w.now.words in
     let lines = c.args.baselines.now in
     let left = run_of c.loop-entity.left in
-    let none = drop_all 0 c.loop-entity.rest.now (omega (arith, c.in_default.ensures.cases)) in
-    let ends = ap (list_text words table lines left) none ∙ list_text-ends words table lines left h.base in
-    c.texts_are_written.ensures.then _ _ _ h.written.written (list_text words table lines (run_of c.args.base) c.args.now.now)
+    let ends = ap (list_text words table lines left) c.in_default.ensures ∙ list_text-ends words table lines left h.base in
+    c.texts_are_written.ensures.then _ _ _ h.written.written (list_text words table lines (run_of c.args.base) (run_of c.args.now))
     (λ ws. end_text ws table left) _ (sym h.written.parts ∙ ap (λ t. h.written.written ++ t) ends) h.written.writes c.write_end.ensures
