@@ -24,7 +24,9 @@ fn what_is_written_is_read(rt: HostRuntime) -> Result<(), Fail> {
     assert_eq!(rt; w.bytes(), bytes.as_slice());
     assert_eq!(rt; write_bytes(&mut w, &[0x02]), Err(Overflow));
     let mut r = Reader::new(&code, &bytes);
-    assert_eq!(rt; read_command(&mut r), Ok(command));
+    let mut read = Command::default();
+    assert_eq!(rt; read_command(&mut r, &mut read), Ok(()));
+    assert_eq!(rt; read, command);
     let mut text: ArrayVec<u8, 2> = ArrayVec::new();
     assert_eq!(rt; read_string(&mut r, &mut text), Ok(()));
     assert_eq!(rt; text.as_slice(), b"..".as_slice());
@@ -53,7 +55,7 @@ fn first_fault_in_reading_order(rt: HostRuntime) -> Result<(), Fail> {
     }
     assert!(rt; text.is_empty());
     assert_eq!(rt;
-        read_text(&mut Reader::new(&code, b"ab")),
+        read_text(&mut Reader::new(&code, b"ab"), &mut Text::new()),
         Err(StringError::Bits(ReadError::End))
     );
     let mut area: ArrayVec<u8, 3> = ArrayVec::new();

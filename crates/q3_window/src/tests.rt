@@ -1,8 +1,7 @@
 //! Windows that are filled and emptied, with numbers worked by hand.
 
 use crate::{BadAck, Incoming, Outgoing, Taken, WindowFull};
-use arrayvec::ArrayVec;
-use q3_text::{Command, Text};
+use q3_text::{Command, Commands, Text};
 use std::alloc::Global;
 use std::process::Abort;
 use std::test::*;
@@ -177,7 +176,7 @@ fn commands_are_taken(rt: HostRuntime) {
 }
 
 #[test]
-fn commands_are_executed(rt: HostRuntime) {
+fn commands_are_executed(rt: HostRuntime) -> Result<(), Fail> {
     let mut window = Incoming::new();
     window.jump(5);
     let commands = [
@@ -188,13 +187,14 @@ fn commands_are_executed(rt: HostRuntime) {
     ];
     assert_eq!(rt; window.gap_in(&commands), Some(9));
     assert_eq!(rt; window.gap_in(&commands[..3]), None);
-    let mut ran = ArrayVec::new();
+    let mut ran = Commands::new(rt.alloc())?;
     window.execute(&commands[..3], &mut ran);
-    check_commands(&rt, 6, &ran);
+    check_commands(&rt, 6, ran.as_slice());
     assert_eq!(rt; (ran.len(), window.executed()), (2, 7));
-    let mut ran = ArrayVec::new();
+    ran.clear();
     window.execute(&commands, &mut ran);
-    check_commands(&rt, 9, &ran);
+    check_commands(&rt, 9, ran.as_slice());
     assert_eq!(rt; (ran.len(), window.executed()), (1, 9));
     assert_eq!(rt; window.last().bytes(), [letter(9)].as_slice());
+    Ok(())
 }
