@@ -8,7 +8,7 @@ use Rattle.q3_text.specs.Texts.{IsText, IsTextByte}
 use Rattle.q3_strings.specs.Texts.{bytes_row, string_bits, command_bits}
 use Rattle.q3_strings.specs.Reading.{bytes_after, string_after, command_after}
 use Rattle.q3_strings.specs.Spelling.{SpellsString, SpellsCommand}
-use Rattle.q3_strings.specs.Commands.{commands_bits, nops_bits, SpellsCommands, SpellsRow, SpellsEnding}
+use Rattle.q3_strings.specs.Commands.{commands_bits, nops_bits, SpellsNops, SpellsCommands, SpellsRow, SpellsEnding}
 use Rattle.q3_strings.specs.Operations.{Row, row_after, ending_after}
 use Rattle.q3_strings.specs.Turns.{HasTurn}
 
@@ -65,6 +65,10 @@ abbrev pub NopIsSpelled : Type 0
 NopIsSpelled = (words : List (List Bool)) (operation : ℕ) (commands : List Command) (text : List Bool) (count : ℕ) → SpellsCommands words operation commands text
     → (longer : List Bool) × (more : ℕ) × SpellsCommands words operation commands longer
     × ((rest : List Bool) → row_bits words ((1, 8) ∷ []) ++ (text ++ (nops_bits words count ++ rest)) ≡ longer ++ (nops_bits words more ++ rest))
+
+-- nops behind nops are nops
+abbrev pub NopsAreNops : Type 0
+NopsAreNops = (words : List (List Bool)) (first second : List Bool) → SpellsNops words first → SpellsNops words second → SpellsNops words (first ++ second)
 
 -- what holds of operations that are read one after the other
 pub record TurnsAreTaken : Type 0 where

@@ -1,6 +1,6 @@
 //! Laws of bytes, of strings, of commands and of operations, each the contract of a call that does nothing but cite the laws below it.
 
-ghost use Rattle.q3_strings.specs.Laws.{BytesWerePut, BytesAreRead, StringIsSpelled, StringReadIsSpelled, StringSpelledIsRead, CommandIsSpelled, CommandReadIsSpelled, CommandSpelledIsRead, CommandsAreSpelled, NopIsSpelled, TurnsAreTaken, RowReadIsSpelled, RowSpelledIsRead, EndingReadIsSpelled, EndingSpelledIsRead};
+ghost use Rattle.q3_strings.specs.Laws.{BytesWerePut, BytesAreRead, StringIsSpelled, StringReadIsSpelled, StringSpelledIsRead, CommandIsSpelled, CommandReadIsSpelled, CommandSpelledIsRead, CommandsAreSpelled, NopIsSpelled, NopsAreNops, TurnsAreTaken, RowReadIsSpelled, RowSpelledIsRead, EndingReadIsSpelled, EndingSpelledIsRead};
 
 use q3_bits::laws;
 
@@ -71,6 +71,11 @@ pub fn commands_are_spelled()
 /// A nop before commands, and before the nops behind them, is a nop of theirs.
 pub fn nop_is_spelled()
     ensures { NopIsSpelled }
+{}
+
+/// Nops behind nops are nops.
+pub fn nops_are_nops()
+    ensures { NopsAreNops }
 {}
 
 /// Operations that are read one after the other are at most as many as bits.
