@@ -26,7 +26,7 @@ fn message_without_moves_is_written_and_read(rt: HostRuntime) -> Result<(), Fail
         write_client_message(&code, &message, 0, &mut [0; 13]),
         Err(Overflow)
     );
-    message.commands.push(Command {
+    message.commands.push_copy(&Command {
         number: 2,
         text: Text::of(b"a%").expect(&rt, "a text"),
     });
@@ -47,7 +47,7 @@ fn message_without_moves_is_written_and_read(rt: HostRuntime) -> Result<(), Fail
     assert_eq!(rt; read_client_message(&code, &into, 0, &mut message), Ok(()));
     assert_eq!(rt; message.id, 0);
     assert_eq!(rt; message.acknowledged, 1);
-    assert!(rt; message.commands.is_empty());
+    assert!(rt; message.commands.as_slice().is_empty());
     assert_eq!(rt; message.delta, false);
     assert!(rt; message.moves.is_empty());
     Ok(())
@@ -68,8 +68,8 @@ fn lent_parts_are_written_as_their_message(rt: HostRuntime) -> Result<(), Fail> 
     message.id = 7;
     message.acknowledged = 1;
     message.command = 3;
-    message.commands.push(command(&rt, 2, b'a'));
-    message.commands.push(command(&rt, 3, b'b'));
+    message.commands.push_copy(&command(&rt, 2, b'a'));
+    message.commands.push_copy(&command(&rt, 3, b'b'));
     let commands = CommandRun {
         head: &[command(&rt, 2, b'a')],
         tail: &[command(&rt, 3, b'b')],
