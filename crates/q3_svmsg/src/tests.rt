@@ -169,8 +169,8 @@ fn lent_parts_are_written_as_their_message(rt: HostRuntime) -> Result<(), Fail> 
     let mut message = empty(&rt, rt.alloc());
     message.ack = 9;
     message.commands.clear();
-    message.commands.push(command(&rt, 2, b'a'));
-    message.commands.push(command(&rt, 3, b'b'));
+    message.commands.push_copy(&command(&rt, 2, b'a'));
+    message.commands.push_copy(&command(&rt, 3, b'b'));
     message.section = Section::Snap {
         base: 0,
         held: true,
@@ -236,7 +236,7 @@ fn commands_are_read(rt: HostRuntime) -> Result<(), Fail> {
     let none = b"\0\0\0\0\x08\0";
     assert_eq!(rt; read(&profile, &held, none, &mut message), Ok(()));
     assert_eq!(rt; message.section, Section::Nothing);
-    assert!(rt; message.commands.is_empty());
+    assert!(rt; message.commands.as_slice().is_empty());
     Ok(())
 }
 
