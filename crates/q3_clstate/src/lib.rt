@@ -7,8 +7,6 @@ mod holding;
 pub mod print;
 mod settings;
 pub mod state;
-#[cfg(test)]
-mod tests;
 
 pub use applied::{Applied, Log, SnapOutcome};
 pub use print::print_applied;
