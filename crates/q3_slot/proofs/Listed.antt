@@ -1,5 +1,5 @@
 -- The entities of the frames of slots.
-use Rattle.std.proofs.Common.{◌≡◌, ◌∙◌, ◌+◌, ◌^◌, ◌≤◌, ℕ, List, [], ◌∷◌, inl, inr, sym, subst, arith}
+use Rattle.std.proofs.Common.{◌∙◌, ◌+◌, ◌^◌, ◌≤◌, ℕ, List, [], ◌∷◌, inl, inr, sym, subst, arith}
 use Rattle.q3_entity.specs.declared.state.EntityState.{EntityState}
 use Rattle.q3_entity.specs.Entities.{RiseFrom, Rises}
 use Rattle.q3_ring.specs.Snapshot.{Snapshot}

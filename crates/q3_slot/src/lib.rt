@@ -10,8 +10,6 @@ pub mod slot;
 pub mod stage;
 mod standing;
 pub mod taking;
-#[cfg(test)]
-mod tests;
 
 pub use answer::{Emitted, NoClient, SayError};
 pub use slot::Slot;
