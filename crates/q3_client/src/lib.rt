@@ -6,7 +6,5 @@ mod moves;
 mod receiving;
 mod saying;
 mod standing;
-#[cfg(test)]
-mod tests;
 
 pub use client::{Client, ClientTook, MoveError, Sent};
