@@ -4,5 +4,3 @@
 
 pub mod client;
 pub mod server;
-#[cfg(test)]
-mod tests;

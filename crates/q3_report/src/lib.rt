@@ -5,8 +5,6 @@
 pub mod answer;
 mod refusals;
 mod report;
-#[cfg(test)]
-mod tests;
 
 pub use answer::{Answer, MoveRefused, Shown, TypeRefused};
 pub use report::print_answer;
