@@ -10,3 +10,4 @@ pub mod Buffer
 pub mod Found
 pub mod Unread
 pub mod Laws
+pub mod Report

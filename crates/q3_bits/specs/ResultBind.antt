@@ -8,6 +8,10 @@ abbrev pub ◌>>=◌ : {A B E : Type 0} → Result A E → (A → Result B E) �
 (Ok x) >>= f = f x
 (Err e) >>= f = Err e
 
+-- an answer, or its fault made another one
+abbrev pub fault_as : {A E D : Type 0} → (E → D) → Result A E → Result A D
+fault_as {A = A} f r = result_map_both (λ (x : A). x) f r
+
 -- where a row of steps answers, its first step answered, and the others from there on
 pub bind_ok : {A B E : Type 0} (r : Result A E) (f : A → Result B E) (y : B) → (r >>= f) ≡ Ok y → (x : A) × (r ≡ Ok x) × (f x ≡ Ok y)
 bind_ok (Ok x) f y e = (x, refl, e)

@@ -6,10 +6,12 @@ pub mod code;
 pub mod laws;
 mod lengths;
 pub mod reader;
+pub mod report;
 pub mod words;
 pub mod writer;
 
 pub use code::{Code, NoMemory};
 pub use reader::{ReadError, Reader};
+pub use report::bits_word;
 pub use words::CodeError;
 pub use writer::{Overflow, Writer};

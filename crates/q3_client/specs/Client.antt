@@ -1,7 +1,7 @@
 -- A client's end. Each call gives the client after it, and its answer.
 use Rattle.std.specs.Prelude.{ℕ, if◌then◌else◌, Bool, true, false, List, [], Option, Some, None, Result, Ok, Err}
 use Rattle.q3_bits.specs.Bits.{bits_of}
-use Rattle.q3_bits.specs.ResultBind.{◌>>=◌}
+use Rattle.q3_bits.specs.ResultBind.{◌>>=◌, fault_as}
 use Rattle.q3_text.specs.declared.text.Command.{Command}
 use Rattle.q3_window.specs.declared.outgoing.BadAck.{BadAck}
 use Rattle.q3_window.specs.declared.outgoing.WindowFull.{WindowFull}
@@ -16,7 +16,7 @@ use Rattle.q3_chan.specs.Keys.{server_key, server_scrambled}
 use Rattle.q3_svmsg.specs.declared.error.Illegible as cause
 use Rattle.q3_svmsg.specs.declared.error.Illegible.TheVariants as causes
 use Rattle.q3_svmsg.specs.Values.{Message}
-use Rattle.q3_svmsg.specs.Reading.{bits_read, ack_at}
+use Rattle.q3_svmsg.specs.Reading.{ack_at}
 use Rattle.q3_ring.specs.Snapshot.{Snapshot}
 use Rattle.q3_clstate.specs.declared.applied.SnapOutcome.{SnapOutcome}
 use Rattle.q3_clstate.specs.declared.applied.SnapOutcome.TheVariants as outcomes
@@ -114,7 +114,7 @@ cleared challenge number text bytes = server_scrambled (server_key challenge num
 -- counts as it is read before the message is cleared
 abbrev pub receive_by : AppliedState → OutgoingState → ℕ → ℕ → List ℕ → Result Reception cause.Illegible
 receive_by state issued challenge number bytes = do
-  ack ← bits_read (ack_at state.profile.code (bits_of bytes))
+  ack ← fault_as causes.Bits (ack_at state.profile.code (bits_of bytes))
   taken ← ack_taken ack.0 (acknowledge_at issued ack.0).answer
   application ← apply_at state number (cleared challenge number (text_at issued ack.0) bytes)
   Ok (record { issued = (acknowledge_at issued ack.0).window; application = application })

@@ -1,11 +1,12 @@
 -- What is left of a message that a client received, part by part.
 use Rattle.std.specs.Prelude.{ℕ, Bool, List, [], Result, Ok, Err}
 use Rattle.q3_bits.specs.Bits.{bits_of}
-use Rattle.q3_bits.specs.ResultBind.{◌>>=◌}
+use Rattle.q3_bits.specs.ResultBind.{◌>>=◌, fault_as}
 use Rattle.q3_text.specs.declared.text.Command.{Command}
 use Rattle.q3_window.specs.Outgoing.{OutgoingState, acknowledge_at}
 use Rattle.q3_svmsg.specs.declared.error.Illegible.{Illegible}
-use Rattle.q3_svmsg.specs.Reading.{bits_read, ack_at}
+use Rattle.q3_svmsg.specs.declared.error.Illegible.TheVariants.{Bits}
+use Rattle.q3_svmsg.specs.Reading.{ack_at}
 use Rattle.q3_clstate.specs.declared.applied.Applied.{Applied}
 use Rattle.q3_clstate.specs.State.{AppliedState}
 use Rattle.q3_client.specs.Client.{Reception, ack_taken}
@@ -13,7 +14,7 @@ use Rattle.q3_client.specs.Client.{Reception, ack_taken}
 -- the number that bytes acknowledge, as it is read before they are cleared, if the window takes it
 abbrev pub acknowledged_by : List (List Bool) → OutgoingState → List ℕ → Result ℕ Illegible
 acknowledged_by words issued bytes = do
-  ack ← bits_read (ack_at words (bits_of bytes))
+  ack ← fault_as Bits (ack_at words (bits_of bytes))
   taken ← ack_taken ack.0 (acknowledge_at issued ack.0).answer
   Ok ack.0
 

@@ -172,7 +172,7 @@ impl Client {
     pub fn take(&mut self, datagram: &[u8], log: &mut Log) -> ClientTook
         ensures client { self.new ≡ (take_at self.old datagram.now).client }
         ensures answer { result ≡ (take_at self.old datagram.now).answer }
-        ensures log { log.new.commands.items ≡ (take_at self.old datagram.now).heard }
+        ensures log { log.new.commands ≡ (take_at self.old datagram.now).heard }
     {
         log.commands.clear();
         if let Some(cause) = self.dropped {

@@ -36,11 +36,11 @@ pub(crate) fn receive_front(
     log: &mut Log,
 ) -> Result<Applied, Illegible>
     requires within { count ≤ length whole.old.items }
-    requires empty { log.old.commands.items ≡ [] }
+    requires empty { log.old.commands ≡ [] }
     ensures state { state.new ≡ state_received state.old (receive_by state.old outgoing.old challenge number (take count whole.old.items)) }
     ensures issued { outgoing.new ≡ issued_received outgoing.old (receive_by state.old outgoing.old challenge number (take count whole.old.items)) }
     ensures answer { result ≡ answer_received (receive_by state.old outgoing.old challenge number (take count whole.old.items)) }
-    ensures log { log.new.commands.items ≡ heard_received (receive_by state.old outgoing.old challenge number (take count whole.old.items)) }
+    ensures log { log.new.commands ≡ heard_received (receive_by state.old outgoing.old challenge number (take count whole.old.items)) }
     ensures room { length whole.new.items ≡ length whole.old.items }
 {
     receive(state, outgoing, challenge, number, &mut whole[..count], log)
@@ -57,11 +57,11 @@ fn receive(
     bytes: &mut [u8],
     log: &mut Log,
 ) -> Result<Applied, Illegible>
-    requires { log.old.commands.items ≡ [] }
+    requires { log.old.commands ≡ [] }
     ensures state { state.new ≡ state_received state.old (receive_by state.old outgoing.old challenge number bytes.old) }
     ensures issued { outgoing.new ≡ issued_received outgoing.old (receive_by state.old outgoing.old challenge number bytes.old) }
     ensures answer { result ≡ answer_received (receive_by state.old outgoing.old challenge number bytes.old) }
-    ensures log { log.new.commands.items ≡ heard_received (receive_by state.old outgoing.old challenge number bytes.old) }
+    ensures log { log.new.commands ≡ heard_received (receive_by state.old outgoing.old challenge number bytes.old) }
 {
     let ack = acknowledged_by(&state.profile().code, outgoing, bytes)?;
     scramble_server(bytes, challenge, number, outgoing.text(ack));

@@ -3,12 +3,10 @@ pub mod Fields
 pub mod Fronts
 pub mod MoveRows
 pub mod Sections
-pub mod Turns
 pub mod Steps
 pub mod TimeSpelled
 pub mod FieldsSpelled
 pub mod MovesSpelled
 pub mod MessageSpelled
 pub mod MessageRead
-pub mod CommandRows
 mod PrintedMoves

@@ -1,29 +1,29 @@
 -- What is written of a message spells it, and what is read as one was spelled so.
-use Rattle.std.proofs.Common.{◌≡◌, ◌-◌, ◌<◌, ◌≤◌, ◌^◌, ℕ, zero, suc, Bool, true, false, eqb, cond, nat_le, ◌&&◌, List, [], ◌∷◌, ◌++◌, length, replicate, Ok, Err, refl, sym, ap, subst, ◌∙◌, append_assoc, arith, inl, inr}
+use Rattle.std.proofs.Common.{◌≡◌, ◌-◌, ◌<◌, ◌≤◌, ◌^◌, ℕ, Bool, true, false, eqb, cond, nat_le, ◌&&◌, List, [], ◌∷◌, ◌++◌, length, Ok, Err, refl, sym, ap, subst, ◌∙◌, append_assoc, arith, inl, inr}
 use Rattle.std.specs.List.{All}
 use Rattle.std.proofs.lemmas.Bool.{cases_Bool, eqb-true}
 use Rattle.std.proofs.lemmas.Bool.Decides.{nat_tests}
-use Rattle.std.proofs.lemmas.List.{length-append, append-nil}
-use Rattle.std.proofs.lemmas.List.Elements.{All-nil, All-cons}
-use Rattle.q3_bits.specs.ResultBind.{◌>>=◌, bind_ok, map_err_ok}
+use Rattle.std.proofs.lemmas.List.{append-nil}
+use Rattle.std.proofs.lemmas.List.Elements.{All-nil}
+use Rattle.q3_bits.specs.ResultBind.{◌>>=◌, fault_as, bind_ok, map_err_ok}
 use Rattle.q3_bits.specs.Words.{IsCode, row_bits, field_at}
 use Rattle.q3_bits.specs.Laws.{ReadWasPut}
 use Rattle.q3_text.specs.declared.text.Command.{Command}
-use Rattle.q3_strings.specs.Commands.{commands_bits, nops_bits, SpellsCommands}
+use Rattle.q3_strings.specs.Commands.{commands_bits, SpellsNops, SpellsCommands, SpellsEnding}
+use Rattle.q3_strings.specs.Operations.{Row, row_after, ending_after}
 use Rattle.q3_strings.specs.Rows.{row-empty, row-none, row-behind, field_was_put}
-use Rattle.q3_strings.specs.Laws.{IsCommand, CommandReadIsSpelled, CommandsAreSpelled, NopIsSpelled}
+use Rattle.q3_strings.specs.Laws.{IsCommand, CommandsAreSpelled, WasRow, RowReadIsSpelled, EndingReadIsSpelled}
 use Rattle.q3_clmsg.specs.declared.moves.Move.{Move}
 use Rattle.q3_clmsg.specs.declared.heads.Heads.{Heads}
-use Rattle.q3_clmsg.specs.declared.error.ClientIllegible.TheVariants.{Bits, BadOp, MoveCount}
+use Rattle.q3_clmsg.specs.declared.error.ClientIllegible.TheVariants.{Bits, MoveCount}
 use Rattle.q3_clmsg.specs.Moves.{IsMove, no_move, moves_bits, moves_at}
 use Rattle.q3_clmsg.specs.Values.{Message, empty_message}
 use Rattle.q3_clmsg.specs.Texts.{move_operation, section_bits, client_text}
-use Rattle.q3_clmsg.specs.Reading.{bits_read, field_read, heads_after, commands_after, section_after, ending_after, moved_after, operations_after, client_after}
+use Rattle.q3_clmsg.specs.Reading.{operation_error, field_read, heads_after, section_after, moved_after, rest_after, operations_after, client_after}
 use Rattle.q3_clmsg.specs.Spelling.{SpellsMoves, SpellsSection, SpellsMessage}
 use Rattle.q3_clmsg.specs.Laws.{IsMessage, WrittenIsSpelled, ReadIsSpelled}
 use Rattle.q3_clmsg.proofs.Steps.{none_is}
 use Rattle.q3_clmsg.proofs.MovesSpelled.{moves_are_spelled, moves_were_spelled}
-use Rattle.q3_clmsg.proofs.CommandRows.{ReadCommand, command_was_spelled}
 
 -- the end
 abbrev pub end : List (List Bool) → List Bool
@@ -84,7 +84,7 @@ section_was_spelled : ReadWasPut → (words : List (List Bool)) → IsCode words
 unfolding section_after
 section_was_spelled put words code key bits found e =
     let count = bind_ok (field_read words 8 bits)
-    (λ count. cond (nat_le 1 count.0 && nat_le count.0 32) (bits_read (moves_at words key count.0 no_move count.1)) (Err (MoveCount count.0))) found e in
+    (λ count. cond (nat_le 1 count.0 && nat_le count.0 32) (fault_as Bits (moves_at words key count.0 no_move count.1)) (Err (MoveCount count.0))) found e in
     elim (cases_Bool (nat_le 1 count.0.0 && nat_le count.0.0 32)) [
       | inl within ↦
           let was = field_was_put put words 8 bits count.0 code (map_err_ok Bits (field_at words 8 bits) count.0 count.1) in
@@ -104,54 +104,15 @@ section_was_spelled put words code key bits found e =
       | inr beyond ↦ absurd (let wrong = rw beyond at count.2 in cc)
     ]
 
--- ---- behind the moves
+-- ---- the operations
 
--- an ending that was read
-record ReadEnding (words : List (List Bool)) (bits : List Bool) (found : Unit {0} × List Bool) : Type 0 where
-  count : ℕ
-  parts : bits ≡ nops_bits words count ++ (end words ++ found.1)
-
-ending_was_spelled : ReadWasPut → (words : List (List Bool)) → IsCode words → (turns : ℕ) (bits : List Bool) (found : Unit {0} × List Bool) → ending_after words turns bits ≡ Ok found
-    → ReadEnding words bits found
-unfolding ending_after
-ending_was_spelled put words code zero bits found e = absurd cc
-ending_was_spelled put words code (suc turns) bits found e =
-    let operation = bind_ok (field_read words 8 bits)
-    (λ operation. cond (eqb operation.0 5) (Ok (tt, operation.1)) (cond (eqb operation.0 1) (ending_after words turns operation.1) (Err (BadOp operation.0)))) found e in
-    let was = field_was_put put words 8 bits operation.0 code (map_err_ok Bits (field_at words 8 bits) operation.0 operation.1) in
-    elim (cases_Bool (eqb operation.0.0 5)) [
-      | inl done ↦
-          let made = rw done at operation.2 in
-          let same : (tt, operation.0.1) ≡ found = cc in
-          subst (ReadEnding words bits) {x = (tt, operation.0.1)} same (record {
-            count = 0;
-            parts = was.row [] operation.0.1 (row-none words operation.0.1)
-                ∙ ap (λ (n : ℕ). row_bits words ((n, 8) ∷ []) ++ operation.0.1) (eqb-true operation.0.0 5 done)
-                ∙ row-none words (end words ++ operation.0.1);
-          })
-      | inr more ↦
-          let next = rw more at operation.2 in
-          elim (cases_Bool (eqb operation.0.0 1)) [
-            | inl nop ↦
-                let read = ending_was_spelled put words code turns operation.0.1 found (rw nop at next) in
-                record {
-                  count = suc read.count;
-                  parts = was.row (replicate read.count (1, 8)) (end words ++ found.1) read.parts
-                      ∙ ap (λ (n : ℕ). row_bits words ((n, 8) ∷ replicate read.count (1, 8)) ++ (end words ++ found.1)) (eqb-true operation.0.0 1 nop);
-                }
-            | inr bad ↦ absurd (let wrong = rw bad at next in cc)
-          ]
-    ]
-
--- ---- before the moves
-
--- operations that were read behind a message's front
+-- those that were read behind a message's front
 record ReadOperations (words : List (List Bool)) (key : ℕ) (message : Message) (bits : List Bool) (found : Message × List Bool) : Type 0 where
   added : List Command
   commands : List Bool
-  count : ℕ
+  nops : List Bool
   section : List Bool
-  behind : ℕ
+  behind : List Bool
   id : found.0.id ≡ message.id
   acknowledged : found.0.acknowledged ≡ message.acknowledged
   command : found.0.command ≡ message.command
@@ -162,195 +123,133 @@ record ReadOperations (words : List (List Bool)) (key : ℕ) (message : Message)
   moves : All IsMove found.0.moves
   whole : found.0.moves ≡ [] → found.0.delta ≡ false
   of_commands : SpellsCommands words 4 added commands
+  of_nops : SpellsNops words nops
   of_section : SpellsSection words key found.0.delta found.0.moves section
-  parts : bits ≡ commands ++ (nops_bits words count ++ (section ++ (nops_bits words behind ++ (end words ++ found.1))))
+  of_behind : SpellsNops words behind
+  parts : bits ≡ commands ++ (nops ++ (section ++ (behind ++ (end words ++ found.1))))
 
--- a message whose moves weren't read
+-- a message without moves
 record HasNoMoves (message : Message) : Type 0 where
   delta : message.delta ≡ false
   moves : message.moves ≡ []
 
-module _ (words : List (List Bool)) (key : ℕ) (message : Message) (bits left : List Bool) where
-  -- the end
-  read_end : HasNoMoves message → length message.commands ≤ 64 → bits ≡ end words ++ left → ReadOperations words key message bits (message, left)
-  read_end none few is = record {
-    added = [];
-    commands = [];
-    count = 0;
+module _ (words : List (List Bool)) (key : ℕ) (message : Message) (bits left : List Bool) (row : Row) (few : length message.commands ≤ 64) (was : WasRow words 4 message.commands bits row left) where
+  -- the row by its operation
+  row_parts : (operation : ℕ) → row.operation ≡ operation → bits ≡ was.spells.text ++ (was.spells.nops ++ (row_bits words ((operation, 8) ∷ []) ++ left))
+  row_parts operation is =
+      let text = was.spells.text in
+      let nops = was.spells.nops in
+      let last = row_bits words ((row.operation, 8) ∷ []) in
+      was.parts ∙ ap (λ (text : List Bool). text ++ left) was.spells.whole ∙ append_assoc (text ++ nops) last left ∙ append_assoc text nops (last ++ left)
+      ∙ ap (λ (n : ℕ). text ++ (nops ++ (row_bits words ((n, 8) ∷ []) ++ left))) is
+
+  -- the end behind it
+  read_end : HasNoMoves message → row.operation ≡ 5 → ReadOperations words key message bits (record message { commands = row.commands }, left)
+  read_end none is = record {
+    added = was.added;
+    commands = was.spells.text;
+    nops = was.spells.nops;
     section = [];
-    behind = 0;
+    behind = [];
     id = refl;
     acknowledged = refl;
     command = refl;
-    all = sym (append-nil message.commands);
-    few = few;
-    each = All-nil IsCommand;
+    all = was.all;
+    few = was.few few;
+    each = was.each;
     few_moves = omega (arith, ap length none.moves);
     moves = subst (λ (moves : List Move). All IsMove moves) (sym none.moves) (All-nil IsMove);
-    whole = λ moves. none.delta;
-    of_commands = refl;
+    whole = λ is. none.delta;
+    of_commands = was.spells.of_commands;
+    of_nops = was.spells.of_nops;
     of_section = none_spelled words key message.delta message.moves none.delta none.moves;
-    parts = is ∙ row-none words (end words ++ left) ∙ row-none words (row_bits words [] ++ (end words ++ left));
+    of_behind = (0, row-empty words);
+    parts = row_parts 5 is;
   }
 
-  -- a nop
-  read_nop : NopIsSpelled → (found : Message × List Bool) → bits ≡ row_bits words ((1, 8) ∷ []) ++ left
-      → ReadOperations words key message left found → ReadOperations words key message bits found
-  read_nop nop_law found is read =
-      let before = nop_law words 4 read.added read.commands read.count read.of_commands in
-      record {
-        added = read.added;
-        commands = before.0;
-        count = before.1;
-        section = read.section;
-        behind = read.behind;
-        id = read.id;
-        acknowledged = read.acknowledged;
-        command = read.command;
-        all = read.all;
-        few = read.few;
-        each = read.each;
-        few_moves = read.few_moves;
-        moves = read.moves;
-        whole = read.whole;
-        of_commands = before.2;
-        of_section = read.of_section;
-        parts = is ∙ ap (λ (left : List Bool). row_bits words ((1, 8) ∷ []) ++ left) read.parts
-            ∙ before.3 (read.section ++ (nops_bits words read.behind ++ (end words ++ found.1)));
-      }
-
-  -- a command
-  read_command : (commands : List Command × List Bool) (found : Message × List Bool) → bits ≡ row_bits words ((4, 8) ∷ []) ++ left
-      → (command : ReadCommand words message.commands left commands)
-      → ReadOperations words key (record message { commands = commands.0 }) commands.1 found → ReadOperations words key message bits found
-  read_command commands found is command read =
-      let operation = row_bits words ((4, 8) ∷ []) in
-      let others = nops_bits words read.count ++ (read.section ++ (nops_bits words read.behind ++ (end words ++ found.1))) in
-      record {
-        added = command.command ∷ read.added;
-        commands = operation ++ command.text ++ read.commands;
-        count = read.count;
-        section = read.section;
-        behind = read.behind;
-        id = read.id;
-        acknowledged = read.acknowledged;
-        command = read.command;
-        all = read.all ∙ ap (λ (all : List Command). all ++ read.added) command.all ∙ append_assoc message.commands (command.command ∷ []) read.added;
-        few = read.few;
-        each = All-cons IsCommand command.command read.added command.is read.each;
-        few_moves = read.few_moves;
-        moves = read.moves;
-        whole = read.whole;
-        of_commands = ([], command.text, read.commands, refl, (0, row-empty words), command.spells, read.of_commands);
-        of_section = read.of_section;
-        parts =
-            is
-            ∙ ap (λ (left : List Bool). operation ++ left) command.parts
-            ∙ ap (λ (left : List Bool). operation ++ (command.text ++ left)) read.parts
-            ∙ sym (append_assoc operation command.text (read.commands ++ others))
-            ∙ sym (append_assoc (operation ++ command.text) read.commands others);
-      }
-
-  -- the moves, and what is behind them
-  read_moves : (delta : Bool) (section : List Move × List Bool) (ending : Unit {0} × List Bool) → length message.commands ≤ 64
-      → bits ≡ row_bits words ((move_operation delta, 8) ∷ []) ++ left → ReadSection words key left section → ReadEnding words section.1 ending
-      → ReadOperations words key message bits (record message { delta = delta; moves = section.0 }, ending.1)
-  read_moves delta section ending few is read behind =
+  -- moves behind it, and the end behind these
+  read_moves : (delta : Bool) (section : List Move × List Bool) (rest : List Bool) → row.operation ≡ move_operation delta → ReadSection words key left section
+      → (ending : List Bool) × (section.1 ≡ ending ++ rest) × SpellsEnding words 5 ending
+      → ReadOperations words key message bits (record message { commands = row.commands; delta = delta; moves = section.0 }, rest)
+  read_moves delta section rest is read (ending, parts, spelled) =
       let operation = move_operation delta in
       let fields : List (ℕ × ℕ) = (length section.0, 8) ∷ [] in
       let front = row_bits words ((operation, 8) ∷ fields) in
-      let others = nops_bits words behind.count ++ (end words ++ ending.1) in
+      let behind = spelled.0 ++ (end words ++ rest) in
+      let ends : section.1 ≡ behind = parts ∙ ap (λ (text : List Bool). text ++ rest) spelled.2 ∙ append_assoc spelled.0 (end words) rest in
+      let inner =
+      ap (λ (left : List Bool). row_bits words ((operation, 8) ∷ []) ++ left) read.parts
+      ∙ sym (row-behind words operation 8 fields (read.text ++ section.1))
+      ∙ ap (λ (left : List Bool). front ++ (read.text ++ left)) ends
+      ∙ sym (append_assoc front read.text behind) in
       record {
-        added = [];
-        commands = [];
-        count = 0;
+        added = was.added;
+        commands = was.spells.text;
+        nops = was.spells.nops;
         section = front ++ read.text;
-        behind = behind.count;
+        behind = spelled.0;
         id = refl;
         acknowledged = refl;
         command = refl;
-        all = sym (append-nil message.commands);
-        few = few;
-        each = All-nil IsCommand;
+        all = was.all;
+        few = was.few few;
+        each = was.each;
         few_moves = read.few;
         moves = read.each;
         whole = λ none. absurd (omega (arith, read.some, ap length none));
-        of_commands = refl;
+        of_commands = was.spells.of_commands;
+        of_nops = was.spells.of_nops;
         of_section = some_spelled words key delta section.0 read.text read.some read.few read.spells;
-        parts =
-            is
-            ∙ ap (λ (left : List Bool). row_bits words ((operation, 8) ∷ []) ++ left) read.parts
-            ∙ sym (row-behind words operation 8 fields (read.text ++ section.1))
-            ∙ ap (λ (left : List Bool). front ++ (read.text ++ left)) behind.parts
-            ∙ sym (append_assoc front read.text others)
-            ∙ row-none words ((front ++ read.text) ++ others);
+        of_behind = spelled.1;
+        parts = row_parts operation is ∙ ap (λ (left : List Bool). was.spells.text ++ (was.spells.nops ++ left)) inner;
       }
 
-moved_was_spelled : ReadWasPut → (words : List (List Bool)) → IsCode words → (key : ℕ) (delta : Bool) (message : Message) (bits left : List Bool) (found : Message × List Bool)
-    → length message.commands ≤ 64 → bits ≡ row_bits words ((move_operation delta, 8) ∷ []) ++ left → moved_after words key delta message left ≡ Ok found
-    → ReadOperations words key message bits found
-unfolding moved_after
-moved_was_spelled put words code key delta message bits left found few is e =
-    let section = bind_ok (section_after words key left)
-    (λ moves. ending_after words (length moves.1) moves.1 >>= λ ending. Ok (record message { delta = delta; moves = moves.0 }, ending.1)) found e in
-    let ending = bind_ok (ending_after words (length section.0.1) section.0.1) (λ ending. Ok (record message { delta = delta; moves = section.0.0 }, ending.1)) found section.2 in
-    let made = ending.2 in
-    let same : (record message { delta = delta; moves = section.0.0 }, ending.0.1) ≡ found = cc in
-    subst (ReadOperations words key message bits) {x = (record message { delta = delta; moves = section.0.0 }, ending.0.1)} same
-    (read_moves words key message bits left delta section.0 ending.0 few is (section_was_spelled put words code key left section.0 section.1)
-    (ending_was_spelled put words code (length section.0.1) section.0.1 ending.0 ending.1))
+  moved_was_spelled : ReadWasPut → EndingReadIsSpelled → IsCode words → (delta : Bool) (found : Message × List Bool) → row.operation ≡ move_operation delta
+      → moved_after words key delta (record message { commands = row.commands }) left ≡ Ok found → ReadOperations words key message bits found
+  unfolding moved_after
+  moved_was_spelled put ending_law code delta found is e =
+      let after : Message = record message { commands = row.commands } in
+      let section = bind_ok (section_after words key left)
+      (λ moves. fault_as operation_error (ending_after words 5 (length moves.1) moves.1) >>= λ ending. Ok (record after { delta = delta; moves = moves.0 }, ending.1)) found e in
+      let ending = bind_ok (fault_as operation_error (ending_after words 5 (length section.0.1) section.0.1)) (λ ending. Ok (record after { delta = delta; moves = section.0.0 }, ending.1)) found section.2 in
+      let made = ending.2 in
+      let same : (record after { delta = delta; moves = section.0.0 }, ending.0.1) ≡ found = cc in
+      let ends = map_err_ok operation_error (ending_after words 5 (length section.0.1) section.0.1) ending.0 ending.1 in
+      subst (ReadOperations words key message bits) {x = (record after { delta = delta; moves = section.0.0 }, ending.0.1)} same
+      (read_moves delta section.0 ending.0.1 is (section_was_spelled put words code key left section.0 section.1)
+      (ending_law words 5 (length section.0.1) section.0.1 ending.0.1 code ends))
 
-module _ (put : ReadWasPut) (command_law : CommandReadIsSpelled) (nop_law : NopIsSpelled) (words : List (List Bool)) (code : IsCode words) (key : ℕ) where
-  operations_were_spelled : (turns : ℕ) (message : Message) (bits : List Bool) (found : Message × List Bool) → HasNoMoves message → length message.commands ≤ 64
-      → operations_after words key turns message bits ≡ Ok found → ReadOperations words key message bits found
-  unfolding operations_after
-  operations_were_spelled zero message bits found none few e = absurd cc
-  operations_were_spelled (suc turns) message bits found none few e =
-      let on_command = λ (left : List Bool).
-      commands_after words message.commands left >>= λ commands. operations_after words key turns (record message { commands = commands.0 }) commands.1 in
-      let operation = bind_ok (field_read words 8 bits)
-      (λ operation. cond (eqb operation.0 5) (Ok (message, operation.1))
-      (cond (eqb operation.0 1) (operations_after words key turns message operation.1)
-      (cond (eqb operation.0 4) (on_command operation.1)
-      (cond (eqb operation.0 2) (moved_after words key true message operation.1)
-      (cond (eqb operation.0 3) (moved_after words key false message operation.1) (Err (BadOp operation.0))))))) found e in
-      let left = operation.0.1 in
-      let was = field_was_put put words 8 bits operation.0 code (map_err_ok Bits (field_at words 8 bits) operation.0 operation.1) in
-      let front = λ (byte : ℕ) (here : eqb operation.0.0 byte ≡ true).
-      was.row [] left (row-none words left) ∙ ap (λ (n : ℕ). row_bits words ((n, 8) ∷ []) ++ left) (eqb-true operation.0.0 byte here) in
-      elim (cases_Bool (eqb operation.0.0 5)) [
+  rest_was_spelled : ReadWasPut → EndingReadIsSpelled → IsCode words → (found : Message × List Bool) → HasNoMoves message
+      → rest_after words key row.operation (record message { commands = row.commands }) left ≡ Ok found → ReadOperations words key message bits found
+  unfolding rest_after
+  rest_was_spelled put ending_law code found none e =
+      let after : Message = record message { commands = row.commands } in
+      elim (cases_Bool (eqb row.operation 5)) [
         | inl done ↦
-            let made = rw done at operation.2 in
-            let same : (message, left) ≡ found = cc in
-            subst (ReadOperations words key message bits) {x = (message, left)} same (read_end words key message bits left none few (front 5 done))
+            let made = rw done at e in
+            let same : (after, left) ≡ found = cc in
+            subst (ReadOperations words key message bits) {x = (after, left)} same (read_end none (eqb-true row.operation 5 done))
         | inr more ↦
-            let next = rw more at operation.2 in
-            elim (cases_Bool (eqb operation.0.0 1)) [
-              | inl nop ↦ read_nop words key message bits left nop_law found (front 1 nop) (operations_were_spelled turns message left found none few (rw nop at next))
+            let next = rw more at e in
+            elim (cases_Bool (eqb row.operation 2)) [
+              | inl moves ↦ moved_was_spelled put ending_law code true found (eqb-true row.operation 2 moves) (rw moves at next)
               | inr other ↦
-                  let next' = rw other at next in
-                  elim (cases_Bool (eqb operation.0.0 4)) [
-                    | inl command ↦
-                        let commands = bind_ok (commands_after words message.commands left)
-                        (λ commands. operations_after words key turns (record message { commands = commands.0 }) commands.1) found (rw command at next') in
-                        let read = command_was_spelled command_law words code message.commands left commands.0 commands.1 in
-                        let long : length commands.0.0 ≤ 64 = omega (arith, ap length read.all, length-append message.commands (read.command ∷ []), read.few) in
-                        read_command words key message bits left commands.0 found (front 4 command) read
-                        (operations_were_spelled turns (record message { commands = commands.0.0 }) commands.0.1 found (record { delta = none.delta; moves = none.moves }) long commands.2)
-                    | inr last ↦
-                        let next'' = rw last at next' in
-                        elim (cases_Bool (eqb operation.0.0 2)) [
-                          | inl moves ↦ moved_was_spelled put words code key true message bits left found few (front 2 moves) (rw moves at next'')
-                          | inr no_delta ↦
-                              let next''' = rw no_delta at next'' in
-                              elim (cases_Bool (eqb operation.0.0 3)) [
-                                | inl moves ↦ moved_was_spelled put words code key false message bits left found few (front 3 moves) (rw moves at next''')
-                                | inr bad ↦ absurd (let wrong = rw bad at next''' in cc)
-                              ]
-                        ]
+                  let last = rw other at next in
+                  elim (cases_Bool (eqb row.operation 3)) [
+                    | inl moves ↦ moved_was_spelled put ending_law code false found (eqb-true row.operation 3 moves) (rw moves at last)
+                    | inr bad ↦ absurd (let wrong = rw bad at last in cc)
                   ]
             ]
       ]
+
+operations_were_spelled : ReadWasPut → RowReadIsSpelled → EndingReadIsSpelled → (words : List (List Bool)) → IsCode words → (key : ℕ) (message : Message) (bits : List Bool) (found : Message × List Bool)
+    → HasNoMoves message → length message.commands ≤ 64 → operations_after words key message bits ≡ Ok found → ReadOperations words key message bits found
+unfolding operations_after
+operations_were_spelled put row_law ending_law words code key message bits found none few e =
+    let row = bind_ok (fault_as operation_error (row_after words 4 (length bits) message.commands bits))
+    (λ row. rest_after words key row.0.operation (record message { commands = row.0.commands }) row.1) found e in
+    let was = row_law words 4 (length bits) message.commands bits row.0.0 row.0.1 code (map_err_ok operation_error (row_after words 4 (length bits) message.commands bits) row.0 row.1) in
+    rest_was_spelled words key message bits row.0.1 row.0.0 few was put ending_law code found none row.2
 
 -- ---- the message
 
@@ -396,8 +295,8 @@ message_behind words key message bits rest heads were read =
     let id = subst (λ (n : ℕ). n < 2 ^ 32) (sym read.id) were.id in
     let acknowledged = subst (λ (n : ℕ). n < 2 ^ 32) (sym read.acknowledged) were.acknowledged in
     let command = subst (λ (n : ℕ). n < 2 ^ 32) (sym read.command) were.command in
-    let nops = nops_bits words read.count in
-    let behind = nops_bits words read.behind in
+    let nops = read.nops in
+    let behind = read.behind in
     let section = read.section in
     let left = read.commands ++ (nops ++ (section ++ (behind ++ (end words ++ rest)))) in
     let front : bits ≡ longs message.id message.acknowledged message.command ++ left =
@@ -428,17 +327,17 @@ message_behind words key message bits rest heads were read =
         section = section;
         behind = behind;
         of_commands = subst (λ (commands : List Command). SpellsCommands words 4 commands read.commands) (sym read.all) read.of_commands;
-        of_nops = (read.count, refl);
+        of_nops = read.of_nops;
         of_section = read.of_section;
-        of_behind = (read.behind, refl);
+        of_behind = read.of_behind;
         whole = refl;
       },
     )
 
-pub message_was_spelled : ReadWasPut → CommandReadIsSpelled → NopIsSpelled → ReadIsSpelled
+pub message_was_spelled : ReadWasPut → RowReadIsSpelled → EndingReadIsSpelled → ReadIsSpelled
 unfolding client_after
-message_was_spelled put command_law nop_law words key message bits rest code fits e =
-    let heads = bind_ok (bits_read (heads_after words bits)) (λ heads. operations_after words key (length heads.1) (start_of heads.0) heads.1) (message, rest) e in
+message_was_spelled put row_law ending_law words key message bits rest code fits e =
+    let heads = bind_ok (fault_as Bits (heads_after words bits)) (λ heads. operations_after words key (start_of heads.0) heads.1) (message, rest) e in
     let were = heads_were_spelled put words code bits heads.0 (map_err_ok Bits (heads_after words bits) heads.0 heads.1) in
-    let read = operations_were_spelled put command_law nop_law words code key (length heads.0.1) (start_of heads.0.0) heads.0.1 (message, rest) (record { delta = refl; moves = refl }) (omega arith) heads.2 in
+    let read = operations_were_spelled put row_law ending_law words code key (start_of heads.0.0) heads.0.1 (message, rest) (record { delta = refl; moves = refl }) (omega arith) heads.2 in
     message_behind words key message bits rest heads.0 were read

@@ -3,8 +3,7 @@ use Rattle.std.specs.Prelude.{ℕ, List, [], ◌∷◌, ◌++◌, map, codes, de
 use Rattle.std.specs.List.{flat_map}
 use Rattle.std.specs.Fmt.{signed_decimal}
 use Rattle.q3_clmsg.specs.declared.moves.Move.{Move}
-use Rattle.q3_bits.specs.declared.reader.ReadError.{ReadError}
-use Rattle.q3_bits.specs.declared.reader.ReadError.TheVariants as bits
+use Rattle.q3_bits.specs.Report.{bits_word}
 use Rattle.q3_clmsg.specs.declared.error.ClientIllegible.{ClientIllegible}
 use Rattle.q3_clmsg.specs.declared.error.ClientIllegible.TheVariants as causes
 
@@ -21,11 +20,6 @@ spaced words = flat_map (λ word. codes " " ++ word) words
 -- the line of a move that was run
 abbrev pub move_text : Move → List ℕ
 move_text one = codes "+ move" ++ spaced (move_words one) ++ codes "\n"
-
--- the word of a fault of bits
-abbrev pub bits_word : ReadError → List ℕ
-bits_word bits.End = codes "end"
-bits_word bits.NoWord = codes "noword"
 
 -- the word of a cause
 abbrev pub cause_word : ClientIllegible → List ℕ

@@ -22,7 +22,7 @@ said_of message = record {
   id = message.id;
   acknowledged = message.acknowledged;
   command = message.command;
-  commands = message.commands.value.items;
+  commands = message.commands;
   delta = message.delta;
   moves = message.moves.items;
 }

@@ -3,7 +3,7 @@
 ghost use Rattle.std.specs.Prelude.{◌≡◌};
 
 use q3_bits::ReadError;
-use q3_strings::StringError;
+use q3_strings::OperationError;
 
 /// The first fault in reading order.
 #[derive(Clone, Copy, Debug, PartialEq, Eq)]
@@ -33,15 +33,17 @@ impl From<ReadError> for ClientIllegible {
     }
 }
 
-impl From<StringError> for ClientIllegible {
-    ghost use Rattle.q3_clmsg.specs.Reading.{string_error};
+impl From<OperationError> for ClientIllegible {
+    ghost use Rattle.q3_clmsg.specs.Reading.{operation_error};
 
-    ghost from_gives = { λ e f. f ≡ string_error e };
+    ghost from_gives = { λ e f. f ≡ operation_error e };
 
-    fn from(e: StringError) -> ClientIllegible {
+    fn from(e: OperationError) -> ClientIllegible {
         match e {
-            StringError::Bits(e) => ClientIllegible::Bits(e),
-            StringError::Long => ClientIllegible::TextLong,
+            OperationError::Bits(e) => ClientIllegible::Bits(e),
+            OperationError::BadOp(operation) => ClientIllegible::BadOp(operation),
+            OperationError::TextLong => ClientIllegible::TextLong,
+            OperationError::Commands => ClientIllegible::Commands,
         }
     }
 }

@@ -17,8 +17,8 @@ pub fn read_is_spelled()
     ensures { ReadIsSpelled }
 {
     bits::read_was_put();
-    strings::command_read_is_spelled();
-    strings::nop_is_spelled();
+    strings::row_read_is_spelled();
+    strings::ending_read_is_spelled();
 }
 
 /// What is spelled so is read, with whatever follows it. So where a reader refuses, no front of the bits is spelled so.
@@ -26,8 +26,9 @@ pub fn spelled_is_read()
     ensures { SpelledIsRead }
 {
     bits::put_is_read();
-    strings::command_spelled_is_read();
-    strings::turns_are_taken();
+    strings::nops_are_nops();
+    strings::row_spelled_is_read();
+    strings::ending_spelled_is_read();
 }
 
 /// What is written of a message is read back by the same key, with whatever follows it.

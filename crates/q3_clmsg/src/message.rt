@@ -5,7 +5,7 @@ ghost use Rattle.std.specs.Prelude.{◌≡◌, IfOk};
 use crate::moves::Move;
 use arrayvec::ArrayVec;
 use q3_bits::NoMemory;
-use q3_text::{Command, CommandRun};
+use q3_text::{CommandRun, Commands};
 use std::alloc::Global;
 
 /// A message of a client, with room for 64 commands and 32 moves.
@@ -18,7 +18,7 @@ pub struct ClientMessage {
     pub acknowledged: u32,
     /// The number of the last server command that the client executed.
     pub command: u32,
-    pub commands: Box<ArrayVec<Command, 64>>,
+    pub commands: Commands,
     /// Whether the server may write snapshots against the one of the newest message. It is false without moves.
     pub delta: bool,
     pub moves: ArrayVec<Move, 32>,
@@ -46,7 +46,7 @@ impl ClientMessage {
             id: 0,
             acknowledged: 0,
             command: 0,
-            commands: Box::new(alloc, ArrayVec::new())?,
+            commands: Commands::new(alloc)?,
             delta: false,
             moves: ArrayVec::new(),
         })

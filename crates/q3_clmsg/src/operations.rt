@@ -1,7 +1,5 @@
 //! The operations of a client's message, the engine's `clc_ops_e`.
 
-pub(crate) const NOP: u32 = 1;
-
 pub(crate) const MOVE: u32 = 2;
 
 pub(crate) const MOVE_NO_DELTA: u32 = 3;

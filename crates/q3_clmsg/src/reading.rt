@@ -2,37 +2,21 @@
 //! `SV_ExecuteClientMessage` and `SV_UserMove` (sv_client.c). That nops are taken, and what is refused, is this
 //! project's own.
 
-ghost use Rattle.std.specs.Prelude.{◌≡◌, length};
+ghost use Rattle.std.specs.Prelude.{◌≡◌};
 ghost use Rattle.q3_bits.specs.Bits.{bits_of};
 ghost use Rattle.q3_bits.specs.Words.{IsCode};
 ghost use Rattle.q3_bits.specs.Streams.{Reads, holding};
 ghost use Rattle.q3_clmsg.specs.Values.{said_of};
-ghost use Rattle.q3_clmsg.specs.Reading.{commands_after, section_after, ending_after, moved_after, operations_after, client_at};
+ghost use Rattle.q3_clmsg.specs.Reading.{section_after, moved_after, operations_after, client_at};
 
 use crate::error::ClientIllegible;
 use crate::heads::heads_from;
 use crate::message::ClientMessage;
 use crate::moves::{Move, read_moves};
-use crate::operations::{CLIENT_COMMAND, EOF, MOVE, MOVE_NO_DELTA, NOP};
+use crate::operations::{CLIENT_COMMAND, EOF, MOVE, MOVE_NO_DELTA};
 use arrayvec::ArrayVec;
 use q3_bits::{Code, Reader};
-use q3_strings::{laws, read_command};
-use q3_text::Command;
-
-/// Reads one command more behind its operation. A 65th is refused before it is read.
-#[tactic(auto, unfolding(crate::specs::Reading::commands_after))]
-fn read_next_command(
-    r: &mut Reader,
-    commands: &mut ArrayVec<Command, 64>,
-) -> Result<(), ClientIllegible>
-    ensures { Reads r.old r.new (commands_after r.old.words commands.old.items r.old.left) (holding commands.new.items result) }
-{
-    if commands.is_full() {
-        return Err(ClientIllegible::Commands);
-    }
-    commands.push(read_command(r)?);
-    Ok(())
-}
+use q3_strings::{read_ending, read_row};
 
 /// Reads the moves behind their operation, and how many there are.
 #[tactic(auto, unfolding(crate::specs::Reading::section_after))]
@@ -51,23 +35,6 @@ fn read_section(
     Ok(())
 }
 
-/// Reads what is behind the moves: nops, and the end.
-fn read_ending(r: &mut Reader) -> Result<(), ClientIllegible>
-    requires { IsCode r.old.words }
-    ensures { Reads r.old r.new (ending_after r.old.words (length r.old.left) r.old.left) result }
-{
-    laws::turns_are_taken();
-    loop {
-        let operation = r.get(8)?;
-        if operation == EOF {
-            return Ok(());
-        }
-        if operation != NOP {
-            return Err(ClientIllegible::BadOp(operation as u8));
-        }
-    }
-}
-
 /// Reads the moves behind their operation, and the message to its end.
 #[tactic(auto, unfolding(crate::specs::Reading::moved_after))]
 fn read_moved(
@@ -81,29 +48,25 @@ fn read_moved(
 {
     read_section(r, key, &mut into.moves)?;
     into.delta = delta;
-    read_ending(r)
+    read_ending(r, EOF)?;
+    Ok(())
 }
 
-/// Reads what is behind the leading longs: nops and commands, up to the end of the message or its moves.
+/// Reads what is behind the leading longs: nops and commands, and the end of the message or its moves.
+#[tactic(auto, unfolding(crate::specs::Reading::rest_after, crate::specs::Reading::operations_after))]
 fn read_operations(
     r: &mut Reader,
     key: u32,
     into: &mut ClientMessage,
 ) -> Result<(), ClientIllegible>
     requires { IsCode r.old.words }
-    ensures { Reads r.old r.new (operations_after r.old.words key (length r.old.left) (said_of into.old) r.old.left) (holding (said_of into.new) result) }
+    ensures { Reads r.old r.new (operations_after r.old.words key (said_of into.old) r.old.left) (holding (said_of into.new) result) }
 {
-    laws::turns_are_taken();
-    laws::command_read_is_spelled();
-    loop {
-        match r.get(8)? {
-            NOP => {}
-            CLIENT_COMMAND => read_next_command(r, &mut into.commands)?,
-            MOVE => return read_moved(r, key, true, into),
-            MOVE_NO_DELTA => return read_moved(r, key, false, into),
-            EOF => return Ok(()),
-            operation => return Err(ClientIllegible::BadOp(operation as u8)),
-        }
+    match read_row(r, CLIENT_COMMAND, &mut into.commands)? {
+        EOF => Ok(()),
+        MOVE => read_moved(r, key, true, into),
+        MOVE_NO_DELTA => read_moved(r, key, false, into),
+        operation => Err(ClientIllegible::BadOp(operation as u8)),
     }
 }
 

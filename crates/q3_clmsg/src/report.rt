@@ -1,26 +1,17 @@
 //! The words that tell why a client's message isn't legible, as reports print them.
 
 ghost use Rattle.std.specs.Prelude.{◌≡◌};
-ghost use Rattle.q3_clmsg.specs.Report.{bits_word, cause_word as word_of_cause, cause_number as number_of_cause};
+ghost use Rattle.q3_clmsg.specs.Report.{cause_word as word_of_cause, cause_number as number_of_cause};
 
 use crate::error::ClientIllegible;
-use q3_bits::ReadError;
-
-fn word_of_bits(e: ReadError) -> &'static [u8]
-    ensures { result.now ≡ bits_word e }
-{
-    match e {
-        ReadError::End => b"end",
-        ReadError::NoWord => b"noword",
-    }
-}
+use q3_bits::bits_word;
 
 /// The word of a cause.
 pub fn cause_word(cause: ClientIllegible) -> &'static [u8]
     ensures { result.now ≡ word_of_cause cause }
 {
     match cause {
-        ClientIllegible::Bits(e) => word_of_bits(e),
+        ClientIllegible::Bits(e) => bits_word(e),
         ClientIllegible::BadOp(_) => b"op",
         ClientIllegible::MoveCount(_) => b"moves",
         ClientIllegible::TextLong => b"text",

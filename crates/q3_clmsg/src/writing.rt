@@ -57,7 +57,7 @@ fn parts_of(message: &ClientMessage) -> SaidParts<'_>
         acknowledged: message.acknowledged,
         command: message.command,
         commands: CommandRun {
-            head: &message.commands,
+            head: message.commands.as_slice(),
             tail: &[],
         },
         delta: message.delta,

@@ -1,8 +1,7 @@
 //! What became of a message that was applied.
 
-use arrayvec::ArrayVec;
 use q3_rings::NoBase;
-use q3_text::Command;
+use q3_text::Commands;
 
 /// What became of the snapshot of a message.
 #[derive(Clone, Copy, Debug, PartialEq, Eq)]
@@ -26,9 +25,9 @@ pub struct Applied {
     pub snap: SnapOutcome,
 }
 
-/// The server's commands that a client executed of one message, by rising number. Whoever applies messages keeps one, in a box of
-/// its own since it has room for 64 texts, and lends it to each call.
+/// The server's commands that a client executed of one message, by rising number. Whoever applies messages keeps one, and lends
+/// it to each call.
 #[derive(Drop)]
 pub struct Log {
-    pub commands: ArrayVec<Command, 64>,
+    pub commands: Commands,
 }

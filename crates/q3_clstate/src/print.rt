@@ -24,11 +24,11 @@ pub fn print_applied<O: Sink>(
     log: &Log,
     out: &mut O,
 ) -> Result<(), Failed>
-    ensures adds { Adds (O.written out.old) (O.written out.new) (applied_text state.now applied.now log.now.commands.items) result }
+    ensures adds { Adds (O.written out.old) (O.written out.new) (applied_text state.now applied.now log.now.commands) result }
     ensures cause { HasCause (O.faults out.old) (O.faults out.new) result }
 {
     laws::texts_follow();
-    print_commands(&log.commands, out)?;
+    print_commands(log.commands.as_slice(), out)?;
     print_game(state, applied.game, out)?;
     print_outcome(applied, out)
 }

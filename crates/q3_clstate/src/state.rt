@@ -89,7 +89,7 @@ impl ClState {
     ) -> Result<Applied, Illegible>
         ensures state { self.new ≡ state_behind self.old (apply_at self.old number message.now) }
         ensures answer { result ≡ answered (apply_at self.old number message.now) }
-        ensures log { log.new.commands.items ≡ heard_in (apply_at self.old number message.now) }
+        ensures log { log.new.commands ≡ heard_in (apply_at self.old number message.now) }
     {
         log.commands.clear();
         list_rises();
@@ -101,11 +101,9 @@ impl ClState {
             &mut self.message,
         )?;
         self.number = number;
-        // a message has room for as many
-        prove!(self.message.commands.len() <= 64);
         self.incoming
-            .execute(&self.message.commands, &mut log.commands);
-        self.settings.execute(&log.commands);
+            .execute(self.message.commands.as_slice(), &mut log.commands);
+        self.settings.execute(log.commands.as_slice());
         let snap = match self.message.section {
             Section::Nothing => SnapOutcome::NoSnap,
             Section::Game => {

@@ -1,7 +1,6 @@
 -- The entity delta: the one text that is written, and what a reader answers behind an entity's number.
 use Rattle.std.specs.Prelude.{ℕ, ◌==◌, Bool, if◌then◌else◌, List, [], ◌∷◌, ◌++◌, Result, Ok, Err}
-use Rattle.std.specs.Result.{result_map_both}
-use Rattle.q3_bits.specs.ResultBind.{◌>>=◌}
+use Rattle.q3_bits.specs.ResultBind.{◌>>=◌, fault_as}
 use Rattle.q3_bits.specs.Words.{field_at, row_bits}
 use Rattle.q3_bits.specs.declared.reader.ReadError.{ReadError}
 use Rattle.q3_fields.specs.Kinds.{Layout}
@@ -43,10 +42,10 @@ entity_error (delta.Bits e) = Bits e
 entity_error (delta.Count count) = Count count
 
 abbrev pub bits_read : {A : Type 0} → Result A ReadError → Result A EntityError
-bits_read {A = A} r = result_map_both (λ (x : A). x) Bits r
+bits_read r = fault_as Bits r
 
 abbrev pub words_read : {A : Type 0} → Result A DeltaError → Result A EntityError
-words_read {A = A} r = result_map_both (λ (x : A). x) entity_error r
+words_read r = fault_as entity_error r
 
 -- the delta of an entity that changed
 abbrev pub delta_at : List (List Bool) → Layout → List ℕ → List Bool → Result ((Entry × List ℕ) × List Bool) EntityError

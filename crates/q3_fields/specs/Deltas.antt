@@ -1,8 +1,7 @@
 -- The delta of a state's words over a table: how many fields follow, and each of them. Entities and players are
 -- written so, and differ in the text of a field.
 use Rattle.std.specs.Prelude.{ℕ, ◌+◌, ◌==◌, ◌&&◌, Bool, if◌then◌else◌, List, [], ◌∷◌, ◌++◌, length, take, nat_lt, Result, Ok, Err}
-use Rattle.std.specs.Result.{result_map_both}
-use Rattle.q3_bits.specs.ResultBind.{◌>>=◌}
+use Rattle.q3_bits.specs.ResultBind.{◌>>=◌, fault_as}
 use Rattle.q3_bits.specs.Words.{field_bits, field_at}
 use Rattle.q3_bits.specs.declared.reader.ReadError.{ReadError}
 use Rattle.q3_fields.specs.declared.kind.Kind.{Kind}
@@ -65,7 +64,7 @@ fields_after state words kinds from bits = Ok (from, bits)
 
 -- a fault of bits
 abbrev pub bits_read : {A : Type 0} → Result A ReadError → Result A DeltaError
-bits_read {A = A} r = result_map_both (λ (x : A). x) Bits r
+bits_read r = fault_as Bits r
 
 -- the words that a delta spells against others, and what is behind it, or the first fault: a count above the table's
 -- is refused before its fields are read

@@ -4,7 +4,7 @@ use Rattle.std.specs.List.{All}
 use Rattle.std.proofs.lemmas.Bool.{cases_Bool, eqb-true, eqb-false}
 use Rattle.std.proofs.lemmas.Bool.Decides.{nat_tests}
 use Rattle.std.proofs.lemmas.List.{length-append, length-map}
-use Rattle.q3_bits.specs.ResultBind.{◌>>=◌, bind_ok, map_err_ok}
+use Rattle.q3_bits.specs.ResultBind.{◌>>=◌, fault_as, bind_ok, map_err_ok}
 use Rattle.q3_bits.specs.Words.{IsCode, row_bits, field_at, field_bits}
 use Rattle.q3_bits.specs.Laws.{ReadWasPut}
 use Rattle.q3_text.specs.Texts.{IsTextByte}
@@ -30,7 +30,7 @@ use Rattle.q3_profile.specs.declared.profile.Profile.{Profile}
 use Rattle.q3_profile.specs.Profile.{IsCodec}
 use Rattle.q3_gamestate.specs.declared.error.GamestateError.{GamestateError}
 use Rattle.q3_gamestate.specs.declared.error.GamestateError.TheVariants.{Bits, BadOp, Entity, Config}
-use Rattle.q3_gamestate.specs.Reading.{field_read, string_read, string_error, entity_read, config_set, config_after, baseline_set, baseline_after, settings_after}
+use Rattle.q3_gamestate.specs.Reading.{field_read, string_error, config_set, config_after, baseline_set, baseline_after, settings_after}
 use Rattle.q3_gamestate.specs.Spelling.{Setting, ConfigString, Baseline, SpellsSettings, strings_after, lines_after, StayWithin}
 use Rattle.q3_gamestate.proofs.Below.{WasRead}
 use Rattle.q3_gamestate.proofs.Fields.{field_was}
@@ -117,13 +117,13 @@ unfolding config_after
 config_was put law words code strings bits found e =
     let on_text : ℕ → List ℕ × List Bool → Result (Strings × List Bool) GamestateError = λ index text. config_set strings index text.0 (set_fault strings index text.0) >>= λ set. Ok (set, text.1) in
     let on_index : ℕ × List Bool → Result (Strings × List Bool) GamestateError =
-    λ index. cond (ltb index.0 places) (string_read (string_after words longest_string index.1) >>= λ text. on_text index.0 text) (Err (Config Index)) in
+    λ index. cond (ltb index.0 places) (fault_as string_error (string_after words longest_string index.1) >>= λ text. on_text index.0 text) (Err (Config Index)) in
     let index = bind_ok (field_read words 16 bits) on_index found e in
     let was = field_was put words 16 bits index.0 code index.1 in
     elim (cases_Bool (ltb index.0.0 places)) [
       | inr past ↦ absurd (let wrong = rw past at index.2 in cc)
       | inl low ↦
-          let text = bind_ok (string_read (string_after words longest_string index.0.1)) (λ text. on_text index.0.0 text) found (rw low at index.2) in
+          let text = bind_ok (fault_as string_error (string_after words longest_string index.0.1)) (λ text. on_text index.0.0 text) found (rw low at index.2) in
           let were = law words longest_string text.0.0 index.0.1 text.0.1 code (map_err_ok string_error (string_after words longest_string index.0.1) text.0 text.1) in
           let set = bind_ok (config_set strings index.0.0 text.0.0 (set_fault strings index.0.0 text.0.0)) (λ set. Ok (set, text.0.1)) found text.2 in
           let is = was_set strings index.0.0 text.0.0 (set_fault strings index.0.0 text.0.0) set.0 set.1 in
@@ -172,12 +172,12 @@ baseline_was put no_entity entry profile code is_table lines bits found e =
     let zeros = zeros_are_words table is_table no_entity in
     let on_state = λ (number : ℕ) (state : (Entry × List ℕ) × List Bool). baseline_set lines number state.0.0 state.0.1 >>= λ set. Ok (set, state.1) in
     let number = bind_ok (field_read words table.number_bits bits)
-    (λ number. cond (eqb number.0 (end_mark table)) (Err (Entity (Order number.0))) (entity_read (entity_at words table (replicate 64 0) number.1) >>= λ state. on_state number.0 state)) found e in
+    (λ number. cond (eqb number.0 (end_mark table)) (Err (Entity (Order number.0))) (fault_as Entity (entity_at words table (replicate 64 0) number.1) >>= λ state. on_state number.0 state)) found e in
     let was = put words table.number_bits number.0.0 bits number.0.1 code (map_err_ok Bits (field_at words table.number_bits bits) number.0 number.1) in
     elim (cases_Bool (eqb number.0.0 (end_mark table))) [
       | inl end ↦ absurd (let wrong = rw end at number.2 in cc)
       | inr before ↦
-          let state = bind_ok (entity_read (entity_at words table (replicate 64 0) number.0.1)) (λ state. on_state number.0.0 state) found (rw before at number.2) in
+          let state = bind_ok (fault_as Entity (entity_at words table (replicate 64 0) number.0.1)) (λ state. on_state number.0.0 state) found (rw before at number.2) in
           let were = entry words table (replicate 64 0) state.0.0.1 state.0.0.0 number.0.0 number.0.1 state.0.1 code is_table zeros.0
           (map_err_ok Entity (entity_at words table (replicate 64 0) number.0.1) state.0 state.1) in
           let set = bind_ok (baseline_set lines number.0.0 state.0.0.0 state.0.0.1) (λ set. Ok (set, state.0.1)) found state.2 in

@@ -1,16 +1,13 @@
 -- What a reader of a gamestate answers: its value, or the first refusal in reading order.
 use Rattle.std.specs.Prelude.{ℕ, zero, suc, ◌==◌, nat_lt, Bool, if◌then◌else◌, List, length, replicate, Option, Some, None, Result, Ok, Err}
 use Rattle.std.specs.Option.{is_some}
-use Rattle.std.specs.Result.{result_map_both}
-use Rattle.q3_bits.specs.ResultBind.{◌>>=◌}
+use Rattle.q3_bits.specs.ResultBind.{◌>>=◌, fault_as}
 use Rattle.q3_bits.specs.Words.{field_at}
-use Rattle.q3_bits.specs.declared.reader.ReadError.{ReadError}
 use Rattle.q3_bits.specs.declared.reader.ReadError.TheVariants.{End}
 use Rattle.q3_strings.specs.declared.error.StringError.{StringError}
 use Rattle.q3_strings.specs.declared.error.StringError.TheVariants as strings
 use Rattle.q3_strings.specs.Reading.{string_after}
 use Rattle.q3_fields.specs.Kinds.{end_mark}
-use Rattle.q3_entity.specs.declared.error.EntityError.{EntityError}
 use Rattle.q3_entity.specs.declared.error.EntityError.TheVariants.{Order, Removes}
 use Rattle.q3_entity.specs.declared.reading.Entry.{Entry}
 use Rattle.q3_entity.specs.declared.reading.Entry.TheVariants.{Removed}
@@ -24,23 +21,14 @@ use Rattle.q3_gamestate.specs.declared.error.GamestateError.{GamestateError}
 use Rattle.q3_gamestate.specs.declared.error.GamestateError.TheVariants.{Bits, BadOp, TextLong, Config, Entity, NoServerId}
 use Rattle.q3_gamestate.specs.Values.{Gamestate}
 
--- the faults of the parts
-abbrev pub bits_read : {A : Type 0} → Result A ReadError → Result A GamestateError
-bits_read {A = A} r = result_map_both (λ (x : A). x) Bits r
-
-abbrev pub entity_read : {A : Type 0} → Result A EntityError → Result A GamestateError
-entity_read {A = A} r = result_map_both (λ (x : A). x) Entity r
-
+-- a fault of a string, as one of a gamestate
 abbrev pub string_error : StringError → GamestateError
 string_error (strings.Bits e) = Bits e
 string_error strings.Long = TextLong
 
-abbrev pub string_read : {A : Type 0} → Result A StringError → Result A GamestateError
-string_read {A = A} r = result_map_both (λ (x : A). x) string_error r
-
 -- a field of so many bits
 abbrev pub field_read : List (List Bool) → ℕ → List Bool → Result (ℕ × List Bool) GamestateError
-field_read words width bits = bits_read (field_at words width bits)
+field_read words width bits = fault_as Bits (field_at words width bits)
 
 -- a config string is set, unless it is too large with the others
 abbrev pub config_set : Strings → ℕ → List ℕ → Option ConfigError → Result Strings GamestateError
@@ -52,7 +40,7 @@ unfoldable pub config_after : List (List Bool) → Strings → List Bool → Res
 config_after words strings bits = do
   index ← field_read words 16 bits
   if nat_lt index.0 places then (do
-    text ← string_read (string_after words longest_string index.1)
+    text ← fault_as string_error (string_after words longest_string index.1)
     set ← config_set strings index.0 text.0 (set_fault strings index.0 text.0)
     Ok (set, text.1))
       else Err (Config Index)
@@ -68,7 +56,7 @@ unfoldable pub baseline_after : Profile → Lines → List Bool → Result (Line
 baseline_after profile lines bits = do
   number ← field_read profile.code profile.entity.number_bits bits
   if number.0 == end_mark profile.entity then Err (Entity (Order number.0)) else (do
-    state ← entity_read (entity_at profile.code profile.entity (replicate 64 0) number.1)
+    state ← fault_as Entity (entity_at profile.code profile.entity (replicate 64 0) number.1)
     set ← baseline_set lines number.0 state.0.0 state.0.1
     Ok (set, state.1))
 

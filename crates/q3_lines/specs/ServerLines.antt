@@ -111,7 +111,7 @@ pub record Run : Type 0 where
 
 -- and as the program keeps it
 abbrev pub run_of : Heard → Run
-run_of heard = record { commands = heard.commands.items; entered = heard.entered; moves = heard.moves.items; owed = heard.owed }
+run_of heard = record { commands = heard.commands; entered = heard.entered; moves = heard.moves.items; owed = heard.owed }
 
 -- where nothing was executed or run
 abbrev pub ran_nothing : Run

@@ -23,7 +23,7 @@ pub fn print_took<O: Sink>(
     out: &mut O,
 ) -> Result<(), Failed>
     ensures adds { Adds (O.written out.old) (O.written out.new)
-        (client_text client.now.state c took.now log.now.commands.items) result }
+        (client_text client.now.state c took.now log.now.commands) result }
     ensures cause { HasCause (O.faults out.old) (O.faults out.new) result }
 {
     let word: &[u8] = match took {
@@ -93,7 +93,7 @@ fn print_delivered<O: Sink>(
     log: &Log,
     out: &mut O,
 ) -> Result<(), Failed>
-    ensures adds { Adds (O.written out.old) (O.written out.new) (client_text state.now c (ClientTook.Applied applied.now) log.now.commands.items) result }
+    ensures adds { Adds (O.written out.old) (O.written out.new) (client_text state.now c (ClientTook.Applied applied.now) log.now.commands) result }
     ensures cause { HasCause (O.faults out.old) (O.faults out.new) result }
 {
     laws::texts_follow();

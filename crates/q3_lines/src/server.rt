@@ -150,7 +150,7 @@ pub fn print_took<O: Sink>(took: &ServerTook, heard: &Heard, out: &mut O) -> Res
         ServerTook::Ran { slot, number } => print_ran(
             *slot,
             *number,
-            &heard.commands,
+            heard.commands.as_slice(),
             heard.entered,
             &heard.moves,
             out,

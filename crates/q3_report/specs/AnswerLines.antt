@@ -97,8 +97,8 @@ lines_of (Toserver c outcome) lent state ran bytes = given_text c outcome ran
 
 -- what an answer is printed with: the commands of the client that took a datagram, or all that the server ran
 abbrev pub ran_with : Answer → Log → Heard → Run
-ran_with (Deliver datagram c took) log heard = record ran_nothing { commands = log.commands.items }
-ran_with (Toclient c (Ok took)) log heard = record ran_nothing { commands = log.commands.items }
+ran_with (Deliver datagram c took) log heard = record ran_nothing { commands = log.commands }
+ran_with (Toclient c (Ok took)) log heard = record ran_nothing { commands = log.commands }
 ran_with (ToServer datagram took) log heard = run_of heard
 ran_with (Toserver c (Ok took)) log heard = run_of heard
 ran_with other log heard = ran_nothing

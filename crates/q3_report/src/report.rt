@@ -200,7 +200,7 @@ fn print_handed<O: Sink>(
     out: &mut O,
 ) -> Result<(), Failed>
     ensures adds { Adds (O.written out.old) (O.written out.new)
-        (handed_text c outcome.now (option_map (λ client. client.now.state) taker.entry) log.now.commands.items) result }
+        (handed_text c outcome.now (option_map (λ client. client.now.state) taker.entry) log.now.commands) result }
     ensures cause { HasCause (O.faults out.old) (O.faults out.new) result }
 {
     match outcome {
@@ -252,7 +252,7 @@ fn print_arrived<O: Sink>(
     out: &mut O,
 ) -> Result<(), Failed>
     ensures adds { Adds (O.written out.old) (O.written out.new)
-        (concat (word.now ∷ decimal number ∷ client_lines (option_map (λ client. client.now.state) taker.entry) c took.now log.now.commands.items ∷ [])) result }
+        (concat (word.now ∷ decimal number ∷ client_lines (option_map (λ client. client.now.state) taker.entry) c took.now log.now.commands ∷ [])) result }
     ensures cause { HasCause (O.faults out.old) (O.faults out.new) result }
 {
     match taker {
@@ -272,7 +272,7 @@ fn print_delivered<O: Sink>(
     out: &mut O,
 ) -> Result<(), Failed>
     ensures adds { Adds (O.written out.old) (O.written out.new)
-        (concat (word.now ∷ decimal number ∷ client_text client.now.state c took.now log.now.commands.items ∷ [])) result }
+        (concat (word.now ∷ decimal number ∷ client_text client.now.state c took.now log.now.commands ∷ [])) result }
     ensures cause { HasCause (O.faults out.old) (O.faults out.new) result }
 {
     laws::texts_follow();

@@ -12,7 +12,7 @@ use Rattle.q3_slot.specs.declared.joined.Joined.{Joined}
 use Rattle.q3_profile.specs.declared.profile.Profile.{Profile}
 use Rattle.q3_frames.specs.Frames.{FramesState, base_of, build_at}
 use Rattle.q3_map.specs.Map.{MapState}
-use Rattle.q3_built.specs.Built.{Built, built_of, is_unclear}
+use Rattle.q3_built.specs.Built.{built_of, is_unclear}
 use Rattle.q3_slot.specs.Slot.{SlotState}
 use Rattle.q3_slot.specs.Emitting.{begun_next, emit_slot, most_placed, next_snapshot}
 use Rattle.q3_slot.specs.Slots.{asked_by, emission_of, slot_of, snapshot_emission, told_under}

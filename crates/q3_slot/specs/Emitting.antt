@@ -1,5 +1,5 @@
 -- What a slot emits: the next message of its client is built, begun and handed out piece by piece.
-use Rattle.std.specs.Prelude.{ℕ, ◌+◌, ◌^◌, ◌||◌, if◌then◌else◌, Bool, List, [], length, take, nat_le, nat_lt, Option, Some, None, option_map}
+use Rattle.std.specs.Prelude.{ℕ, ◌+◌, ◌^◌, ◌||◌, if◌then◌else◌, Bool, List, [], length, take, nat_le, nat_lt, Option, Some, None}
 use Rattle.q3_bits.specs.Bits.{message_bytes, message_length}
 use Rattle.q3_chan.specs.Datagrams.{sequence_end, longest_message}
 use Rattle.q3_chan.specs.Sending.{UnderWay, Piece, started, next_of}
@@ -9,8 +9,6 @@ use Rattle.q3_profile.specs.declared.profile.Profile.{Profile}
 use Rattle.q3_entity.specs.Entities.{most_entities}
 use Rattle.q3_player.specs.State.{zero_player}
 use Rattle.q3_gamestate.specs.Values.{Gamestate}
-use Rattle.q3_svmsg.specs.Values.{base_from}
-use Rattle.q3_svmsg.specs.Texts.{message_text}
 use Rattle.q3_ring.specs.Snapshot.{Snapshot}
 use Rattle.q3_frames.specs.Frames.{FramesState, base_of, build_at}
 use Rattle.q3_map.specs.Map.{MapState, begins_game}

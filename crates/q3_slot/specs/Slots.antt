@@ -1,10 +1,8 @@
 -- How a slot is kept, and what each call does to it, with a client or with none.
-use Rattle.std.specs.Prelude.{◌≡◌, ◌↔◌, ℕ, ◌<◌, ◌==◌, ◌&&◌, not, if◌then◌else◌, Bool, false, List, [], ◌++◌, length, take, Option, Some, None, option_map, Result, Ok, Err, IfOk, IsErr}
+use Rattle.std.specs.Prelude.{◌≡◌, ℕ, ◌==◌, ◌&&◌, not, if◌then◌else◌, Bool, false, List, [], length, Option, Some, None, option_map, Result, Ok, Err}
 use Rattle.q3_io.specs.declared.address.Address.{Address}
-use Rattle.q3_bits.specs.declared.writer.Overflow.{Overflow}
-use Rattle.q3_bits.specs.Bits.{bits_of, message_bytes, message_length}
-use Rattle.q3_bits.specs.ResultBind.{◌>>=◌}
-use Rattle.q3_chan.specs.Datagrams.{longest_message}
+use Rattle.q3_bits.specs.Bits.{bits_of}
+use Rattle.q3_bits.specs.ResultBind.{◌>>=◌, fault_as}
 use Rattle.q3_chan.specs.Sending.{Sending, Piece}
 use Rattle.q3_chan.specs.Gathering.{Gathering}
 use Rattle.q3_chan.specs.Keys.{server_key}
@@ -14,14 +12,11 @@ use Rattle.q3_window.specs.Outgoing.{OutgoingState, acknowledge_at, carried, fit
 use Rattle.q3_config.specs.Commands.{Change, change_in}
 use Rattle.q3_fields.specs.Kinds.{Layout}
 use Rattle.q3_entity.specs.Entities.{IsList}
-use Rattle.q3_entity.specs.Baselines.{Lines}
 use Rattle.q3_clmsg.specs.declared.moves.Move.{Move}
 use Rattle.q3_clmsg.specs.declared.error.ClientIllegible.{ClientIllegible}
 use Rattle.q3_clmsg.specs.Values.{Message}
-use Rattle.q3_clmsg.specs.Reading.{bits_read, heads_at}
-use Rattle.q3_gamestate.specs.Values.{Gamestate}
-use Rattle.q3_svmsg.specs.Values as told
-use Rattle.q3_svmsg.specs.Values.{Game}
+use Rattle.q3_clmsg.specs.declared.error.ClientIllegible.TheVariants.{Bits}
+use Rattle.q3_clmsg.specs.Reading.{heads_at}
 use Rattle.q3_profile.specs.declared.profile.Profile.{Profile}
 use Rattle.q3_ring.specs.Snapshot.{Snapshot}
 use Rattle.q3_frames.specs.Frames.{FramesState, held_frame}
@@ -191,7 +186,7 @@ came_of message (Err cause) = Err cause
 -- what bytes come as from the client that joined with a challenge, by the commands that were issued to it
 abbrev pub said_with : Profile → MapState → ℕ → OutgoingState → List ℕ → Result Came ClientIllegible
 said_with profile map challenge issued bytes = do
-  heads ← bits_read (heads_at profile.code (bits_of bytes))
+  heads ← fault_as Bits (heads_at profile.code (bits_of bytes))
   taken ← ack_taken heads.command (acknowledge_at issued heads.command).answer
   came_under profile map challenge heads (text_at issued heads.command) bytes
 

@@ -1,5 +1,5 @@
 -- What the types of its parts tell of a slot, whatever was handed in and whatever came.
-use Rattle.std.specs.Prelude.{ℕ, ◌^◌, ◌<◌}
+use Rattle.std.specs.Prelude.{◌^◌, ◌<◌}
 use Rattle.q3_text.specs.Texts.{IsText}
 use Rattle.q3_window.specs.Outgoing.{IsOutgoing}
 use Rattle.q3_built.specs.Built.{IsArea}

@@ -3,7 +3,7 @@ use Rattle.std.specs.Prelude.{ℕ, ◌==◌, ◌&&◌, ◌||◌, not, nat_lt, if
 use Rattle.q3_io.specs.declared.address.Address.{Address}
 use Rattle.q3_profile.specs.declared.profile.Profile.{Profile}
 use Rattle.q3_bits.specs.Bits.{bits_of}
-use Rattle.q3_bits.specs.ResultBind.{◌>>=◌}
+use Rattle.q3_bits.specs.ResultBind.{◌>>=◌, fault_as}
 use Rattle.q3_chan.specs.declared.gatherer.Gathered.{Gathered}
 use Rattle.q3_chan.specs.declared.gatherer.Gathered.TheVariants as gathered
 use Rattle.q3_chan.specs.Gathering.{Took, gathered as gathered_of}
@@ -18,7 +18,7 @@ use Rattle.q3_clmsg.specs.declared.error.ClientIllegible.{ClientIllegible}
 use Rattle.q3_clmsg.specs.declared.error.ClientIllegible.TheVariants as causes
 use Rattle.q3_clmsg.specs.Moves.{message_key}
 use Rattle.q3_clmsg.specs.Values.{Message}
-use Rattle.q3_clmsg.specs.Reading.{bits_read, heads_at, client_at}
+use Rattle.q3_clmsg.specs.Reading.{heads_at, client_at}
 use Rattle.q3_slot.specs.declared.taking.ServerTook.{ServerTook}
 use Rattle.q3_slot.specs.declared.taking.ServerTook.TheVariants.{Runt, Connectionless, Old, OutOfOrder, BadFragment, Partial, Illegible, Ignored, Gap, Ran}
 use Rattle.q3_map.specs.Map.{MapState, is_other}
@@ -232,7 +232,7 @@ came_under profile map challenge heads text bytes =
 -- what bytes are as a message of the client in a slot: the leading longs count as they are read before it is cleared
 abbrev pub said_by : Profile → MapState → SlotState → List ℕ → Result Came ClientIllegible
 said_by profile map slot bytes = do
-  heads ← bits_read (heads_at profile.code (bits_of bytes))
+  heads ← fault_as causes.Bits (heads_at profile.code (bits_of bytes))
   taken ← ack_taken heads.command (acknowledge_at slot.issued heads.command).answer
   came_under profile map slot.challenge heads (text_at slot.issued heads.command) bytes
 

@@ -149,7 +149,7 @@ impl Joined {
         message: &ClientMessage,
         heard: &mut Heard,
     ) -> ServerTook
-        requires no_commands { heard.old.commands.items ≡ [] }
+        requires no_commands { heard.old.commands ≡ [] }
         requires no_moves { heard.old.moves.items ≡ [] }
         requires no_entered { heard.old.entered ≡ None }
         requires owed { heard.old.owed ≡ self.old.owed }
@@ -157,7 +157,7 @@ impl Joined {
             ≡ (run_read map.now (slot_of sending gathering issued.old self.old) slot number (came_of (said_of message.now) read)).slot }
         ensures answer { (sending : Sending) (gathering : Gathering)
             → result ≡ (run_read map.now (slot_of sending gathering issued.old self.old) slot number (came_of (said_of message.now) read)).answer }
-        ensures commands { (sending : Sending) (gathering : Gathering) → heard.new.commands.items
+        ensures commands { (sending : Sending) (gathering : Gathering) → heard.new.commands
             ≡ (run_read map.now (slot_of sending gathering issued.old self.old) slot number (came_of (said_of message.now) read)).commands }
         ensures moves { (sending : Sending) (gathering : Gathering) → heard.new.moves.items
             ≡ (run_read map.now (slot_of sending gathering issued.old self.old) slot number (came_of (said_of message.now) read)).moves }
@@ -193,7 +193,7 @@ impl Joined {
             ≡ (ignores map.now (slot_of sending gathering issued.old self.old) slot (leading_of heads)).slot }
         ensures answer { (sending : Sending) (gathering : Gathering) → result ≡ (ignores map.now (slot_of sending gathering issued.old self.old) slot (leading_of heads)).answer }
         ensures owed { (sending : Sending) (gathering : Gathering) → heard.new.owed ≡ (ignores map.now (slot_of sending gathering issued.old self.old) slot (leading_of heads)).owed }
-        ensures commands { heard.new.commands.items ≡ heard.old.commands.items }
+        ensures commands { heard.new.commands ≡ heard.old.commands }
         ensures moves { heard.new.moves.items ≡ heard.old.moves.items }
         ensures entered { heard.new.entered ≡ heard.old.entered }
     {
@@ -230,13 +230,13 @@ impl Joined {
 
     /// Runs a message that leaves no gap: its moves are run, its acknowledgement is taken, and its commands are executed.
     fn run_whole(&mut self, issued: &mut Outgoing, message: &ClientMessage, heard: &mut Heard)
-        requires no_commands { heard.old.commands.items ≡ [] }
+        requires no_commands { heard.old.commands ≡ [] }
         requires no_moves { heard.old.moves.items ≡ [] }
         requires no_entered { heard.old.entered ≡ None }
         ensures client { (sending : Sending) (gathering : Gathering) → self.new
             ≡ record (played self.old (goes_with sending gathering issued.old self.old (said_of message.now))) { executed = executes self.old.executed (said_of message.now).commands } }
         ensures issued { issued.new ≡ (acknowledge_at issued.old (said_of message.now).command).window }
-        ensures commands { heard.new.commands.items ≡ fresh_of self.old.executed.executed (said_of message.now).commands }
+        ensures commands { heard.new.commands ≡ fresh_of self.old.executed.executed (said_of message.now).commands }
         ensures moves { (sending : Sending) (gathering : Gathering) → heard.new.moves.items ≡ (goes_with sending gathering issued.old self.old (said_of message.now)).moves }
         ensures entered { (sending : Sending) (gathering : Gathering) → heard.new.entered ≡ (goes_with sending gathering issued.old self.old (said_of message.now)).entered }
         ensures owed { heard.new.owed ≡ heard.old.owed }
@@ -258,7 +258,7 @@ impl Joined {
             ≡ (goes_with sending gathering issued self.old (said_of message.now)).moves }
         ensures entered { (sending : Sending) (gathering : Gathering) (issued : OutgoingState) → heard.new.entered
             ≡ (goes_with sending gathering issued self.old (said_of message.now)).entered }
-        ensures commands { heard.new.commands.items ≡ heard.old.commands.items }
+        ensures commands { heard.new.commands ≡ heard.old.commands }
         ensures owed { heard.new.owed ≡ heard.old.owed }
     {
         let Some((first, rest)) = message.moves.split_first() else {
@@ -278,7 +278,7 @@ impl Joined {
         ensures client { self.new ≡ record self.old { stage = Active; delta = 0; last_run = last_run_of time rest.now } }
         ensures moves { heard.new.moves.items ≡ runs time rest.now }
         ensures entered { heard.new.entered ≡ Some time }
-        ensures commands { heard.new.commands.items ≡ heard.old.commands.items }
+        ensures commands { heard.new.commands ≡ heard.old.commands }
         ensures owed { heard.new.owed ≡ heard.old.owed }
     {
         self.stage = ClientStage::Active;
@@ -296,7 +296,7 @@ impl Joined {
         } }
         ensures moves { heard.new.moves.items ≡ runs self.old.last_run (said_of message.now).moves }
         ensures entered { heard.new.entered ≡ heard.old.entered }
-        ensures commands { heard.new.commands.items ≡ heard.old.commands.items }
+        ensures commands { heard.new.commands ≡ heard.old.commands }
         ensures owed { heard.new.owed ≡ heard.old.owed }
     {
         self.delta = delta_behind(self.delta, message);

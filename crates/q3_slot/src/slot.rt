@@ -263,13 +263,13 @@ impl Slot {
         heard: &mut Heard,
     ) -> ServerTook
         requires whole { length whole.old ≡ longest_message }
-        requires no_commands { heard.old.commands.items ≡ [] }
+        requires no_commands { heard.old.commands ≡ [] }
         requires no_moves { heard.old.moves.items ≡ [] }
         requires no_entered { heard.old.entered ≡ None }
         requires not_owed { heard.old.owed ≡ false }
         ensures slot { self.new ≡ slot_behind profile.now map.now slot from datagram.now self.old }
         ensures answer { result ≡ (taken_of profile.now map.now slot from datagram.now self.old).answer }
-        ensures commands { heard.new.commands.items ≡ (taken_of profile.now map.now slot from datagram.now self.old).commands }
+        ensures commands { heard.new.commands ≡ (taken_of profile.now map.now slot from datagram.now self.old).commands }
         ensures moves { heard.new.moves.items ≡ (taken_of profile.now map.now slot from datagram.now self.old).moves }
         ensures entered { heard.new.entered ≡ (taken_of profile.now map.now slot from datagram.now self.old).entered }
         ensures owed { heard.new.owed ≡ (taken_of profile.now map.now slot from datagram.now self.old).owed }

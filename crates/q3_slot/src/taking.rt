@@ -13,14 +13,16 @@ ghost use Rattle.q3_slot.specs.Slots.{came_of, said_with};
 ghost use Rattle.q3_slot.specs.Taking.{ack_taken, came_under, said_under, with_heads, delta_behind, runs, last_run_of};
 
 use arrayvec::ArrayVec;
+use q3_bits::NoMemory;
 use q3_chan::scramble_client;
 use q3_clmsg::{
     ClientIllegible, ClientMessage, Heads, Move, message_key, read_client_message, read_heads,
 };
 use q3_map::Map;
 use q3_profile::Profile;
-use q3_text::{Command, Text};
+use q3_text::{Commands, Text};
 use q3_window::{Incoming, Outgoing};
+use std::alloc::Global;
 
 /// What the server's take answers.
 #[derive(Clone, Copy, Debug, PartialEq, Eq)]
@@ -55,31 +57,31 @@ pub enum ServerTook {
 /// with which the client entered the map, if it did, in milliseconds; and whether a gamestate is owed to the client.
 #[derive(Drop)]
 pub struct Heard {
-    pub commands: ArrayVec<Command, 64>,
+    pub commands: Commands,
     pub moves: ArrayVec<Move, 32>,
     pub entered: Option<u32>,
     pub owed: bool,
 }
 
 impl Heard {
-    /// Nothing was run.
-    pub fn new() -> Heard
-        ensures commands { result.commands.items ≡ [] }
-        ensures moves { result.moves.items ≡ [] }
-        ensures entered { result.entered ≡ None }
-        ensures owed { result.owed ≡ false }
+    /// Nothing was run. `Err` is want of memory.
+    pub fn new(alloc: Global) -> Result<Heard, NoMemory>
+        ensures commands { IfOk result (λ heard. heard.commands ≡ []) }
+        ensures moves { IfOk result (λ heard. heard.moves.items ≡ []) }
+        ensures entered { IfOk result (λ heard. heard.entered ≡ None) }
+        ensures owed { IfOk result (λ heard. heard.owed ≡ false) }
     {
-        Heard {
-            commands: ArrayVec::new(),
+        Ok(Heard {
+            commands: Commands::new(alloc)?,
             moves: ArrayVec::new(),
             entered: None,
             owed: false,
-        }
+        })
     }
 
     /// Nothing was run, as after `new`.
     pub fn clear(&mut self)
-        ensures commands { self.new.commands.items ≡ [] }
+        ensures commands { self.new.commands ≡ [] }
         ensures moves { self.new.moves.items ≡ [] }
         ensures entered { self.new.entered ≡ None }
         ensures owed { self.new.owed ≡ false }
@@ -182,20 +184,20 @@ fn put_heads(message: &mut ClientMessage, heads: Heads)
 pub(crate) fn gap_before(executed: &Incoming, message: &ClientMessage) -> Option<u32>
     ensures { result ≡ gap_in executed.now.executed (said_of message.now).commands }
 {
-    executed.gap_in(&message.commands)
+    executed.gap_in(message.commands.as_slice())
 }
 
 /// Executes those commands of a message that weren't executed, and puts them into a list that is empty.
 pub(crate) fn execute_commands(
     executed: &mut Incoming,
     message: &ClientMessage,
-    into: &mut ArrayVec<Command, 64>,
+    into: &mut Commands,
 )
-    requires empty { into.old.items ≡ [] }
+    requires empty { into.old ≡ [] }
     ensures window { executed.new ≡ executes executed.old (said_of message.now).commands }
-    ensures ran { into.new.items ≡ fresh_of executed.old.executed (said_of message.now).commands }
+    ensures ran { into.new ≡ fresh_of executed.old.executed (said_of message.now).commands }
 {
-    executed.execute(&message.commands, into);
+    executed.execute(message.commands.as_slice(), into);
 }
 
 /// Puts the moves that run behind the last one into a list that is empty, and answers the time of the last one run.

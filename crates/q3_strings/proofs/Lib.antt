@@ -3,3 +3,7 @@ pub mod Rows
 pub mod Spelled
 pub mod Nops
 pub mod Turns
+pub mod OperationTurns
+pub mod CommandRows
+pub mod RowSpelled
+pub mod RowRead

@@ -4,7 +4,7 @@ use Rattle.std.specs.List.{All}
 use Rattle.std.proofs.lemmas.Bool.{cases_Bool, eqb-true, eqb-false}
 use Rattle.std.proofs.lemmas.List.{length-map}
 use Rattle.std.proofs.lemmas.List.Elements.{All-nil, All-cons, All-head, All-tail}
-use Rattle.q3_bits.specs.ResultBind.{◌>>=◌, bind_ok, map_err_ok}
+use Rattle.q3_bits.specs.ResultBind.{◌>>=◌, fault_as, bind_ok, map_err_ok}
 use Rattle.q3_bits.specs.Words.{IsCode, row_bits, field_at}
 use Rattle.q3_bits.specs.Laws.{PutIsRead, ReadWasPut}
 use Rattle.q3_bits.specs.declared.reader.ReadError.{ReadError}
@@ -13,7 +13,7 @@ use Rattle.q3_text.specs.Texts.{most_bytes, translated, IsTextByte}
 use Rattle.q3_strings.specs.declared.error.StringError.{StringError}
 use Rattle.q3_strings.specs.declared.error.StringError.TheVariants.{Bits, Long}
 use Rattle.q3_strings.specs.Texts.{bytes_row, string_bits}
-use Rattle.q3_strings.specs.Reading.{bits_read, bytes_after, string_after, command_after}
+use Rattle.q3_strings.specs.Reading.{bytes_after, string_after, command_after}
 use Rattle.q3_strings.specs.Spelling.{SpellsString, SpellsCommand}
 use Rattle.q3_strings.specs.Rows.{row-none, WasField, field_was_put, row-first, row-last}
 use Rattle.q3_strings.specs.Laws.{IsCommand, BytesWerePut, BytesAreRead, StringReadIsSpelled, StringSpelledIsRead, CommandReadIsSpelled, CommandSpelledIsRead}
@@ -108,7 +108,7 @@ string_was : ReadWasPut → (words : List (List Bool)) → IsCode words → (mos
     → ReadString words most bits found
 unfolding string_after
 string_was put words code zero bits found e =
-    let byte = bind_ok (bits_read (field_at words 8 bits)) (λ byte. cond (eqb byte.0 0) (Ok ([], byte.1)) (Err Long)) found e in
+    let byte = bind_ok (fault_as Bits (field_at words 8 bits)) (λ byte. cond (eqb byte.0 0) (Ok ([], byte.1)) (Err Long)) found e in
     let read = map_err_ok Bits (field_at words 8 bits) byte.0 byte.1 in
     elim (cases_Bool (eqb byte.0.0 0)) [
       | inl none ↦
@@ -118,7 +118,7 @@ string_was put words code zero bits found e =
       | inr some ↦ absurd (let wrong = rw some at byte.2 in cc)
     ]
 string_was put words code (suc most) bits found e =
-    let byte = bind_ok (bits_read (field_at words 8 bits))
+    let byte = bind_ok (fault_as Bits (field_at words 8 bits))
     (λ byte. cond (eqb byte.0 0) (Ok ([], byte.1)) (string_after words most byte.1 >>= λ others. Ok (translated byte.0 ∷ others.0, others.1))) found e in
     let read = map_err_ok Bits (field_at words 8 bits) byte.0 byte.1 in
     elim (cases_Bool (eqb byte.0.0 0)) [
@@ -183,7 +183,7 @@ command_was words bits number string was were =
 pub command_was_spelled : ReadWasPut → StringReadIsSpelled → CommandReadIsSpelled
 unfolding command_after
 command_was_spelled put law words command bits rest code e =
-    let number = bind_ok (bits_read (field_at words 32 bits)) (λ number. string_after words most_bytes number.1 >>= λ text. Ok (record { number = number.0; text = text.0 }, text.1)) (command, rest) e in
+    let number = bind_ok (fault_as Bits (field_at words 32 bits)) (λ number. string_after words most_bytes number.1 >>= λ text. Ok (record { number = number.0; text = text.0 }, text.1)) (command, rest) e in
     let string = bind_ok (string_after words most_bytes number.0.1) (λ text. Ok (record { number = number.0.0; text = text.0 }, text.1)) (command, rest) number.2 in
     let was = field_was_put put words 32 bits number.0 code (map_err_ok Bits (field_at words 32 bits) number.0 number.1) in
     let were = law words most_bytes string.0.0 number.0.1 string.0.1 code string.1 in

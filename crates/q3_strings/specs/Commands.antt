@@ -1,5 +1,5 @@
 -- The commands of a message, each with its operation, and the nops between operations.
-use Rattle.std.specs.Prelude.{◌≡◌, ℕ, Bool, List, [], ◌∷◌, ◌++◌, replicate}
+use Rattle.std.specs.Prelude.{◌≡◌, ◌≢◌, ℕ, ◌<◌, Bool, List, [], ◌∷◌, ◌++◌, replicate}
 use Rattle.std.specs.List.{flat_map}
 use Rattle.q3_bits.specs.Words.{row_bits}
 use Rattle.q3_text.specs.declared.text.Command.{Command}
@@ -28,3 +28,18 @@ SpellsCommands words operation [] bits = bits ≡ []
 SpellsCommands words operation (command ∷ commands) bits =
     (nops : List Bool) × (first : List Bool) × (rest : List Bool) × (bits ≡ nops ++ row_bits words ((operation, 8) ∷ []) ++ first ++ rest)
     × SpellsNops words nops × SpellsCommand words command first × SpellsCommands words operation commands rest
+
+-- commands, each behind the operation `command`, nops, and an operation that is neither
+pub record SpellsRow (words : List (List Bool)) (command : ℕ) (commands : List Command) (operation : ℕ) (bits : List Bool) : Type 0 where
+  pub text : List Bool
+  pub nops : List Bool
+  pub of_commands : SpellsCommands words command commands text
+  pub of_nops : SpellsNops words nops
+  pub byte : operation < 256
+  pub not_nop : operation ≢ 1
+  pub not_command : operation ≢ command
+  pub whole : bits ≡ text ++ nops ++ row_bits words ((operation, 8) ∷ [])
+
+-- nops, and the operation `end`
+abbrev pub SpellsEnding : List (List Bool) → ℕ → List Bool → Type 0
+SpellsEnding words end bits = (nops : List Bool) × SpellsNops words nops × (bits ≡ nops ++ row_bits words ((end, 8) ∷ []))

@@ -1,5 +1,5 @@
 -- Laws of bytes, of strings and of commands.
-use Rattle.std.specs.Prelude.{◌≡◌, ℕ, ◌^◌, ◌<◌, ◌≤◌, Bool, List, [], ◌∷◌, ◌++◌, length, All, Ok, Err}
+use Rattle.std.specs.Prelude.{◌≡◌, ◌≢◌, ℕ, ◌+◌, ◌^◌, ◌<◌, ◌≤◌, Bool, List, [], ◌∷◌, ◌++◌, length, All, Ok, Err}
 use Rattle.q3_bits.specs.Words.{IsCode, row_bits, field_at}
 use Rattle.q3_bits.specs.declared.reader.ReadError.{ReadError}
 use Rattle.q3_bits.specs.declared.reader.ReadError.TheVariants.{End}
@@ -8,7 +8,8 @@ use Rattle.q3_text.specs.Texts.{IsText, IsTextByte}
 use Rattle.q3_strings.specs.Texts.{bytes_row, string_bits, command_bits}
 use Rattle.q3_strings.specs.Reading.{bytes_after, string_after, command_after}
 use Rattle.q3_strings.specs.Spelling.{SpellsString, SpellsCommand}
-use Rattle.q3_strings.specs.Commands.{commands_bits, nops_bits, SpellsCommands}
+use Rattle.q3_strings.specs.Commands.{commands_bits, nops_bits, SpellsNops, SpellsCommands, SpellsRow, SpellsEnding}
+use Rattle.q3_strings.specs.Operations.{Row, row_after, ending_after}
 use Rattle.q3_strings.specs.Turns.{HasTurn}
 
 -- a command as the program's type holds it
@@ -65,6 +66,10 @@ NopIsSpelled = (words : List (List Bool)) (operation : ℕ) (commands : List Com
     → (longer : List Bool) × (more : ℕ) × SpellsCommands words operation commands longer
     × ((rest : List Bool) → row_bits words ((1, 8) ∷ []) ++ (text ++ (nops_bits words count ++ rest)) ≡ longer ++ (nops_bits words more ++ rest))
 
+-- nops behind nops are nops
+abbrev pub NopsAreNops : Type 0
+NopsAreNops = (words : List (List Bool)) (first second : List Bool) → SpellsNops words first → SpellsNops words second → SpellsNops words (first ++ second)
+
 -- what holds of operations that are read one after the other
 pub record TurnsAreTaken : Type 0 where
   -- an operation takes a bit at least
@@ -75,3 +80,34 @@ pub record TurnsAreTaken : Type 0 where
       → length bits ≤ turns → HasTurn turns rest
   -- where no bit is left, the bits end
   pub ends : (words : List (List Bool)) (e : ReadError) → IsCode words → field_at words 8 [] ≡ Err e → e ≡ End
+
+-- a row of operations that was read: commands more, and how they and the operation behind them were spelled
+pub record WasRow (words : List (List Bool)) (command : ℕ) (commands : List Command) (bits : List Bool) (row : Row) (rest : List Bool) : Type 0 where
+  pub added : List Command
+  pub all : row.commands ≡ commands ++ added
+  pub few : length commands ≤ 64 → length row.commands ≤ 64
+  pub each : All IsCommand added
+  pub text : List Bool
+  pub spells : SpellsRow words command added row.operation text
+  pub parts : bits ≡ text ++ rest
+
+-- what is read as a row was spelled so
+abbrev pub RowReadIsSpelled : Type 0
+RowReadIsSpelled = (words : List (List Bool)) (command most : ℕ) (commands : List Command) (bits : List Bool) (row : Row) (rest : List Bool) → IsCode words
+    → row_after words command most commands bits ≡ Ok (row, rest) → WasRow words command commands bits row rest
+
+-- what is spelled so is read, with whatever follows it, where there are no more than 64 commands then
+abbrev pub RowSpelledIsRead : Type 0
+RowSpelledIsRead = (words : List (List Bool)) (command operation most : ℕ) (commands added : List Command) (text rest : List Bool) → IsCode words
+    → SpellsRow words command added operation text → command ≢ 1 → command < 256 → length commands + length added ≤ 64 → length (text ++ rest) ≤ most
+    → row_after words command most commands (text ++ rest) ≡ Ok (record { commands = commands ++ added; operation = operation }, rest)
+
+-- what is read as an ending was spelled so
+abbrev pub EndingReadIsSpelled : Type 0
+EndingReadIsSpelled = (words : List (List Bool)) (end most : ℕ) (bits rest : List Bool) → IsCode words → ending_after words end most bits ≡ Ok (tt, rest)
+    → (text : List Bool) × (bits ≡ text ++ rest) × SpellsEnding words end text
+
+-- what is spelled so is read, with whatever follows it
+abbrev pub EndingSpelledIsRead : Type 0
+EndingSpelledIsRead = (words : List (List Bool)) (end most : ℕ) (text rest : List Bool) → IsCode words → SpellsEnding words end text → end ≢ 1 → end < 256
+    → length (text ++ rest) ≤ most → ending_after words end most (text ++ rest) ≡ Ok (tt, rest)

@@ -4,4 +4,5 @@ pub mod Spelling
 pub mod Commands
 pub mod Rows
 pub mod Turns
+pub mod Operations
 pub mod Laws

@@ -1,17 +1,12 @@
 -- What a reader of bytes, of a string and of a command answers: its value, or the first fault in reading order.
 use Rattle.std.specs.Prelude.{ℕ, zero, suc, ◌==◌, Bool, if◌then◌else◌, List, [], ◌∷◌, Result, Ok, Err}
-use Rattle.std.specs.Result.{result_map_both}
-use Rattle.q3_bits.specs.ResultBind.{◌>>=◌}
+use Rattle.q3_bits.specs.ResultBind.{◌>>=◌, fault_as}
 use Rattle.q3_bits.specs.Words.{field_at}
 use Rattle.q3_bits.specs.declared.reader.ReadError.{ReadError}
 use Rattle.q3_text.specs.declared.text.Command.{Command}
 use Rattle.q3_text.specs.Texts.{most_bytes, translated}
 use Rattle.q3_strings.specs.declared.error.StringError.{StringError}
 use Rattle.q3_strings.specs.declared.error.StringError.TheVariants.{Bits, Long}
-
--- a fault of bits
-abbrev pub bits_read : {A : Type 0} → Result A ReadError → Result A StringError
-bits_read {A = A} r = result_map_both (λ (x : A). x) Bits r
 
 -- so many bytes
 unfoldable pub bytes_after : List (List Bool) → ℕ → List Bool → Result (List ℕ × List Bool) ReadError
@@ -24,10 +19,10 @@ bytes_after words (suc count) bits = do
 -- a string: bytes, each translated, up to a 0 that comes after at most so many
 unfoldable pub string_after : List (List Bool) → ℕ → List Bool → Result (List ℕ × List Bool) StringError
 string_after words zero bits = do
-  byte ← bits_read (field_at words 8 bits)
+  byte ← fault_as Bits (field_at words 8 bits)
   if byte.0 == 0 then Ok ([], byte.1) else Err Long
 string_after words (suc most) bits = do
-  byte ← bits_read (field_at words 8 bits)
+  byte ← fault_as Bits (field_at words 8 bits)
   if byte.0 == 0 then Ok ([], byte.1) else (do
     others ← string_after words most byte.1
     Ok (translated byte.0 ∷ others.0, others.1))
@@ -35,6 +30,6 @@ string_after words (suc most) bits = do
 -- a command behind its operation
 unfoldable pub command_after : List (List Bool) → List Bool → Result (Command × List Bool) StringError
 command_after words bits = do
-  number ← bits_read (field_at words 32 bits)
+  number ← fault_as Bits (field_at words 32 bits)
   text ← string_after words most_bytes number.1
   Ok (record { number = number.0; text = text.0 }, text.1)

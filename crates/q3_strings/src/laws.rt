@@ -1,6 +1,6 @@
-//! Laws of bytes, of strings and of commands, each the contract of a call that does nothing but cite the laws below it.
+//! Laws of bytes, of strings, of commands and of operations, each the contract of a call that does nothing but cite the laws below it.
 
-ghost use Rattle.q3_strings.specs.Laws.{BytesWerePut, BytesAreRead, StringIsSpelled, StringReadIsSpelled, StringSpelledIsRead, CommandIsSpelled, CommandReadIsSpelled, CommandSpelledIsRead, CommandsAreSpelled, NopIsSpelled, TurnsAreTaken};
+ghost use Rattle.q3_strings.specs.Laws.{BytesWerePut, BytesAreRead, StringIsSpelled, StringReadIsSpelled, StringSpelledIsRead, CommandIsSpelled, CommandReadIsSpelled, CommandSpelledIsRead, CommandsAreSpelled, NopIsSpelled, NopsAreNops, TurnsAreTaken, RowReadIsSpelled, RowSpelledIsRead, EndingReadIsSpelled, EndingSpelledIsRead};
 
 use q3_bits::laws;
 
@@ -73,10 +73,48 @@ pub fn nop_is_spelled()
     ensures { NopIsSpelled }
 {}
 
+/// Nops behind nops are nops.
+pub fn nops_are_nops()
+    ensures { NopsAreNops }
+{}
+
 /// Operations that are read one after the other are at most as many as bits.
 pub fn turns_are_taken()
     ensures { TurnsAreTaken }
 {
     laws::read_was_put();
     laws::ends_cut_short();
+}
+
+/// What is read as a row of nops and commands, up to another operation, was spelled so.
+pub fn row_read_is_spelled()
+    ensures { RowReadIsSpelled }
+{
+    laws::read_was_put();
+    command_read_is_spelled();
+    nop_is_spelled();
+}
+
+/// A row that is spelled so is read, with whatever follows it.
+pub fn row_spelled_is_read()
+    ensures { RowSpelledIsRead }
+{
+    laws::put_is_read();
+    turns_are_taken();
+    command_spelled_is_read();
+}
+
+/// What is read as an ending was spelled so.
+pub fn ending_read_is_spelled()
+    ensures { EndingReadIsSpelled }
+{
+    laws::read_was_put();
+}
+
+/// An ending that is spelled so is read, with whatever follows it.
+pub fn ending_spelled_is_read()
+    ensures { EndingSpelledIsRead }
+{
+    laws::put_is_read();
+    turns_are_taken();
 }

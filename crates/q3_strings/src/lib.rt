@@ -3,9 +3,11 @@
 
 pub mod error;
 pub mod laws;
+pub mod operations;
 pub mod reading;
 pub mod writing;
 
-pub use error::StringError;
+pub use error::{OperationError, StringError};
+pub use operations::{read_ending, read_row};
 pub use reading::{read_bytes, read_command, read_string, read_text};
 pub use writing::{write_bytes, write_command, write_commands, write_string};

@@ -4,13 +4,13 @@
 
 ghost use Rattle.std.specs.Prelude.{◌≡◌, ◌≤◌, All};
 ghost use Rattle.q3_bits.specs.Streams.{Reads, holding};
-ghost use Rattle.q3_text.specs.Texts.{IsText, IsTextByte, most_bytes};
+ghost use Rattle.q3_text.specs.Texts.{IsTextByte, most_bytes};
 ghost use Rattle.q3_strings.specs.Reading.{bytes_after, string_after, command_after};
 
 use crate::error::StringError;
 use arrayvec::ArrayVec;
 use q3_bits::{ReadError, Reader};
-use q3_text::{Command, Text, laws, translate};
+use q3_text::{Command, Text, translate};
 
 /// The most bytes of a text.
 const MOST_BYTES: usize = 1_023;
@@ -56,30 +56,31 @@ pub fn read_string<const N: usize>(
     Ok(())
 }
 
-/// The text of bytes that are one.
-fn text_from(bytes: &[u8]) -> Text
-    requires { IsText bytes.now }
-    ensures { result ≡ bytes.now }
+/// Reads a string of at most 1,023 bytes into its place. After a refusal `into` may hold any. `Err` comes as in
+/// `read_string`.
+pub fn read_text(r: &mut Reader, into: &mut Text) -> Result<(), StringError>
+    ensures { Reads r.old r.new (string_after r.old.words most_bytes r.old.left) (holding into.new result) }
 {
-    laws::texts_are_texts();
-    Text::of(bytes).unwrap()
+    into.clear();
+    for _ in 0..MOST_BYTES {
+        let byte = r.get(8)?;
+        if byte == 0 {
+            return Ok(());
+        }
+        into.push(byte as u8);
+    }
+    if r.get(8)? != 0 {
+        return Err(StringError::Long);
+    }
+    Ok(())
 }
 
-/// Reads a string of at most 1,023 bytes. `Err` comes as in `read_string`.
-pub fn read_text(r: &mut Reader) -> Result<Text, StringError>
-    ensures { Reads r.old r.new (string_after r.old.words most_bytes r.old.left) result }
-{
-    let mut bytes: ArrayVec<u8, MOST_BYTES> = ArrayVec::new();
-    read_string(r, &mut bytes)?;
-    Ok(text_from(&bytes))
-}
-
-/// Reads a command behind its operation. `Err` comes as in `read_string`.
+/// Reads a command behind its operation into its place. After a refusal `into` may hold any. `Err` comes as in
+/// `read_string`.
 #[tactic(auto, unfolding(crate::specs::Reading::command_after))]
-pub fn read_command(r: &mut Reader) -> Result<Command, StringError>
-    ensures { Reads r.old r.new (command_after r.old.words r.old.left) result }
+pub fn read_command(r: &mut Reader, into: &mut Command) -> Result<(), StringError>
+    ensures { Reads r.old r.new (command_after r.old.words r.old.left) (holding into.new result) }
 {
-    let number = r.get(32)?;
-    let text = read_text(r)?;
-    Ok(Command { number, text })
+    into.number = r.get(32)?;
+    read_text(r, &mut into.text)
 }

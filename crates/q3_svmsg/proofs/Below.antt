@@ -1,6 +1,6 @@
 -- The laws of the crates below that the laws of messages rest on.
 use Rattle.q3_bits.specs.Laws.{ReadWasPut, PutIsRead}
-use Rattle.q3_strings.specs.Laws.{BytesWerePut, BytesAreRead, CommandReadIsSpelled, CommandSpelledIsRead, CommandsAreSpelled, NopIsSpelled, TurnsAreTaken}
+use Rattle.q3_strings.specs.Laws.{BytesWerePut, BytesAreRead, CommandsAreSpelled, NopsAreNops, RowReadIsSpelled, RowSpelledIsRead, EndingReadIsSpelled, EndingSpelledIsRead}
 use Rattle.q3_player.specs.Laws as players
 use Rattle.q3_entity.specs.Laws as entities
 use Rattle.q3_gamestate.specs.Laws as games
@@ -18,8 +18,8 @@ pub record WasWritten : Type 0 where
 pub record WasRead : Type 0 where
   pub put : ReadWasPut
   pub bytes : BytesWerePut
-  pub command : CommandReadIsSpelled
-  pub nop : NopIsSpelled
+  pub row : RowReadIsSpelled
+  pub ending : EndingReadIsSpelled
   pub game : games.ReadIsSpelled
   pub no_player : players.ZeroIsNormal
   pub player : players.ReadIsSpelled
@@ -29,9 +29,10 @@ pub record WasRead : Type 0 where
 -- what is spelled so is read
 pub record IsRead : Type 0 where
   pub put : PutIsRead
-  pub turns : TurnsAreTaken
   pub bytes : BytesAreRead
-  pub command : CommandSpelledIsRead
+  pub nops : NopsAreNops
+  pub row : RowSpelledIsRead
+  pub ending : EndingSpelledIsRead
   pub game : games.SpelledIsRead
   pub no_player : players.ZeroIsNormal
   pub player : players.SpelledIsRead

@@ -1,6 +1,6 @@
 -- The section with a gamestate: its text, what is read of it, and what is spelled so.
 use Rattle.std.proofs.Common.{◌≡◌, ℕ, Bool, List, Ok, None, refl, subst, arith, inl}
-use Rattle.q3_bits.specs.ResultBind.{bind_ok, map_err_ok}
+use Rattle.q3_bits.specs.ResultBind.{fault_as, bind_ok, map_err_ok}
 use Rattle.q3_entity.specs.Baselines.{Lines}
 use Rattle.q3_profile.specs.declared.profile.Profile.{Profile}
 use Rattle.q3_profile.specs.Profile.{IsCodec}
@@ -10,7 +10,7 @@ use Rattle.q3_gamestate.specs.Spelling.{SpellsGamestate}
 use Rattle.q3_gamestate.specs.Laws.{ReadIsSpelled, SpelledIsRead}
 use Rattle.q3_svmsg.specs.Values.{Context, Told, Game, Message}
 use Rattle.q3_svmsg.specs.Texts.{section_bits, message_text}
-use Rattle.q3_svmsg.specs.Reading.{game_error, game_read, game_after}
+use Rattle.q3_svmsg.specs.Reading.{game_error, game_after}
 use Rattle.q3_svmsg.proofs.SectionSpelled.{ReadSection, TakenSection}
 
 -- the text of a message with a gamestate depends on no baselines but its own
@@ -23,7 +23,7 @@ pub game_was_spelled : ReadIsSpelled → (profile : Profile) (context : Context)
     → ReadSection profile context number 2 bits found
 unfolding game_after
 game_was_spelled law profile context number bits found codec e =
-    let game = bind_ok (game_read (gamestate_after profile bits)) (λ game. Ok (Game game.0, game.1)) found e in
+    let game = bind_ok (fault_as game_error (gamestate_after profile bits)) (λ game. Ok (Game game.0, game.1)) found e in
     let made = game.2 in
     let same : (Game game.0.0, game.0.1) ≡ found = cc in
     let was = law profile game.0.0 bits game.0.1 codec (map_err_ok game_error (gamestate_after profile bits) game.0 game.1) in

@@ -1,11 +1,11 @@
 pub mod Below
 pub mod Fields
-pub mod Turns
 pub mod Held
-pub mod CommandsSpelled
+pub mod AreaSpelled
 pub mod SectionSpelled
 pub mod Games
 pub mod MessageSpelled
 pub mod MessageRead
 pub mod WrittenSpelled
 pub mod Skipped
+pub mod Faults

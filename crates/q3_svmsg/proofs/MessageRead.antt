@@ -1,157 +1,119 @@
 -- A message that is spelled so is read.
-use Rattle.std.proofs.Common.{◌≡◌, ◌+◌, ◌≤◌, ℕ, zero, suc, Bool, List, [], ◌∷◌, ◌++◌, length, replicate, Ok, refl, sym, ap, ◌∙◌, append_assoc, arith}
-use Rattle.std.proofs.lemmas.List.{append-nil, length-append}
+use Rattle.std.proofs.Common.{◌≡◌, ◌≢◌, ◌≤◌, ◌<◌, ℕ, Bool, List, [], ◌∷◌, ◌++◌, length, Result, Ok, refl, sym, ap, ◌∙◌, append_assoc, arith, inl, inr}
 use Rattle.q3_bits.specs.Words.{IsCode, row_bits}
-use Rattle.q3_bits.specs.Laws.{PutIsRead}
 use Rattle.q3_text.specs.declared.text.Command.{Command}
 use Rattle.q3_profile.specs.declared.profile.Profile.{Profile}
 use Rattle.q3_profile.specs.Profile.{IsCodec}
+use Rattle.q3_svmsg.specs.declared.error.Illegible.{Illegible}
 use Rattle.q3_svmsg.specs.Values.{Context, Told, Nothing, Game, Snap, Skipped, Message}
-use Rattle.q3_svmsg.specs.Reading.{ending_after, operations_after, message_after}
+use Rattle.q3_svmsg.specs.Reading.{ended_after, rest_after, operations_after, message_after}
 use Rattle.q3_svmsg.specs.Spelling.{SpellsSection}
 use Rattle.q3_svmsg.specs.Laws.{IsContext, SpelledIsRead}
-use Rattle.q3_strings.specs.Commands.{nops_bits, SpellsCommands}
-use Rattle.q3_strings.specs.Rows.{row-none, row-first, row-last}
-use Rattle.q3_strings.specs.Laws.{CommandSpelledIsRead, TurnsAreTaken}
+use Rattle.q3_strings.specs.Commands.{SpellsNops, SpellsCommands}
+use Rattle.q3_strings.specs.Operations.{ending_after}
+use Rattle.q3_strings.specs.Rows.{row-last}
 use Rattle.q3_svmsg.proofs.Below.{IsRead}
-use Rattle.q3_svmsg.proofs.Turns.{ending_done, ending_nop, operations_done, operations_nop, operations_command, operations_section}
-use Rattle.q3_svmsg.proofs.CommandsSpelled.{command_is_read}
-use Rattle.q3_svmsg.proofs.SectionSpelled.{TakenSection, snapshot_is_read, skipped_is_read}
+use Rattle.q3_svmsg.proofs.SectionSpelled.{ReadsSection, TakenSection, snapshot_is_read, skipped_is_read}
 use Rattle.q3_svmsg.proofs.Games.{game_is_read}
 use Rattle.q3_svmsg.proofs.MessageSpelled.{end}
 
--- ---- behind the section
-
--- nops, and the end
-ending_is_read : (words : List (List Bool)) → IsCode words → PutIsRead → TurnsAreTaken → (count turns : ℕ) (rest : List Bool) → length (nops_bits words count ++ (end words ++ rest)) ≤ turns
-    → ending_after words turns (nops_bits words count ++ (end words ++ rest)) ≡ Ok (tt, rest)
-ending_is_read words code put turns_law zero turns rest enough =
-    let bits = end words ++ rest in
-    let same : nops_bits words 0 ++ bits ≡ bits = sym (row-none words bits) in
-    let read = sym (row-last words code put 8 8 rest (omega arith)) in
-    let one = turns_law.turn words bits rest 8 turns code read (omega (arith, enough, ap length same)) in
-    ap (λ (bits : List Bool). ending_after words turns bits) same ∙ ending_done words bits rest turns one.left read one.is
-ending_is_read words code put turns_law (suc count) turns rest enough =
-    let left = nops_bits words count ++ (end words ++ rest) in
-    let bits = nops_bits words (suc count) ++ (end words ++ rest) in
-    let read = sym (row-first words code put 1 8 (replicate count (1, 8)) (end words ++ rest) (omega arith)) in
-    let one = turns_law.turn words bits left 1 turns code read enough in
-    ending_nop words bits left turns one.left read one.is ∙ ending_is_read words code put turns_law count one.left rest one.enough
-
--- ---- before the section
-
-module _ (profile : Profile) (context : Context) (number : ℕ) (code : IsCode profile.code) (put : PutIsRead) (turns_law : TurnsAreTaken) (command_law : CommandSpelledIsRead) where
-  -- the operations behind a text that was read
-  record HasRest (turns : ℕ) (message after : Message) (bits rest : List Bool) : Type 0 where
-    left : ℕ
-    enough : length rest ≤ left
-    is : operations_after profile context number turns message bits ≡ operations_after profile context number left after rest
-
-  -- nops
-  nops_are_read : (count turns : ℕ) (message : Message) (rest : List Bool) → length (nops_bits profile.code count ++ rest) ≤ turns → HasRest turns message message (nops_bits profile.code count ++ rest) rest
-  nops_are_read zero turns message rest enough =
-      let same : nops_bits profile.code 0 ++ rest ≡ rest = sym (row-none profile.code rest) in
-      record { left = turns; enough = omega (arith, enough, ap length same); is = ap (λ (bits : List Bool). operations_after profile context number turns message bits) same }
-  nops_are_read (suc count) turns message rest enough =
+module _ (laws : IsRead) (profile : Profile) (context : Context) (number : ℕ) (code : IsCode profile.code) where
+  -- behind a section nops, and the end
+  ended_is_read : (message : Message) (told : Told) (nops rest : List Bool) → SpellsNops profile.code nops
+      → ended_after profile.code message (told, nops ++ (end profile.code ++ rest)) ≡ Ok (record message { section = told }, rest)
+  unfolding ended_after
+  ended_is_read message told nops rest are_nops =
       let words = profile.code in
-      let left = nops_bits words count ++ rest in
-      let bits = nops_bits words (suc count) ++ rest in
-      let read = sym (row-first words code put 1 8 (replicate count (1, 8)) rest (omega arith)) in
-      let one = turns_law.turn words bits left 1 turns code read enough in
-      let more = nops_are_read count one.left message rest one.enough in
-      record { left = more.left; enough = more.enough; is = operations_nop profile context number message bits left turns one.left read one.is ∙ more.is }
+      let behind = nops ++ (end words ++ rest) in
+      let ending = nops ++ end words in
+      let read = laws.ending words 8 (length (ending ++ rest)) ending rest code (nops, are_nops, refl) (λ e. omega (arith, e)) (omega arith) (omega arith) in
+      let ends : ending_after words 8 (length behind) behind ≡ Ok (tt, rest) = ap (λ (bits : List Bool). ending_after words 8 (length bits) bits) (sym (append_assoc nops (end words) rest)) ∙ read in
+      rw ends refl
 
-  -- commands, with nops before each
-  commands_are_read : (commands : List Command) (turns : ℕ) (message : Message) (text rest : List Bool) → SpellsCommands profile.code 5 commands text
-      → length message.commands + length commands ≤ 64 → length (text ++ rest) ≤ turns
-      → HasRest turns message (record message { commands = message.commands ++ commands }) (text ++ rest) rest
-  commands_are_read [] turns message text rest s few enough = record {
-    left = turns;
-    enough = omega (arith, enough, length-append text rest);
-    is =
-        ap (λ (text : List Bool). operations_after profile context number turns message (text ++ rest)) s
-        ∙ ap (λ (commands : List Command). operations_after profile context number turns (record message { commands = commands }) rest) (sym (append-nil message.commands));
-  }
-  commands_are_read (command ∷ commands) turns message text rest (before, first, others, whole, are_nops, of_command, of_others) few enough =
+  -- commands, nops and another operation, and what is behind these
+  row_is_read : (message : Message) (commands : List Command) (operation : ℕ) (text nops left : List Bool) → message.commands ≡ [] → length commands ≤ 64
+      → SpellsCommands profile.code 5 commands text → SpellsNops profile.code nops → operation < 256 → operation ≢ 1 → operation ≢ 5
+      → operations_after profile context number message (text ++ (nops ++ (row_bits profile.code ((operation, 8) ∷ []) ++ left)))
+      ≡ rest_after profile context number operation (record message { commands = commands }) left
+  unfolding operations_after
+  row_is_read message commands operation text nops left none few of_commands are_nops byte not_nop not_command =
       let words = profile.code in
-      let count = are_nops.0 in
-      let behind = first ++ (others ++ rest) in
-      let bits = row_bits words ((5, 8) ∷ []) ++ behind in
-      let same : text ++ rest ≡ nops_bits words count ++ bits = rw (whole, are_nops.1) (simp append_assoc) in
-      let over = nops_are_read count turns message bits (omega (arith, enough, ap length same)) in
-      let read = sym (row-last words code put 5 8 behind (omega arith)) in
-      let one = turns_law.turn words bits behind 5 over.left code read over.enough in
-      let after = record message { commands = message.commands ++ command ∷ [] } in
-      let step = operations_command profile context number message bits behind (others ++ rest) (message.commands ++ command ∷ []) over.left one.left read one.is
-      (sym (command_is_read command_law words code message.commands command first (others ++ rest) (omega (arith, few)) of_command)) in
-      let more = commands_are_read commands one.left after others rest of_others (omega (arith, few, length-append message.commands (command ∷ [])))
-      (omega (arith, one.enough, length-append first (others ++ rest))) in
-      record {
-        left = more.left;
-        enough = more.enough;
-        is = ap (λ (bits : List Bool). operations_after profile context number turns message bits) same ∙ over.is ∙ step ∙ more.is
-            ∙ ap (λ (all : List Command). operations_after profile context number more.left (record message { commands = all }) rest) (append_assoc message.commands (command ∷ []) commands);
-      }
+      let last = row_bits words ((operation, 8) ∷ []) in
+      let spelling = text ++ nops ++ last in
+      let same : text ++ (nops ++ (last ++ left)) ≡ spelling ++ left = simp append_assoc in
+      let read = laws.row words 5 operation (length (spelling ++ left)) message.commands commands spelling left code
+      (record { text = text; nops = nops; of_commands = of_commands; of_nops = are_nops; byte = byte; not_nop = not_nop; not_command = not_command; whole = refl })
+      (λ e. omega (arith, e)) (omega arith) (omega (arith, few, ap length none)) (omega arith) in
+      rw (same, read) (ap (λ (before : List Command). rest_after profile context number operation (record message { commands = before ++ commands }) left) none)
+
+  done_is_read : (message : Message) (left : List Bool) → rest_after profile context number 8 message left ≡ Ok (message, left)
+  unfolding rest_after
+  done_is_read message left = refl
+
+  -- an operation of a section is neither a nop nor a command
+  section_is_other : (operation : ℕ) (bits : List Bool) (read : Result (Told × List Bool) Illegible) → ReadsSection profile context number operation bits read → (operation ≢ 1) × (operation ≢ 5)
+  section_is_other operation bits read (inl (game, told)) = (λ e. omega (arith, e, game), λ e. omega (arith, e, game))
+  section_is_other operation bits read (inr (snapshot, told)) = (λ e. omega (arith, e, snapshot), λ e. omega (arith, e, snapshot))
+
+  -- a section by its operation
+  told_is_read : (operation : ℕ) (message : Message) (bits : List Bool) (told : Told) (behind : List Bool) → ReadsSection profile context number operation bits (Ok (told, behind))
+      → rest_after profile context number operation message bits ≡ ended_after profile.code message (told, behind)
+  unfolding rest_after
+  told_is_read operation message bits told behind (inl (game, is)) = rw (game, ← is) refl
+  told_is_read operation message bits told behind (inr (snapshot, is)) = rw (snapshot, ← is) refl
 
   -- a section that is there, and what is behind it
-  taken_is_read : (turns count : ℕ) (message : Message) (told : Told) (text rest : List Bool) → TakenSection profile context number told text (nops_bits profile.code count ++ (end profile.code ++ rest))
-      → length (text ++ (nops_bits profile.code count ++ (end profile.code ++ rest))) ≤ turns
-      → operations_after profile context number turns message (text ++ (nops_bits profile.code count ++ (end profile.code ++ rest))) ≡ Ok (record message { section = told }, rest)
-  taken_is_read turns count message told text rest took enough =
+  taken_is_read : (message : Message) (commands : List Command) (told : Told) (text nops section behind rest : List Bool) → message.commands ≡ [] → length commands ≤ 64
+      → SpellsCommands profile.code 5 commands text → SpellsNops profile.code nops → TakenSection profile context number told section (behind ++ (end profile.code ++ rest)) → SpellsNops profile.code behind
+      → operations_after profile context number message (text ++ (nops ++ (section ++ (behind ++ (end profile.code ++ rest))))) ≡ Ok (record message { commands = commands; section = told }, rest)
+  taken_is_read message commands told text nops section behind rest none few of_commands of_nops took of_behind =
       let words = profile.code in
-      let behind = nops_bits words count ++ (end words ++ rest) in
-      let left = took.bits ++ behind in
+      let after : Message = record message { commands = commands } in
+      let ends = behind ++ (end words ++ rest) in
+      let left = took.bits ++ ends in
       let operation = row_bits words ((took.operation, 8) ∷ []) in
-      let same : text ++ behind ≡ operation ++ left = ap (λ (text : List Bool). text ++ behind) took.parts ∙ append_assoc operation took.bits behind in
-      let read = sym (row-last words code put took.operation 8 left took.fits) in
-      let one = turns_law.turn words (operation ++ left) left took.operation turns code read (omega (arith, enough, ap length same)) in
-      ap (λ (bits : List Bool). operations_after profile context number turns message bits) same
-      ∙ operations_section profile context number message (operation ++ left) took.operation left behind rest told turns one.left read one.is took.reads
-      (sym (ending_is_read words code put turns_law count (length behind) rest (omega arith)))
+      let same : section ++ ends ≡ operation ++ left = ap (λ (text : List Bool). text ++ ends) took.parts ∙ append_assoc operation took.bits ends in
+      let other = section_is_other took.operation left (Ok (told, ends)) took.reads in
+      ap (λ (left : List Bool). operations_after profile context number message (text ++ (nops ++ left))) same
+      ∙ row_is_read message commands took.operation text nops left none few of_commands of_nops took.fits other.0 other.1
+      ∙ told_is_read took.operation after left told ends took.reads
+      ∙ ended_is_read after told behind rest of_behind
 
   -- none, and the end
-  none_is_read : (turns count : ℕ) (message : Message) (rest : List Bool) → length (nops_bits profile.code count ++ (end profile.code ++ rest)) ≤ turns
-      → operations_after profile context number turns message (nops_bits profile.code count ++ (end profile.code ++ rest)) ≡ Ok (message, rest)
-  none_is_read turns count message rest enough =
+  none_is_read : (message : Message) (commands : List Command) (text nops behind rest : List Bool) → message.commands ≡ [] → length commands ≤ 64
+      → SpellsCommands profile.code 5 commands text → SpellsNops profile.code nops → SpellsNops profile.code behind
+      → operations_after profile context number message (text ++ (nops ++ (behind ++ (end profile.code ++ rest)))) ≡ Ok (record message { commands = commands }, rest)
+  none_is_read message commands text nops behind rest none few of_commands of_nops of_behind =
       let words = profile.code in
-      let bits = end words ++ rest in
-      let over = nops_are_read count turns message bits enough in
-      let read = sym (row-last words code put 8 8 rest (omega arith)) in
-      let one = turns_law.turn words bits rest 8 over.left code read over.enough in
-      over.is ∙ operations_done profile context number message bits rest over.left one.left read one.is
+      ap (λ (left : List Bool). operations_after profile context number message (text ++ left)) (sym (append_assoc nops behind (end words ++ rest)))
+      ∙ row_is_read message commands 8 text (nops ++ behind) rest none few of_commands (laws.nops words nops behind of_nops of_behind) (omega arith) (λ e. omega (arith, e)) (λ e. omega (arith, e))
+      ∙ done_is_read (record message { commands = commands }) rest
 
-section_is_read : IsRead → (profile : Profile) (context : Context) (number : ℕ)
-    → IsCodec profile → IsContext profile context → (turns count : ℕ) (message : Message) (told : Told) (text rest : List Bool) → message.section ≡ Nothing
-    → SpellsSection profile context number told text → length (text ++ (nops_bits profile.code count ++ (end profile.code ++ rest))) ≤ turns
-    → operations_after profile context number turns message (text ++ (nops_bits profile.code count ++ (end profile.code ++ rest))) ≡ Ok (record message { section = told }, rest)
-section_is_read laws profile context number codec is turns count message Nothing text rest none s enough =
-    let left = nops_bits profile.code count ++ (end profile.code ++ rest) in
-    ap (λ (text : List Bool). operations_after profile context number turns message (text ++ left)) s
-    ∙ none_is_read profile context number codec.code laws.put laws.turns laws.command turns count message rest (omega (arith, enough, length-append text left))
-    ∙ ap (λ (told : Told). Ok (record message { section = told }, rest)) none
-section_is_read laws profile context number codec is turns count message (Game game) text rest none s enough =
-    taken_is_read profile context number codec.code laws.put laws.turns laws.command turns count message (Game game) text rest
-    (game_is_read laws.game profile context number game text (nops_bits profile.code count ++ (end profile.code ++ rest)) codec s) enough
-section_is_read laws profile context number codec is turns count message (Snap base snap entities) text rest none s enough =
-    taken_is_read profile context number codec.code laws.put laws.turns laws.command turns count message (Snap base snap entities) text rest
-    (snapshot_is_read laws.put laws.bytes laws.no_player laws.player laws.list profile context number base snap entities text (nops_bits profile.code count ++ (end profile.code ++ rest)) codec is s) enough
-section_is_read laws profile context number codec is turns count message (Skipped base) text rest none s enough =
-    taken_is_read profile context number codec.code laws.put laws.turns laws.command turns count message (Skipped base) text rest
-    (skipped_is_read laws.put laws.bytes laws.no_player laws.player laws.skipped profile context number base text (nops_bits profile.code count ++ (end profile.code ++ rest)) codec s) enough
+operations_are_read : IsRead → (profile : Profile) (context : Context) (number : ℕ) → IsCodec profile → IsContext profile context → (message : Message) (commands : List Command) (told : Told)
+    (text nops section behind rest : List Bool) → message.commands ≡ [] → message.section ≡ Nothing → length commands ≤ 64 → SpellsCommands profile.code 5 commands text → SpellsNops profile.code nops
+    → SpellsSection profile context number told section → SpellsNops profile.code behind
+    → operations_after profile context number message (text ++ (nops ++ (section ++ (behind ++ (end profile.code ++ rest))))) ≡ Ok (record message { commands = commands; section = told }, rest)
+operations_are_read laws profile context number codec is message commands Nothing text nops section behind rest no_commands none few of_commands of_nops s of_behind =
+    let ends = behind ++ (end profile.code ++ rest) in
+    ap (λ (section : List Bool). operations_after profile context number message (text ++ (nops ++ (section ++ ends)))) s
+    ∙ none_is_read laws profile context number codec.code message commands text nops behind rest no_commands few of_commands of_nops of_behind
+    ∙ ap (λ (told : Told). Ok (record message { commands = commands; section = told }, rest)) none
+operations_are_read laws profile context number codec is message commands (Game game) text nops section behind rest no_commands none few of_commands of_nops s of_behind =
+    taken_is_read laws profile context number codec.code message commands (Game game) text nops section behind rest no_commands few of_commands of_nops
+    (game_is_read laws.game profile context number game section (behind ++ (end profile.code ++ rest)) codec s) of_behind
+operations_are_read laws profile context number codec is message commands (Snap base snap entities) text nops section behind rest no_commands none few of_commands of_nops s of_behind =
+    taken_is_read laws profile context number codec.code message commands (Snap base snap entities) text nops section behind rest no_commands few of_commands of_nops
+    (snapshot_is_read laws.put laws.bytes laws.no_player laws.player laws.list profile context number base snap entities section (behind ++ (end profile.code ++ rest)) codec is s) of_behind
+operations_are_read laws profile context number codec is message commands (Skipped base) text nops section behind rest no_commands none few of_commands of_nops s of_behind =
+    taken_is_read laws profile context number codec.code message commands (Skipped base) text nops section behind rest no_commands few of_commands of_nops
+    (skipped_is_read laws.put laws.bytes laws.no_player laws.player laws.skipped profile context number base section (behind ++ (end profile.code ++ rest)) codec s) of_behind
 
 pub message_is_read : IsRead → SpelledIsRead
 unfolding message_after
 message_is_read laws profile context number message text rest codec is s =
     let words = profile.code in
     let start : Message = record { ack = message.ack; commands = []; section = Nothing } in
-    let count = s.of_behind.0 in
-    let told = s.section ++ (nops_bits words count ++ (end words ++ rest)) in
-    let behind = nops_bits words s.of_nops.0 ++ told in
-    let bits = s.commands ++ behind in
-    let same : text ++ rest ≡ row_bits words ((message.ack, 32) ∷ []) ++ bits = rw (s.whole, s.of_nops.1, s.of_behind.1) (simp append_assoc) in
-    let commands = commands_are_read profile context number codec.code laws.put laws.turns laws.command message.commands (length bits) start s.commands behind s.of_commands (omega (arith, s.few)) (omega arith) in
-    let after : Message = record start { commands = message.commands } in
-    let over = nops_are_read profile context number codec.code laws.put laws.turns laws.command s.of_nops.0 commands.left after told commands.enough in
+    let bits = s.commands ++ (s.nops ++ (s.section ++ (s.behind ++ (end words ++ rest)))) in
+    let same : text ++ rest ≡ row_bits words ((message.ack, 32) ∷ []) ++ bits = rw s.whole (simp append_assoc) in
     rw (same, row-last words codec.code laws.put message.ack 32 bits s.ack)
-    (commands.is ∙ over.is
-    ∙ section_is_read laws profile context number codec is over.left count after message.section s.section rest refl s.of_section over.enough)
+    (operations_are_read laws profile context number codec is start message.commands message.section s.commands s.nops s.section s.behind rest refl refl s.few s.of_commands s.of_nops s.of_section s.of_behind)

@@ -1,8 +1,8 @@
 -- A snapshot: what is read was spelled so, and what is spelled so is read.
-use Rattle.std.proofs.Common.{◌≡◌, ◌⊎◌, ◌<◌, ◌^◌, ◌-◌, ◌==◌, ◌&&◌, not, nat_lt, if◌then◌else◌, ℕ, zero, suc, Bool, true, false, List, [], ◌∷◌, ◌++◌, length, Option, Some, None, IsSome, Ok, refl, sym, ap, subst, ◌∙◌, append_assoc, arith, inl, inr}
+use Rattle.std.proofs.Common.{◌≡◌, ◌⊎◌, ◌<◌, ◌^◌, ◌-◌, ◌==◌, ◌&&◌, not, nat_lt, if◌then◌else◌, ℕ, zero, suc, Bool, true, false, List, [], ◌∷◌, ◌++◌, length, Option, Some, None, IsSome, Result, Ok, refl, sym, ap, subst, ◌∙◌, append_assoc, arith, inl, inr}
 use Rattle.std.proofs.lemmas.Bool.{cases_Bool}
 use Rattle.std.proofs.lemmas.Bool.Decides.{nat_tests}
-use Rattle.q3_bits.specs.ResultBind.{◌>>=◌, bind_ok, map_err_ok}
+use Rattle.q3_bits.specs.ResultBind.{◌>>=◌, fault_as, bind_ok, map_err_ok}
 use Rattle.q3_bits.specs.Words.{row_bits}
 use Rattle.q3_bits.specs.Laws.{PutIsRead, ReadWasPut}
 use Rattle.q3_strings.specs.Texts.{bytes_row}
@@ -22,14 +22,14 @@ use Rattle.q3_entity.specs.Spelling.{SpellsList, SpellsSkipped}
 use Rattle.q3_entity.specs.Laws as entity
 use Rattle.q3_profile.specs.declared.profile.Profile.{Profile}
 use Rattle.q3_profile.specs.Profile.{IsCodec}
+use Rattle.q3_svmsg.specs.declared.error.Illegible.{Illegible}
 use Rattle.q3_svmsg.specs.declared.error.Illegible.TheVariants.{Player, Entity}
 use Rattle.q3_svmsg.specs.Values.{Base, base_player, base_entities, number_of_base, IsNamed, Context, Told, Snap, Skipped, HasNumber}
-use Rattle.q3_svmsg.specs.Reading.{player_read, entities_read, field_read, held_base, snapshot_after, snapshot_skipped, against_base, area_after, section_after}
+use Rattle.q3_svmsg.specs.Reading.{field_read, game_after, held_base, snapshot_after, snapshot_skipped, against_base, area_after, section_after}
 use Rattle.q3_svmsg.specs.Spelling.{SpellsHead, SpellsSnapshot, SpellsSkippedSnapshot, SpellsSection}
 use Rattle.q3_svmsg.specs.Laws.{IsHead, AreEntities, IsContext, IsReadTold}
 use Rattle.q3_svmsg.proofs.Fields.{field_was}
-use Rattle.q3_svmsg.proofs.Turns.{ReadsSection}
-use Rattle.q3_svmsg.proofs.CommandsSpelled.{area_was_spelled, area_is_read}
+use Rattle.q3_svmsg.proofs.AreaSpelled.{area_was_spelled, area_is_read}
 use Rattle.q3_svmsg.proofs.Held.{IsFrom, held_is_normal}
 
 -- ---- the player and the entities against a base
@@ -65,9 +65,9 @@ states_were_spelled : player.ReadIsSpelled → entity.ListReadIsSpelled → (pro
 unfolding snapshot_after
 states_were_spelled player_law list_law profile lines against base head bits found codec are_lines from e =
     let words = profile.code in
-    let player = bind_ok (player_read (player_at words profile.player.kinds (base_player against) bits))
-    (λ player. entities_read (list_after words profile.entity lines (base_entities against) player.1) >>= λ entities. Ok (Snap base (record head { player = player.0 }) entities.0, entities.1)) found e in
-    let entities = bind_ok (entities_read (list_after words profile.entity lines (base_entities against) player.0.1))
+    let player = bind_ok (fault_as Player (player_at words profile.player.kinds (base_player against) bits))
+    (λ player. fault_as Entity (list_after words profile.entity lines (base_entities against) player.1) >>= λ entities. Ok (Snap base (record head { player = player.0 }) entities.0, entities.1)) found e in
+    let entities = bind_ok (fault_as Entity (list_after words profile.entity lines (base_entities against) player.0.1))
     (λ entities. Ok (Snap base (record head { player = player.0.0 }) entities.0, entities.1)) found player.2 in
     let made = entities.2 in
     let told : Told = Snap base (record head { player = player.0.0 }) entities.0.0 in
@@ -119,7 +119,7 @@ over_was_spelled : player.ZeroIsNormal → player.ReadIsSpelled → entity.Skipp
 unfolding snapshot_skipped
 over_was_spelled zero_is player_law list_law profile bits found codec e =
     let words = profile.code in
-    let player = bind_ok (player_read (player_at words profile.player.kinds zero_player bits)) (λ player. entities_read (list_skipped words profile.entity player.1)) found e in
+    let player = bind_ok (fault_as Player (player_at words profile.player.kinds zero_player bits)) (λ player. fault_as Entity (list_skipped words profile.entity player.1)) found e in
     let to = player_law words profile.player.kinds zero_player player.0.0 bits player.0.1 codec.code codec.player.kinds (zero_is profile.player.kinds codec.player.kinds).0
     (map_err_ok Player (player_at words profile.player.kinds zero_player bits) player.0 player.1) in
     let list = list_law words profile.entity player.0.1 found.1 codec.code codec.entity (map_err_ok Entity (list_skipped words profile.entity player.0.1) (tt, found.1) player.2) in
@@ -348,6 +348,11 @@ head_is_read put bytes profile context distance base snap front left codec s nam
         named,
       ) refl,
     )
+
+-- a section of this operation reads so
+abbrev pub ReadsSection : Profile → Context → ℕ → ℕ → List Bool → Result (Told × List Bool) Illegible → Type 0
+ReadsSection profile context number operation bits read =
+    ((operation ≡ 2) × (read ≡ game_after profile bits)) ⊎ ((operation ≡ 7) × (read ≡ section_after profile context number bits))
 
 -- a section that is spelled behind its operation
 pub record TakenSection (profile : Profile) (context : Context) (number : ℕ) (told : Told) (text rest : List Bool) : Type 0 where

@@ -1,19 +1,15 @@
 -- What a reader of a server's message answers: its value, or the first refusal in reading order.
-use Rattle.std.specs.Prelude.{ℕ, zero, suc, ◌+◌, ◌-◌, ◌==◌, nat_lt, Bool, if◌then◌else◌, List, [], ◌∷◌, ◌++◌, length, Option, Some, None, Result, Ok, Err}
-use Rattle.std.specs.Result.{result_map_both}
-use Rattle.q3_bits.specs.ResultBind.{◌>>=◌}
+use Rattle.std.specs.Prelude.{ℕ, zero, suc, ◌+◌, ◌-◌, ◌==◌, nat_lt, Bool, if◌then◌else◌, List, [], length, Option, Some, None, Result, Ok, Err}
+use Rattle.q3_bits.specs.ResultBind.{◌>>=◌, fault_as}
 use Rattle.q3_bits.specs.Words.{field_at}
 use Rattle.q3_bits.specs.declared.reader.ReadError.{ReadError}
-use Rattle.q3_bits.specs.declared.reader.ReadError.TheVariants.{End}
-use Rattle.q3_text.specs.declared.text.Command.{Command}
-use Rattle.q3_strings.specs.declared.error.StringError.{StringError}
-use Rattle.q3_strings.specs.declared.error.StringError.TheVariants as strings
-use Rattle.q3_strings.specs.Reading.{bytes_after, command_after}
-use Rattle.q3_fields.specs.declared.delta.DeltaError.{DeltaError}
+use Rattle.q3_strings.specs.declared.error.OperationError.{OperationError}
+use Rattle.q3_strings.specs.declared.error.OperationError.TheVariants as operations
+use Rattle.q3_strings.specs.Reading.{bytes_after}
+use Rattle.q3_strings.specs.Operations.{row_after, ending_after}
 use Rattle.q3_player.specs.declared.head.SnapHead.{SnapHead}
 use Rattle.q3_player.specs.State.{zero_player}
 use Rattle.q3_player.specs.Delta.{player_at}
-use Rattle.q3_entity.specs.declared.error.EntityError.{EntityError}
 use Rattle.q3_entity.specs.declared.state.EntityState.{EntityState}
 use Rattle.q3_entity.specs.Baselines.{Lines}
 use Rattle.q3_entity.specs.Lists.{list_after, list_skipped}
@@ -32,23 +28,12 @@ abbrev pub telling : Gamestate → SnapHead → List EntityState → Result Sect
 telling game head entities (Ok section) = Ok (section_of section game head entities)
 telling game head entities (Err e) = Err e
 
--- the faults of the parts
-abbrev pub bits_read : {A : Type 0} → Result A ReadError → Result A Illegible
-bits_read {A = A} r = result_map_both (λ (x : A). x) Bits r
-
-abbrev pub player_read : {A : Type 0} → Result A DeltaError → Result A Illegible
-player_read {A = A} r = result_map_both (λ (x : A). x) Player r
-
-abbrev pub entities_read : {A : Type 0} → Result A EntityError → Result A Illegible
-entities_read {A = A} r = result_map_both (λ (x : A). x) Entity r
-
--- faults of strings, as those of messages
-abbrev pub string_error : StringError → Illegible
-string_error (strings.Bits e) = Bits e
-string_error strings.Long = TextLong
-
-abbrev pub strings_read : {A : Type 0} → Result A StringError → Result A Illegible
-strings_read {A = A} r = result_map_both (λ (x : A). x) string_error r
+-- faults of operations, as those of messages
+abbrev pub operation_error : OperationError → Illegible
+operation_error (operations.Bits e) = Bits e
+operation_error (operations.BadOp operation) = BadOp operation
+operation_error operations.TextLong = TextLong
+operation_error operations.Commands = Commands
 
 -- faults of gamestates, as those of messages
 abbrev pub game_error : GamestateError → Illegible
@@ -59,12 +44,9 @@ game_error (games.Config e) = Config e
 game_error (games.Entity e) = Entity e
 game_error games.NoServerId = NoServerId
 
-abbrev pub game_read : {A : Type 0} → Result A GamestateError → Result A Illegible
-game_read {A = A} r = result_map_both (λ (x : A). x) game_error r
-
 -- a field of so many bits
 abbrev pub field_read : List (List Bool) → ℕ → List Bool → Result (ℕ × List Bool) Illegible
-field_read words width bits = bits_read (field_at words width bits)
+field_read words width bits = fault_as Bits (field_at words width bits)
 
 -- the leading long, and how many bits it takes
 abbrev pub ack_at : List (List Bool) → List Bool → Result (ℕ × ℕ) ReadError
@@ -72,32 +54,24 @@ ack_at words bits = do
   ack ← field_at words 32 bits
   Ok (ack.0, length bits - length ack.1)
 
--- one command more behind its operation, where there are fewer than 64
-unfoldable pub commands_after : List (List Bool) → List Command → List Bool → Result (List Command × List Bool) Illegible
-commands_after words commands bits =
-    if nat_lt (length commands) 64 then (do
-      command ← strings_read (command_after words bits)
-      Ok (commands ++ command.0 ∷ [], command.1))
-    else Err Commands
-
 -- a gamestate behind its operation
 unfoldable pub game_after : Profile → List Bool → Result (Told × List Bool) Illegible
 game_after profile bits = do
-  game ← game_read (gamestate_after profile bits)
+  game ← fault_as game_error (gamestate_after profile bits)
   Ok (Game game.0, game.1)
 
 -- the player and the entities of a snapshot against a base, or without one
 unfoldable pub snapshot_after : Profile → Lines → Option Base → ℕ → SnapHead → List Bool → Result (Told × List Bool) Illegible
 snapshot_after profile lines against base head bits = do
-  player ← player_read (player_at profile.code profile.player.kinds (base_player against) bits)
-  entities ← entities_read (list_after profile.code profile.entity lines (base_entities against) player.1)
+  player ← fault_as Player (player_at profile.code profile.player.kinds (base_player against) bits)
+  entities ← fault_as Entity (list_after profile.code profile.entity lines (base_entities against) player.1)
   Ok (Snap base (record head { player = player.0 }) entities.0, entities.1)
 
 -- a snapshot whose base isn't held is read to its end
 unfoldable pub snapshot_skipped : Profile → List Bool → Result (Unit {0} × List Bool) Illegible
 snapshot_skipped profile bits = do
-  player ← player_read (player_at profile.code profile.player.kinds zero_player bits)
-  entities_read (list_skipped profile.code profile.entity player.1)
+  player ← fault_as Player (player_at profile.code profile.player.kinds zero_player bits)
+  fault_as Entity (list_skipped profile.code profile.entity player.1)
 
 -- the snapshot that a number names, if it is held; 0 names none
 abbrev pub held_base : Context → ℕ → Option Base
@@ -116,7 +90,7 @@ against_base profile context (suc distance) base None head bits = do
 unfoldable pub area_after : List (List Bool) → List Bool → Result (List ℕ × List Bool) Illegible
 area_after words bits = do
   count ← field_read words 8 bits
-  if nat_lt 32 count.0 then Err (Area count.0) else bits_read (bytes_after words count.0 count.1)
+  if nat_lt 32 count.0 then Err (Area count.0) else fault_as Bits (bytes_after words count.0 count.1)
 
 -- a snapshot behind its operation
 unfoldable pub section_after : Profile → Context → ℕ → List Bool → Result (Told × List Bool) Illegible
@@ -128,39 +102,35 @@ section_after profile context number bits = do
   against_base profile context distance.0 (number_of_base number distance.0) (held_base context (number_of_base number distance.0))
       (record { number = number; time = time.0; flags = flags.0; area = record { items = area.0 }; player = zero_player }) area.1
 
--- behind the section: nops, and the end; there are at most so many operations, since each takes a bit
-unfoldable pub ending_after : List (List Bool) → ℕ → List Bool → Result (Unit {0} × List Bool) Illegible
-ending_after words zero bits = Err (Bits End)
-ending_after words (suc most) bits = do
-  operation ← field_read words 8 bits
-  if operation.0 == 8 then Ok (tt, operation.1) else
-      if operation.0 == 1 then ending_after words most operation.1 else Err (BadOp operation.0)
+-- a message with its section, and what is behind its end
+unfoldable pub ended_after : List (List Bool) → Message → Told × List Bool → Result (Message × List Bool) Illegible
+ended_after words message section = do
+  ending ← fault_as operation_error (ending_after words 8 (length section.1) section.1)
+  Ok (record message { section = section.0 }, ending.1)
 
--- before the section: nops and commands; there are at most so many operations, since each takes a bit
-unfoldable pub operations_after : Profile → Context → ℕ → ℕ → Message → List Bool → Result (Message × List Bool) Illegible
-operations_after profile context number zero message bits = Err (Bits End)
-operations_after profile context number (suc most) message bits = do
-  operation ← field_read profile.code 8 bits
-  if operation.0 == 8 then Ok (message, operation.1) else
-      if operation.0 == 1 then operations_after profile context number most message operation.1 else
-      if operation.0 == 5 then (do
-        commands ← commands_after profile.code message.commands operation.1
-        operations_after profile context number most (record message { commands = commands.0 }) commands.1) else
-      if operation.0 == 2 then (do
-        section ← game_after profile operation.1
-        ending ← ending_after profile.code (length section.1) section.1
-        Ok (record message { section = section.0 }, ending.1)) else
-      if operation.0 == 7 then (do
-        section ← section_after profile context number operation.1
-        ending ← ending_after profile.code (length section.1) section.1
-        Ok (record message { section = section.0 }, ending.1))
-      else Err (BadOp operation.0)
+-- a message behind its commands, by the operation behind them: the end, a gamestate, or a snapshot
+unfoldable pub rest_after : Profile → Context → ℕ → ℕ → Message → List Bool → Result (Message × List Bool) Illegible
+rest_after profile context number operation message bits =
+    if operation == 8 then Ok (message, bits) else
+    if operation == 2 then (do
+      section ← game_after profile bits
+      ended_after profile.code message section) else
+    if operation == 7 then (do
+      section ← section_after profile context number bits
+      ended_after profile.code message section)
+    else Err (BadOp operation)
+
+-- behind the leading long: nops and commands, and the end of the message or its section
+unfoldable pub operations_after : Profile → Context → ℕ → Message → List Bool → Result (Message × List Bool) Illegible
+operations_after profile context number message bits = do
+  row ← fault_as operation_error (row_after profile.code 5 (length bits) message.commands bits)
+  rest_after profile context number row.0.operation (record message { commands = row.0.commands }) row.1
 
 -- a server's message under a number: its value, and what is behind its end
 unfoldable pub message_after : Profile → Context → ℕ → List Bool → Result (Message × List Bool) Illegible
 message_after profile context number bits = do
   ack ← field_read profile.code 32 bits
-  operations_after profile context number (length ack.1) (record { ack = ack.0; commands = []; section = Nothing }) ack.1
+  operations_after profile context number (record { ack = ack.0; commands = []; section = Nothing }) ack.1
 
 -- a server's message: its value alone
 abbrev pub message_at : Profile → Context → ℕ → List Bool → Result Message Illegible

@@ -1,7 +1,6 @@
 -- Why a message isn't legible, as reports print it.
 use Rattle.std.specs.Prelude.{ℕ, List, codes, Option, Some, None}
-use Rattle.q3_bits.specs.declared.reader.ReadError.{ReadError}
-use Rattle.q3_bits.specs.declared.reader.ReadError.TheVariants as bits
+use Rattle.q3_bits.specs.Report.{bits_word}
 use Rattle.q3_fields.specs.declared.delta.DeltaError.{DeltaError}
 use Rattle.q3_fields.specs.declared.delta.DeltaError.TheVariants as deltas
 use Rattle.q3_entity.specs.declared.error.EntityError.{EntityError}
@@ -10,10 +9,6 @@ use Rattle.q3_svmsg.specs.declared.error.Illegible.{Illegible}
 use Rattle.q3_svmsg.specs.declared.error.Illegible.TheVariants as causes
 
 -- why a message isn't legible: a word, and for some causes a number behind it
-abbrev pub bits_word : ReadError → List ℕ
-bits_word bits.End = codes "end"
-bits_word bits.NoWord = codes "noword"
-
 abbrev pub player_word : DeltaError → List ℕ
 player_word (deltas.Bits e) = bits_word e
 player_word (deltas.Count count) = codes "count"

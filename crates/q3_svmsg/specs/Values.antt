@@ -70,7 +70,7 @@ game_of message =
 abbrev pub told_of : ServerMessage → Message
 told_of message = record {
   ack = message.ack;
-  commands = message.commands.value.items;
+  commands = message.commands;
   section = section_of message.section (game_of message) message.head message.entities.value.items;
 }
 

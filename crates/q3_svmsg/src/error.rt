@@ -2,14 +2,14 @@
 
 ghost use Rattle.std.specs.Prelude.{◌≡◌};
 ghost use Rattle.q3_svmsg.specs.declared.error.Illegible.TheVariants.{Bits, Entity, Player};
-ghost use Rattle.q3_svmsg.specs.Reading.{string_error, game_error};
+ghost use Rattle.q3_svmsg.specs.Reading.{operation_error, game_error};
 
 use q3_bits::ReadError;
 use q3_config::ConfigError;
 use q3_entity::EntityError;
 use q3_gamestate::GamestateError;
 use q3_player::PlayerError;
-use q3_strings::StringError;
+use q3_strings::OperationError;
 
 /// The first fault in reading order.
 #[derive(Clone, Copy, Debug, PartialEq, Eq)]
@@ -61,13 +61,15 @@ impl From<PlayerError> for Illegible {
     }
 }
 
-impl From<StringError> for Illegible {
-    ghost from_gives = { λ e f. f ≡ string_error e };
+impl From<OperationError> for Illegible {
+    ghost from_gives = { λ e f. f ≡ operation_error e };
 
-    fn from(e: StringError) -> Illegible {
+    fn from(e: OperationError) -> Illegible {
         match e {
-            StringError::Bits(e) => Illegible::Bits(e),
-            StringError::Long => Illegible::TextLong,
+            OperationError::Bits(e) => Illegible::Bits(e),
+            OperationError::BadOp(operation) => Illegible::BadOp(operation),
+            OperationError::TextLong => Illegible::TextLong,
+            OperationError::Commands => Illegible::Commands,
         }
     }
 }

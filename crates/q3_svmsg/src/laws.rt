@@ -26,8 +26,8 @@ pub fn read_is_spelled()
 {
     bits::read_was_put();
     strings::bytes_were_put();
-    strings::command_read_is_spelled();
-    strings::nop_is_spelled();
+    strings::row_read_is_spelled();
+    strings::ending_read_is_spelled();
     gamestate::read_is_spelled();
     player::zero_is_normal();
     player::read_is_spelled();
@@ -40,9 +40,10 @@ pub fn spelled_is_read()
     ensures { SpelledIsRead }
 {
     bits::put_is_read();
-    strings::turns_are_taken();
     strings::bytes_are_read();
-    strings::command_spelled_is_read();
+    strings::nops_are_nops();
+    strings::row_spelled_is_read();
+    strings::ending_spelled_is_read();
     gamestate::spelled_is_read();
     player::zero_is_normal();
     player::spelled_is_read();

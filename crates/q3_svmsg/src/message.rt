@@ -8,7 +8,7 @@ use q3_config::Configs;
 use q3_entity::{Baselines, List, Run};
 use q3_gamestate::{BigString, Numbers};
 use q3_player::SnapHead;
-use q3_text::{Command, CommandRun};
+use q3_text::{CommandRun, Commands};
 use std::alloc::Global;
 
 /// What a message carries behind its commands.
@@ -28,7 +28,7 @@ pub enum Section {
 pub struct ServerMessage {
     /// The number of the last client command that the server executed.
     pub ack: u32,
-    pub commands: Box<ArrayVec<Command, 64>>,
+    pub commands: Commands,
     pub section: Section,
     /// The gamestate's config strings, where the section is a gamestate; and so for all up to the checksum feed.
     pub configs: Configs,
@@ -82,7 +82,7 @@ impl ServerMessage {
     {
         Ok(ServerMessage {
             ack: 0,
-            commands: Box::new(alloc, ArrayVec::new())?,
+            commands: Commands::new(alloc)?,
             section: Section::Nothing,
             configs: Configs::new(alloc)?,
             baselines: Baselines::new(alloc)?,

@@ -1,7 +1,5 @@
 //! The operations of a server's message, of the engine's `svc_ops_e`; a gamestate's are in q3_gamestate.
 
-pub(crate) const NOP: u32 = 1;
-
 pub(crate) const SERVER_COMMAND: u32 = 5;
 
 pub(crate) const SNAPSHOT: u32 = 7;

@@ -1,7 +1,7 @@
 //! Reads a server's message. Keeps the rules "layout of a server message", "snapshot section" and "snapshot whose base
 //! is not held", the engine's `CL_ParseServerMessage` and `CL_ParseSnapshot` (cl_parse.c). The refusals are this project's own.
 
-ghost use Rattle.std.specs.Prelude.{◌≡◌, ◌<◌, ◌≤◌, ℕ, length, map, option_map, All, IfOk, OnOk};
+ghost use Rattle.std.specs.Prelude.{◌≡◌, ◌<◌, option_map, IfOk, OnOk};
 ghost use Rattle.q3_bits.specs.Bits.{bits_of};
 ghost use Rattle.q3_bits.specs.Words.{IsCode};
 ghost use Rattle.q3_bits.specs.Streams.{Reads, holding};
@@ -9,12 +9,12 @@ ghost use Rattle.q3_player.specs.State.{zero_player};
 ghost use Rattle.q3_entity.specs.Entities.{Rises};
 ghost use Rattle.q3_gamestate.specs.Values.{Gamestate};
 ghost use Rattle.q3_svmsg.specs.Values.{Base, Game, Message, base_viewed, base_player, base_entities, number_of_base, game_of, told_of, section_of, HasList, HasNumber};
-ghost use Rattle.q3_svmsg.specs.Reading.{ack_at, area_after, game_after, held_base, snapshot_after, snapshot_skipped, against_base, section_after, ending_after, operations_after, commands_after, message_at, telling};
+ghost use Rattle.q3_svmsg.specs.Reading.{ack_at, area_after, game_after, held_base, snapshot_after, snapshot_skipped, against_base, section_after, rest_after, operations_after, message_at, telling};
 
 use crate::bases::{BaseView, Bases, base_or};
 use crate::error::Illegible;
 use crate::message::{Section, ServerMessage};
-use crate::operations::{NOP, SERVER_COMMAND, SNAPSHOT};
+use crate::operations::{SERVER_COMMAND, SNAPSHOT};
 use arrayvec::ArrayVec;
 use q3_bits::{Code, ReadError, Reader};
 use q3_entity::{Baselines, List, read_list, skip_list};
@@ -22,8 +22,7 @@ use q3_gamestate::operations::{EOF, GAMESTATE};
 use q3_gamestate::read_gamestate;
 use q3_player::{PlayerState, SnapHead, read_player};
 use q3_profile::Profile;
-use q3_strings::{laws, read_bytes, read_command};
-use q3_text::Command;
+use q3_strings::{read_bytes, read_ending, read_row};
 
 /// Reads the number of the last client command that the server executed, and answers how many bits it takes.
 /// `End` and `NoWord` come as in `Reader::get`.
@@ -45,18 +44,6 @@ fn read_area(r: &mut Reader, into: &mut ArrayVec<u8, 32>) -> Result<(), Illegibl
         return Err(Illegible::Area(count as u8));
     }
     read_bytes(r, count as usize, into)?;
-    Ok(())
-}
-
-/// Reads one command more behind its operation. A 65th is refused before it is read.
-#[tactic(auto, unfolding(crate::specs::Reading::commands_after))]
-fn read_next_command(r: &mut Reader, commands: &mut ArrayVec<Command, 64>) -> Result<(), Illegible>
-    ensures { Reads r.old r.new (commands_after r.old.words commands.old.items r.old.left) (holding commands.new.items result) }
-{
-    if commands.is_full() {
-        return Err(Illegible::Commands);
-    }
-    commands.push(read_command(r)?);
     Ok(())
 }
 
@@ -185,24 +172,50 @@ fn read_game(r: &mut Reader, profile: &Profile, into: &mut ServerMessage) -> Res
     Ok(())
 }
 
-/// Reads what is behind the section: nops, and the end.
-fn read_ending(r: &mut Reader) -> Result<(), Illegible>
-    requires { IsCode r.old.words }
-    ensures { Reads r.old r.new (ending_after r.old.words (length r.old.left) r.old.left) result }
+/// Reads what is behind the commands, by the operation that stands there: the end of the message, or its section and the
+/// end behind it.
+#[tactic(auto, unfolding(crate::specs::Reading::rest_after, crate::specs::Reading::ended_after))]
+fn read_rest<B: Bases>(
+    r: &mut Reader,
+    profile: &Profile,
+    number: u32,
+    bases: &B,
+    operation: u32,
+    into: &mut ServerMessage,
+) -> Result<(), Illegible>
+    requires list { HasList profile.now.entity (told_of into.old).section }
+    requires number { HasNumber number (told_of into.old).section }
+    requires code { IsCode r.old.words }
+    requires byte { operation < 256 }
+    ensures reads { Reads r.old r.new (rest_after (record profile.now { code = r.old.words }) (B.context bases.now) number operation (told_of into.old) r.old.left)
+        (holding (told_of into.new) result) }
+    ensures list { OnOk result (HasList profile.now.entity (told_of into.new).section) }
+    ensures number { OnOk result (HasNumber number (told_of into.new).section) }
 {
-    laws::turns_are_taken();
-    loop {
-        let operation = r.get(8)?;
-        if operation == EOF {
-            return Ok(());
+    match operation {
+        EOF => return Ok(()),
+        GAMESTATE => {
+            read_game(r, profile, into)?;
+            into.section = Section::Game;
         }
-        if operation != NOP {
-            return Err(Illegible::BadOp(operation as u8));
+        SNAPSHOT => {
+            into.section = read_section(
+                r,
+                profile,
+                number,
+                bases,
+                &mut into.head,
+                &mut into.entities,
+            )?;
         }
+        operation => return Err(Illegible::BadOp(operation as u8)),
     }
+    read_ending(r, EOF)?;
+    Ok(())
 }
 
-/// Reads what is behind the leading long: nops and commands, up to the end of the message or its section.
+/// Reads what is behind the leading long: nops and commands, and the end of the message or its section.
+#[tactic(auto, unfolding(crate::specs::Reading::operations_after))]
 fn read_operations<B: Bases>(
     r: &mut Reader,
     profile: &Profile,
@@ -213,37 +226,13 @@ fn read_operations<B: Bases>(
     requires list { HasList profile.now.entity (told_of into.old).section }
     requires number { HasNumber number (told_of into.old).section }
     requires code { IsCode r.old.words }
-    ensures reads { Reads r.old r.new (operations_after (record profile.now { code = r.old.words }) (B.context bases.now) number (length r.old.left) (told_of into.old) r.old.left)
+    ensures reads { Reads r.old r.new (operations_after (record profile.now { code = r.old.words }) (B.context bases.now) number (told_of into.old) r.old.left)
         (holding (told_of into.new) result) }
     ensures list { OnOk result (HasList profile.now.entity (told_of into.new).section) }
     ensures number { OnOk result (HasNumber number (told_of into.new).section) }
 {
-    laws::turns_are_taken();
-    laws::command_read_is_spelled();
-    loop {
-        match r.get(8)? {
-            NOP => {}
-            GAMESTATE => {
-                read_game(r, profile, into)?;
-                into.section = Section::Game;
-                return read_ending(r);
-            }
-            SERVER_COMMAND => read_next_command(r, &mut into.commands)?,
-            SNAPSHOT => {
-                into.section = read_section(
-                    r,
-                    profile,
-                    number,
-                    bases,
-                    &mut into.head,
-                    &mut into.entities,
-                )?;
-                return read_ending(r);
-            }
-            EOF => return Ok(()),
-            operation => return Err(Illegible::BadOp(operation as u8)),
-        }
-    }
+    let operation = read_row(r, SERVER_COMMAND, &mut into.commands)?;
+    read_rest(r, profile, number, bases, operation, into)
 }
 
 /// Reads a server's message under its number, against the snapshots that are held. A snapshot whose base isn't held is

@@ -1,21 +1,12 @@
 //! Why a message isn't legible, as reports print it: a word, and for some causes a number behind it.
 
 ghost use Rattle.std.specs.Prelude.{◌≡◌};
-ghost use Rattle.q3_svmsg.specs.Report.{bits_word, player_word, entity_word, cause_word, cause_number};
+ghost use Rattle.q3_svmsg.specs.Report.{player_word, entity_word, cause_word, cause_number};
 
 use crate::error::Illegible;
-use q3_bits::ReadError;
+use q3_bits::bits_word;
 use q3_entity::EntityError;
 use q3_player::PlayerError;
-
-fn bits_word(e: ReadError) -> &'static [u8]
-    ensures { result.now ≡ bits_word e }
-{
-    match e {
-        ReadError::End => b"end",
-        ReadError::NoWord => b"noword",
-    }
-}
 
 fn player_word(e: PlayerError) -> &'static [u8]
     ensures { result.now ≡ player_word e }

@@ -117,7 +117,7 @@ fn game_parts_of(message: &ServerMessage) -> GameParts<'_>
 {
     GameParts {
         ack: message.ack,
-        commands: run_of(&message.commands),
+        commands: run_of(message.commands.as_slice()),
         numbers: Numbers {
             command: message.command,
             slot: message.slot,
@@ -131,14 +131,14 @@ fn game_parts_of(message: &ServerMessage) -> GameParts<'_>
 /// The parts of a message with a snapshot that names this base; its commands are one piece.
 fn parts_of(message: &ServerMessage, base: u32) -> SnapParts<'_>
     ensures ack { result.ack ≡ message.now.ack }
-    ensures commands { commands_of result.commands ≡ message.now.commands.value.items }
+    ensures commands { commands_of result.commands ≡ message.now.commands }
     ensures base { result.base ≡ base }
     ensures head { result.head.now ≡ message.now.head }
     ensures entities { run_of result.entities ≡ message.now.entities.value.items }
 {
     SnapParts {
         ack: message.ack,
-        commands: run_of(&message.commands),
+        commands: run_of(message.commands.as_slice()),
         base,
         head: &message.head,
         entities: Run::of(&message.entities),

@@ -1,5 +1,7 @@
 pub mod Texts
 pub mod Commands
+pub mod Places
+pub mod Lending
 pub mod Keys
 pub mod Cuts
 pub mod Decimals

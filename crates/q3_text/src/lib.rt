@@ -1,6 +1,8 @@
-//! Texts of messages, info strings, numbers in decimal, and texts that are cut at a byte. Nothing here takes memory.
+//! Texts of messages, lists of commands, info strings, numbers in decimal, and texts that are cut at a byte. Only the places
+//! of a list of commands take memory.
 #![tactic(auto)]
 
+pub mod commands;
 pub mod cut;
 pub mod info;
 pub mod key;
@@ -8,6 +10,7 @@ pub mod laws;
 pub mod number;
 pub mod text;
 
+pub use commands::Commands;
 pub use cut::{cut_at, place_of};
 pub use info::info_value;
 pub use key::hash_key;

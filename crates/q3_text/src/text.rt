@@ -1,8 +1,8 @@
 //! Texts: the strings of messages. Keeps the rule "strings and their translation", which is the engine's
 //! `MSG_WriteString` and `MSG_ReadString` (msg.c).
 
-ghost use Rattle.std.specs.Prelude.{◌≡◌, []};
-ghost use Rattle.q3_text.specs.Texts.{IsText, translated, text_of};
+ghost use Rattle.std.specs.Prelude.{◌≡◌, ◌<◌, [], ◌∷◌, ◌++◌, length};
+ghost use Rattle.q3_text.specs.Texts.{IsText, most_bytes, translated, text_of};
 
 use crate::cut::place_of;
 use arrayvec::ArrayVec;
@@ -53,6 +53,16 @@ pub struct CommandRun<'a> {
     pub tail: &'a [Command],
 }
 
+impl Command {
+    /// Becomes the same as another command. As many bytes are copied as the other's text has.
+    pub fn copy_from(&mut self, other: &Command)
+        ensures { self.new ≡ other.now }
+    {
+        self.number = other.number;
+        self.text.copy_from(&other.text);
+    }
+}
+
 impl Default for Text {
     ghost is_default = { λ text. text ≡ [] };
 
@@ -98,6 +108,22 @@ impl Text {
             kept.push(translate(*byte));
         }
         Ok(Text { bytes: kept })
+    }
+
+    /// Has no bytes from now on.
+    pub fn clear(&mut self)
+        ensures { self.new ≡ [] }
+    {
+        self.bytes.clear();
+    }
+
+    /// Puts one more byte behind the others, translated.
+    pub fn push(&mut self, byte: u8)
+        requires room { length self.old < most_bytes }
+        requires some { 0 < byte }
+        ensures { self.new ≡ self.old ++ translated byte ∷ [] }
+    {
+        self.bytes.push(translate(byte));
     }
 
     /// The bytes of the text.

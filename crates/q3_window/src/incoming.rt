@@ -4,12 +4,8 @@
 ghost use Rattle.std.specs.Prelude.{◌≡◌, [], ◌≤◌, length};
 ghost use Rattle.q3_window.specs.Incoming.{new_incoming, take_at, take_any_at, jump_at, fresh_of, gap_in, executes};
 
-use arrayvec::ArrayVec;
-use q3_text::{Command, Text};
+use q3_text::{Command, Commands, Text};
 use std::marker::Model;
-
-/// How many commands a message carries at most.
-const MOST_COMMANDS: usize = 64;
 
 /// What becomes of a command that came.
 #[derive(Clone, Copy, Debug, PartialEq, Eq)]
@@ -79,7 +75,7 @@ impl Incoming {
     {
         if number != self.executed {
             self.executed = number;
-            self.last = Text::new();
+            self.last.clear();
         }
     }
 
@@ -105,14 +101,14 @@ impl Incoming {
     }
 
     /// Executes those of a message's commands that weren't, also across gaps, and puts them into `ran`.
-    pub fn execute(&mut self, commands: &[Command], ran: &mut ArrayVec<Command, MOST_COMMANDS>)
-        requires empty { ran.old.items ≡ [] }
+    pub fn execute(&mut self, commands: &[Command], ran: &mut Commands)
+        requires empty { ran.old ≡ [] }
         requires few { length commands.now ≤ 64 }
         ensures window { self.new ≡ executes self.old commands.now }
-        ensures ran { ran.new.items ≡ fresh_of self.old.executed commands.now }
+        ensures ran { ran.new ≡ fresh_of self.old.executed commands.now }
     {
         put_fresh(self.executed, commands, ran);
-        if let Some(last) = ran.last() {
+        if let Some(last) = ran.as_slice().last() {
             self.run(last);
         }
     }
@@ -142,10 +138,10 @@ fn first_gap(executed: u32, commands: &[Command]) -> Option<u32>
 }
 
 /// Puts those of commands that are to be executed behind a number.
-fn put_fresh(executed: u32, commands: &[Command], ran: &mut ArrayVec<Command, MOST_COMMANDS>)
-    requires empty { ran.old.items ≡ [] }
+fn put_fresh(executed: u32, commands: &[Command], ran: &mut Commands)
+    requires empty { ran.old ≡ [] }
     requires few { length commands.now ≤ 64 }
-    ensures { ran.new.items ≡ fresh_of executed commands.now }
+    ensures { ran.new ≡ fresh_of executed commands.now }
 {
     let mut last = executed;
     for command in commands {
@@ -153,15 +149,6 @@ fn put_fresh(executed: u32, commands: &[Command], ran: &mut ArrayVec<Command, MO
             continue;
         }
         last = command.number;
-        ran.push(copy_of(command));
-    }
-}
-
-fn copy_of(command: &Command) -> Command
-    ensures { result ≡ command.now }
-{
-    Command {
-        number: command.number,
-        text: command.text.copy(),
+        ran.push_copy(command);
     }
 }

@@ -3,7 +3,7 @@ use Rattle.std.proofs.Common.{◌≡◌, ℕ, ◌-◌, ◌*◌, ◌^◌, ◌<◌
 use Rattle.std.specs.Prelude.{IfSome, option_map}
 use Rattle.std.proofs.lemmas.Bool.{ltb-false}
 use Rattle.q3_bits.specs.Bits.{bits_of, message_bytes, message_length}
-use Rattle.q3_bits.specs.ResultBind.{◌>>=◌}
+use Rattle.q3_bits.specs.ResultBind.{◌>>=◌, fault_as}
 use Rattle.q3_bits.specs.declared.reader.ReadError.{ReadError}
 use Rattle.q3_bits.specs.Words.{IsCode, row_bits}
 use Rattle.q3_bits.specs.Laws.{PutIsRead, MessageHoldsBits}
@@ -20,7 +20,8 @@ use Rattle.q3_entity.specs.Baselines.{Lines, AreLines}
 use Rattle.q3_svmsg.specs.declared.error.Illegible.{Illegible}
 use Rattle.q3_svmsg.specs.Values.{Base, base_from, Message}
 use Rattle.q3_svmsg.specs.Texts.{section_bits, message_text}
-use Rattle.q3_svmsg.specs.Reading.{bits_read, ack_at, message_after, message_at}
+use Rattle.q3_svmsg.specs.declared.error.Illegible.TheVariants.{Bits}
+use Rattle.q3_svmsg.specs.Reading.{ack_at, message_after, message_at}
 use Rattle.q3_svmsg.specs.Laws.{WrittenIsRead, ReadIsSkipped}
 use Rattle.q3_clstate.specs.State.{Application, context_of, received, apply_read, apply_at}
 use Rattle.q3_built.specs.Built.{Built, is_unclear, IsSnapshot, IsNear, IsBuilt, built_bits, built_bytes}
@@ -60,7 +61,7 @@ with_application client ack applied =
     applied >>= λ application. Ok (record { issued = (acknowledge_at client.issued ack).window; application = application })
 
 abbrev by_long : ClientState → ℕ → List ℕ → Result (ℕ × ℕ) ReadError → Result Reception Illegible
-by_long client n bytes found = bits_read found >>= λ ack.
+by_long client n bytes found = fault_as Bits found >>= λ ack.
     ack_taken ack.0 (acknowledge_at client.issued ack.0).answer >>= λ taken.
     apply_at client.state n (cleared_at client n ack.0 bytes) >>= λ application.
     Ok (record { issued = (acknowledge_at client.issued ack.0).window; application = application })

@@ -2,7 +2,7 @@
 use Rattle.std.proofs.Common.{◌≡◌, ℕ, ◌*◌, ◌-◌, ◌^◌, ◌<◌, ◌≤◌, Bool, false, List, [], ◌∷◌, ◌++◌, length, drop, replicate, Result, Ok, refl, sym, ap, subst, ◌∙◌, inl, inr, append_assoc, arith}
 use Rattle.std.proofs.lemmas.Bool.{cases_Bool, ltb-false}
 use Rattle.q3_bits.specs.Bits.{bits_of, message_bytes, message_length}
-use Rattle.q3_bits.specs.ResultBind.{◌>>=◌}
+use Rattle.q3_bits.specs.ResultBind.{◌>>=◌, fault_as}
 use Rattle.q3_bits.specs.Words.{IsCode, row_bits}
 use Rattle.q3_bits.specs.Laws.{PutIsRead, MessageHoldsBits}
 use Rattle.q3_bits.specs.declared.reader.ReadError.{ReadError}
@@ -19,7 +19,8 @@ use Rattle.q3_clmsg.specs.declared.heads.Heads.{Heads}
 use Rattle.q3_clmsg.specs.Moves.{message_key}
 use Rattle.q3_clmsg.specs.Values.{Message}
 use Rattle.q3_clmsg.specs.Texts.{section_bits, client_text}
-use Rattle.q3_clmsg.specs.Reading.{bits_read, heads_after, heads_at, client_at}
+use Rattle.q3_clmsg.specs.declared.error.ClientIllegible.TheVariants.{Bits}
+use Rattle.q3_clmsg.specs.Reading.{heads_after, heads_at, client_at}
 use Rattle.q3_clmsg.specs.Laws.{WrittenIsRead}
 use Rattle.q3_slot.specs.Slot.{SlotState}
 use Rattle.q3_map.specs.Map.{MapState, is_other}
@@ -59,7 +60,7 @@ longs_are_read put words code id acknowledged command rest fits fits' fits'' = (
 
 -- what came, behind what is read of the leading longs, behind the acknowledgement, and by a text
 abbrev by_heads : Profile → MapState → SlotState → List ℕ → Result Heads ReadError → Result Came ClientIllegible
-by_heads profile map slot bytes found = bits_read found >>= λ heads.
+by_heads profile map slot bytes found = fault_as Bits found >>= λ heads.
     ack_taken heads.command (acknowledge_at slot.issued heads.command).answer >>= λ taken.
     came_under profile map slot.challenge heads (text_at slot.issued heads.command) bytes
 

@@ -147,7 +147,7 @@ fn made_sent(sent: &Sent) -> u64
 
 /// The lines of a client that took a datagram.
 fn lines_of_client(took: &ClientTook, log: &Log) -> Counts
-    ensures { result ≡ lines_of_client took.now log.now.commands.items }
+    ensures { result ≡ lines_of_client took.now log.now.commands }
 {
     match took {
         ClientTook::Applied(applied) => Counts::of_client(

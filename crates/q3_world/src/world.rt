@@ -15,7 +15,6 @@ ghost use Rattle.q3_world.specs.Outcome.{TakesMemory, Prints, HasStepCause};
 use crate::counts::{Counts, lines_in};
 use crate::laws;
 use crate::replay::Replay;
-use arrayvec::ArrayVec;
 use q3_bits::NoMemory;
 use q3_clstate::Log;
 use q3_io::{Failed, Files, Sink};
@@ -23,6 +22,7 @@ use q3_profile::Profile;
 use q3_report::print_answer;
 use q3_script::Event;
 use q3_server::Heard;
+use q3_text::Commands;
 use std::alloc::Global;
 use std::marker::Model;
 
@@ -36,8 +36,7 @@ pub enum StepError {
 }
 
 /// A replay of a schedule: a copy of the profile, a server, a client for each added slot, every datagram that was made, and
-/// what a client, and the server, executed and ran last, and counts of the lines that were printed. The two lists have room for 64
-/// texts each, so they are boxed.
+/// what a client, and the server, executed and ran last, in boxes, and counts of the lines that were printed.
 #[derive(Drop)]
 pub struct World {
     replay: Replay,
@@ -68,10 +67,10 @@ impl World {
             log: Box::new(
                 alloc,
                 Log {
-                    commands: ArrayVec::new(),
+                    commands: Commands::new(alloc)?,
                 },
             )?,
-            heard: Box::new(alloc, Heard::new())?,
+            heard: Box::new(alloc, Heard::new(alloc)?)?,
         })
     }
 

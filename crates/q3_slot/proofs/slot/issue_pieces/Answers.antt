@@ -1,4 +1,4 @@
-use Rattle.std.proofs.Common.{ap, sym, arith}
+use Rattle.std.proofs.Common.{ap, arith}
 use Rattle.q3_window.specs.Outgoing.{Issuing}
 use Rattle.q3_slot.proofs.Told.{AreLeft-begin, AreLeft-step, AreLeft-end}
 use Rattle.q3_slot.proofs.slot.issue_pieces.Goals as goal

@@ -6,8 +6,8 @@ returns c =
     message_was_spelled (record {
       put = c.read_was_put.ensures;
       bytes = c.bytes_were_put.ensures;
-      command = c.command_read_is_spelled.ensures;
-      nop = c.nop_is_spelled.ensures;
+      row = c.row_read_is_spelled.ensures;
+      ending = c.ending_read_is_spelled.ensures;
       game = c.read_is_spelled.ensures;
       no_player = c.zero_is_normal.ensures;
       player = c.read_is_spelled-2.ensures;

@@ -5,9 +5,10 @@ pub returns : goal.returns
 returns c =
     message_is_read (record {
       put = c.put_is_read.ensures;
-      turns = c.turns_are_taken.ensures;
       bytes = c.bytes_are_read.ensures;
-      command = c.command_spelled_is_read.ensures;
+      nops = c.nops_are_nops.ensures;
+      row = c.row_spelled_is_read.ensures;
+      ending = c.ending_spelled_is_read.ensures;
       game = c.spelled_is_read.ensures;
       no_player = c.zero_is_normal.ensures;
       player = c.spelled_is_read-2.ensures;

@@ -13,7 +13,7 @@ loop-command-preserved-then-command-last c =
     let few = c.loop-command.invariant.few in
     record {
       whole =
-          ap (λ (fresh : List Command). c.loop-command.ran.items ++ fresh)
+          ap (λ (fresh : List Command). c.loop-command.ran ++ fresh)
           (sym (fresh_known c.loop-command.last command (drop (place + 1) commands) (omega arith))
           ∙ sym (ap (fresh_of c.loop-command.last) (item_is commands place command (omega arith) c.command-item.is)))
           ∙ c.loop-command.invariant.whole;
@@ -25,14 +25,13 @@ loop-command-preserved c =
     let command = c.command-item.result in
     let place = c.loop-command.command-index in
     let commands = c.args.commands.now in
-    let ran = c.loop-command.ran.items in
+    let ran = c.loop-command.ran in
     let few = c.loop-command.invariant.few in
-    let count = ap length c.push.ensures.items ∙ length-append ran (c.copy_of.result ∷ []) in
+    let count = ap length c.push_copy.ensures ∙ length-append ran (command ∷ []) in
     let rest : List Command = fresh_of command.number (drop (place + 1) commands) in
     record {
       whole =
-          ap (λ (items : List Command). items ++ rest) c.push.ensures.items ∙ append_assoc ran (c.copy_of.result ∷ []) rest
-          ∙ ap (λ (one : Command). ran ++ (one ∷ rest)) c.copy_of.ensures
+          ap (λ (items : List Command). items ++ rest) c.push_copy.ensures ∙ append_assoc ran (command ∷ []) rest
           ∙ ap (λ (fresh : List Command). ran ++ fresh)
           (sym (fresh_new c.loop-command.last command (drop (place + 1) commands) (omega arith))
           ∙ sym (ap (fresh_of c.loop-command.last) (item_is commands place command (omega arith) c.command-item.is)))
@@ -43,6 +42,6 @@ loop-command-preserved c =
 pub returns : goal.returns
 unfolding fresh_of
 returns c =
-    sym (append-nil c.loop-command.ran.items)
-    ∙ sym (ap (λ (commands : List Command). c.loop-command.ran.items ++ fresh_of c.loop-command.last commands) (drop_all c.loop-command.command-index c.args.commands.now (omega arith)))
+    sym (append-nil c.loop-command.ran)
+    ∙ sym (ap (λ (commands : List Command). c.loop-command.ran ++ fresh_of c.loop-command.last commands) (drop_all c.loop-command.command-index c.args.commands.now (omega arith)))
     ∙ c.loop-command.invariant.whole

@@ -12,8 +12,8 @@ returns-in-Snap-default-true-clause-state c =
     let now = the_view c.self.inside in
     let base = c.in-Snap-default-true.base in
     let held : message.section ≡ Snap base true = search rules in
-    let commands : c.deref-3.result.now ≡ message.commands.value.items = search rules in
-    let ran : c.deref-4.result.now ≡ fresh_of now.executed.executed message.commands.value.items = search rules in
-    let heard = hearing now message.commands.value.items in
+    let commands : c.as_slice.result.now ≡ message.commands = search rules in
+    let ran : c.as_slice-2.result.now ≡ fresh_of now.executed.executed message.commands = search rules in
+    let heard = hearing now message.commands in
     rw (← c.self.view_is, ← c.in_ok-read_server_message.ensures.reads, held, c.accept-snap.ensures.held, c.accept-snap.ensures.lines, c.execute.ensures.window, commands, c.execute-2.ensures, ran)
     (snap_state heard c.args.number base (record { head = message.head; entities = message.entities.value.items }) (is_stale now.held c.args.number))

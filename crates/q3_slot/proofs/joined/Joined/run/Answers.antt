@@ -4,9 +4,8 @@ use Rattle.q3_chan.specs.Sending.{Sending}
 use Rattle.q3_clmsg.specs.Values.{said_of}
 use Rattle.q3_clmsg.specs.declared.error.ClientIllegible.{ClientIllegible}
 use Rattle.q3_slot.specs.declared.taking.Origin.{Origin}
-use Rattle.q3_slot.specs.Slot.{SlotState}
 use Rattle.q3_slot.specs.Slots.{slot_of, came_of}
-use Rattle.q3_slot.specs.Taking.{Came, OfOther, SlotTaken, ignores, leading_of, run_read}
+use Rattle.q3_slot.specs.Taking.{SlotTaken, ignores, leading_of, run_read}
 use Rattle.q3_slot.proofs.joined.Joined.run.Goals as goal
 
 -- a message of another map is ignored

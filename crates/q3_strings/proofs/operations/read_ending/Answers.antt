@@ -1,8 +1,8 @@
-use Rattle.std.proofs.Common.{◌≡◌, ◌∙◌, ◌==◌, false, sym, arith}
+use Rattle.std.proofs.Common.{◌≡◌, ◌∙◌, ◌==◌, true, false, sym, arith}
 use Rattle.std.proofs.lemmas.Result.{err_from_is_err_and}
 use Rattle.std.proofs.lemmas.Bool.Decides.{nat_tests}
-use Rattle.q3_svmsg.proofs.Turns.{ending_fault, ending_done, ending_nop, ending_bad}
-use Rattle.q3_svmsg.proofs.reading.read_ending.Goals as goal
+use Rattle.q3_strings.proofs.OperationTurns.{ending_fault, ending_done, ending_nop, ending_bad}
+use Rattle.q3_strings.proofs.operations.read_ending.Goals as goal
 
 pub returns-in_err-operation : goal.returns-in_err-operation
 returns-in_err-operation c =
@@ -11,7 +11,7 @@ returns-in_err-operation c =
     let words = c.args.r.now.words in
     let read = rw h.words at c.in_err-operation.ensures.reads.value in
     rw (p.1, p.2) (record {
-      value = sym (ending_fault words c.turns_are_taken.ensures c.requires c.loop-operation.r.left c.in_err-operation.field-0.0 h.turns read h.enough) ∙ h.reads;
+      value = sym (ending_fault words c.args.end c.turns_are_taken.ensures c.requires c.loop-operation.r.left c.in_err-operation.field-0.0 h.turns read h.enough) ∙ h.reads;
       words = c.in_err-operation.ensures.reads.words ∙ h.words;
       place = c.in_err-operation.ensures.reads.place ∙ h.place;
     })
@@ -26,25 +26,29 @@ pub loop-operation-preserved : goal.loop-operation-preserved
 loop-operation-preserved c =
     let h = c.loop-operation.invariant in
     let words = c.args.r.now.words in
-    let nop : c.in_ok-operation.operation ≡ 1 = omega (arith, c.if-operation-ne-NOP.false) in
-    let read = rw (h.words, nop) at c.in_ok-operation.ensures.reads.value in
-    let one = c.turns_are_taken.ensures.turn words c.loop-operation.r.left c.get.new.self.left 1 h.turns c.requires read h.enough in
+    let byte = c.in_ok-operation.operation in
+    let read = rw h.words at c.in_ok-operation.ensures.reads.value in
+    let one = c.turns_are_taken.ensures.turn words c.loop-operation.r.left c.get.new.self.left byte h.turns c.requires read h.enough in
+    let not_end : (byte == c.args.end) ≡ false = grind (arith, nat_tests) in
+    let nop : (byte == 1) ≡ true = grind (arith, nat_tests) in
     record {
       words = c.in_ok-operation.ensures.reads.words ∙ h.words;
       place = c.in_ok-operation.ensures.reads.place ∙ h.place;
       turns = one.left;
       enough = one.enough;
-      reads = sym (ending_nop words c.loop-operation.r.left c.get.new.self.left h.turns one.left read one.is) ∙ h.reads;
+      reads = sym (ending_nop words c.args.end c.loop-operation.r.left c.get.new.self.left byte h.turns one.left read one.is not_end nop) ∙ h.reads;
     }
 
-pub returns-then-operation-eq-EOF : goal.returns-then-operation-eq-EOF
-returns-then-operation-eq-EOF c =
+pub returns-then-operation-end : goal.returns-then-operation-end
+returns-then-operation-end c =
     let h = c.loop-operation.invariant in
     let words = c.args.r.now.words in
-    let read = rw (h.words, c.if-operation-eq-EOF.true) at c.in_ok-operation.ensures.reads.value in
-    let one = c.turns_are_taken.ensures.turn words c.loop-operation.r.left c.get.new.self.left 8 h.turns c.requires read h.enough in
+    let byte = c.in_ok-operation.operation in
+    let read = rw h.words at c.in_ok-operation.ensures.reads.value in
+    let one = c.turns_are_taken.ensures.turn words c.loop-operation.r.left c.get.new.self.left byte h.turns c.requires read h.enough in
+    let here : (byte == c.args.end) ≡ true = grind (arith, nat_tests) in
     record {
-      value = sym (ending_done words c.loop-operation.r.left c.get.new.self.left h.turns one.left read one.is) ∙ h.reads;
+      value = sym (ending_done words c.args.end c.loop-operation.r.left c.get.new.self.left byte h.turns one.left read one.is here) ∙ h.reads;
       words = c.in_ok-operation.ensures.reads.words ∙ h.words;
       place = c.in_ok-operation.ensures.reads.place ∙ h.place;
     }
@@ -56,10 +60,10 @@ returns-then-operation-ne-NOP c =
     let byte = c.in_ok-operation.operation in
     let read = rw h.words at c.in_ok-operation.ensures.reads.value in
     let one = c.turns_are_taken.ensures.turn words c.loop-operation.r.left c.get.new.self.left byte h.turns c.requires read h.enough in
-    let not_end : (byte == 8) ≡ false = grind (arith, nat_tests) in
+    let not_end : (byte == c.args.end) ≡ false = grind (arith, nat_tests) in
     let not_nop : (byte == 1) ≡ false = grind (arith, nat_tests) in
     record {
-      value = sym (ending_bad words c.loop-operation.r.left c.get.new.self.left byte h.turns one.left read one.is not_end not_nop) ∙ h.reads;
+      value = sym (ending_bad words c.args.end c.loop-operation.r.left c.get.new.self.left byte h.turns one.left read one.is not_end not_nop) ∙ h.reads;
       words = c.in_ok-operation.ensures.reads.words ∙ h.words;
       place = c.in_ok-operation.ensures.reads.place ∙ h.place;
     }

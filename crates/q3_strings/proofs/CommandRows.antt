@@ -1,18 +1,18 @@
--- One command more behind its operation.
+-- One command more behind its operation: what is read was spelled so, and what is spelled so is read.
 use Rattle.std.proofs.Common.{◌≡◌, ◌<◌, ◌≤◌, Bool, true, nat_lt, ltb, List, [], ◌∷◌, ◌++◌, length, Ok, refl, sym, ap, subst, arith, inl, inr}
 use Rattle.std.proofs.lemmas.Bool.{cases_Bool}
 use Rattle.std.proofs.lemmas.Bool.Decides.{nat_tests}
 use Rattle.std.proofs.lemmas.List.{length-append}
-use Rattle.q3_bits.specs.ResultBind.{bind_ok, map_err_ok}
+use Rattle.q3_bits.specs.ResultBind.{fault_as, bind_ok, map_err_ok}
 use Rattle.q3_bits.specs.Words.{IsCode}
 use Rattle.q3_text.specs.declared.text.Command.{Command}
 use Rattle.q3_strings.specs.Reading.{command_after}
 use Rattle.q3_strings.specs.Spelling.{SpellsCommand}
+use Rattle.q3_strings.specs.Operations.{string_error, commands_after}
 use Rattle.q3_strings.specs.Laws.{IsCommand, CommandReadIsSpelled, CommandSpelledIsRead}
-use Rattle.q3_clmsg.specs.Reading.{string_error, strings_read, commands_after}
 
 -- a command more that was read
-pub record ReadCommand (words : List (List Bool)) (commands : List Command) (bits : List Bool) (found : List Command × List Bool) : Type 0 where
+pub record ReadMore (words : List (List Bool)) (commands : List Command) (bits : List Bool) (found : List Command × List Bool) : Type 0 where
   pub few : length commands < 64
   pub command : Command
   pub all : found.0 ≡ commands ++ command ∷ []
@@ -21,19 +21,19 @@ pub record ReadCommand (words : List (List Bool)) (commands : List Command) (bit
   pub spells : SpellsCommand words command text
   pub parts : bits ≡ text ++ found.1
 
-pub command_was_spelled : CommandReadIsSpelled → (words : List (List Bool)) → IsCode words → (commands : List Command) (bits : List Bool) (found : List Command × List Bool)
-    → commands_after words commands bits ≡ Ok found → ReadCommand words commands bits found
+pub more_was_spelled : CommandReadIsSpelled → (words : List (List Bool)) → IsCode words → (commands : List Command) (bits : List Bool) (found : List Command × List Bool)
+    → commands_after words commands bits ≡ Ok found → ReadMore words commands bits found
 unfolding commands_after
-command_was_spelled law words code commands bits found e =
+more_was_spelled law words code commands bits found e =
     elim (cases_Bool (ltb (length commands) 64)) [
       | inr full ↦ absurd (let wrong = rw full at e in cc)
       | inl room ↦
-          let read = bind_ok (strings_read (command_after words bits)) (λ command. Ok (commands ++ command.0 ∷ [], command.1)) found (rw room at e) in
+          let read = bind_ok (fault_as string_error (command_after words bits)) (λ command. Ok (commands ++ command.0 ∷ [], command.1)) found (rw room at e) in
           let made = read.2 in
           let same : (commands ++ read.0.0 ∷ [], read.0.1) ≡ found = cc in
           let was = law words read.0.0 bits read.0.1 code (map_err_ok string_error (command_after words bits) read.0 read.1) in
           let few : length commands < 64 = grind (arith, nat_tests) in
-          subst (ReadCommand words commands bits) {x = (commands ++ read.0.0 ∷ [], read.0.1)} same (record {
+          subst (ReadMore words commands bits) {x = (commands ++ read.0.0 ∷ [], read.0.1)} same (record {
             few = few;
             command = read.0.0;
             all = refl;
@@ -45,15 +45,15 @@ command_was_spelled law words code commands bits found e =
     ]
 
 -- what is behind it is no longer
-pub command_shorter : CommandReadIsSpelled → (words : List (List Bool)) → IsCode words → (commands : List Command) (bits : List Bool) (more : List Command) (rest : List Bool)
+pub more_shorter : CommandReadIsSpelled → (words : List (List Bool)) → IsCode words → (commands : List Command) (bits : List Bool) (more : List Command) (rest : List Bool)
     → Ok (more, rest) ≡ commands_after words commands bits → length rest ≤ length bits
-command_shorter law words code commands bits more rest e =
-    let read = command_was_spelled law words code commands bits (more, rest) (sym e) in
+more_shorter law words code commands bits more rest e =
+    let read = more_was_spelled law words code commands bits (more, rest) (sym e) in
     omega (arith, ap length read.parts, length-append read.text rest)
 
-pub command_is_read : CommandSpelledIsRead → (words : List (List Bool)) → IsCode words → (commands : List Command) (command : Command) (text rest : List Bool) → length commands < 64
+pub more_is_read : CommandSpelledIsRead → (words : List (List Bool)) → IsCode words → (commands : List Command) (command : Command) (text rest : List Bool) → length commands < 64
     → SpellsCommand words command text → commands_after words commands (text ++ rest) ≡ Ok (commands ++ command ∷ [], rest)
 unfolding commands_after
-command_is_read law words code commands command text rest few spells =
+more_is_read law words code commands command text rest few spells =
     let room : nat_lt (length commands) 64 ≡ true = grind (arith, nat_tests) in
     rw (room, law words command text rest code spells) refl

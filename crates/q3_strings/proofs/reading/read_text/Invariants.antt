@@ -1,0 +1,12 @@
+use Rattle.std.proofs.Common.{◌≡◌, ◌-◌, length}
+use Rattle.q3_text.specs.Texts.{most_bytes}
+use Rattle.q3_strings.specs.Reading.{string_after}
+use Rattle.q3_strings.proofs.Fronts.{HasFront}
+use Rattle.q3_strings.proofs.reading.read_text.Given as goal
+
+-- so many bytes were read, none of them 0
+abbrev pub invariant-loop : goal.invariant-loop
+invariant-loop l = record {
+  count : length l.into ≡ l.counter;
+  reads : HasFront l.fn.r l.r l.into (string_after l.fn.r.words (most_bytes - l.counter) l.r.left) (string_after l.fn.r.words most_bytes l.fn.r.left);
+}

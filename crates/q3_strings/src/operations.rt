@@ -1,0 +1,75 @@
+//! Reads the operations that both ends' messages share. Keeps the rule "commands in messages", the engine's
+//! `CL_ParseServerMessage` (cl_parse.c) and `SV_ExecuteClientMessage` (sv_client.c). That nops are taken between any two
+//! operations, and what is refused, is this project's own.
+
+ghost use Rattle.std.specs.Prelude.{◌≡◌, ◌<◌, length, IfOk};
+ghost use Rattle.q3_bits.specs.Words.{IsCode};
+ghost use Rattle.q3_bits.specs.Streams.{Reads, holding};
+ghost use Rattle.q3_strings.specs.Operations.{rowed, commands_after, row_after, ending_after};
+
+use crate::error::OperationError;
+use crate::laws;
+use crate::reading::read_command;
+use q3_bits::Reader;
+use q3_text::Commands;
+
+/// The operation that says nothing.
+const NOP: u32 = 1;
+
+/// Reads nops and commands, these behind the operation `command`, up to the first other operation, which is the answer. The
+/// commands are put behind those that there are. After a refusal `commands` may hold any.
+///
+/// `Err` is the first fault in reading order: `Bits` where the bits don't read; `TextLong` where the byte behind 1,023 of a
+/// string isn't 0; `Commands` for a 65th command, before it is read.
+pub fn read_row(
+    r: &mut Reader,
+    command: u32,
+    commands: &mut Commands,
+) -> Result<u32, OperationError>
+    requires { IsCode r.old.words }
+    ensures reads { Reads r.old r.new (row_after r.old.words command (length r.old.left) commands.old r.old.left) (rowed commands.new result) }
+    ensures byte { IfOk result (λ operation. operation < 256) }
+{
+    laws::turns_are_taken();
+    laws::command_read_is_spelled();
+    loop {
+        let operation = r.get(8)?;
+        if operation == NOP {
+            continue;
+        }
+        if operation != command {
+            return Ok(operation);
+        }
+        read_next_command(r, commands)?;
+    }
+}
+
+/// Reads one command more behind its operation. A 65th is refused before it is read.
+#[tactic(auto, unfolding(crate::specs::Operations::commands_after))]
+fn read_next_command(r: &mut Reader, commands: &mut Commands) -> Result<(), OperationError>
+    ensures { Reads r.old r.new (commands_after r.old.words commands.old r.old.left) (holding commands.new result) }
+{
+    if commands.is_full() {
+        return Err(OperationError::Commands);
+    }
+    read_command(r, commands.next())?;
+    Ok(())
+}
+
+/// Reads what is behind a message's section: nops, and the operation `end`.
+/// `Err` is the first fault in reading order: `Bits` where the bits don't read; `BadOp` for any other operation.
+pub fn read_ending(r: &mut Reader, end: u32) -> Result<(), OperationError>
+    requires { IsCode r.old.words }
+    ensures { Reads r.old r.new (ending_after r.old.words end (length r.old.left) r.old.left) result }
+{
+    laws::turns_are_taken();
+    loop {
+        let operation = r.get(8)?;
+        if operation == end {
+            return Ok(());
+        }
+        if operation != NOP {
+            return Err(OperationError::BadOp(operation as u8));
+        }
+    }
+}
