@@ -1,3 +1,7 @@
 pub mod Lines
 pub mod Accepting
 pub mod Commands
+pub mod Below
+pub mod Hearing
+pub mod HeldStays
+pub mod Stays
