@@ -2,10 +2,10 @@
 #![tactic(auto)]
 
 pub mod client;
+pub mod laws;
 mod moves;
 mod receiving;
 mod saying;
-mod standing;
 #[cfg(test)]
 mod tests;
 

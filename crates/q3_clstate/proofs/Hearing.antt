@@ -93,7 +93,7 @@ pub hearing_stays : Below â†’ (state : AppliedState) (commands : List Command) â
 hearing_stays below state commands each is =
     let fresh = fresh_are state.executed.executed commands each in
     let settings = texts_are below (record { strings = state.strings; id = state.id }) (fresh_of state.executed.executed commands)
-        (record { strings = is.strings; texts = is.texts; id = is.id }) fresh in
+    (record { strings = is.strings; texts = is.texts; id = is.id }) fresh in
     let window = behind_is state.executed (fresh_of state.executed.executed commands) (record { number = is.executed; last = is.last }) fresh in
     record {
       profile = is.profile;

@@ -137,7 +137,8 @@ impl ClState {
 
     /// The profile by which messages are read.
     pub fn profile(&self) -> &Profile
-        ensures { result.now ≡ self.now.profile }
+        ensures profile { result.now ≡ self.now.profile }
+        ensures stands { IsApplied self.now }
     {
         &self.profile
     }

@@ -1,3 +1,4 @@
 pub mod Server
 pub mod Taking
 pub mod Standing
+pub mod Laws

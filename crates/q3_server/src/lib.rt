@@ -1,6 +1,7 @@
 //! The server's end.
 #![tactic(auto)]
 
+pub mod laws;
 #[cfg(test)]
 mod map_tests;
 #[cfg(test)]
