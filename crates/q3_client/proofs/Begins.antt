@@ -95,6 +95,11 @@ next_is_message client is =
     none_asked [] none = refl
     none_asked (one ∷ moves) none = let long : length (one ∷ moves) ≡ 0 = ap (λ (l : List Move). length l) none in absurd (omega (arith, long))
 
+-- and so is what it is scrambled by
+pub next_is_said : (client : ClientState) → IsClient client → is_unclear client.state.profile (next_message client) ≡ false
+    → IsSaid client.state.profile client.challenge (next_said client)
+next_is_said client is clear = record { message = next_is_message client is; feed = is.applied.feed; start = refl; text = is.applied.last; clear = clear }
+
 -- what was begun, if anything was
 abbrev Begins : ClientState → Emission → Type 0
 Begins client emission = IfSome emission.began (IsSaid client.state.profile client.challenge)
@@ -109,7 +114,7 @@ begins_new client is =
         | inl hidden ↦ rw (goes, hidden) tt
         | inr clear ↦ elim (cases_Bool (nat_lt longest_message (message_length (length bits)))) [
           | inl long ↦ rw (goes, clear, long) tt
-          | inr short ↦ rw (goes, clear, short) (record { message = next_is_message client is; feed = is.applied.feed; start = refl; text = is.applied.last; clear = clear })
+          | inr short ↦ rw (goes, clear, short) (next_is_said client is clear)
         ]
       ]
     ]

@@ -3,7 +3,6 @@
 ghost use Rattle.q3_client.specs.Laws.{BeginsSaid};
 
 /// What a client begins is a message that it may begin, whatever it keeps.
-#[tactic(auto, using(crate::proofs::Begins::begins))]
 pub fn begins_said()
     ensures { BeginsSaid }
 {}

@@ -2,3 +2,4 @@ pub mod Server
 pub mod Taking
 pub mod Standing
 pub mod Laws
+pub mod Apart

@@ -1,5 +1,6 @@
 //! Laws of the server's end, each the contract of a call that does nothing but cite the laws below it.
 
+ghost use Rattle.q3_server.specs.Apart.{SlotsApart};
 ghost use Rattle.q3_server.specs.Standing.{Below};
 ghost use Rattle.q3_server.specs.Laws.{MapStays, BeginsAsBuilt};
 
@@ -36,4 +37,11 @@ pub fn begins_built()
     ensures { BeginsAsBuilt }
 {
     below();
+}
+
+/// A call for another client, or for the map alone, leaves a slot and its frames, in every state and whatever bytes arrive.
+pub fn slots_apart()
+    ensures { SlotsApart }
+{
+    q3_frames::laws::held_was_built();
 }
