@@ -29,7 +29,8 @@ use Rattle.q3_text.specs.declared.text.Command.{Command}
 use Rattle.q3_window.specs.Incoming.{IncomingState, fresh_of, jump_at}
 use Rattle.q3_window.specs.Outgoing.{IsOutgoing}
 use Rattle.q3_world.specs.Games.{AreMapped, AreSince, Carries, IsFresh, Tells, WasApplied, accepted_since, last_played, standing_of}
-use Rattle.q3_world.specs.StandsFor.{IsMap, WasAccepted}
+use Rattle.q3_server.specs.Standing.{IsMap}
+use Rattle.q3_world.specs.StandsFor.{WasAccepted}
 use Rattle.q3_world.specs.World.{History, Played, built_at, texts_of}
 use Rattle.q3_world.specs.Games.{IsOf}
 use Rattle.q3_world.proofs.Bases.{if_some, if_some_then}
@@ -82,49 +83,7 @@ mapped_game map slot client history next game owed is under tells lines feed beg
     (slot.sending.number + 1) (omega (arith, begun)) owed is under tells lines feed taken
     (acks_built map (standing_of slot) client.state client.gathering.taken client.last_time history.built history.games history.said history.accepted history.client_executed taken mapped) mapped
 
--- the gamestate of a map may be sent
-pub next_is_game : (profile : Profile) (map : MapState) (c : ℕ) (slot : SlotState) → IsMap profile map → (map.id ≡ 0 → ⊥) → c < 2 ^ 32 → IsOutgoing slot.issued → IsGamestate profile (next_game map c slot)
-next_is_game profile map c slot is some lt window =
-    let numbers : slot.issued.acknowledged + length slot.issued.waiting ≤ 2 ^ 31 - 1 = window.numbers in
-    record {
-      command = omega (arith, numbers);
-      slot = lt;
-      feed = is.feed;
-      strings = is.strings;
-      texts = is.texts;
-      pending = is.pending;
-      lines = is.lines;
-      id = ap is_some (is.tells some);
-    }
-
 -- ---- a client begins a message
-
--- its id and its feed are ones that a gamestate may tell
-pub record IsShort (state : AppliedState) : Type 0 where
-  pub id : state.id < 2 ^ 32
-  pub feed : state.feed < 2 ^ 32
-
-pub state_short : (profile : Profile) (map : MapState) (slot : SlotState) (client : ClientState) (history : History) → IsMap profile map → AreMessages profile slot.challenge history.built
-    → Mapped map slot client history → IsShort client.state
-state_short profile map slot client history is are mapped =
-    elim (cases_option (last_played history.games)) [
-      | inl none ↦
-          let fresh = subst (λ (o : Option Played). MatchOption o (IsFresh client.state) (λ (played : Played). IsOf client.state played history.client_executed)) none mapped.has.shows in
-          let id = fresh.id in
-          let feed = fresh.feed in
-          record { id = omega (arith, id); feed = omega (arith, feed) }
-      | inr some ↦
-          let played = some.0 in
-          let of = subst (λ (o : Option Played). MatchOption o (IsFresh client.state) (λ (played : Played). IsOf client.state played history.client_executed)) some.1 mapped.has.shows in
-          let there = (newest history.games played mapped.has.rise some.1).there in
-          let applied = All-contains (WasApplied client.gathering.taken client.last_time history.built history.accepted history.client_executed) history.games played mapped.has.each there in
-          let most = (mapped.of_maps.ids played.number client.state.id played.game applied.carries of.id).1 in
-          let least = is.id in
-          record {
-            id = omega (arith, most, least);
-            feed = subst (λ (feed : ℕ). feed < 2 ^ 32) (sym of.feed) (game_built_is profile slot.challenge history.built played.number played.game are applied.carries).feed;
-          }
-    ]
 
 pub mapped_said : (map : MapState) (slot : SlotState) (client : ClientState) (history : History)
     → (client.delta ≡ true → WasAccepted (accepted_since history.games history.accepted) client.gathering.taken) → AreSince history.games client.moves → Mapped map slot client history
