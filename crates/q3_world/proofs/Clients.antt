@@ -78,7 +78,7 @@ a_slot profile (Some slot) client address history ends = (slot, refl, ends)
 -- ---- what the server keeps
 
 -- no area bytes
-no_area : IsArea []
+pub no_area : IsArea []
 no_area = record { bytes = All-nil (λ (byte : ℕ). byte < 256); short = omega arith }
 
 -- of a client that just joined

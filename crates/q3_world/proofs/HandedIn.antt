@@ -45,7 +45,7 @@ use Rattle.q3_world.specs.StandsFor.{KeepsSlot, AreEnds, AreJoined}
 use Rattle.q3_world.specs.World.{Whole, History, no_history, history_at, with_history, with_joined, with_spoken, texts_told, with_texts_told, with_told, with_typed, with_issued, with_ends, with_noted, with_all}
 use Rattle.q3_world.proofs.MoveLists.{is_move}
 use Rattle.q3_world.proofs.Growth.{Grow, HistoryGrows, HistoryGrows-same, HistoryGrows-beside}
-use Rattle.q3_world.proofs.Clients.{KeepsSlot-told}
+use Rattle.q3_world.proofs.Clients.{no_area, KeepsSlot-told}
 use Rattle.q3_world.proofs.Joined.{TakesSaid-same}
 use Rattle.q3_world.proofs.Holding.{Holds, has_client, Holds-new, same_server}
 use Rattle.q3_world.proofs.Given.{with_new_slot, Holds-player, Holds-area, with_map, Holds-map, joined_stays, Holds-issued}
@@ -126,10 +126,6 @@ holds_removed profile whole number cited holds =
     holds_given profile whole map.time (without_entity number map.entities) (cited.maps.removed profile map number holds.facts.map) holds
 
 -- ---- maps
-
--- no area bytes
-no_area : IsArea []
-no_area = record { bytes = All-nil (λ (byte : ℕ). byte < 256); short = omega arith }
 
 -- a slot on a new map
 slot_on_map : (profile : Profile) (slot : SlotState) (qport host : ℕ) (built : List Built) (run : List Move) (commands : List (List ℕ)) → IsHeld profile zero_player

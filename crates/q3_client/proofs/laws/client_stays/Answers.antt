@@ -1,0 +1,8 @@
+use Rattle.q3_client.proofs.Stays.{joins_stay, types_stay, takes_stay}
+use Rattle.q3_client.proofs.laws.client_stays.Goals as goal
+
+pub returns : goal.returns
+returns c =
+    let applies = c.apply_stays.ensures in
+    let stays = c.stays_outgoing.ensures in
+    record { joins = joins_stay applies stays; types = types_stay stays; takes = takes_stay applies stays }
