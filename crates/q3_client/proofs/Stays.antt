@@ -87,9 +87,9 @@ gathered_fits g datagram few =
 -- ---- what is received
 
 -- the state and the window behind a message
-record AreReceived (received : Reception) : Type 0 where
-  applied : IsApplied received.application.state
-  window : IsOutgoing received.issued
+pub record AreReceived (received : Reception) : Type 0 where
+  pub applied : IsApplied received.application.state
+  pub window : IsOutgoing received.issued
 
 abbrev received_with : ClientState → ℕ → Result Application Illegible → Result Reception Illegible
 received_with client ack applied =
@@ -113,14 +113,14 @@ were_received stays client ack (Ok application) received window is e =
     (record { applied = is; window = stays.acknowledges client.issued ack window })
 were_received stays client ack (Err cause) received window is e = absurd cc
 
-are_received : ApplyStays → StaysOutgoing → (client : ClientState) (n : ℕ) (bytes : List ℕ) (received : Reception) → n < 2 ^ 32 → IsClient client
+pub are_received : ApplyStays → StaysOutgoing → (client : ClientState) (n : ℕ) (bytes : List ℕ) (received : Reception) → n < 2 ^ 32 → IsApplied client.state → IsOutgoing client.issued
     → receive_bytes client n bytes ≡ Ok received → AreReceived received
-are_received applies stays client n bytes received fits is e =
+are_received applies stays client n bytes received fits is window e =
     let long = bind_ok (bits_read (ack_at client.state.profile.code (bits_of bytes))) (received_behind client n bytes) received e in
     let ack = long.0.0 in
     let plain = cleared client.challenge n (text_at client.issued ack) bytes in
     let taken = bind_ok (ack_taken ack (acknowledge_at client.issued ack).answer) (λ (taken : Unit {0}). received_with client ack (apply_at client.state n plain)) received long.2 in
-    were_received stays client ack (apply_at client.state n plain) received is.window (applies.apply client.state n plain fits is.applied) taken.2
+    were_received stays client ack (apply_at client.state n plain) received window (applies.apply client.state n plain fits is) taken.2
 
 -- ---- a client
 
@@ -155,7 +155,7 @@ unless_stays applies stays client datagram None is =
     let took = gathered_of client.gathering datagram in
     let fits = gathered_fits client.gathering datagram is.taken in
     answer_stays (record client { gathering = took.gathering }) took.answer (λ n. receive_bytes client n took.message) fits.number
-    (λ n reception short e. are_received applies stays client n took.message reception short is e) (gathered_client client took.gathering fits.taken is)
+    (λ n reception short e. are_received applies stays client n took.message reception short is.applied is.window e) (gathered_client client took.gathering fits.taken is)
 
 -- whatever bytes it takes
 pub takes_stay : ApplyStays → StaysOutgoing → (client : ClientState) (datagram : List ℕ) → IsClient client → IsClient (take_at client datagram).client

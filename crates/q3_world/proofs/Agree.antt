@@ -11,10 +11,9 @@ use Rattle.q3_entity.specs.declared.state.EntityState.{EntityState}
 use Rattle.q3_entity.specs.Entities.{normal_entity, IsNormal}
 use Rattle.q3_profile.specs.Profile.{IsCodec}
 use Rattle.q3_server.specs.Laws.{MapStays, BeginsAsBuilt}
-use Rattle.q3_client.specs.Laws.{BeginsSaid}
+use Rattle.q3_client.specs.Laws.{BeginsSaid, ClientStays}
 use Rattle.q3_clstate.specs.State.{new_state}
 use Rattle.q3_clstate.specs.Standing.{IsApplied}
-use Rattle.q3_clstate.specs.Laws.{ApplyStays}
 use Rattle.q3_map.specs.Map.{MapState, is_other}
 use Rattle.q3_chan.specs.Senders.{QportIsTold}
 use Rattle.q3_chan.specs.Laws.{SentIsTagged, TaggedDoes, EndsGather, EndsSend}
@@ -59,7 +58,7 @@ pub record Cited (profile : Profile) : Type 0 where
   pub maps : MapStays
   pub begins : BeginsAsBuilt
   pub says : BeginsSaid
-  pub applied : ApplyStays
+  pub stays : ClientStays
   pub first : IsApplied (new_state profile)
   pub zero : IsHeld profile zero_player
   pub normal : (player : PlayerState) → IsState player → IsHeld profile (normal_player profile.player.kinds player)

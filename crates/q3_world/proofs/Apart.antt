@@ -1,5 +1,5 @@
 -- An event of one client leaves what the others have.
-use Rattle.std.proofs.Common.{None, Option, Some, refl, ◌-◌, ◌≡◌, ℕ, List}
+use Rattle.std.proofs.Common.{None, Option, Some, refl, ◌-◌, ℕ, List}
 use Rattle.std.specs.Prelude.{Err, Ok, Result, slice_get, ◌≢◌}
 use Rattle.std.proofs.lemmas.List.{get_or-set_other}
 use Rattle.q3_io.specs.declared.address.Address.{Address}

@@ -50,7 +50,6 @@ use Rattle.q3_world.proofs.MoveLists.{consecutive_issued}
 use Rattle.q3_world.proofs.Clients.{no_client, no_end, at_number, said_number, KeepsSlot-ran, KeepsSlot-acknowledged}
 use Rattle.q3_world.proofs.Joined.{TakesBuilt-gathered, TakesBuilt-passed, TakesBuilt-accepted, TakesBuilt-started, AreAsked-accepted}
 use Rattle.q3_world.proofs.Bases.{if_some_then}
-use Rattle.q3_world.proofs.AppliedStays.{application_stays}
 use Rattle.q3_clstate.specs.Standing.{IsApplied}
 use Rattle.q3_world.proofs.Knowing.{KnownBase, known_base, was_built_is, holds_this}
 use Rattle.q3_world.proofs.Applying.{applies_message, applies_game_message}
@@ -308,7 +307,7 @@ holds_piece profile whole c datagram n slot client took built cited lt within ha
           subst (λ (k : ℕ). Flow slot.issued (executes state.executed commands) history.server_commands heard (carried_built history.built) (acks_said history.said) slot.gathering.taken k) (sym taken) hears.to_client in
           let applied_as : Application → Taken = λ application. applies now (record { issued = after; application = application }) in
           let short = had.keeps.of_slot.sending.short in
-          let applied = application_stays cited.applied client n (built_bytes profile built) built.message (omega (arith, within, short)) had.keeps.of_client.applied
+          let applied = cited.stays.receives client n (built_bytes profile built) (receive_message client n built.message) (omega (arith, within, short)) had.keeps.of_client.applied window
           (received_alike profile whole c n slot client built cited had named_is newer) in
           let came_so : take_answer now took.answer read ≡ applied_as (apply_message state n built.message) = ap (λ (a : Gathered). take_answer now a read) came.answer in
           elim is.section [

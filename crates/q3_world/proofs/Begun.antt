@@ -1,5 +1,5 @@
 -- A datagram that either end hands out keeps what holds.
-use Rattle.std.proofs.Common.{◌≡◌, ℕ, ◌+◌, ◌^◌, ◌<◌, List, [], ◌∷◌, ◌++◌, length, Bool, true, false, Option, Some, refl, arith}
+use Rattle.std.proofs.Common.{◌≡◌, ℕ, ◌+◌, ◌<◌, List, [], ◌∷◌, ◌++◌, length, Bool, true, Option, Some, refl, arith}
 use Rattle.std.specs.Prelude.{IfSome}
 use Rattle.q3_profile.specs.declared.profile.Profile.{Profile}
 use Rattle.q3_io.specs.declared.address.Address.{Address}
@@ -17,13 +17,13 @@ use Rattle.q3_slot.specs.Emitting.{next_snapshot, next_frames}
 use Rattle.q3_server.specs.Server.{places, slot_at}
 use Rattle.q3_client.specs.Client.{ClientState}
 use Rattle.q3_client.specs.Moves.{asks_delta}
-use Rattle.q3_client.specs.Sending.{IsSaid, said_bytes, next_message, next_said, is_unclear as is_said_unclear}
+use Rattle.q3_client.specs.Sending.{IsSaid, said_bytes, next_message, next_said}
 use Rattle.q3_world.specs.declared.made.Direction.TheVariants.{ToClient, ToServer}
 use Rattle.q3_world.specs.Layers.{ServerLaws, WindowLaws}
 use Rattle.q3_world.specs.Ends.{client_at, address_at}
 use Rattle.q3_world.specs.World.{Tag, History, Whole, history_at, with_history, with_built, with_said}
 use Rattle.q3_server.specs.Standing.{IsMap}
-use Rattle.q3_world.specs.StandsFor.{messages_of, messages_said, KeepsSlot, KeepsClient, KeepsFrames, WasBuilt, carried_built, acks_built, carried_said, acks_said, AreCommanded, IsJoined}
+use Rattle.q3_world.specs.StandsFor.{messages_of, messages_said, KeepsClient, KeepsFrames, WasBuilt, acks_built, carried_said, AreCommanded, IsJoined}
 use Rattle.q3_world.proofs.Growth.{HistoryGrows-same, HistoryGrows-built, HistoryGrows-said}
 use Rattle.q3_world.proofs.Bases.{KeepsFrames-built, frames_too_long, if_some_then, since_accepted}
 use Rattle.q3_world.proofs.Clients.{KeepsSlot-handed, KeepsClient-handed, KeepsClient-begun, client_begun, slot_begun, KeepsSlot-begun, BaseIs, next_number, KeepsSlot-stands}

@@ -1,9 +1,8 @@
 -- What each end keeps of one client, and that it stays so.
-use Rattle.std.proofs.Common.{◌≡◌, ℕ, zero, suc, ◌+◌, ◌-◌, ◌^◌, ◌<◌, ◌≤◌, Bool, true, false, List, [], ◌∷◌, ◌++◌, length, get_or, Option, Some, None, refl, sym, ap, subst, ◌∙◌, inl, inr, arith, lit<}
+use Rattle.std.proofs.Common.{◌≡◌, ℕ, zero, suc, ◌+◌, ◌-◌, ◌^◌, ◌<◌, ◌≤◌, Bool, true, false, List, [], ◌∷◌, ◌++◌, length, get_or, Option, Some, None, refl, sym, ap, subst, ◌∙◌, inl, inr, arith}
 use Rattle.std.specs.Prelude.{All, IfSome, if◌then◌else◌}
 use Rattle.std.proofs.lemmas.List.{length_push, get_or_push}
 use Rattle.std.proofs.lemmas.List.Elements.{All-nil, All-push, All-weaker, All-append}
-use Rattle.std.proofs.lemmas.Bool.{both_ways}
 use Rattle.arrayvec.specs.ArrayVec.{ArrayVec}
 use Rattle.q3_profile.specs.declared.profile.Profile.{Profile}
 use Rattle.q3_player.specs.State.{zero_player}
@@ -16,7 +15,6 @@ use Rattle.q3_chan.specs.Gathering.{Gathering}
 use Rattle.q3_chan.specs.Laws.{IsSendable, EndsSend}
 use Rattle.q3_clmsg.specs.declared.moves.Move.{Move}
 use Rattle.q3_clmsg.specs.Moves.{IsMove}
-use Rattle.q3_clmsg.specs.Laws.{IsMessage}
 use Rattle.q3_text.specs.Texts.{IsText}
 use Rattle.q3_window.specs.Outgoing.{OutgoingState, IsOutgoing}
 use Rattle.q3_window.specs.Incoming.{IncomingState}
@@ -25,31 +23,25 @@ use Rattle.q3_ring.specs.Snapshot.{Snapshot}
 use Rattle.q3_frames.specs.Frames.{FramesState, base_of, build_at}
 use Rattle.q3_clstate.specs.State.{AppliedState, new_state}
 use Rattle.q3_clstate.specs.Standing.{IsApplied}
-use Rattle.q3_map.specs.Map.{AreHeld, MapState}
+use Rattle.q3_map.specs.Map.{MapState}
 use Rattle.q3_slot.specs.declared.stage.ClientStage.{ClientStage}
-use Rattle.q3_slot.specs.declared.stage.ClientStage.TheVariants.{Connected, Primed, Active}
 use Rattle.q3_slot.specs.Slots.{changes_own}
-use Rattle.q3_fields.specs.Kinds.{Layout}
-use Rattle.q3_fields.specs.States.{AreWords}
-use Rattle.q3_entity.specs.declared.state.EntityState.{EntityState}
-use Rattle.q3_entity.specs.Entities.{IsNormal}
-use Rattle.q3_built.specs.Built.{Built, IsHeld, IsArea, IsSnapshot, IsNear, IsTelling, IsBuilt, is_unclear, built_bytes}
-use Rattle.q3_slot.specs.Slot.{SlotState, new_slot, is_active, plays_under, asked}
-use Rattle.q3_slot.specs.Emitting.{snapshot_flags, played_snapshot, waiting_snapshot, next_snapshot, next_frames, telling_of, begun_next}
+use Rattle.q3_built.specs.Built.{Built, IsHeld, IsArea, IsNear, IsBuilt, built_bytes}
+use Rattle.q3_slot.specs.Slot.{SlotState, new_slot, is_active, asked}
+use Rattle.q3_slot.specs.Emitting.{played_snapshot, waiting_snapshot, next_snapshot, begun_next}
 use Rattle.q3_slot.specs.Taking.{last_time, Playing}
 use Rattle.q3_client.specs.Client.{ClientState, new_client, moves_behind}
 use Rattle.circular_buffer.specs.Buffer.{keep_last}
-use Rattle.q3_client.specs.Moves.{most_moves, carried, asks_delta, issue}
-use Rattle.q3_client.specs.Sending.{said_bytes, Said, IsSaid, next_message, next_said, is_unclear as is_said_unclear}
+use Rattle.q3_client.specs.Moves.{most_moves, issue}
+use Rattle.q3_client.specs.Sending.{said_bytes, Said, IsSaid, next_said}
 use Rattle.q3_world.specs.Layers.{ServerLaws}
 use Rattle.q3_world.specs.World.{History, no_history, no_message, no_said, built_at, said_at}
-use Rattle.q3_server.specs.Standing.{IsMap}
 use Rattle.q3_world.specs.StandsFor.{messages_of, messages_said, KeepsSlot, KeepsClient, AreEnds, IsClient, WasBuilt, HasSnapshot, AreOfBuilt, KeepsMoves, AreAsked}
 use Rattle.q3_world.specs.Moves.{TimesRise, AreConsecutive}
 use Rattle.q3_world.proofs.Growth.{was_built_more, each_more, messages_stay, messages_said_stay}
 use Rattle.q3_world.proofs.Bases.{accepted_has, if_some, if_some_then, found_base}
 use Rattle.q3_world.proofs.Beginning.{BeginsMessages-new, BeginsMessages-handed, BeginsMessages-started}
-use Rattle.q3_world.proofs.MoveLists.{last_time-append, TimesRise-append, carried_consecutive, carried_each, carried_few, AreConsecutive-more, KeepsMoves-none, KeepsMoves-wiped, KeepsMoves-begun, KeepsMoves-push}
+use Rattle.q3_world.proofs.MoveLists.{last_time-append, TimesRise-append, carried_consecutive, AreConsecutive-more, KeepsMoves-none, KeepsMoves-wiped, KeepsMoves-begun, KeepsMoves-push}
 
 -- ---- presence
 

@@ -1,14 +1,13 @@
 -- Commands on their way between both ends of a client, and what the messages of both ends tell of them.
-use Rattle.std.proofs.Common.{◌≡◌, ℕ, zero, suc, ◌+◌, ◌-◌, ◌^◌, ◌<◌, ◌≤◌, List, [], ◌∷◌, ◌++◌, length, get_or, Ok, None, refl, sym, ap, subst, ◌∙◌, inl, inr, arith}
+use Rattle.std.proofs.Common.{◌≡◌, ℕ, zero, suc, ◌+◌, ◌-◌, ◌^◌, ◌<◌, ◌≤◌, List, [], ◌∷◌, ◌++◌, length, get_or, Ok, None, sym, ap, subst, ◌∙◌, inl, inr, arith}
 use Rattle.std.specs.Prelude.{All}
 use Rattle.std.proofs.lemmas.List.{length-map, map_push, get_or-map, get_or_past, length-drop}
-use Rattle.std.proofs.lemmas.List.Elements.{All-nil, All-cons, All-head, All-tail, All-take, All-get_or}
+use Rattle.std.proofs.lemmas.List.Elements.{All-nil, All-take, All-get_or}
 use Rattle.std.proofs.lemmas.Bool.{cases_lt}
 use Rattle.q3_text.specs.declared.text.Command.{Command}
 use Rattle.q3_text.specs.Commands.{numbered}
 use Rattle.q3_text.specs.Texts.{IsText, IsTextByte}
-use Rattle.q3_strings.specs.Laws.{IsCommand}
-use Rattle.q3_window.specs.Outgoing.{OutgoingState, IsOutgoing, acknowledge_at, text_at, carried}
+use Rattle.q3_window.specs.Outgoing.{OutgoingState, IsOutgoing, acknowledge_at, text_at}
 use Rattle.q3_window.specs.Incoming.{IncomingState, fresh_of, gap_in, executes}
 use Rattle.q3_window.specs.Issued.{issued_text, OutgoingStandsFor}
 use Rattle.q3_window.specs.Flow.{no_command, acknowledgement_of, acknowledged_by, Carriage, no_carriage, carriage_of, Flow, FlowLaws}

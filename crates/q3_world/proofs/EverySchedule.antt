@@ -80,8 +80,8 @@ cited_of below profile checked =
       maps = below.maps;
       begins = below.begins;
       says = below.says;
-      applied = below.applied;
-      first = below.applied.none profile is (leb-true 512 n least.0);
+      stays = below.stays;
+      first = (below.stays.joins profile 0 0 0 is (leb-true 512 n least.0)).applied;
       zero = record { state = at_first.0; normal = at_first.1 };
       normal = λ player state. let made = below.normal profile.player.kinds player is.player.kinds state in record { state = made.0; normal = made.1 };
       normal_entity = λ state words. below.entity profile.entity state is.entity words;

@@ -1,12 +1,11 @@
 -- What the game hands in keeps what holds.
-use Rattle.std.proofs.Common.{◌≡◌, ℕ, ◌^◌, ◌<◌, ◌≤◌, true, false, Bool, cond, List, [], ◌++◌, length, get_or, Option, Some, None, Ok, Err, refl, sym, ap, subst, ◌∙◌, inl, inr, arith}
+use Rattle.std.proofs.Common.{◌≡◌, ℕ, ◌^◌, ◌<◌, ◌≤◌, true, false, Bool, cond, List, ◌++◌, length, get_or, Option, Some, None, Ok, Err, refl, sym, ap, subst, ◌∙◌, inl, inr, arith}
 use Rattle.std.specs.Prelude.{◌==◌, if◌then◌else◌, not, nat_le, nat_lt, position, All}
 use Rattle.std.specs.List.{position_or_len}
 use Rattle.std.proofs.lemmas.Bool.{cases_Bool, cases_lt, cond_both, leb-false, lt-leb, ltb-false, not-false, eqb-false}
 use Rattle.std.proofs.lemmas.List.{append-nil, get_or_past}
 use Rattle.std.proofs.lemmas.List.FromFn.{get_or-map-range_with_len, length-map-range_with_len}
 use Rattle.std.proofs.lemmas.List.Sums.{fails_before_first}
-use Rattle.std.proofs.lemmas.List.Elements.{All-nil, All-weaker}
 use Rattle.q3_profile.specs.declared.profile.Profile.{Profile}
 use Rattle.q3_player.specs.State.{zero_player, normal_player}
 use Rattle.q3_player.specs.declared.state.PlayerState.{PlayerState}
@@ -28,7 +27,7 @@ use Rattle.q3_client.specs.declared.client.MoveError.{MoveError}
 use Rattle.q3_client.specs.declared.client.MoveError.TheVariants.{NoGame, NotLater, Range}
 use Rattle.q3_client.specs.Moves.{Handed as HandedMove, is_issuable, issue}
 use Rattle.q3_map.specs.declared.map.Late.{Late}
-use Rattle.q3_map.specs.Map.{MapState, AreHeld, Handed as HandedMap, after_new_map, set_baseline_at, with_config, with_entity, without_entity}
+use Rattle.q3_map.specs.Map.{MapState, Handed as HandedMap, after_new_map, set_baseline_at, with_config, with_entity, without_entity}
 use Rattle.q3_built.specs.Built.{Built, IsHeld, IsArea}
 use Rattle.q3_slot.specs.Slot.{SlotState, is_connected, is_of, on_new_map, with_player}
 use Rattle.q3_slot.specs.Slots.{changes_own, lacks_room, tells}

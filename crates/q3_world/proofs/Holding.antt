@@ -1,5 +1,5 @@
 -- What holds between any two events, and that it stays where one client changes.
-use Rattle.std.proofs.Common.{◌≡◌, ℕ, zero, suc, ◌^◌, ◌<◌, ◌≤◌, false, List, [], ◌∷◌, ◌++◌, length, get_or, replicate, Option, Some, None, refl, sym, ap, subst, ◌∙◌, arith, lit<}
+use Rattle.std.proofs.Common.{◌≡◌, ℕ, zero, suc, ◌^◌, ◌<◌, ◌≤◌, false, List, [], ◌∷◌, ◌++◌, length, get_or, replicate, Option, Some, None, refl, sym, ap, subst, ◌∙◌, arith}
 use Rattle.std.specs.Prelude.{slice_set, position}
 use Rattle.std.proofs.lemmas.List.{get_or-replicate, set-get_or}
 use Rattle.q3_profile.specs.declared.profile.Profile.{Profile}
@@ -10,7 +10,7 @@ use Rattle.q3_ring.specs.Places.{no_places}
 use Rattle.q3_frames.specs.Frames.{Frame, FramesState}
 use Rattle.q3_clstate.specs.Standing.{IsApplied}
 use Rattle.q3_clstate.specs.State.{new_state}
-use Rattle.q3_map.specs.Map.{MapState, no_map}
+use Rattle.q3_map.specs.Map.{MapState}
 use Rattle.q3_built.specs.Built.{IsHeld}
 use Rattle.q3_slot.specs.Slot.{SlotState, is_of, new_slot}
 use Rattle.q3_server.specs.Server.{ServerState, places, slot_at, with_slot}

@@ -1,6 +1,6 @@
 -- What a client holds was accepted, and what it accepted was built.
-use Rattle.std.proofs.Common.{◌≡◌, ℕ, ◌+◌, ◌-◌, ◌<◌, ◌≤◌, List, length, get_or, Option, Some, None, Result, Ok, Err, sym, ap, subst, ◌∙◌, arith, inl, inr, refl}
-use Rattle.std.specs.Prelude.{All, Contains, IfSome, MatchOption}
+use Rattle.std.proofs.Common.{◌≡◌, ℕ, ◌+◌, ◌-◌, ◌<◌, ◌≤◌, List, length, get_or, Option, Some, None, Result, Ok, Err, sym, ap, subst, ◌∙◌, arith, inl, inr}
+use Rattle.std.specs.Prelude.{All, Contains, IfSome}
 use Rattle.std.specs.Result.{result_ok}
 use Rattle.std.proofs.lemmas.List.Elements.{All-get_or, All-contains}
 use Rattle.q3_profile.specs.declared.profile.Profile.{Profile}
@@ -13,17 +13,15 @@ use Rattle.q3_slot.specs.Slot.{SlotState}
 use Rattle.q3_client.specs.Client.{ClientState}
 use Rattle.q3_world.specs.Layers.{RingLaws}
 use Rattle.q3_world.specs.MessageLaws.{HoldsThis}
-use Rattle.q3_world.specs.World.{History, no_message, built_at, Played}
+use Rattle.q3_world.specs.World.{History, no_message, built_at}
 use Rattle.q3_world.specs.StandsFor.{snapshot_in, WasBuilt, KeepsSlot, AreAsked}
 use Rattle.q3_world.proofs.Bases.{some_one, was_built_one}
 use Rattle.q3_svmsg.specs.Values as told
-use Rattle.q3_world.proofs.GamesParts.{newest}
-use Rattle.q3_entity.specs.Baselines.{AreLines}
 use Rattle.q3_entity.specs.declared.state.EntityState.{EntityState}
 use Rattle.q3_gamestate.specs.Laws.{IsGamestate}
 use Rattle.q3_gamestate.specs.Values.{Gamestate}
 use Rattle.q3_player.specs.declared.head.SnapHead.{SnapHead}
-use Rattle.q3_world.specs.Games.{Carries, HasGames, IsOf, last_played, IsFresh, WasApplied}
+use Rattle.q3_world.specs.Games.{Carries}
 
 -- the messages that were begun are so
 abbrev pub AreMessages : Profile → ℕ → List Built → Type 0

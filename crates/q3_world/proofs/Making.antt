@@ -19,8 +19,8 @@ use Rattle.q3_client.specs.declared.client.Sent.TheVariants as answered_sent
 use Rattle.q3_client.specs.Client.{ClientState}
 use Rattle.q3_client.specs.Sending as speaks
 use Rattle.q3_client.specs.Sending.{said_bits, said_bytes, next_message, next_said, is_unclear as is_said_unclear}
-use Rattle.q3_built.specs.Built.{IsArea, is_unclear, IsBuilt, IsNear, built_bits, built_bytes}
-use Rattle.q3_slot.specs.Slot.{SlotState, asked, primed}
+use Rattle.q3_built.specs.Built.{IsArea, is_unclear, IsBuilt, built_bits, built_bytes}
+use Rattle.q3_slot.specs.Slot.{SlotState, primed}
 use Rattle.q3_slot.specs.Emitting.{SlotEmission, next_frames, begun_next, emit_built, most_placed, emit_new, emit_slot, next_game, telling_of, emit_game, emit_next, next_snapshot, next_game_built}
 use Rattle.q3_server.specs.Server.{ServerState, Emission, places, slot_at, with_slot, emission_at, emit_from}
 use Rattle.q3_window.specs.Outgoing.{IsOutgoing}
@@ -34,7 +34,7 @@ use Rattle.q3_world.specs.Kept.{kept_serve, kept_said, kept_send}
 use Rattle.q3_world.specs.World.{Whole, history_at, serve, say, send, with_built}
 use Rattle.q3_world.specs.Layers.{ScramblingLaws}
 use Rattle.q3_world.specs.StandsFor.{bytes_of}
-use Rattle.q3_world.proofs.Clients.{slot_begun, client_begun, BaseIs, asked_has, next_base, next_number}
+use Rattle.q3_world.proofs.Clients.{slot_begun, client_begun, asked_has, next_base, next_number}
 use Rattle.q3_world.proofs.Holding.{Holds, has_slot, has_client, same_server, Has}
 use Rattle.q3_world.proofs.Given.{joined_stays}
 use Rattle.q3_world.proofs.Begun.{Holds-handed, Holds-begun, Holds-too_long, handed_tag, Holds-goes, Holds-said, said_tag, executed_by_slot}
@@ -42,7 +42,7 @@ use Rattle.q3_world.proofs.GamesMaps.{AreMapped-begun}
 use Rattle.q3_world.proofs.Agree.{Cited, kept_of, Agree, found_or, unnoted, left_alone}
 use Rattle.q3_map.specs.Map.{begins_game}
 use Rattle.q3_slot.specs.declared.stage.ClientStage.TheVariants.{Primed}
-use Rattle.q3_world.proofs.Bases.{KeepsFrames-built, KeepsFrames-game, if_some_then, frames_begun, frames_of_game}
+use Rattle.q3_world.proofs.Bases.{KeepsFrames-built, KeepsFrames-game, frames_begun, frames_of_game}
 use Rattle.q3_world.proofs.Mapped.{has_snapshot, mapped_game, mapped_snapshot, mapped_said, asked_base}
 
 -- ---- serving

@@ -1,15 +1,15 @@
 -- What joins both ends of a client on the server's maps, over all that is noted of it.
 use Rattle.q3_svmsg.specs.Values as told
-use Rattle.std.proofs.Common.{[], List, None, Option, Some, ap, arith, false, inl, inr, length, refl, subst, sym, true, ℕ, ◌++◌, ◌+◌, ◌-◌, ◌<◌, ◌^◌, ◌∙◌, ◌∷◌, ◌≡◌, ◌≤◌, is_some}
-use Rattle.std.specs.Prelude.{All, Bool, Contains, IfSome, MatchOption, if◌then◌else◌, ◌==◌, ◌||◌}
+use Rattle.std.proofs.Common.{[], List, None, Option, Some, ap, arith, false, inl, inr, length, refl, subst, sym, true, ℕ, ◌++◌, ◌+◌, ◌<◌, ◌∙◌, ◌∷◌, ◌≡◌, ◌≤◌}
+use Rattle.std.specs.Prelude.{All, Bool, Contains, IfSome, if◌then◌else◌, ◌==◌, ◌||◌}
 use Rattle.std.proofs.Math.Seq.{take-append_seam, drop-append_seam}
 use Rattle.std.proofs.lemmas.Bool.{cases_Bool, eqb-false}
-use Rattle.std.proofs.lemmas.List.Elements.{All-contains, All-drop, All-head, All-take}
+use Rattle.std.proofs.lemmas.List.Elements.{All-drop, All-head, All-take}
 use Rattle.q3_client.specs.Client.{ClientState}
 use Rattle.q3_client.specs.Moves.{asks_delta}
 use Rattle.q3_client.specs.Sending.{Said, next_said}
 use Rattle.q3_clmsg.specs.declared.moves.Move.{Move}
-use Rattle.q3_clstate.specs.State.{AppliedState, after_gamestate, hearing}
+use Rattle.q3_clstate.specs.State.{after_gamestate, hearing}
 use Rattle.q3_entity.specs.Runs.{taken}
 use Rattle.q3_entity.specs.declared.state.EntityState.{EntityState}
 use Rattle.q3_gamestate.specs.Laws.{IsGamestate}
@@ -20,30 +20,26 @@ use Rattle.q3_profile.specs.declared.profile.Profile.{Profile}
 use Rattle.q3_ring.specs.Snapshot.{Snapshot}
 use Rattle.q3_rings.specs.Rings.{HeldSnapshots}
 use Rattle.q3_built.specs.Built.{Built}
-use Rattle.q3_slot.specs.Emitting.{next_game}
 use Rattle.q3_slot.specs.Slot.{SlotState, asked, is_active, plays_under, primed}
 use Rattle.q3_slot.specs.Slots.{tells}
 use Rattle.q3_slot.specs.Taking.{asks_game, goes_on, heads_of, waits}
 use Rattle.q3_slot.specs.declared.stage.ClientStage.TheVariants.{Active, Primed}
 use Rattle.q3_text.specs.declared.text.Command.{Command}
 use Rattle.q3_window.specs.Incoming.{IncomingState, fresh_of, jump_at}
-use Rattle.q3_window.specs.Outgoing.{IsOutgoing}
-use Rattle.q3_world.specs.Games.{AreMapped, AreSince, Carries, IsFresh, Tells, WasApplied, accepted_since, last_played, standing_of}
-use Rattle.q3_server.specs.Standing.{IsMap}
+use Rattle.q3_world.specs.Games.{AreMapped, AreSince, Carries, Tells, accepted_since, standing_of}
 use Rattle.q3_world.specs.StandsFor.{WasAccepted}
-use Rattle.q3_world.specs.World.{History, Played, built_at, texts_of}
-use Rattle.q3_world.specs.Games.{IsOf}
+use Rattle.q3_world.specs.World.{History, built_at, texts_of}
 use Rattle.q3_world.proofs.Bases.{if_some, if_some_then}
 use Rattle.q3_world.proofs.Clients.{BaseIs}
 use Rattle.q3_world.proofs.Commanded.{ClientHears}
 use Rattle.q3_world.proofs.GamesBuilt.{AreMapped-game, AreMapped-issued, AreMapped-snapshot}
 use Rattle.q3_world.proofs.GamesHeard.{AreMapped-accepts, AreMapped-passes}
 use Rattle.q3_world.proofs.GamesMoves.{acks_built, AreSince-carried, goes_most}
-use Rattle.q3_world.proofs.GamesParts.{HasNone, cases_option, newest}
+use Rattle.q3_world.proofs.GamesParts.{HasNone, cases_option}
 use Rattle.q3_world.proofs.GamesSaid.{AreMapped-ignores, AreMapped-runs, AreMapped-said, enters_later, said_of_map, with_playing}
 use Rattle.q3_world.proofs.GamesTaken.{AreMapped-applies, IsKnown, known_under}
 use Rattle.q3_world.proofs.GamesTexts.{LeavesOwn}
-use Rattle.q3_world.proofs.Knowing.{AreMessages, KnownBase, game_built_is}
+use Rattle.q3_world.proofs.Knowing.{KnownBase}
 
 -- what joins them
 abbrev pub Mapped : MapState → SlotState → ClientState → History → Type 0

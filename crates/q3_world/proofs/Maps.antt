@@ -1,25 +1,15 @@
 -- Which texts of config strings may go out as commands.
-use Rattle.std.proofs.Common.{◌≡◌, ℕ, ◌*◌, ◌^◌, ◌<◌, true, false, List, [], ◌∷◌, length, get_or, map, take, drop, Option, Some, None, refl, sym, ap, subst, ◌∙◌, inl, inr, arith}
-use Rattle.std.specs.Prelude.{◌==◌, ◌&&◌, ◌||◌, not, nat_lt, nat_le, find, All, IfSome, codes, option_and_then}
+use Rattle.std.proofs.Common.{◌≡◌, ℕ, ◌*◌, ◌<◌, true, false, List, [], ◌∷◌, length, get_or, map, take, drop, Option, Some, None, refl, sym, ap, ◌∙◌, inl, inr, arith}
+use Rattle.std.specs.Prelude.{◌==◌, ◌&&◌, ◌||◌, not, nat_lt, nat_le, find, All}
 use Rattle.std.specs.List.{range_with_len}
-use Rattle.std.proofs.lemmas.Bool.{cases_Bool, cases_eq, cond_both, ltb-true, ne_eqb, not-false, not-true, and_parts, eqb-false}
-use Rattle.std.proofs.lemmas.List.{get_or-set_same, get_or-set_other, length-set}
+use Rattle.std.proofs.lemmas.Bool.{cases_Bool, cond_both, ltb-true, ne_eqb, not-false, not-true, and_parts, eqb-false}
 use Rattle.std.proofs.lemmas.List.Elements.{All-nil, All-cons, All-weaker, All-map, All-take, All-drop, All-from_get_or}
-use Rattle.q3_profile.specs.declared.profile.Profile.{Profile}
-use Rattle.q3_fields.specs.Kinds.{Layout}
-use Rattle.q3_fields.specs.States.{AreWords}
-use Rattle.q3_entity.specs.declared.state.EntityState.{EntityState}
-use Rattle.q3_entity.specs.Entities.{IsNormal}
-use Rattle.q3_entity.specs.Baselines.{Lines, AreLines, most_lines, set_at, with_line}
 use Rattle.q3_text.specs.Texts.{translated}
-use Rattle.q3_text.specs.Info.{info_of}
-use Rattle.q3_text.specs.Decimals.{info_number}
 use Rattle.q3_config.specs.declared.error.ConfigError.{ConfigError}
 use Rattle.q3_config.specs.declared.error.ConfigError.TheVariants.{Index}
-use Rattle.q3_config.specs.Strings.{Strings, AreStrings, places, is_config_byte, no_strings, with_string, chars_fault, room_fault, set_fault, admit_fault, after_set, server_id}
+use Rattle.q3_config.specs.Strings.{Strings, places, is_config_byte, chars_fault, admit_fault}
 use Rattle.q3_config.specs.Commands.{Change, piece_count, change_text, change_in, config_piece}
 use Rattle.q3_config.specs.Laws.{IsChange, SpelledIsRead, piece_texts}
-use Rattle.q3_map.specs.Map.{MapState, AreHeld, id_text, after_new_map, with_config, begins_game}
 use Rattle.q3_slot.specs.Slots.{is_of_index, changes_own}
 
 -- ---- a config string

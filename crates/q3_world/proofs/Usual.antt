@@ -10,7 +10,7 @@ use Rattle.q3_rings.specs.Rings.{is_young}
 use Rattle.q3_rings.specs.Accepted.{AreAccepted, newest_of, age_of, held_among}
 use Rattle.q3_clstate.specs.declared.applied.Applied.{Applied}
 use Rattle.q3_clstate.specs.declared.applied.SnapOutcome.TheVariants.{Accepted, NoSnap}
-use Rattle.q3_built.specs.Built.{Built, IsNear, IsBuilt}
+use Rattle.q3_built.specs.Built.{IsNear, IsBuilt}
 use Rattle.q3_svmsg.specs.Values as told
 use Rattle.q3_svmsg.specs.Values.{Told}
 use Rattle.q3_server.specs.Server.{places}
@@ -25,7 +25,6 @@ use Rattle.q3_world.proofs.Knowing.{KnownBase, known_base}
 use Rattle.q3_world.proofs.Holding.{Holds, has_client}
 use Rattle.q3_world.specs.Games.{accepted_since}
 use Rattle.q3_world.proofs.Mapped.{mapped_base}
-use Rattle.q3_profile.specs.declared.profile.Profile.{Profile}
 use Rattle.q3_world.proofs.Stood.{Stood, stood}
 
 abbrev held_so : Snapshot → Result Snapshot NoBase

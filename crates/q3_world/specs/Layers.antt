@@ -12,8 +12,7 @@ use Rattle.q3_window.specs.Laws.{StaysOutgoing}
 use Rattle.q3_rings.specs.Laws.{AcceptedIsHeld, NothingStands, AcceptIsAdded, BaseIsOfList, HeldWasAccepted, NearIsHeldByAge, UsualRingHolds}
 use Rattle.q3_server.specs.Apart.{SlotsApart}
 use Rattle.q3_server.specs.Laws.{MapStays, BeginsAsBuilt}
-use Rattle.q3_client.specs.Laws.{BeginsSaid}
-use Rattle.q3_clstate.specs.Laws.{ApplyStays}
+use Rattle.q3_client.specs.Laws.{BeginsSaid, ClientStays}
 use Rattle.q3_world.specs.MessageLaws.{BuiltIsRead, SaidIsRead}
 
 -- that a server's entities stay held, what its frames hold, which of these is a base, and what a call for one client leaves the others
@@ -56,7 +55,7 @@ pub record WindowLaws : Type 0 where
 pub record Layers : Type 0 where
   pub reads : BuiltIsRead
   pub hears : SaidIsRead
-  pub applied : ApplyStays
+  pub stays : ClientStays
   pub maps : MapStays
   pub begins : BeginsAsBuilt
   pub says : BeginsSaid

@@ -1,6 +1,6 @@
 -- What is kept stands for a whole world: both ends are the same, and each datagram's bytes are those of the message
 -- that its tag names.
-use Rattle.std.specs.Prelude.{◌≡◌, ◌≢◌, ℕ, zero, suc, ◌+◌, ◌^◌, ◌<◌, ◌≤◌, ◌⊎◌, ◌↔◌, true, false, List, [], ◌∷◌, ◌++◌, length, map, All, Contains, Option, Some, None, IfSome, slice_index_or}
+use Rattle.std.specs.Prelude.{◌≡◌, ℕ, zero, suc, ◌+◌, ◌^◌, ◌<◌, ◌≤◌, ◌⊎◌, ◌↔◌, true, false, List, [], ◌∷◌, ◌++◌, length, map, All, Contains, Option, Some, None, IfSome, slice_index_or}
 use Rattle.std.specs.List.{last_or}
 use Rattle.q3_profile.specs.declared.profile.Profile.{Profile}
 use Rattle.q3_profile.specs.Profile.{IsCodec, IsProfile}
@@ -14,18 +14,15 @@ use Rattle.q3_text.specs.declared.text.Command.{Command}
 use Rattle.q3_text.specs.Texts.{IsText}
 use Rattle.q3_window.specs.Outgoing.{IsOutgoing}
 use Rattle.q3_window.specs.Flow.{Carriage, Flow}
-use Rattle.q3_text.specs.Texts.{IsTextByte}
-use Rattle.q3_config.specs.Strings.{AreStrings, server_id}
 use Rattle.q3_clmsg.specs.declared.moves.Move.{Move}
 use Rattle.q3_clmsg.specs.Moves.{IsMove}
-use Rattle.q3_entity.specs.Baselines.{AreLines}
 use Rattle.q3_svmsg.specs.Values as told
 use Rattle.q3_svmsg.specs.Values.{Told}
 use Rattle.q3_ring.specs.Snapshot.{Snapshot}
 use Rattle.q3_frames.specs.Frames.{FramesState, AreFrames, held_frame}
 use Rattle.q3_rings.specs.Rings.{view_at}
 use Rattle.q3_rings.specs.Accepted.{SnapshotsStandFor}
-use Rattle.q3_map.specs.Map.{MapState, AreHeld}
+use Rattle.q3_map.specs.Map.{MapState}
 use Rattle.q3_built.specs.Built.{Built, IsHeld, IsArea, IsBuilt, built_bytes}
 use Rattle.q3_slot.specs.Slot.{SlotState}
 use Rattle.q3_slot.specs.Taking.{last_time}

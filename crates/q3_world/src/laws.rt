@@ -66,7 +66,7 @@ pub(crate) fn layers()
 {
     built_is_read();
     said_is_read();
-    clstate::apply_stays();
+    client::client_stays();
     server::map_stays();
     server::begins_built();
     client::begins_said();

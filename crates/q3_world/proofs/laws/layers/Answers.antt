@@ -4,7 +4,7 @@ pub returns : goal.returns
 returns c = record {
   reads = c.built_is_read.ensures;
   hears = c.said_is_read.ensures;
-  applied = c.apply_stays.ensures;
+  stays = c.client_stays.ensures;
   maps = c.map_stays.ensures;
   begins = c.begins_built.ensures;
   says = c.begins_said.ensures;
