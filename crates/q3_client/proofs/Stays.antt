@@ -1,7 +1,9 @@
 -- What a client keeps stays well formed and in range, whatever is handed in and whatever comes.
-use Rattle.std.proofs.Common.{◌≡◌, ℕ, ◌+◌, ◌%◌, ◌^◌, ◌<◌, ◌≤◌, Bool, List, [], ◌++◌, length, take, Option, Some, None, Result, Ok, Err, refl, sym, ap, subst, ◌∙◌, arith}
+use Rattle.std.proofs.Common.{◌≡◌, ℕ, ◌+◌, ◌%◌, ◌^◌, ◌<◌, ◌≤◌, Bool, List, [], ◌++◌, length, take, Option, Some, None, Result, Ok, Err, refl, sym, ap, subst, ◌∙◌, arith, ◌-◌, ◌∷◌}
 use Rattle.std.specs.Prelude.{◌==◌, ◌||◌, not, nat_lt, nat_le, if◌then◌else◌}
 use Rattle.std.proofs.lemmas.Bool.{cond_both, eqb-true}
+use Rattle.std.proofs.lemmas.List.{length-drop}
+use Rattle.circular_buffer.specs.Buffer.{keep_last}
 use Rattle.q3_bits.specs.Bits.{bits_of}
 use Rattle.q3_bits.specs.ResultBind.{◌>>=◌, bind_ok}
 use Rattle.q3_text.specs.Texts.{IsText}
@@ -169,3 +171,27 @@ joins_stay applies stays profile challenge qport dup codec room =
 pub types_stay : StaysOutgoing → (client : ClientState) (text : List ℕ) → IsText text → IsClient client → IsClient (type_at client text).client
 types_stay stays client text is_text is =
     record { applied = is.applied; taken = is.taken; window = stays.issues client.issued text is.window is_text; few = is.few; moves = is.moves }
+
+-- a move is issued
+issue_stays : (client : ClientState) (one : Move) → IsMove one → IsClient client → IsClient (issue client one)
+issue_stays client one is_one is =
+    let issued : Issued = record { begun = client.sending.number; one = one } in
+    let more : List Issued = client.moves ++ issued ∷ [] in
+    let few : length (keep_last most_moves more) ≤ most_moves = let counted = length-drop (length more - most_moves) more in omega (arith, counted) in
+    record {
+      applied = is.applied;
+      taken = is.taken;
+      window = is.window;
+      few = few;
+      moves = moves_pushed client.moves (keep_last most_moves more) most_moves issued refl is_one is.moves;
+    }
+
+pub moves_stay : (client : ClientState) (one : Move) → IsMove one → IsClient client → IsClient (add_move_at client one).client
+moves_stay client one is_one is =
+    let in_range : Handed MoveError = if is_issuable one then record { client = issue client one; answer = Ok tt } else record { client = client; answer = Err Range } in
+    let later : Handed MoveError = if nat_le one.time client.last_time then record { client = client; answer = Err (NotLater client.last_time) } else in_range in
+    let Stays = λ (handed : Handed MoveError). IsClient handed.client in
+    cond_both (not client.state.has_game) (record { client = client; answer = Err NoGame }) later Stays (λ e. is)
+    (λ e. cond_both (nat_le one.time client.last_time) (record { client = client; answer = Err (NotLater client.last_time) }) in_range Stays (λ e. is)
+    (λ e. cond_both (is_issuable one) (record { client = issue client one; answer = Ok tt }) (record { client = client; answer = Err Range }) Stays
+    (λ e. issue_stays client one is_one is) (λ e. is)))

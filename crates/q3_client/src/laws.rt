@@ -10,7 +10,7 @@ pub fn begins_said()
     ensures { BeginsSaid }
 {}
 
-/// A client is well formed once it joined, and stays so, whatever command is typed and whatever bytes it takes.
+/// A client is well formed once it joined, and stays so, whatever move or command is issued and whatever bytes it takes.
 pub fn client_stays()
     ensures { ClientStays }
 {
