@@ -81,9 +81,9 @@ next_is_message client is =
     let waiting = is.window.few in
     let few = is.few in
     record {
-      id = is.id;
+      id = let least = is.applied.id in omega (arith, least);
       acknowledged = is.taken;
-      command = is.executed;
+      command = is.applied.executed;
       few = omega (arith, waiting, numbered_count first client.issued.waiting);
       commands = numbered_are first client.issued.waiting (omega (arith, numbers)) is.window.texts;
       few_moves = omega (arith, few, few_pass (is_carried number client.dup) client.moves, length-map those one_of);
@@ -94,6 +94,11 @@ next_is_message client is =
     none_asked : (moves : List Move) → moves ≡ [] → asks_delta client.delta moves ≡ false
     none_asked [] none = refl
     none_asked (one ∷ moves) none = let long : length (one ∷ moves) ≡ 0 = ap (λ (l : List Move). length l) none in absurd (omega (arith, long))
+
+-- and so is what it is scrambled by
+pub next_is_said : (client : ClientState) → IsClient client → is_unclear client.state.profile (next_message client) ≡ false
+    → IsSaid client.state.profile client.challenge (next_said client)
+next_is_said client is clear = record { message = next_is_message client is; feed = is.applied.feed; start = refl; text = is.applied.last; clear = clear }
 
 -- what was begun, if anything was
 abbrev Begins : ClientState → Emission → Type 0
@@ -109,7 +114,7 @@ begins_new client is =
         | inl hidden ↦ rw (goes, hidden) tt
         | inr clear ↦ elim (cases_Bool (nat_lt longest_message (message_length (length bits)))) [
           | inl long ↦ rw (goes, clear, long) tt
-          | inr short ↦ rw (goes, clear, short) (record { message = next_is_message client is; feed = is.feed; key = refl; text = is.last; clear = clear })
+          | inr short ↦ rw (goes, clear, short) (next_is_said client is clear)
         ]
       ]
     ]

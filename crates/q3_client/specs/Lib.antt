@@ -4,3 +4,4 @@ pub mod Sending
 pub mod Receiving
 pub mod Saying
 pub mod Standing
+pub mod Laws

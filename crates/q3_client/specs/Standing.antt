@@ -1,8 +1,8 @@
 -- What every client is, whatever was handed in and whatever came.
 use Rattle.std.specs.Prelude.{ℕ, ◌^◌, ◌<◌, ◌≤◌, List, length, All}
-use Rattle.q3_text.specs.Texts.{IsText}
 use Rattle.q3_window.specs.Outgoing.{IsOutgoing}
 use Rattle.q3_clmsg.specs.Moves.{IsMove}
+use Rattle.q3_clstate.specs.Standing.{IsApplied}
 use Rattle.q3_client.specs.declared.moves.Issued.{Issued}
 use Rattle.q3_client.specs.Client.{ClientState}
 use Rattle.q3_client.specs.Moves.{most_moves}
@@ -11,14 +11,11 @@ use Rattle.q3_client.specs.Moves.{most_moves}
 pub record AreMoves (moves : List Issued) : Type 0 where
   pub each : All (λ (issued : Issued). IsMove issued.one) moves
 
--- a client: the numbers that its messages tell fit their longs, the text of the last server command executed is one, its window is one of
--- commands, and it keeps few moves, each of which an end may send
+-- a client: all that the messages left is well formed and in range, the newest number taken fits a long, its window is one of commands,
+-- and it keeps few moves, each of which an end may send
 pub record IsClient (client : ClientState) : Type 0 where
-  pub id : client.state.id < 2 ^ 32
-  pub feed : client.state.feed < 2 ^ 32
+  pub applied : IsApplied client.state
   pub taken : client.gathering.taken < 2 ^ 32
-  pub executed : client.state.executed.executed < 2 ^ 32
-  pub last : IsText client.state.executed.last
   pub window : IsOutgoing client.issued
   pub few : length client.moves ≤ most_moves
   pub moves : AreMoves client.moves

@@ -12,12 +12,10 @@ ghost use Rattle.q3_rings.specs.Rings.{view_at};
 ghost use Rattle.q3_client.specs.Client.{new_client, type_at, take_at, is_accepted, moves_behind};
 ghost use Rattle.q3_client.specs.Moves.{add_move_at};
 ghost use Rattle.q3_client.specs.Sending.{emit_at, IsSaid};
-ghost use Rattle.q3_client.specs.Standing.{IsClient};
 
 use crate::moves::{Issued, MOST_MOVES, carry, is_issuable};
 use crate::receiving::{gather, receive_front};
 use crate::saying::{is_unclear, write_scrambled};
-use crate::standing::{longs_fit, move_fits};
 use arrayvec::ArrayVec;
 use circular_buffer::HeapCircularBuffer;
 use q3_bits::NoMemory;
@@ -234,7 +232,6 @@ impl Client {
         if !is_issuable(one) {
             return Err(MoveError::Range);
         }
-        move_fits(one);
         self.moves.push_back(Issued {
             begun: self.sender.number(),
             one: *one,
@@ -258,28 +255,15 @@ impl Client {
         self.outgoing.issued()
     }
 
-    /// What every client is, which nothing at run time asks.
-    fn stand(&self)
-        ensures { IsClient self.now }
-    {
-        longs_fit(self.state.id(), self.state.feed());
-        longs_fit(self.gatherer.taken(), self.state.executed());
-        let _last = self.state.last_text().bytes();
-        let _issued = self.outgoing.issued();
-        // a ring holds no more than it has room for
-        prove!(self.moves.len() <= MOST_MOVES);
-    }
-
     /// Makes the next datagram for the server: it is empty where nothing is handed out. `Dropped` comes exactly where the
     /// client was dropped. A message that it begins is well formed, whatever the client took before.
-    #[tactic(auto, unfolding(crate::specs::Sending::emit_at), using(crate::proofs::Begins::begins))]
+    #[tactic(auto, unfolding(crate::specs::Sending::emit_at))]
     pub fn emit(&mut self, out: &mut Datagram) -> Sent
         ensures client { self.new ≡ (emit_at self.old).client }
         ensures answer { result ≡ (emit_at self.old).answer }
         ensures piece { HandsOut (emit_at self.old).piece out.new.items }
         ensures began { IfSome (emit_at self.old).began (IsSaid self.old.state.profile self.old.challenge) }
     {
-        self.stand();
         out.clear();
         if let Some(cause) = self.dropped {
             return Sent::Dropped(cause);
@@ -298,6 +282,8 @@ impl Client {
         if is_unclear(&self.state, acknowledged) {
             return Sent::Unclear;
         }
+        // a ring holds no more than it has room for
+        prove!(self.moves.len() <= MOST_MOVES);
         carry(&self.moves, number, self.dup, &mut self.carried);
         let Ok(bytes) = write_scrambled(
             &self.state,

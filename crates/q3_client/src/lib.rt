@@ -2,9 +2,9 @@
 #![tactic(auto)]
 
 pub mod client;
+pub mod laws;
 mod moves;
 mod receiving;
 mod saying;
-mod standing;
 
 pub use client::{Client, ClientTook, MoveError, Sent};

@@ -7,10 +7,11 @@ ghost use Rattle.q3_bits.specs.Words.{row_bits};
 ghost use Rattle.q3_chan.specs.Datagrams.{longest_message};
 ghost use Rattle.q3_chan.specs.Keys.{client_key, is_unclear};
 ghost use Rattle.q3_chan.specs.declared.side.Side.TheVariants.{Client};
-ghost use Rattle.q3_window.specs.Outgoing.{carried as waiting_of};
+ghost use Rattle.q3_window.specs.Outgoing.{IsOutgoing, carried as waiting_of};
 ghost use Rattle.q3_clmsg.specs.Moves.{message_key};
 ghost use Rattle.q3_clmsg.specs.Texts.{client_text};
 ghost use Rattle.q3_clmsg.specs.Values.{parts_said};
+ghost use Rattle.q3_clstate.specs.Standing.{IsApplied};
 ghost use Rattle.q3_client.specs.Moves.{most_moves};
 ghost use Rattle.q3_client.specs.Sending.{message_with};
 ghost use Rattle.q3_client.specs.Saying.{FillsScrambled};
@@ -43,7 +44,9 @@ pub(crate) fn write_scrambled(
 ) -> Result<usize, Overflow>
     requires room { length into.old ≡ longest_message }
     requires few { length moves.now ≤ most_moves }
-    ensures { FillsScrambled (client_key challenge state.now.id acknowledged state.now.executed.last)
+    ensures stands { IsApplied state.now }
+    ensures window { IsOutgoing outgoing.now }
+    ensures fills { FillsScrambled (client_key challenge state.now.id acknowledged state.now.executed.last)
         (client_text state.now.profile.code (message_key state.now.feed acknowledged state.now.executed.last)
         (message_with state.now.id acknowledged state.now.executed.executed (waiting_of outgoing.now) delta moves.now)) into.new result }
 {
@@ -64,7 +67,8 @@ fn parts_of<'a>(
     delta: bool,
     moves: &'a [Move],
 ) -> SaidParts<'a>
-    ensures { parts_said result ≡ message_with state.now.id acknowledged state.now.executed.executed (waiting_of outgoing.now) delta moves.now }
+    ensures window { IsOutgoing outgoing.now }
+    ensures parts { parts_said result ≡ message_with state.now.id acknowledged state.now.executed.executed (waiting_of outgoing.now) delta moves.now }
 {
     SaidParts {
         id: state.id(),

@@ -1,4 +1,8 @@
 pub mod Lines
 pub mod Accepting
 pub mod Commands
+pub mod Below
+pub mod Hearing
+pub mod HeldStays
+pub mod Stays
 mod Printing

@@ -1,12 +1,12 @@
 -- How a client's state is kept, and what is done with a snapshot.
 use Rattle.std.specs.Prelude.{ℕ, if◌then◌else◌}
-use Rattle.q3_fields.specs.Kinds.{IsTable}
 use Rattle.q3_ring.specs.Snapshot.{Snapshot}
 use Rattle.q3_rings.specs.Rings.{HeldSnapshots, accept_at, held_snapshot}
 use Rattle.q3_clstate.specs.declared.applied.SnapOutcome.{SnapOutcome}
 use Rattle.q3_clstate.specs.declared.applied.SnapOutcome.TheVariants.{Accepted, Skipped, Stale}
 use Rattle.q3_clstate.specs.declared.state.ClState.TheInside.{Inside}
 use Rattle.q3_clstate.specs.State.{AppliedState, is_stale, skipped_for}
+use Rattle.q3_clstate.specs.Standing.{IsApplied}
 
 abbrev pub state_in : Inside → AppliedState
 state_in s = record {
@@ -22,9 +22,9 @@ state_in s = record {
   held = s.holding.rings.held;
 }
 
--- what is read of a list of entities rises, since the profile's fields are a table
-abbrev pub HasTable : Inside → Type 0
-HasTable s = IsTable s.profile.entity
+-- what is kept is well formed and in range
+abbrev pub Stands : Inside → Type 0
+Stands s = IsApplied (state_in s)
 
 -- what is held behind a snapshot that was read, and what is told of it
 abbrev pub held_behind : HeldSnapshots → ℕ → Snapshot → HeldSnapshots

@@ -1,3 +1,5 @@
 pub mod State
 pub mod Report
 pub mod Kept
+pub mod Standing
+pub mod Laws

@@ -4,6 +4,7 @@
 
 pub mod applied;
 mod holding;
+pub mod laws;
 pub mod print;
 mod settings;
 pub mod state;

@@ -8,10 +8,12 @@ ghost use Rattle.std.specs.Prelude.{◌≡◌, ◌<◌, ◌≤◌, option_map, s
 ghost use Rattle.q3_entity.specs.Entities.{Rises, run_of};
 ghost use Rattle.q3_rings.specs.Loans.{snapshot_of, head_of, head_from};
 ghost use Rattle.q3_rings.specs.Rings.{AreHeldSnapshots, view_at};
+ghost use Rattle.q3_clstate.specs.Standing.{IsApplied};
 ghost use Rattle.q3_clstate.specs.State.{new_state, apply_at, state_behind, answered, heard_in};
 
 use crate::applied::{Applied, Log, SnapOutcome};
 use crate::holding::Holding;
+use crate::laws::apply_stays;
 use crate::settings::MapSettings;
 use q3_bits::NoMemory;
 use q3_config::Configs;
@@ -47,11 +49,11 @@ impl Model for ClState {
 
     ghost Value = { AppliedState };
 
-    ghost use Rattle.q3_clstate.specs.Kept.{state_in, HasTable};
+    ghost use Rattle.q3_clstate.specs.Kept.{state_in, Stands};
 
     ghost view = { state_in };
 
-    ghost invariant = { HasTable };
+    ghost invariant = { Stands };
 }
 
 impl ClState {
@@ -61,6 +63,7 @@ impl ClState {
         requires most { profile.now.parse_ring ≤ 65536 }
         ensures { IfOk result (λ state. state ≡ new_state profile.now) }
     {
+        apply_stays();
         Ok(ClState {
             profile: profile.copy()?,
             number: 0,
@@ -93,6 +96,7 @@ impl ClState {
     {
         log.commands.clear();
         list_rises();
+        apply_stays();
         read_server_message(
             &self.profile,
             number,
@@ -131,7 +135,8 @@ impl ClState {
 
     /// The profile by which messages are read.
     pub fn profile(&self) -> &Profile
-        ensures { result.now ≡ self.now.profile }
+        ensures profile { result.now ≡ self.now.profile }
+        ensures stands { IsApplied self.now }
     {
         &self.profile
     }
@@ -220,6 +225,7 @@ impl ClState {
     pub fn newest(&self) -> u32
         ensures newest { result ≡ self.now.held.newest }
         ensures held { AreHeldSnapshots self.now.held }
+        ensures stands { IsApplied self.now }
     {
         self.holding.rings.newest()
     }

@@ -18,6 +18,12 @@ HeldWasHeld = (snapshots : HeldSnapshots) (accepted : Snapshot) (number : ℕ) (
     → ((number ≡ accepted.head.number) × (held ≡ accepted))
     ⊎ ((number ≡ accepted.head.number → ⊥) × (held_snapshot snapshots number ≡ Ok held))
 
+-- what every such value is holds where none was accepted, and stays so where one is that is newer than all others
+pub record SnapshotsStay : Type 0 where
+  pub none : (ring : ℕ) → 512 ≤ ring → AreHeldSnapshots (no_snapshots ring)
+  pub accept : (snapshots : HeldSnapshots) (snapshot : Snapshot) → AreHeldSnapshots snapshots → snapshots.newest < snapshot.head.number
+      → AreHeldSnapshots (accept_at snapshots snapshot)
+
 -- ---- over the list of all snapshots accepted
 
 -- where none was accepted none is held

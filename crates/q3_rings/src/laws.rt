@@ -1,6 +1,6 @@
 //! Laws of the snapshots that a client holds, each the contract of a call that does nothing.
 
-ghost use Rattle.q3_rings.specs.Laws.{AcceptedIsHeld, HeldWasHeld, NothingStands, AcceptIsAdded, BaseIsOfList, HeldWasAccepted, NearIsHeldByAge, UsualRingHolds};
+ghost use Rattle.q3_rings.specs.Laws.{AcceptedIsHeld, HeldWasHeld, SnapshotsStay, NothingStands, AcceptIsAdded, BaseIsOfList, HeldWasAccepted, NearIsHeldByAge, UsualRingHolds};
 
 /// A snapshot that is accepted is held then.
 pub fn accepted_is_held()
@@ -10,6 +10,11 @@ pub fn accepted_is_held()
 /// What is held behind a snapshot that is accepted is that one, or was held before.
 pub fn held_was_held()
     ensures { HeldWasHeld }
+{}
+
+/// What every such value is holds at first, and stays so where a snapshot is accepted.
+pub fn snapshots_stay()
+    ensures { SnapshotsStay }
 {}
 
 /// Where none was accepted none is held.

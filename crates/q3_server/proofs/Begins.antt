@@ -139,7 +139,7 @@ module _ (below : Below) (profile : Profile) (map : MapState) (slot : SlotState)
           let same = near.3 in
           record { some = omega (arith, some, same); below = omega (arith, under, same); near = omega (arith, within, same) }
 
-  next_is_built : (frames : FramesState) (c : ℕ) → slot.sending.number + 1 < sequence_end → is_unclear profile slot.executed.executed ≡ false
+  pub next_is_built : (frames : FramesState) (c : ℕ) → slot.sending.number + 1 < sequence_end → is_unclear profile slot.executed.executed ≡ false
       → IsBuilt profile slot.challenge (slot.sending.number + 1) (begun_next map frames c slot)
   next_is_built frames c fits clear =
       record {
@@ -156,7 +156,7 @@ module _ (below : Below) (profile : Profile) (map : MapState) (slot : SlotState)
         });
       }
 
-  game_is_built : (c : ℕ) → c < 2 ^ 32 → slot.owed ≡ true → is_unclear profile slot.executed.executed ≡ false
+  pub game_is_built : (c : ℕ) → c < 2 ^ 32 → slot.owed ≡ true → is_unclear profile slot.executed.executed ≡ false
       → IsBuilt profile slot.challenge (slot.sending.number + 1) (next_game_built map c slot)
   game_is_built c lt owed clear =
       let numbers : slot.issued.acknowledged + length slot.issued.waiting ≤ 2 ^ 31 - 1 = is.window.numbers in

@@ -27,6 +27,7 @@ none_held table = record { rise = tt; states = All-nil (λ (entity : EntityState
 -- before the first map
 pub map_none : Below → (profile : Profile) → IsMap profile no_map
 map_none below profile = record {
+  id = omega arith;
   feed = omega arith;
   time = omega arith;
   strings = below.strings.none;
@@ -44,6 +45,7 @@ map_given : (profile : Profile) (map : MapState) (time : ℕ) (entities : List E
     → IsMap profile (record map { time = time; entities = entities })
 map_given profile map time entities short held is =
     record {
+      id = is.id;
       feed = is.feed;
       time = short;
       strings = is.strings;
@@ -73,6 +75,7 @@ map_removed below profile map number is = map_given profile map map.time _ is.ti
 pub map_begun : (profile : Profile) (map : MapState) → IsMap profile map → IsMap profile (begins_game map)
 map_begun profile map is =
     record {
+      id = is.id;
       feed = is.feed;
       time = is.time;
       strings = is.strings;
@@ -91,6 +94,7 @@ map_new below profile map id feed least short is =
     let strings : AreStrings (with_string no_strings 1 text) =
     subst (λ (fault : Option ConfigError). AreStrings (after_set no_strings 1 text fault)) (below.maps.fits id least) (below.strings.set no_strings 1 text below.strings.none) in
     record {
+      id = least;
       feed = short;
       time = is.time;
       strings = strings;
@@ -110,6 +114,7 @@ map_lined below profile map state codec lt words is =
     let normal = below.entity profile.entity state codec.entity words in
     cond_both map.begun (record { map = map; answer = Err (record {}) }) (record { map = record map { lines = with_line map.lines line }; answer = Ok tt })
     (λ (h : Handed Late). IsMap profile h.map) (λ begun. is) (λ open_. record {
+      id = is.id;
       feed = is.feed;
       time = is.time;
       strings = is.strings;
@@ -183,6 +188,7 @@ map_configured below profile map index text other admitted is =
     let strings : AreStrings (with_string map.strings index text) =
     subst (λ (fault : Option ConfigError). AreStrings (after_set map.strings index text fault)) may.none (below.strings.set map.strings index text is.strings) in
     record {
+      id = is.id;
       feed = is.feed;
       time = is.time;
       strings = strings;

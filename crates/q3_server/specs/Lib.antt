@@ -1,3 +1,5 @@
 pub mod Server
 pub mod Taking
 pub mod Standing
+pub mod Laws
+pub mod Apart

@@ -19,6 +19,7 @@ use Rattle.q3_server.specs.Server.{ServerState, slot_at, emit_at}
 -- the map as the game handed it in: the strings are ones that a gamestate may carry, the first tells the map's id, and the baselines and
 -- entities are in normal form
 pub record IsMap (profile : Profile) (map : MapState) : Type 0 where
+  pub id : map.id < 2 ^ 31
   pub feed : map.feed < 2 ^ 32
   pub time : map.time < 2 ^ 32
   pub strings : AreStrings map.strings

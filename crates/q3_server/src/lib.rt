@@ -1,6 +1,7 @@
 //! The server's end.
 #![tactic(auto)]
 
+pub mod laws;
 pub mod server;
 mod slots;
 mod standing;

@@ -15,8 +15,9 @@ ghost use Rattle.q3_server.specs.Standing.{BeginsBuilt, IsServer};
 ghost use Rattle.q3_server.specs.Server.{places, new_server, add_client_at, new_map_at, set_time_at, set_entity_at, remove_entity_at, set_baseline_at, refused_for, set_config_at, set_player_at, set_area_at, set_delayed_at, sending_at, say_at, emit_at, slot_at};
 ghost use Rattle.q3_server.specs.Taking.{take_at};
 
+use crate::laws::below;
 use crate::slots::{begin_map, first_without_room, is_kept, tell_all};
-use crate::standing::{below, entity_fits, long_fits, player_fits};
+use crate::standing::{entity_fits, player_fits};
 use q3_bits::NoMemory;
 use q3_chan::{Datagram, LONGEST_MESSAGE, NoQport, qport_of};
 use q3_clmsg::ClientMessage;
@@ -162,7 +163,6 @@ impl Server {
         ensures { new_map_at self.old id feed ≡ record { server = self.new; answer = result } }
     {
         below();
-        long_fits(feed);
         self.map.new_map(id, feed)?;
         begin_map(&mut self.slots);
         Ok(())
@@ -215,7 +215,6 @@ impl Server {
     pub fn set_time(&mut self, time: u32)
         ensures { self.new ≡ set_time_at self.old time }
     {
-        long_fits(time);
         self.map.set_time(time);
     }
 
@@ -374,7 +373,6 @@ impl Server {
         if !self.has(slot) {
             return Emitted::NoClient;
         }
-        self.slots[slot as usize].stand();
         self.slots[slot as usize].emit(
             slot,
             &self.profile,

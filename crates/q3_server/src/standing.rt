@@ -1,33 +1,11 @@
-//! What the server's types and the laws below it tell. Nothing here does anything at run time.
+//! What the types of the states tell that the game hands in.
 
-ghost use Rattle.std.specs.Prelude.{◌<◌, ◌≡◌, ◌≤◌, ◌^◌, All, length};
+ghost use Rattle.std.specs.Prelude.{◌<◌, ◌^◌, All};
 ghost use Rattle.q3_fields.specs.States.{AreWords};
 ghost use Rattle.q3_player.specs.State.{AreShorts, IsShort, IsState};
-ghost use Rattle.q3_server.specs.Standing.{Below};
 
 use q3_entity::EntityState;
 use q3_player::PlayerState;
-
-/// The laws on which it rests that what a server begins is well formed.
-pub(crate) fn below()
-    ensures { Below }
-{
-    q3_entity::laws::normal_is_normal();
-    q3_entity::laws::no_lines_are_lines();
-    q3_entity::laws::line_is_added();
-    q3_player::laws::normal_is_normal();
-    q3_player::laws::zero_is_normal();
-    q3_map::laws::lists_stay_held();
-    q3_map::laws::new_maps_tell();
-    q3_config::laws::strings_stay();
-    q3_config::laws::texts_stay();
-    q3_frames::laws::base_is_near();
-}
-
-/// A number has 32 bits.
-pub(crate) fn long_fits(number: u32)
-    ensures { number < 2 ^ 32 }
-{}
 
 /// A state of an entity has 64 words.
 pub(crate) fn entity_fits(state: &EntityState)

@@ -8,7 +8,6 @@ pub mod joined;
 pub mod laws;
 pub mod slot;
 pub mod stage;
-mod standing;
 pub mod taking;
 
 pub use answer::{Emitted, NoClient, SayError};

@@ -20,7 +20,6 @@ use crate::beginning::{begin_game, begin_snapshot};
 use crate::emitting::{Recipient, has_ended};
 use crate::joined::Joined;
 use crate::stage::ClientStage;
-use crate::standing::types_tell;
 use crate::taking::{Heard, ServerTook};
 use arrayvec::ArrayVec;
 use q3_bits::NoMemory;
@@ -234,18 +233,19 @@ impl Slot {
         }
     }
 
-    /// What the types of its parts tell of the slot, which nothing at run time asks.
-    pub fn stand(&self)
+    /// What the parts of the slot tell.
+    fn stand(&self)
         ensures { IfSome self.now IsSlot }
     {
         let Some(client) = &self.client else {
             return;
         };
         let _issued = self.issued.issued();
+        let _executed = client.executed.executed();
         let _last = client.executed.last().bytes();
-        types_tell(client.executed.executed(), &client.area);
+        let area = client.area.as_slice();
         // there is room for no more
-        prove!(client.area.len() <= 32);
+        prove!(area.len() <= 32);
     }
 
     /// Takes a datagram of the client in this slot, from an address, which it takes over. A message that came whole is
@@ -318,7 +318,9 @@ impl Slot {
         ensures answer { result ≡ answer_of profile.now map.old frames.old slot self.old }
         ensures piece { HandsOut (piece_of profile.now map.old frames.old slot self.old) out.new.items }
         ensures buffer { length buffer.new ≡ longest_message }
+        ensures stands { IfSome self.old IsSlot }
     {
+        self.stand();
         let Some(client) = &self.client else {
             return Emitted::NoClient;
         };

@@ -162,7 +162,8 @@ impl Outgoing {
     /// Lends the commands that wait for their acknowledgement, by rising number. `head` goes to the last place at most, and
     /// `tail` on from the first.
     pub fn waiting(&self) -> CommandRun<'_>
-        ensures { commands_of result ≡ carried self.now }
+        ensures waiting { commands_of result ≡ carried self.now }
+        ensures is_outgoing { IsOutgoing self.now }
     {
         let count = (self.issued - self.acknowledged) as usize;
         let start = ((self.acknowledged + 1) % PLACES) as usize;

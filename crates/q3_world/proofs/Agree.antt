@@ -9,7 +9,11 @@ use Rattle.q3_fields.specs.States.{AreWords}
 use Rattle.q3_fields.specs.Kinds.{least_end, end_mark}
 use Rattle.q3_entity.specs.declared.state.EntityState.{EntityState}
 use Rattle.q3_entity.specs.Entities.{normal_entity, IsNormal}
-use Rattle.q3_entity.specs.Baselines.{AreLines}
+use Rattle.q3_profile.specs.Profile.{IsCodec}
+use Rattle.q3_server.specs.Laws.{MapStays, BeginsAsBuilt}
+use Rattle.q3_client.specs.Laws.{BeginsSaid, ClientStays}
+use Rattle.q3_clstate.specs.State.{new_state}
+use Rattle.q3_clstate.specs.Standing.{IsApplied}
 use Rattle.q3_map.specs.Map.{MapState, is_other}
 use Rattle.q3_chan.specs.Senders.{QportIsTold}
 use Rattle.q3_chan.specs.Laws.{SentIsTagged, TaggedDoes, EndsGather, EndsSend}
@@ -19,7 +23,7 @@ use Rattle.q3_client.specs.Sending.{said_bytes, Said, IsSaid}
 use Rattle.q3_slot.specs.Slot.{SlotState}
 use Rattle.q3_built.specs.Built.{Built, IsHeld, IsSnapshot, IsBuilt, built_bytes}
 use Rattle.q3_slot.specs.Taking.{came_as, said_by}
-use Rattle.q3_world.specs.MessageLaws.{AreBuilt, HoldsThis}
+use Rattle.q3_world.specs.MessageLaws.{HoldsThis}
 use Rattle.q3_world.specs.Layers.{ServerLaws, RingLaws, WindowLaws, ScramblingLaws, ConfigLaws}
 use Rattle.q3_world.specs.Ends.{client_at}
 use Rattle.q3_world.specs.Kept.{Kept, KeptStep}
@@ -32,9 +36,9 @@ use Rattle.q3_world.proofs.Holding.{Holds, with_client_of, same_clients}
 
 -- a message that was built is received from its bytes as its value
 abbrev pub ReadsBack : Profile → Type 0
-ReadsBack profile = (client : ClientState) (number : ℕ) (built : Built) → IsBuilt profile client.challenge number built → client.state.profile ≡ profile → AreLines profile.entity client.state.lines → IfSome built.under (λ game. client.state.lines ≡ built.lines)
+ReadsBack profile = (client : ClientState) (number : ℕ) (built : Built) → IsBuilt profile client.challenge number built → client.state.profile ≡ profile → IsApplied client.state → IfSome built.under (λ game. client.state.lines ≡ built.lines)
     → (acknowledge_at client.issued built.message.ack).answer ≡ Ok tt → text_at client.issued built.message.ack ≡ built.key.text
-    → AreBuilt profile client.state.held → IfSome built.base (λ base. IsSnapshot profile base × HoldsThis client.state.held base)
+    → IfSome built.base (λ base. IsSnapshot profile base × HoldsThis client.state.held base)
     → receive_bytes client number (built_bytes profile built) ≡ Ok (receive_message client number built.message)
 
 -- and one that a client said is read back
@@ -50,6 +54,12 @@ HearsBack profile = (map : MapState) (slot : SlotState) (said : Said) → IsSaid
 pub record Cited (profile : Profile) : Type 0 where
   pub reads : ReadsBack profile
   pub hears : HearsBack profile
+  pub codec : IsCodec profile
+  pub maps : MapStays
+  pub begins : BeginsAsBuilt
+  pub says : BeginsSaid
+  pub stays : ClientStays
+  pub first : IsApplied (new_state profile)
   pub zero : IsHeld profile zero_player
   pub normal : (player : PlayerState) → IsState player → IsHeld profile (normal_player profile.player.kinds player)
   pub normal_entity : (entity : EntityState) → AreWords 64 entity.words

@@ -44,7 +44,7 @@ steps_agree profile whole (events.Area c area) cited is own holds =
     handed profile whole (set_area whole.ends c area) (holds_area profile whole c area (record { bytes = is.2; short = is.1 }) (omega (arith, is.0)) holds)
 steps_agree profile whole (events.Player c player) cited is own holds =
     handed profile whole (set_player whole.ends c player) (holds_player profile whole c player (cited.normal player is.1) (omega (arith, is.0)) holds)
-steps_agree profile whole (events.Time time) cited is own holds = handed profile whole (set_time whole.ends time) (holds_time profile whole time is holds)
+steps_agree profile whole (events.Time time) cited is own holds = handed profile whole (set_time whole.ends time) (holds_time profile whole time cited is holds)
 steps_agree profile whole (events.Say c text) cited is own holds = record { same = refl; holds = holds_say profile whole c text cited is.1 (omega (arith, is.0)) holds }
 steps_agree profile whole (events.TypeText c text) cited is own holds = record { same = refl; holds = holds_type profile whole c text cited is.1 (omega (arith, is.0)) holds }
 steps_agree profile whole (events.Move c one) cited is own holds = record { same = refl; holds = holds_move profile whole c one is.1 (omega (arith, is.0)) holds }

@@ -50,7 +50,8 @@ use Rattle.q3_world.proofs.MoveLists.{consecutive_issued}
 use Rattle.q3_world.proofs.Clients.{no_client, no_end, at_number, said_number, KeepsSlot-ran, KeepsSlot-acknowledged}
 use Rattle.q3_world.proofs.Joined.{TakesBuilt-gathered, TakesBuilt-passed, TakesBuilt-accepted, TakesBuilt-started, AreAsked-accepted}
 use Rattle.q3_world.proofs.Bases.{if_some_then}
-use Rattle.q3_world.proofs.Knowing.{KnownBase, known_base, was_built_is, held_are_built, holds_this, lines_are}
+use Rattle.q3_clstate.specs.Standing.{IsApplied}
+use Rattle.q3_world.proofs.Knowing.{KnownBase, known_base, was_built_is, holds_this}
 use Rattle.q3_world.proofs.Applying.{applies_message, applies_game_message}
 use Rattle.q3_world.proofs.Commanded.{ClientHears, client_hears, SlotHears, slot_hears}
 use Rattle.q3_world.proofs.Holding.{Holds, Has, has_slot, has_client}
@@ -223,17 +224,17 @@ received_alike profile whole c n slot client built cited had named_is newer =
     let since = accepted_since history.games history.accepted in
     let were = since_were history.games history.accepted (WasBuilt history.built) takes.accepted in
     let hears = named_is.hears newer in
-    cited.reads client n built named_is.is had.keeps.of_client.by (lines_are profile slot client history are had.joined.mapped.has) (named_is.lines newer) hears.takes hears.text
-    (held_are_built cited.rings profile slot.challenge client.state.held history.built since are takes.stands were)
+    cited.reads client n built named_is.is had.keeps.of_client.by had.keeps.of_client.applied (named_is.lines newer) hears.takes hears.text
     (if_some_then built.base (KnownBase n history.built since) (λ base. IsSnapshot profile base × HoldsThis client.state.held base)
     (λ base known. (was_built_is profile slot.challenge history.built base are known.1, holds_this cited.rings client.state.held history.built since base takes.stands were known.1))
     (named_is.base newer))
 
 -- where nothing comes whole, the commands on their way are as they were
-waits_so : (slot : SlotState) (client : ClientState) (history : History) (g : Gathering) → g.taken ≡ client.gathering.taken → IsOutgoing client.issued → AreCommanded slot client history
+waits_so : (slot : SlotState) (client : ClientState) (history : History) (g : Gathering) → g.taken ≡ client.gathering.taken → IsApplied client.state → IsOutgoing client.issued → AreCommanded slot client history
     → TakesSo slot history g client.state client.issued history.client_executed
-waits_so slot client history g taken window are =
+waits_so slot client history g taken applied window are =
     record {
+      applied = applied;
       is = window;
       to_client = subst (λ (n : ℕ). Flow slot.issued client.state.executed history.server_commands history.client_executed (carried_built history.built) (acks_said history.said) slot.gathering.taken n)
           (sym taken) are.to_client;
@@ -279,7 +280,7 @@ holds_piece profile whole c datagram n slot client took built cited lt within ha
           let same = quiet_client now took.answer read waits.quiet in
           let noted = nothing_noted history n client.last_time (take_answer now took.answer read) built.message.section same.accepted same.heard (same.game built.message.section) in
           rw (noted, same.client_is) (Holds-taken profile whole c slot client g state client.issued client.delta false history.games history.accepted history.client_executed lt had does.side refl refl
-          (waits_so slot client history g waits.taken window had.joined.commanded)
+          (waits_so slot client history g waits.taken had.keeps.of_client.applied window had.joined.commanded)
           (TakesBuilt-gathered profile client history.built history.accepted since g waits.taken gathers joined) had.joined.asked
           (subst (λ (k : ℕ). AreMapped map (standing_of slot) state k client.last_time history.built history.games history.said history.accepted history.client_executed) (sym waits.taken) mapped) had.joined.since holds)
       | inr came ↦
@@ -305,6 +306,9 @@ holds_piece profile whole c datagram n slot client took built cited lt within ha
           let to_client : Flow slot.issued (executes state.executed commands) history.server_commands heard (carried_built history.built) (acks_said history.said) slot.gathering.taken g.taken =
           subst (λ (k : ℕ). Flow slot.issued (executes state.executed commands) history.server_commands heard (carried_built history.built) (acks_said history.said) slot.gathering.taken k) (sym taken) hears.to_client in
           let applied_as : Application → Taken = λ application. applies now (record { issued = after; application = application }) in
+          let short = had.keeps.of_slot.sending.short in
+          let applied = cited.stays.receives client n (built_bytes profile built) (receive_message client n built.message) (omega (arith, within, short)) had.keeps.of_client.applied window
+          (received_alike profile whole c n slot client built cited had named_is newer) in
           let came_so : take_answer now took.answer read ≡ applied_as (apply_message state n built.message) = ap (λ (a : Gathered). take_answer now a read) came.answer in
           elim is.section [
             | inl one ↦
@@ -321,7 +325,7 @@ holds_piece profile whole c datagram n slot client took built cited lt within ha
                       subst (λ (t : Taken). Holds profile (client_took whole datagram c n built.message.section t).whole) (sym (came_so ∙ ap applied_as accepted.1))
                       (subst (λ (s : Told). Holds profile (client_took whole datagram c n s (applied_as (heard_with state commands (accepts (hearing state commands) n (number_of built.base) snapshot)))).whole) (sym section)
                       (Holds-taken profile whole c slot client g state' after true false history.games (history.accepted ++ snapshot ∷ []) heard lt had does.side refl refl
-                      (record { is = still; to_client = to_client; to_server = to_server })
+                      (record { applied = subst (λ (a : Application). IsApplied a.state) accepted.1 applied; is = still; to_client = to_client; to_server = to_server })
                       (subst (λ (s : List Snapshot). TakesBuilt profile (taking.client_took client g state' after true false) history.built (history.accepted ++ snapshot ∷ []) s) (sym since_is) takes)
                       (AreAsked-accepted slot history.said history.built history.accepted snapshot had.joined.asked)
                       (at_taken state' history.games (history.accepted ++ snapshot ∷ []) heard (mapped_accepted map slot client history n commands snapshot (accept_at state.held snapshot) newer number_is own mapped))
@@ -331,7 +335,7 @@ holds_piece profile whole c datagram n slot client took built cited lt within ha
                       subst (λ (t : Taken). Holds profile (client_took whole datagram c n built.message.section t).whole) (sym (came_so ∙ ap applied_as skipped.2))
                       (subst (λ (s : Told). Holds profile (client_took whole datagram c n s (applied_as (heard_with state commands (passes (hearing state commands) n (Skipped (number_of built.base) (EntitiesGone skipped.0)))))).whole) (sym section)
                       (Holds-taken profile whole c slot client g state' after false false history.games history.accepted heard lt had does.side refl refl
-                      (record { is = still; to_client = to_client; to_server = to_server })
+                      (record { applied = subst (λ (a : Application). IsApplied a.state) skipped.2 applied; is = still; to_client = to_client; to_server = to_server })
                       (TakesBuilt-passed profile client history.built history.accepted since g state' after client.moves (omega (arith, taken, newer)) gathers refl joined) had.joined.asked
                       (at_taken state' history.games history.accepted heard (mapped_passed map slot client history n commands state.held newer own mapped)) had.joined.since holds))
                 ]
@@ -350,6 +354,7 @@ holds_piece profile whole c datagram n slot client took built cited lt within ha
                 (subst (λ (s : Told). Holds profile (client_took whole datagram c n s (applied_as (heard_with state commands (applies_game (hearing state commands) n game)))).whole) (sym section)
                 (Holds-taken profile whole c slot client g state' after false true games history.accepted heard lt had does.side refl refl
                 (record {
+                  applied = subst (λ (a : Application). IsApplied a.state) (applies_game_message state n built is.telling game made.is) applied;
                   is = still;
                   to_client = subst (λ (i : IncomingState). Flow slot.issued i history.server_commands heard (carried_built history.built) (acks_said history.said) slot.gathering.taken g.taken) (sym jumped) to_client;
                   to_server = to_server;

@@ -1,5 +1,5 @@
 -- A datagram that either end hands out keeps what holds.
-use Rattle.std.proofs.Common.{◌≡◌, ℕ, ◌+◌, ◌^◌, ◌<◌, List, [], ◌∷◌, ◌++◌, length, Bool, true, false, Option, Some, refl, arith}
+use Rattle.std.proofs.Common.{◌≡◌, ℕ, ◌+◌, ◌<◌, List, [], ◌∷◌, ◌++◌, length, Bool, true, Option, Some, refl, arith}
 use Rattle.std.specs.Prelude.{IfSome}
 use Rattle.q3_profile.specs.declared.profile.Profile.{Profile}
 use Rattle.q3_io.specs.declared.address.Address.{Address}
@@ -16,12 +16,13 @@ use Rattle.q3_slot.specs.Emitting.{next_snapshot, next_frames}
 use Rattle.q3_server.specs.Server.{places, slot_at}
 use Rattle.q3_client.specs.Client.{ClientState}
 use Rattle.q3_client.specs.Moves.{asks_delta}
-use Rattle.q3_client.specs.Sending.{said_bytes, next_message, next_said, is_unclear as is_said_unclear}
+use Rattle.q3_client.specs.Sending.{IsSaid, said_bytes, next_message, next_said}
 use Rattle.q3_world.specs.declared.made.Direction.TheVariants.{ToClient, ToServer}
 use Rattle.q3_world.specs.Layers.{ServerLaws, WindowLaws}
 use Rattle.q3_world.specs.Ends.{client_at, address_at}
 use Rattle.q3_world.specs.World.{Tag, History, Whole, history_at, with_history, with_built, with_said}
-use Rattle.q3_world.specs.StandsFor.{messages_of, messages_said, KeepsSlot, KeepsClient, KeepsFrames, WasBuilt, carried_built, acks_built, carried_said, acks_said, AreCommanded, IsJoined, IsMap}
+use Rattle.q3_server.specs.Standing.{IsMap}
+use Rattle.q3_world.specs.StandsFor.{messages_of, messages_said, KeepsClient, KeepsFrames, WasBuilt, acks_built, carried_said, AreCommanded, IsJoined}
 use Rattle.q3_world.proofs.Growth.{HistoryGrows-same, HistoryGrows-built, HistoryGrows-said}
 use Rattle.q3_world.proofs.Bases.{KeepsFrames-built, frames_too_long, if_some_then, since_accepted}
 use Rattle.q3_world.proofs.Clients.{KeepsSlot-handed, KeepsClient-handed, KeepsClient-begun, client_begun, slot_begun, KeepsSlot-begun, BaseIs, next_number, KeepsSlot-stands}
@@ -78,13 +79,6 @@ pub executed_by_slot : (profile : Profile) (slot : SlotState) (client : ClientSt
 executed_by_slot profile slot client history keeps commanded =
     may_name client.issued slot.executed history.client_commands history.server_executed (carried_said history.said) (acks_built history.built) client.gathering.taken slot.gathering.taken keeps.window keeps.texts
     commanded.to_server
-
--- and so is what the client executed last
-pub executed_by_client : (profile : Profile) (slot : SlotState) (client : ClientState) (history : History)
-    → KeepsSlot profile slot history.qport history.host history.built history.run history.server_commands → AreCommanded slot client history → MayName client.state.executed
-executed_by_client profile slot client history keeps commanded =
-    may_name slot.issued client.state.executed history.server_commands history.client_executed (carried_built history.built) (acks_said history.said) slot.gathering.taken client.gathering.taken keeps.window keeps.texts
-    commanded.to_client
 
 -- a message is begun, and its first piece is handed out; with a gamestate its client's stage changes, and the map notes it
 pub Holds-begun : WindowLaws → (profile : Profile) (whole : Whole) (c : ℕ) (slot : SlotState) (client : ClientState) (stage : ClientStage) (game : Option ℕ) (owed : Bool) (next : Built) (map : MapState) (frames : FramesState) (left : UnderWay)
@@ -199,13 +193,12 @@ Holds-goes profile whole c client left sends lt found way holds =
 -- a client's message is begun, and its first piece goes out
 pub Holds-said : WindowLaws → (profile : Profile) (whole : Whole) (c : ℕ) (slot : SlotState) (client : ClientState) (left : UnderWay) → EndsSend → EndsGather → c < places
     → Has profile whole c slot client → (client_begun profile client).sending.under_way ≡ Some left → client.sending.number + 1 < sequence_end
-    → client.state.id < 2 ^ 32 → client.state.feed < 2 ^ 32 → client.gathering.taken < 2 ^ 32
-    → is_said_unclear profile (next_message client) ≡ false → IsSendable (said_bytes profile (next_said client))
+    → IsSaid profile client.challenge (next_said client) → IsSendable (said_bytes profile (next_said client))
     → AreMapped whole.ends.server.map (standing_of slot) client.state client.gathering.taken client.last_time (history_at whole.histories c).built (history_at whole.histories c).games
     ((history_at whole.histories c).said ++ next_said client ∷ []) (history_at whole.histories c).accepted (history_at whole.histories c).client_executed → Holds profile whole
     → Holds profile (with_client_of whole c (client_handed (client_begun profile client)) (with_said (history_at whole.histories c) (Some (next_said client)))
     (whole.sent ++ said_tag c (address_at whole.ends c) (client_begun profile client) left ∷ []))
-Holds-said windows profile whole c slot client left sends gathers lt had way fits id feed taken clear sendable mapped holds =
+Holds-said windows profile whole c slot client left sends gathers lt had way fits is sendable mapped holds =
     let history = history_at whole.histories c in
     let from = address_at whole.ends c in
     let begun = client_begun profile client in
@@ -215,8 +208,7 @@ Holds-said windows profile whole c slot client left sends gathers lt had way fit
     let keeps = had.keeps in
     let joined = had.joined in
     let since = accepted_since history.games history.accepted in
-    let names = executed_by_client profile slot client history keeps.of_slot joined.commanded in
-    let starts = KeepsClient-begun profile client history.qport history.said history.issued history.client_commands sends fits id feed taken names clear sendable keeps.of_client in
+    let starts = KeepsClient-begun profile client history.qport history.said history.issued history.client_commands sends fits is sendable keeps.of_client in
     let commanded = AreCommanded-said windows.flow slot client history next refl refl joined.commanded in
     let grows = HistoryGrows-said history next in
     Holds-client profile whole c slot client (client_handed begun) (record history { said = more }) (whole.sent ++ tag ∷ []) lt had

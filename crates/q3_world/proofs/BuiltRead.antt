@@ -16,17 +16,18 @@ use Rattle.q3_chan.specs.Keys.{Key, server_key, server_scrambled}
 use Rattle.q3_chan.specs.Laws.{SideTwiceIsNone, SideFrontStays}
 use Rattle.q3_profile.specs.declared.profile.Profile.{Profile}
 use Rattle.q3_profile.specs.Profile.{IsCodec}
-use Rattle.q3_entity.specs.Baselines.{Lines, AreLines}
+use Rattle.q3_entity.specs.Baselines.{Lines}
 use Rattle.q3_svmsg.specs.declared.error.Illegible.{Illegible}
 use Rattle.q3_svmsg.specs.Values.{Base, base_from, Message}
 use Rattle.q3_svmsg.specs.Texts.{section_bits, message_text}
 use Rattle.q3_svmsg.specs.declared.error.Illegible.TheVariants.{Bits}
 use Rattle.q3_svmsg.specs.Reading.{ack_at, message_after, message_at}
-use Rattle.q3_svmsg.specs.Laws.{WrittenIsRead, ReadIsSkipped}
+use Rattle.q3_svmsg.specs.Laws.{IsContext, WrittenIsRead, ReadIsSkipped}
 use Rattle.q3_clstate.specs.State.{Application, context_of, received, apply_read, apply_at}
+use Rattle.q3_clstate.specs.Laws.{AppliedIsContext}
 use Rattle.q3_built.specs.Built.{Built, is_unclear, IsSnapshot, IsNear, IsBuilt, built_bits, built_bytes}
 use Rattle.q3_client.specs.Client.{ClientState, Reception, receive_message, receive_bytes, ack_taken, cleared}
-use Rattle.q3_world.specs.MessageLaws.{AreBuilt, HoldsThis, BuiltIsRead}
+use Rattle.q3_world.specs.MessageLaws.{HoldsThis, BuiltIsRead}
 use Rattle.q3_world.proofs.BitFronts.{begins_both}
 use Rattle.q3_world.proofs.Bases.{if_some_then}
 use Rattle.q3_world.proofs.Knowing.{three_some}
@@ -107,9 +108,9 @@ AreRead profile client n built = (rest : List Bool)
     → message_after profile (context_of client.state.held client.state.lines) n (built_bits profile built ++ rest) ≡ read_so client.state.held built.message rest
 
 bits_are_read : WrittenIsRead → ReadIsSkipped → (profile : Profile) → IsCodec profile → (client : ClientState) (n : ℕ) (built : Built) → IsBuilt profile client.challenge n built
-    → AreLines profile.entity client.state.lines → IfSome built.under (λ game. client.state.lines ≡ built.lines)
-    → AreBuilt profile client.state.held → IfSome built.base (λ base. IsSnapshot profile base × HoldsThis client.state.held base) → AreRead profile client n built
-bits_are_read law skips profile codec client n built is are_lines same are known =
+    → IsContext profile (context_of client.state.held client.state.lines) → IfSome built.under (λ game. client.state.lines ≡ built.lines)
+    → IfSome built.base (λ base. IsSnapshot profile base × HoldsThis client.state.held base) → AreRead profile client n built
+bits_are_read law skips profile codec client n built is context same known =
     let held = client.state.held in
     let lines = client.state.lines in
     let telling = is.telling in
@@ -123,10 +124,10 @@ bits_are_read law skips profile codec client n built is are_lines same are known
           subst (AreRead profile client n) (sym one.is)
           (λ rest. ap (λ (bits : List Bool). message_after profile (context_of held lines) n (bits ++ rest))
           (text_alike profile built.lines lines telling base one.snapshot telling.under under one.waits)
-          ∙ text_is_received profile client.challenge law skips codec held lines n telling base one.snapshot rest are_lines is.tells one.are one.number are bases)
+          ∙ text_is_received profile client.challenge law skips codec held lines n telling base one.snapshot rest context is.tells one.are one.number bases)
       | inr made ↦
           subst (AreRead profile client n) (sym made.is)
-          (λ rest. game_is_received profile client.challenge law codec held lines built.lines n telling made.game rest are_lines is.tells made.are are)
+          (λ rest. game_is_received profile client.challenge law codec held lines built.lines n telling made.game rest context is.tells made.are)
     ]
 
 module _ (put : PutIsRead) (holds : MessageHoldsBits) (twice : SideTwiceIsNone) (front : SideFrontStays) where
@@ -155,7 +156,8 @@ module _ (put : PutIsRead) (holds : MessageHoldsBits) (twice : SideTwiceIsNone) 
       ∙ (ap (message_at profile (context_of client.state.held client.state.lines) n) (holds bits)
       ∙ ap value_of (are_read rest))))
 
-  pub built_is_read : WrittenIsRead → ReadIsSkipped → BuiltIsRead
-  built_is_read law skips profile codec client n built is of_profile are_lines under taken same are known =
+  pub built_is_read : AppliedIsContext → WrittenIsRead → ReadIsSkipped → BuiltIsRead
+  built_is_read contexts law skips profile codec client n built is of_profile applied under taken same known =
+      let context = subst (λ (p : Profile). IsContext p (context_of client.state.held client.state.lines)) of_profile (contexts client.state applied) in
       bytes_are_received profile codec client n built (is_headed profile client.challenge n built is) of_profile taken same
-      (bits_are_read law skips profile codec client n built is are_lines under are known)
+      (bits_are_read law skips profile codec client n built is context under known)

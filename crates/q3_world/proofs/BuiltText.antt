@@ -26,7 +26,7 @@ use Rattle.q3_rings.specs.declared.rings.NoBase.{NoBase}
 use Rattle.q3_rings.specs.Rings.{HeldSnapshots, held_snapshot, view_at}
 use Rattle.q3_clstate.specs.State.{context_of, has_base, received}
 use Rattle.q3_built.specs.Built.{Telling, number_of, message_of, game_message_of, IsSnapshot, IsNear, IsTelling}
-use Rattle.q3_world.specs.MessageLaws.{AreBuilt, HoldsThis}
+use Rattle.q3_world.specs.MessageLaws.{HoldsThis}
 use Rattle.q3_world.proofs.Applying.{has_base_is}
 
 -- ---- contexts
@@ -50,16 +50,6 @@ snapshot_is_base profile snapshot is =
       entities = record { list = record { rise = is.entities.rise; few = is.few }; states = is.entities.states };
       normal_entities = is.entities.normal;
     }
-
-viewed_is_base : (profile : Profile) (view : Option Snapshot) (base : Base) → ((snapshot : Snapshot) → view ≡ Some snapshot → IsSnapshot profile snapshot)
-    → option_map base_from view ≡ Some base → IsBase profile base
-viewed_is_base profile None base are found = absurd cc
-viewed_is_base profile (Some snapshot) base are found =
-    subst (IsBase profile) (some_base (base_from snapshot) base found) (snapshot_is_base profile snapshot (are snapshot refl))
-
-held_is_context : (profile : Profile) (held : HeldSnapshots) (lines : Lines) → AreBuilt profile held → AreLines profile.entity lines → IsContext profile (context_of held lines)
-held_is_context profile held lines are are_lines =
-    record { bases = λ number base found. viewed_is_base profile (view_at held number) base (are number) found; lines = are_lines }
 
 -- the one snapshot under its number
 abbrev only : Snapshot → ℕ → Option Base
@@ -168,15 +158,14 @@ held_or (Err cause) = inr (cause, refl)
 
 -- a message with a snapshot is read so by the baselines by which it was written
 pub text_is_received : (profile : Profile) (challenge : ℕ) → WrittenIsRead → ReadIsSkipped → IsCodec profile → (held : HeldSnapshots) (lines : Lines) (n : ℕ) (telling : Telling) (base : Option Snapshot) (snapshot : Snapshot) (rest : List Bool)
-    → AreLines profile.entity lines → IsTelling profile challenge n telling → IsSnapshot profile snapshot → snapshot.head.number ≡ n → AreBuilt profile held → IfSome base (λ b. IsNear n b × IsSnapshot profile b × HoldsThis held b)
+    → IsContext profile (context_of held lines) → IsTelling profile challenge n telling → IsSnapshot profile snapshot → snapshot.head.number ≡ n → IfSome base (λ b. IsNear n b × IsSnapshot profile b × HoldsThis held b)
     → message_after profile (context_of held lines) n (text profile lines telling base snapshot ++ rest) ≡ read_so held (message_of telling base snapshot) rest
-text_is_received profile challenge law skips codec held lines n telling None snapshot rest are_lines tells is number are known =
-    text_is_read profile challenge law codec n telling tells lines None snapshot is number rest (context_of held lines).base (held_is_context profile held lines are are_lines) tt refl
-text_is_received profile challenge law skips codec held lines n telling (Some base) snapshot rest are_lines tells is number are known =
+text_is_received profile challenge law skips codec held lines n telling None snapshot rest is_context tells is number known =
+    text_is_read profile challenge law codec n telling tells lines None snapshot is number rest (context_of held lines).base is_context tt refl
+text_is_received profile challenge law skips codec held lines n telling (Some base) snapshot rest is_context tells is number known =
     let b = base.head.number in
     let context = context_of held lines in
     let near = known.0 in
-    let is_context = held_is_context profile held lines are are_lines in
     let at = looked_up context b near.some in
     let has = has_base_is held b near.some in
     elim (held_or (held_snapshot held b)) [
@@ -191,7 +180,7 @@ text_is_received profile challenge law skips codec held lines n telling (Some ba
           let none : held_base context b ≡ None = at ∙ ap (λ (o : Option Snapshot). option_map base_from o) viewed in
           let may : has_base held b ≡ false = has ∙ ap (λ (r : Result Snapshot NoBase). is_ok r) missing.1 in
           let alone = with_bases (only base) lines in
-          let alone_is = only_is_context profile base lines known.1 are_lines in
+          let alone_is = only_is_context profile base lines known.1 is_context.lines in
           let whole = text_is_read profile challenge law codec n telling tells lines (Some base) snapshot is number rest (only base) alone_is near (looked_up alone b near.some ∙ only_there base) in
           rw may (skips profile alone context n b snapshot.head snapshot.entities (message_of telling (Some base) snapshot) (text profile lines telling (Some base) snapshot ++ rest) rest
           codec alone_is is_context refl near.some none whole)
@@ -231,11 +220,11 @@ game_alike profile lines others telling game = refl
 
 -- so a message with a gamestate is read back whatever is held, and by which baselines ever
 pub game_is_received : (profile : Profile) (challenge : ℕ) → WrittenIsRead → IsCodec profile → (held : HeldSnapshots) (lines others : Lines) (n : ℕ) (telling : Telling) (game : Gamestate) (rest : List Bool)
-    → AreLines profile.entity lines → IsTelling profile challenge n telling → IsGamestate profile game → AreBuilt profile held
+    → IsContext profile (context_of held lines) → IsTelling profile challenge n telling → IsGamestate profile game
     → message_after profile (context_of held lines) n (message_text profile others None (game_message_of telling game) ++ rest) ≡ read_so held (game_message_of telling game) rest
-game_is_received profile challenge law codec held lines others n telling game rest are_lines tells is are =
+game_is_received profile challenge law codec held lines others n telling game rest is_context tells is =
     let context = context_of held lines in
     let message = game_message_of telling game in
     ap (λ (bits : List Bool). message_after profile context n (bits ++ rest)) (game_alike profile others lines telling game)
-    ∙ law profile context n message rest codec (held_is_context profile held lines are are_lines)
+    ∙ law profile context n message rest codec is_context
     (record { ack = tells.ack; few = tells.few; commands = tells.commands; section = is; number_is = tt })

@@ -12,6 +12,7 @@ use Rattle.q3_window.specs.Outgoing.{OutgoingState, IsOutgoing}
 use Rattle.q3_window.specs.Incoming.{IncomingState}
 use Rattle.q3_window.specs.Flow.{Flow}
 use Rattle.q3_ring.specs.Snapshot.{Snapshot}
+use Rattle.q3_clstate.specs.Standing.{IsApplied}
 use Rattle.q3_clstate.specs.State.{AppliedState}
 use Rattle.q3_built.specs.Built.{Built, IsBuilt, BuildsSnapshot, Telling}
 use Rattle.q3_slot.specs.Slot.{SlotState, asked}
@@ -33,8 +34,9 @@ use Rattle.q3_world.proofs.Holding.{Holds, Has, sent_grows, with_server_of, Hold
 abbrev pub client_took : ClientState → Gathering → AppliedState → OutgoingState → Bool → Bool → ClientState
 client_took client g state window delta game = record client { gathering = g; state = state; issued = window; delta = delta; moves = moves_behind game client.moves }
 
--- what a client's window and its commands are behind it
+-- what a client's state, its window and its commands are behind it
 pub record TakesSo (slot : SlotState) (history : History) (g : Gathering) (state : AppliedState) (window : OutgoingState) (executed : List (List ℕ)) : Type 0 where
+  pub applied : IsApplied state
   pub is : IsOutgoing window
   pub to_client : Flow slot.issued state.executed history.server_commands executed (carried_built history.built) (acks_said history.said)
       slot.gathering.taken g.taken
@@ -68,7 +70,7 @@ Holds-taken profile whole c slot client g state window delta game games accepted
       grows = grows;
       keeps = record {
         of_slot = keeps.of_slot;
-        of_client = KeepsClient-took profile client history.qport history.said history.issued history.client_commands g state window delta game so.is side by ring keeps.of_client;
+        of_client = KeepsClient-took profile client history.qport history.said history.issued history.client_commands g state window delta game so.applied so.is side by ring keeps.of_client;
         challenge = keeps.challenge;
         host = keeps.host;
       };

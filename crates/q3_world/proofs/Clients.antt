@@ -1,9 +1,8 @@
 -- What each end keeps of one client, and that it stays so.
-use Rattle.std.proofs.Common.{◌≡◌, ℕ, zero, suc, ◌+◌, ◌-◌, ◌^◌, ◌<◌, ◌≤◌, Bool, true, false, List, [], ◌∷◌, ◌++◌, length, get_or, Option, Some, None, refl, sym, ap, subst, ◌∙◌, inl, inr, arith, lit<}
+use Rattle.std.proofs.Common.{◌≡◌, ℕ, zero, suc, ◌+◌, ◌-◌, ◌^◌, ◌<◌, ◌≤◌, Bool, true, false, List, [], ◌∷◌, ◌++◌, length, get_or, Option, Some, None, refl, sym, ap, subst, ◌∙◌, inl, inr, arith}
 use Rattle.std.specs.Prelude.{All, IfSome, if◌then◌else◌}
 use Rattle.std.proofs.lemmas.List.{length_push, get_or_push}
 use Rattle.std.proofs.lemmas.List.Elements.{All-nil, All-push, All-weaker, All-append}
-use Rattle.std.proofs.lemmas.Bool.{both_ways}
 use Rattle.arrayvec.specs.ArrayVec.{ArrayVec}
 use Rattle.q3_profile.specs.declared.profile.Profile.{Profile}
 use Rattle.q3_player.specs.State.{zero_player}
@@ -16,39 +15,33 @@ use Rattle.q3_chan.specs.Gathering.{Gathering}
 use Rattle.q3_chan.specs.Laws.{IsSendable, EndsSend}
 use Rattle.q3_clmsg.specs.declared.moves.Move.{Move}
 use Rattle.q3_clmsg.specs.Moves.{IsMove}
-use Rattle.q3_clmsg.specs.Laws.{IsMessage}
 use Rattle.q3_text.specs.Texts.{IsText}
 use Rattle.q3_window.specs.Outgoing.{OutgoingState, IsOutgoing}
 use Rattle.q3_window.specs.Incoming.{IncomingState}
 use Rattle.q3_window.specs.Laws.{StaysOutgoing}
 use Rattle.q3_ring.specs.Snapshot.{Snapshot}
 use Rattle.q3_frames.specs.Frames.{FramesState, base_of, build_at}
-use Rattle.q3_clstate.specs.State.{AppliedState}
-use Rattle.q3_map.specs.Map.{AreHeld, MapState}
+use Rattle.q3_clstate.specs.State.{AppliedState, new_state}
+use Rattle.q3_clstate.specs.Standing.{IsApplied}
+use Rattle.q3_map.specs.Map.{MapState}
 use Rattle.q3_slot.specs.declared.stage.ClientStage.{ClientStage}
-use Rattle.q3_slot.specs.declared.stage.ClientStage.TheVariants.{Connected, Primed, Active}
 use Rattle.q3_slot.specs.Slots.{changes_own}
-use Rattle.q3_fields.specs.Kinds.{Layout}
-use Rattle.q3_fields.specs.States.{AreWords}
-use Rattle.q3_entity.specs.declared.state.EntityState.{EntityState}
-use Rattle.q3_entity.specs.Entities.{IsNormal}
-use Rattle.q3_built.specs.Built.{Built, IsHeld, IsArea, IsSnapshot, IsNear, IsTelling, IsBuilt, is_unclear, built_bytes}
-use Rattle.q3_slot.specs.Slot.{SlotState, new_slot, is_active, plays_under, asked}
-use Rattle.q3_slot.specs.Emitting.{snapshot_flags, played_snapshot, waiting_snapshot, next_snapshot, next_frames, telling_of, begun_next}
+use Rattle.q3_built.specs.Built.{Built, IsHeld, IsArea, IsNear, IsBuilt, built_bytes}
+use Rattle.q3_slot.specs.Slot.{SlotState, new_slot, is_active, asked}
+use Rattle.q3_slot.specs.Emitting.{played_snapshot, waiting_snapshot, next_snapshot, begun_next}
 use Rattle.q3_slot.specs.Taking.{last_time, Playing}
 use Rattle.q3_client.specs.Client.{ClientState, new_client, moves_behind}
 use Rattle.circular_buffer.specs.Buffer.{keep_last}
-use Rattle.q3_client.specs.Moves.{most_moves, carried, asks_delta, issue}
-use Rattle.q3_client.specs.Sending.{said_bytes, Said, IsSaid, next_message, next_said, is_unclear as is_said_unclear}
+use Rattle.q3_client.specs.Moves.{most_moves, issue}
+use Rattle.q3_client.specs.Sending.{said_bytes, Said, IsSaid, next_said}
 use Rattle.q3_world.specs.Layers.{ServerLaws}
 use Rattle.q3_world.specs.World.{History, no_history, no_message, no_said, built_at, said_at}
-use Rattle.q3_world.specs.StandsFor.{messages_of, messages_said, KeepsSlot, KeepsClient, AreEnds, IsClient, WasBuilt, HasSnapshot, AreOfBuilt, KeepsMoves, IsMap, AreAsked}
+use Rattle.q3_world.specs.StandsFor.{messages_of, messages_said, KeepsSlot, KeepsClient, AreEnds, IsClient, WasBuilt, HasSnapshot, AreOfBuilt, KeepsMoves, AreAsked}
 use Rattle.q3_world.specs.Moves.{TimesRise, AreConsecutive}
 use Rattle.q3_world.proofs.Growth.{was_built_more, each_more, messages_stay, messages_said_stay}
 use Rattle.q3_world.proofs.Bases.{accepted_has, if_some, if_some_then, found_base}
-use Rattle.q3_world.proofs.Commanded.{MayName, may_carry}
 use Rattle.q3_world.proofs.Beginning.{BeginsMessages-new, BeginsMessages-handed, BeginsMessages-started}
-use Rattle.q3_world.proofs.MoveLists.{last_time-append, TimesRise-append, carried_consecutive, carried_each, carried_few, AreConsecutive-more, KeepsMoves-none, KeepsMoves-wiped, KeepsMoves-begun, KeepsMoves-push}
+use Rattle.q3_world.proofs.MoveLists.{last_time-append, TimesRise-append, carried_consecutive, AreConsecutive-more, KeepsMoves-none, KeepsMoves-wiped, KeepsMoves-begun, KeepsMoves-push}
 
 -- ---- presence
 
@@ -77,7 +70,7 @@ a_slot profile (Some slot) client address history ends = (slot, refl, ends)
 -- ---- what the server keeps
 
 -- no area bytes
-no_area : IsArea []
+pub no_area : IsArea []
 no_area = record { bytes = All-nil (λ (byte : ℕ). byte < 256); short = omega arith }
 
 -- of a client that just joined
@@ -243,49 +236,6 @@ module _ (profile : Profile) (slot : SlotState) (qport host : ℕ) (built : List
         own = keeps.own;
       }
 
--- flags are a byte
-flags_fit : (count delayed : Bool) (stage : ClientStage) → snapshot_flags count delayed stage < 2 ^ 8
-flags_fit false false Connected = lit< tt
-flags_fit true false Connected = lit< tt
-flags_fit false true Connected = lit< tt
-flags_fit true true Connected = lit< tt
-flags_fit false false Primed = lit< tt
-flags_fit true false Primed = lit< tt
-flags_fit false true Primed = lit< tt
-flags_fit true true Primed = lit< tt
-flags_fit false false Active = lit< tt
-flags_fit true false Active = lit< tt
-flags_fit false true Active = lit< tt
-flags_fit true true Active = lit< tt
-
-pub none_held : (table : Layout) → AreHeld table []
-none_held table = record { rise = tt; states = All-nil (λ (entity : EntityState). AreWords 64 entity.words); normal = All-nil (IsNormal table) }
-
--- the snapshot that goes to a slot next is one that may be built
-pub next_is_snapshot : ServerLaws → (profile : Profile) (map : MapState) (slot : SlotState) → IsMap profile map → slot.sending.number + 1 < sequence_end
-    → IsHeld profile zero_player → IsHeld profile slot.player → IsArea slot.area.items → IsSnapshot profile (next_snapshot map slot)
-next_is_snapshot laws profile map slot is fits first player area = of_active (is_active slot.stage)
-  where
-    of_active : (active : Bool) → IsSnapshot profile (if active then played_snapshot map slot else waiting_snapshot map slot)
-    of_active true = record {
-      number = fits;
-      time = is.time;
-      flags = flags_fit map.count slot.delayed slot.stage;
-      area = area;
-      player = player;
-      entities = laws.lists.lowest profile.entity map.entities is.entities;
-      few = laws.lists.few map.entities;
-    }
-    of_active false = record {
-      number = fits;
-      time = is.time;
-      flags = flags_fit map.count slot.delayed slot.stage;
-      area = no_area;
-      player = first;
-      entities = none_held profile.entity;
-      few = omega arith;
-    }
-
 -- what is known of its base: it is near, it was built, and its number is the one that was asked for
 abbrev pub BaseIs : ℕ → ℕ → List Built → Snapshot → Type 0
 BaseIs n delta began base = IsNear n base × WasBuilt began base × (base.head.number ≡ delta)
@@ -318,31 +268,9 @@ asked_has slot said built accepted were are = of_active (is_active slot.stage)
       | inr was ↦ accepted_has built accepted slot.delta were was
     ]
 
--- a client that doesn't play gets a snapshot of nothing, against none
-pub waits_empty : (map : MapState) (frames : FramesState) (c : ℕ) (slot : SlotState) (is : slot.game ≡ None → slot.stage ≡ Connected) → plays_under slot.stage slot.game ≡ None
-    → ((next_snapshot map slot).entities ≡ []) × ((begun_next map frames c slot).base ≡ None)
-waits_empty map frames c slot is under = of_stage (is_active slot.stage) refl
-  where
-    of_stage : (active : Bool) → is_active slot.stage ≡ active → ((next_snapshot map slot).entities ≡ []) × ((begun_next map frames c slot).base ≡ None)
-    of_stage false still = (
-      ap (λ (a : Bool). (if a then played_snapshot map slot else waiting_snapshot map slot).entities) still,
-      ap (λ (a : Bool). base_of (next_frames map frames c slot) c (slot.sending.number + 1) (if a then slot.delta else 0)) still,
-    )
-    of_stage true yes_it_is =
-        let none : slot.game ≡ None = ap (λ (a : Bool). if a then slot.game else None) (sym yes_it_is) ∙ under in
-        let connected : is_active slot.stage ≡ false = ap is_active (is none) in
-        absurd (both_ways (is_active slot.stage) connected yes_it_is)
-
 -- one message more was begun, and is under way
 abbrev pub slot_begun : Profile → SlotState → Built → SlotState
 slot_begun profile slot built = record slot { sending = started slot.sending (built_bytes profile built) }
-
--- what it tells besides its section
-pub next_tells : (profile : Profile) (slot : SlotState) → IsOutgoing slot.issued → MayName slot.executed → is_unclear profile slot.executed.executed ≡ false
-    → IsTelling profile slot.challenge (slot.sending.number + 1) (telling_of slot)
-next_tells profile slot window names clear =
-    let carries = may_carry slot.issued window in
-    record { ack = names.number; text = names.text; few = carries.few; commands = carries.each; key = refl; clear = clear }
 
 pub KeepsSlot-begun : (profile : Profile) (slot : SlotState) (qport host : ℕ) (built : List Built) (run : List Move) (commands : List (List ℕ)) (next : Built) → EndsSend
     → slot.sending.number + 1 < sequence_end → IsBuilt profile slot.challenge (slot.sending.number + 1) next → IsSendable (built_bytes profile next) → IfSome next.base (WasBuilt built)
@@ -377,11 +305,12 @@ KeepsSlot-begun profile slot qport host built run commands next chan fits is sen
 -- ---- what a client keeps
 
 -- that just joined
-pub KeepsClient-new : StaysOutgoing → (profile : Profile) (challenge qport dup : ℕ) → EndsSend → qport < 2 ^ 16 → KeepsClient profile (new_client profile challenge qport dup) qport [] [] []
+pub KeepsClient-new : StaysOutgoing → (profile : Profile) (challenge qport dup : ℕ) → IsApplied (new_state profile) → EndsSend → qport < 2 ^ 16 → KeepsClient profile (new_client profile challenge qport dup) qport [] [] []
 unfolding last_time
-KeepsClient-new stays profile challenge qport dup chan fits =
+KeepsClient-new stays profile challenge qport dup first chan fits =
     record {
       by = refl;
+      applied = first;
       ring = refl;
       from = refl;
       fits = fits;
@@ -395,40 +324,19 @@ KeepsClient-new stays profile challenge qport dup chan fits =
       texts = All-nil IsText;
     }
 
--- the message that a client begins next is one that it may send
-pub next_is_message : (client : ClientState) (begun : ℕ) (issued : List Move) → client.state.id < 2 ^ 32 → client.gathering.taken < 2 ^ 32 → MayName client.state.executed → IsOutgoing client.issued
-    → KeepsMoves client.moves begun issued → IsMessage (next_message client)
-next_is_message client begun issued id taken names window keeps =
-    let number = client.sending.number + 1 in
-    let moves = carried number client.dup client.moves in
-    let carries = may_carry client.issued window in
-    record {
-      id = id;
-      acknowledged = taken;
-      command = names.number;
-      few = carries.few;
-      commands = carries.each;
-      few_moves = carried_few number client.dup begun client.moves issued keeps;
-      moves = carried_each number client.dup begun client.moves issued keeps;
-      whole = λ none. none_asked moves none;
-    }
-  where
-    none_asked : (moves : List Move) → moves ≡ [] → asks_delta client.delta moves ≡ false
-    none_asked [] none = refl
-    none_asked (one ∷ moves) none = let long : length (one ∷ moves) ≡ 0 = ap (λ (l : List Move). length l) none in absurd (omega (arith, long))
-
 -- one message more was begun, and is under way
 abbrev pub client_begun : Profile → ClientState → ClientState
 client_begun profile client = record client { sending = started client.sending (said_bytes profile (next_said client)) }
 
 module _ (profile : Profile) (client : ClientState) (qport : ℕ) (said : List Said) (issued : List Move) (commands : List (List ℕ)) where
   -- a datagram came, and with it a message, if one did; a gamestate wipes the moves
-  pub KeepsClient-took : (g : Gathering) (state : AppliedState) (window : OutgoingState) (delta game : Bool) → IsOutgoing window → g.side ≡ client.gathering.side → state.profile ≡ client.state.profile
+  pub KeepsClient-took : (g : Gathering) (state : AppliedState) (window : OutgoingState) (delta game : Bool) → IsApplied state → IsOutgoing window → g.side ≡ client.gathering.side → state.profile ≡ client.state.profile
       → state.held.ring ≡ client.state.held.ring → KeepsClient profile client qport said issued commands
       → KeepsClient profile (record client { gathering = g; state = state; issued = window; delta = delta; moves = moves_behind game client.moves }) qport said issued commands
-  KeepsClient-took g state window delta game is side by ring keeps =
+  KeepsClient-took g state window delta game applied is side by ring keeps =
       record {
         by = by ∙ keeps.by;
+        applied = applied;
         ring = ring ∙ keeps.ring;
         from = side ∙ keeps.from;
         fits = keeps.fits;
@@ -452,6 +360,7 @@ module _ (profile : Profile) (client : ClientState) (qport : ℕ) (said : List S
   KeepsClient-handed chan keeps =
       record {
         by = keeps.by;
+        applied = keeps.applied;
         ring = keeps.ring;
         from = keeps.from;
         fits = keeps.fits;
@@ -473,6 +382,7 @@ module _ (profile : Profile) (client : ClientState) (qport : ℕ) (said : List S
       let last = keeps.last in
       record {
         by = keeps.by;
+        applied = keeps.applied;
         ring = keeps.ring;
         from = keeps.from;
         fits = keeps.fits;
@@ -493,6 +403,7 @@ module _ (profile : Profile) (client : ClientState) (qport : ℕ) (said : List S
   KeepsClient-typed window text is_window is keeps =
       record {
         by = keeps.by;
+        applied = keeps.applied;
         ring = keeps.ring;
         from = keeps.from;
         fits = keeps.fits;
@@ -507,10 +418,9 @@ module _ (profile : Profile) (client : ClientState) (qport : ℕ) (said : List S
       }
 
   -- a message was begun, and is under way
-  pub KeepsClient-begun : EndsSend → client.sending.number + 1 < sequence_end → client.state.id < 2 ^ 32 → client.state.feed < 2 ^ 32 → client.gathering.taken < 2 ^ 32 → MayName client.state.executed
-      → is_said_unclear profile (next_message client) ≡ false → IsSendable (said_bytes profile (next_said client))
+  pub KeepsClient-begun : EndsSend → client.sending.number + 1 < sequence_end → IsSaid profile client.challenge (next_said client) → IsSendable (said_bytes profile (next_said client))
       → KeepsClient profile client qport said issued commands → KeepsClient profile (client_begun profile client) qport (said ++ next_said client ∷ []) issued commands
-  KeepsClient-begun chan fits id feed taken names clear sendable keeps =
+  KeepsClient-begun chan fits is sendable keeps =
       let next = next_said client in
       let begun = keeps.sending.begun in
       let longer = length_push said next in
@@ -519,13 +429,13 @@ module _ (profile : Profile) (client : ClientState) (qport : ℕ) (said : List S
       ap (said_bytes profile) (get_or_push said next no_said (suc (length said) - 1) place) in
       record {
         by = keeps.by;
+        applied = keeps.applied;
         ring = keeps.ring;
         from = keeps.from;
         fits = keeps.fits;
         sending = BeginsMessages-started (client_header qport) (messages_said profile said) (messages_said profile (said ++ next ∷ [])) (length said) (length (said ++ next ∷ [])) client.sending (said_bytes profile next) chan
             (omega (arith, longer)) fits (messages_said_stay profile said (next ∷ [])) last sendable keeps.sending;
-        said = each_more (λ (k : ℕ) (s : Said). IsSaid profile client.challenge s) said next keeps.said
-            (record { message = next_is_message client (length said) issued id taken names keeps.window keeps.moves; feed = feed; key = refl; text = names.text; clear = clear });
+        said = each_more (λ (k : ℕ) (s : Said). IsSaid profile client.challenge s) said next keeps.said is;
         last = keeps.last;
         rise = keeps.rise;
         moves = KeepsMoves-begun client.moves (length said) (length (said ++ next ∷ [])) issued (omega (arith, longer)) keeps.moves;

@@ -1,14 +1,13 @@
 -- Commands on their way between both ends of a client, and what the messages of both ends tell of them.
-use Rattle.std.proofs.Common.{◌≡◌, ℕ, zero, suc, ◌+◌, ◌-◌, ◌^◌, ◌<◌, ◌≤◌, List, [], ◌∷◌, ◌++◌, length, get_or, Ok, None, refl, sym, ap, subst, ◌∙◌, inl, inr, arith}
+use Rattle.std.proofs.Common.{◌≡◌, ℕ, zero, suc, ◌+◌, ◌-◌, ◌^◌, ◌<◌, ◌≤◌, List, [], ◌∷◌, ◌++◌, length, get_or, Ok, None, sym, ap, subst, ◌∙◌, inl, inr, arith}
 use Rattle.std.specs.Prelude.{All}
 use Rattle.std.proofs.lemmas.List.{length-map, map_push, get_or-map, get_or_past, length-drop}
-use Rattle.std.proofs.lemmas.List.Elements.{All-nil, All-cons, All-head, All-tail, All-take, All-get_or}
+use Rattle.std.proofs.lemmas.List.Elements.{All-nil, All-take, All-get_or}
 use Rattle.std.proofs.lemmas.Bool.{cases_lt}
 use Rattle.q3_text.specs.declared.text.Command.{Command}
 use Rattle.q3_text.specs.Commands.{numbered}
 use Rattle.q3_text.specs.Texts.{IsText, IsTextByte}
-use Rattle.q3_strings.specs.Laws.{IsCommand}
-use Rattle.q3_window.specs.Outgoing.{OutgoingState, IsOutgoing, acknowledge_at, text_at, carried}
+use Rattle.q3_window.specs.Outgoing.{OutgoingState, IsOutgoing, acknowledge_at, text_at}
 use Rattle.q3_window.specs.Incoming.{IncomingState, fresh_of, gap_in, executes}
 use Rattle.q3_window.specs.Issued.{issued_text, OutgoingStandsFor}
 use Rattle.q3_window.specs.Flow.{no_command, acknowledgement_of, acknowledged_by, Carriage, no_carriage, carriage_of, Flow, FlowLaws}
@@ -56,35 +55,6 @@ may_name outgoing incoming issued executed carries acks taken came is texts flow
     record {
       number = omega (arith, numbers, count, number, few);
       text = subst IsText (sym flow.runs.last) (text_is executed (length executed) are);
-    }
-
--- texts by number are commands
-numbered_are : (first : ℕ) (texts : List (List ℕ)) → first + length texts ≤ 2 ^ 32 → All IsText texts → All IsCommand (numbered first texts)
-unfolding numbered
-numbered_are first [] few are = All-nil IsCommand
-numbered_are first (text ∷ texts) few are =
-    All-cons IsCommand (record { number = first; text = text }) (numbered (first + 1) texts)
-    (record { number = omega (arith, few); text = All-head IsText text texts are })
-    (numbered_are (first + 1) texts (omega (arith, few)) (All-tail IsText text texts are))
-
-numbered_count : (first : ℕ) (texts : List (List ℕ)) → length (numbered first texts) ≡ length texts
-unfolding numbered
-numbered_count first [] = refl
-numbered_count first (text ∷ texts) = ap suc (numbered_count (first + 1) texts)
-
--- and so is what a message carries
-pub record MayCarry (commands : List Command) : Type 0 where
-  pub few : length commands ≤ 64
-  pub each : All IsCommand commands
-
-pub may_carry : (window : OutgoingState) → IsOutgoing window → MayCarry (carried window)
-may_carry window is =
-    let few = is.few in
-    let numbers : window.acknowledged + length window.waiting ≤ 2 ^ 31 - 1 = is.numbers in
-    let first = window.acknowledged + 1 in
-    record {
-      few = omega (arith, few, numbered_count first window.waiting);
-      each = numbered_are first window.waiting (omega (arith, numbers)) is.texts;
     }
 
 -- ---- a message more

@@ -77,6 +77,12 @@ cited_of below profile checked =
     record {
       reads = below.reads profile is;
       hears = below.hears profile is;
+      codec = is;
+      maps = below.maps;
+      begins = below.begins;
+      says = below.says;
+      stays = below.stays;
+      first = (below.stays.joins profile 0 0 0 is (leb-true 512 n least.0)).applied;
       zero = record { state = at_first.0; normal = at_first.1 };
       normal = λ player state. let made = below.normal profile.player.kinds player is.player.kinds state in record { state = made.0; normal = made.1 };
       normal_entity = λ state words. below.entity profile.entity state is.entity words;
@@ -118,7 +124,7 @@ follow law profile (event ∷ events) kept whole are stands =
 -- what is kept at first stands for the opening world
 pub stands_opening : Layers → (profile : Profile) → IsChecked profile → StandsFor profile (opening_kept profile) (opening profile)
 unfolding opening
-stands_opening below profile checked = stands_of profile (opening profile) (λ own. Holds-opening profile below.configs.stay below.configs.texts checked)
+stands_opening below profile checked = stands_of profile (opening profile) (λ own. Holds-opening profile below.maps checked)
 
 pub bytes_follow_tags : StepFollows → Layers → BytesFollowTags
 bytes_follow_tags law below profile all is are = follow law profile all (opening_kept profile) (opening profile) are (stands_opening below profile is)

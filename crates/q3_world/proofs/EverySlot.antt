@@ -11,7 +11,8 @@ use Rattle.q3_server.specs.Server.{places, slot_at}
 use Rattle.q3_client.specs.Client.{ClientState}
 use Rattle.q3_world.specs.Ends.{client_at, address_at}
 use Rattle.q3_world.specs.World.{History, Whole, no_history, history_at}
-use Rattle.q3_world.specs.StandsFor.{IsMap, AreEnds, AreJoined, IsClient, IsJoined}
+use Rattle.q3_server.specs.Standing.{IsMap}
+use Rattle.q3_world.specs.StandsFor.{AreEnds, AreJoined, IsClient, IsJoined}
 use Rattle.q3_world.proofs.Growth.{Grow, all_sent_grow}
 use Rattle.q3_world.proofs.Bases.{KeepsFrames-alike}
 use Rattle.q3_world.proofs.Found.{AllFound}

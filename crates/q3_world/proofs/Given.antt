@@ -17,7 +17,8 @@ use Rattle.q3_client.specs.Moves.{issue, most_moves}
 use Rattle.q3_client.specs.Sending.{Said}
 use Rattle.q3_world.specs.Ends.{client_at}
 use Rattle.q3_world.specs.World.{History, Whole, history_at, Played}
-use Rattle.q3_world.specs.StandsFor.{IsJoined, IsMap}
+use Rattle.q3_server.specs.Standing.{IsMap}
+use Rattle.q3_world.specs.StandsFor.{IsJoined}
 use Rattle.q3_world.proofs.Growth.{HistoryGrows-same, HistoryGrows-beside, noted_same}
 use Rattle.q3_world.proofs.Clients.{KeepsSlot-given, KeepsClient-issued}
 use Rattle.q3_world.proofs.Joined.{TakesBuilt-same, TakesSaid-same, TakesSaid-issued, AreAsked-same}

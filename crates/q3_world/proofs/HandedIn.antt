@@ -1,12 +1,11 @@
 -- What the game hands in keeps what holds.
-use Rattle.std.proofs.Common.{◌≡◌, ℕ, ◌^◌, ◌<◌, ◌≤◌, true, false, Bool, cond, List, [], ◌++◌, length, get_or, Option, Some, None, Ok, Err, refl, sym, ap, subst, ◌∙◌, inl, inr, arith}
+use Rattle.std.proofs.Common.{◌≡◌, ℕ, ◌^◌, ◌<◌, ◌≤◌, true, false, Bool, cond, List, ◌++◌, length, get_or, Option, Some, None, Ok, Err, refl, sym, ap, subst, ◌∙◌, inl, inr, arith}
 use Rattle.std.specs.Prelude.{◌==◌, if◌then◌else◌, not, nat_le, nat_lt, position, All}
 use Rattle.std.specs.List.{position_or_len}
 use Rattle.std.proofs.lemmas.Bool.{cases_Bool, cases_lt, cond_both, leb-false, lt-leb, ltb-false, not-false, eqb-false}
 use Rattle.std.proofs.lemmas.List.{append-nil, get_or_past}
 use Rattle.std.proofs.lemmas.List.FromFn.{get_or-map-range_with_len, length-map-range_with_len}
 use Rattle.std.proofs.lemmas.List.Sums.{fails_before_first}
-use Rattle.std.proofs.lemmas.List.Elements.{All-nil, All-weaker}
 use Rattle.q3_profile.specs.declared.profile.Profile.{Profile}
 use Rattle.q3_player.specs.State.{zero_player, normal_player}
 use Rattle.q3_player.specs.declared.state.PlayerState.{PlayerState}
@@ -29,7 +28,7 @@ use Rattle.q3_client.specs.declared.client.MoveError.{MoveError}
 use Rattle.q3_client.specs.declared.client.MoveError.TheVariants.{NoGame, NotLater, Range}
 use Rattle.q3_client.specs.Moves.{Handed as HandedMove, is_issuable, issue}
 use Rattle.q3_map.specs.declared.map.Late.{Late}
-use Rattle.q3_map.specs.Map.{MapState, AreHeld, Handed as HandedMap, after_new_map, set_baseline_at, with_config, with_entity, without_entity}
+use Rattle.q3_map.specs.Map.{MapState, Handed as HandedMap, after_new_map, set_baseline_at, with_config, with_entity, without_entity}
 use Rattle.q3_built.specs.Built.{Built, IsHeld, IsArea}
 use Rattle.q3_slot.specs.Slot.{SlotState, is_connected, is_of, on_new_map, with_player}
 use Rattle.q3_slot.specs.Slots.{changes_own, lacks_room, tells}
@@ -41,16 +40,17 @@ use Rattle.q3_world.specs.Layers.{WindowLaws}
 use Rattle.q3_world.specs.Ends.{EndsStep, client_at, with_client, address_at, moved, join, new_map, set_baseline, set_config, set_time, set_entity, remove_entity, set_player, set_area, say_command, type_command, add_move}
 use Rattle.q3_world.specs.Games.{standing_of}
 use Rattle.q3_world.specs.Kept.{kept_ends}
-use Rattle.q3_world.specs.StandsFor.{IsMap, KeepsSlot, AreEnds, AreJoined}
+use Rattle.q3_server.specs.Standing.{IsMap}
+use Rattle.q3_world.specs.StandsFor.{KeepsSlot, AreEnds, AreJoined}
 use Rattle.q3_world.specs.World.{Whole, History, no_history, history_at, with_history, with_joined, with_spoken, texts_told, with_texts_told, with_told, with_typed, with_issued, with_ends, with_noted, with_all}
 use Rattle.q3_world.proofs.MoveLists.{is_move}
 use Rattle.q3_world.proofs.Growth.{Grow, HistoryGrows, HistoryGrows-same, HistoryGrows-beside}
-use Rattle.q3_world.proofs.Clients.{KeepsSlot-told}
+use Rattle.q3_world.proofs.Clients.{no_area, KeepsSlot-told}
 use Rattle.q3_world.proofs.Joined.{TakesSaid-same}
 use Rattle.q3_world.proofs.Holding.{Holds, has_client, Holds-new, same_server}
 use Rattle.q3_world.proofs.Given.{with_new_slot, Holds-player, Holds-area, with_map, Holds-map, joined_stays, Holds-issued}
 use Rattle.q3_world.proofs.EverySlot.{LeavesClient, Holds-every}
-use Rattle.q3_world.proofs.Maps.{map_given, map_new, map_lined, MayGoOut, may_go_out, map_configured, pieces_own}
+use Rattle.q3_world.proofs.Maps.{MayGoOut, may_go_out, pieces_own}
 use Rattle.q3_world.proofs.GamesBuilt.{AreMapped-new}
 use Rattle.q3_world.proofs.GamesMaps.{AreMapped-map, AreMapped-given, AreMapped-configured, AreMapped-lined}
 use Rattle.q3_world.proofs.Mapped.{mapped_issued}
@@ -72,7 +72,7 @@ holds_join profile whole c challenge qport dup address cited lt fits holds =
     rw within (elim (found_or (slot_at whole.ends.server c)) [
       | inl none ↦ rw none (elim (found_or (position (is_of address.host qport) slots)) [
         | inl alone ↦
-            rw alone (Holds-new cited.rings cited.windows profile whole c challenge qport dup address cited.ring cited.sends cited.gathers cited.zero lt fits none alone
+            rw alone (Holds-new cited.rings cited.windows profile whole c challenge qport dup address cited.ring cited.sends cited.gathers cited.first cited.zero lt fits none alone
             (AreMapped-new profile challenge qport address whole.ends.server.map) holds)
         | inr twin ↦ rw twin.1 (unnoted profile whole c holds)
       ])
@@ -98,15 +98,17 @@ holds_area profile whole c area is lt holds =
     ]
 
 -- the time and the entities change
-pub holds_given : (profile : Profile) (whole : Whole) (time : ℕ) (entities : List EntityState) → time < 2 ^ 32 → AreHeld profile.entity entities → Holds profile whole
+pub holds_given : (profile : Profile) (whole : Whole) (time : ℕ) (entities : List EntityState) → IsMap profile (record whole.ends.server.map { time = time; entities = entities }) → Holds profile whole
     → Holds profile (with_map whole (record whole.ends.server.map { time = time; entities = entities }))
-holds_given profile whole time entities short held holds =
+holds_given profile whole time entities is holds =
     let map = whole.ends.server.map in
     let next = record map { time = time; entities = entities } in
-    Holds-map profile whole next (map_given profile map time entities short held holds.facts.map) (joined_stays profile map next (AreMapped-given map time entities)) holds
+    Holds-map profile whole next is (joined_stays profile map next (AreMapped-given map time entities)) holds
 
-pub holds_time : (profile : Profile) (whole : Whole) (time : ℕ) → time < 2 ^ 32 → Holds profile whole → Holds profile (record whole { ends = (set_time whole.ends time).ends })
-holds_time profile whole time short holds = holds_given profile whole time whole.ends.server.map.entities short holds.facts.map.entities holds
+pub holds_time : (profile : Profile) (whole : Whole) (time : ℕ) → Cited profile → time < 2 ^ 32 → Holds profile whole → Holds profile (record whole { ends = (set_time whole.ends time).ends })
+holds_time profile whole time cited short holds =
+    let map = whole.ends.server.map in
+    holds_given profile whole time map.entities (cited.maps.timed profile map time short holds.facts.map) holds
 
 pub holds_entity : (profile : Profile) (whole : Whole) (state : EntityState) → Cited profile → state.number ≤ last_entity → AreWords 64 state.words → Holds profile whole
     → Holds profile (record whole { ends = (set_entity whole.ends state).ends })
@@ -114,23 +116,16 @@ holds_entity profile whole state cited le words holds =
     let facts = holds.facts in
     let server = whole.ends.server in
     let entity = normal_entity profile.entity state in
-    let normal = cited.normal_entity state words in
-    let held = cited.server.lists.put profile.entity entity server.map.entities (omega (arith, le, cited.end)) normal.0 normal.1 facts.map.entities in
     subst (λ (p : Profile). Holds profile (with_map whole (record server.map { entities = with_entity (normal_entity p.entity state) server.map.entities }))) (sym facts.by)
-    (holds_given profile whole server.map.time (with_entity entity server.map.entities) facts.map.time held holds)
+    (holds_given profile whole server.map.time (with_entity entity server.map.entities) (cited.maps.entered profile server.map state cited.codec (omega (arith, le)) words facts.map) holds)
 
 pub holds_removed : (profile : Profile) (whole : Whole) (number : ℕ) → Cited profile → Holds profile whole
     → Holds profile (record whole { ends = (remove_entity whole.ends number).ends })
 holds_removed profile whole number cited holds =
     let map = whole.ends.server.map in
-    let is = holds.facts.map in
-    holds_given profile whole map.time (without_entity number map.entities) is.time (cited.server.lists.without profile.entity number map.entities is.entities) holds
+    holds_given profile whole map.time (without_entity number map.entities) (cited.maps.removed profile map number holds.facts.map) holds
 
 -- ---- maps
-
--- no area bytes
-no_area : IsArea []
-no_area = record { bytes = All-nil (λ (byte : ℕ). byte < 256); short = omega arith }
 
 -- a slot on a new map
 slot_on_map : (profile : Profile) (slot : SlotState) (qport host : ℕ) (built : List Built) (run : List Move) (commands : List (List ℕ)) → IsHeld profile zero_player
@@ -178,7 +173,7 @@ holds_new_map profile whole id feed cited least short holds =
           rw later (Holds-every profile whole (after_new_map map id feed) on_new_map whole.histories
           (record {
             leaves = record { host = λ slot. refl; qport = λ slot. refl };
-            is = map_new cited.configs profile map id feed least short holds.facts.map;
+            is = cited.maps.new_map profile map id feed least short holds.facts.map;
             count = holds.facts.histories;
             grows = λ c. HistoryGrows-same (history_at whole.histories c);
             built = λ c lt. refl;
@@ -202,14 +197,13 @@ pub holds_baseline : (profile : Profile) (whole : Whole) (state : EntityState) �
 holds_baseline profile whole state cited le words holds =
     let map = whole.ends.server.map in
     let entity = normal_entity profile.entity state in
-    let normal = cited.normal_entity state words in
     let next = record map { lines = with_line map.lines entity } in
     subst (λ (p : Profile). Holds profile (with_map whole (set_baseline_at p.entity map state).map)) (sym holds.facts.by)
     (cond_both map.begun (record { map = map; answer = Err (record {}) }) (record { map = next; answer = Ok tt })
-    (λ (handed : HandedMap Late). Holds profile (with_map whole handed.map))
-    (λ begun. holds)
-    (λ before. Holds-map profile whole next (map_lined profile map entity (omega (arith, le)) (omega (arith, le, cited.end)) normal.0 normal.1 holds.facts.map)
-    (joined_stays profile map next (AreMapped-lined map (with_line map.lines entity) before)) holds))
+    (λ (handed : HandedMap Late). IsMap profile handed.map → Holds profile (with_map whole handed.map))
+    (λ begun is. holds)
+    (λ before is. Holds-map profile whole next is (joined_stays profile map next (AreMapped-lined map (with_line map.lines entity) before)) holds)
+    (cited.maps.lined profile map state cited.codec (omega (arith, le)) words holds.facts.map))
 
 -- ---- config strings
 
@@ -361,7 +355,7 @@ holds_config profile whole index text cited bytes holds =
         → Holds profile (config_changed whole index text)
     told other may admitted none =
         Holds-config profile whole index text cited
-        (map_configured cited.configs profile whole.ends.server.map index text other (All-weaker (λ byte. (0 < byte) × (byte < 256)) (λ byte. 0 < byte) (λ byte is. is.0) text bytes) may holds.facts.map)
+        (cited.maps.configured profile whole.ends.server.map index text other admitted holds.facts.map)
         (record {
           room = λ c lt. none_passes (lacks_room (piece_texts index text)) whole.ends.server.slots none c None (omega (arith, lt, holds.facts.slots));
           are = cited.configs.pieces whole.ends.server.map.strings index text admitted;

@@ -1,5 +1,5 @@
 -- What holds between any two events, and that it stays where one client changes.
-use Rattle.std.proofs.Common.{◌≡◌, ℕ, zero, suc, ◌^◌, ◌<◌, ◌≤◌, false, List, [], ◌∷◌, ◌++◌, length, get_or, replicate, Option, Some, None, refl, sym, ap, subst, ◌∙◌, arith, lit<}
+use Rattle.std.proofs.Common.{◌≡◌, ℕ, zero, suc, ◌^◌, ◌<◌, ◌≤◌, false, List, [], ◌∷◌, ◌++◌, length, get_or, replicate, Option, Some, None, refl, sym, ap, subst, ◌∙◌, arith}
 use Rattle.std.specs.Prelude.{slice_set, position}
 use Rattle.std.proofs.lemmas.List.{get_or-replicate, set-get_or}
 use Rattle.q3_profile.specs.declared.profile.Profile.{Profile}
@@ -8,8 +8,9 @@ use Rattle.q3_io.specs.declared.address.Address.{Address}
 use Rattle.q3_chan.specs.Laws.{EndsGather, EndsSend}
 use Rattle.q3_ring.specs.Places.{no_places}
 use Rattle.q3_frames.specs.Frames.{Frame, FramesState}
+use Rattle.q3_clstate.specs.Standing.{IsApplied}
 use Rattle.q3_clstate.specs.State.{new_state}
-use Rattle.q3_map.specs.Map.{MapState, no_map}
+use Rattle.q3_map.specs.Map.{MapState}
 use Rattle.q3_built.specs.Built.{IsHeld}
 use Rattle.q3_slot.specs.Slot.{SlotState, is_of, new_slot}
 use Rattle.q3_server.specs.Server.{ServerState, places, slot_at, with_slot}
@@ -17,16 +18,16 @@ use Rattle.q3_client.specs.Client.{ClientState, new_client}
 use Rattle.q3_world.specs.Layers.{RingLaws, WindowLaws}
 use Rattle.q3_world.specs.Ends.{Ends, client_at, with_client, no_address, address_at}
 use Rattle.q3_world.specs.World.{Tag, History, Whole, no_history, history_at, with_history, opening}
-use Rattle.q3_world.specs.StandsFor.{IsChecked, AreEnds, IsClient, IsWay, IsSent, KeepsFrames, Facts, AreJoined, IsJoined, AllJoined, IsMap}
+use Rattle.q3_server.specs.Standing.{IsMap}
+use Rattle.q3_server.specs.Laws.{MapStays}
+use Rattle.q3_world.specs.StandsFor.{IsChecked, AreEnds, IsClient, IsWay, IsSent, KeepsFrames, Facts, AreJoined, IsJoined, AllJoined}
 use Rattle.q3_world.proofs.OnePlace.{set_there, OnlyAt-set, OnlyAt-same, DifferAt, each_at}
 use Rattle.q3_world.proofs.Growth.{HistoryGrows, HistoryGrows-joined, Grow-at, AllSent, all_sent_grow, each_more}
 use Rattle.q3_world.proofs.Bases.{KeepsFrames-same}
 use Rattle.q3_world.proofs.Found.{AllFound, found_changed, found_joined}
-use Rattle.q3_world.proofs.Clients.{no_client, a_client, a_slot, KeepsSlot-new, KeepsClient-new, none_held}
+use Rattle.q3_world.proofs.Clients.{no_client, a_client, a_slot, KeepsSlot-new, KeepsClient-new}
 use Rattle.q3_world.proofs.Joined.{TakesBuilt-new, TakesSaid-new, AreAsked-new}
-use Rattle.q3_config.specs.Laws.{StringsStay, TextsStay}
 use Rattle.q3_world.proofs.GamesMoves.{AreSince-new}
-use Rattle.q3_world.proofs.Lines.{no_lines_are}
 use Rattle.q3_world.specs.Games.{AreMapped, standing_of}
 
 -- what holds of a whole world to which no line handed other bytes
@@ -35,28 +36,13 @@ pub record Holds (profile : Profile) (whole : Whole) : Type 0 where
   pub joined : AllJoined profile whole
   pub own : whole.foreign ≡ false
 
--- before the first map
-no_map_is : (profile : Profile) → StringsStay → TextsStay → IsMap profile no_map
-no_map_is profile strings texts =
-    record {
-      id = lit< tt;
-      feed = lit< tt;
-      time = lit< tt;
-      strings = strings.none;
-      texts = texts.none.each;
-      pending = refl;
-      tells = λ other. absurd (other refl);
-      lines = no_lines_are profile;
-      entities = none_held profile.entity;
-    }
-
 abbrev none_slot : Option SlotState
 none_slot = None
 
 -- at the beginning
-pub Holds-opening : (profile : Profile) → StringsStay → TextsStay → IsChecked profile → Holds profile (opening profile)
+pub Holds-opening : (profile : Profile) → MapStays → IsChecked profile → Holds profile (opening profile)
 unfolding opening
-Holds-opening profile strings texts checked =
+Holds-opening profile maps checked =
     let no_slots = λ (c : ℕ) (lt : c < places). get_or-replicate {A = Option SlotState} places c None None lt in
     let no_clients = λ (c : ℕ) (lt : c < places). get_or-replicate {A = Option ClientState} places c None None lt in
     record {
@@ -67,7 +53,7 @@ Holds-opening profile strings texts checked =
         clients = refl;
         addresses = refl;
         histories = refl;
-        map = no_map_is profile strings texts;
+        map = maps.none profile;
         each = λ c lt. rw (no_slots c lt, no_clients c lt, get_or-replicate places c no_history no_history lt) refl;
         found = λ c slot at. absurd (none_some (sym (nobody places c) ∙ at));
         sent = λ k d lt. absurd (omega (arith, lt));
@@ -156,11 +142,11 @@ with_new whole c qport address slot client =
       histories = with_history whole.histories c (record (history_at whole.histories c) { qport = qport; host = address.host });
     }
 
-pub Holds-new : RingLaws → WindowLaws → (profile : Profile) (whole : Whole) (c challenge qport dup : ℕ) (address : Address) → 512 ≤ profile.parse_ring → EndsSend → EndsGather → IsHeld profile zero_player → c < places
+pub Holds-new : RingLaws → WindowLaws → (profile : Profile) (whole : Whole) (c challenge qport dup : ℕ) (address : Address) → 512 ≤ profile.parse_ring → EndsSend → EndsGather → IsApplied (new_state profile) → IsHeld profile zero_player → c < places
     → qport < 2 ^ 16 → slot_at whole.ends.server c ≡ None → position (is_of address.host qport) whole.ends.server.slots ≡ None
     → AreMapped whole.ends.server.map (standing_of (new_slot challenge qport address)) (new_state profile) 0 0 [] [] [] [] [] → Holds profile whole
     → Holds profile (with_new whole c qport address (new_slot challenge qport address) (new_client profile challenge qport dup))
-Holds-new laws windows profile whole c challenge qport dup address ring sends gathers first lt fits none alone mapped holds =
+Holds-new laws windows profile whole c challenge qport dup address ring sends gathers applied first lt fits none alone mapped holds =
     let facts = holds.facts in
     let ends = whole.ends in
     let slots = ends.server.slots in
@@ -178,7 +164,7 @@ Holds-new laws windows profile whole c challenge qport dup address ring sends ga
     let keeps : AreEnds profile slot client address there = subst (λ (h : History). AreEnds profile slot client address (record h { qport = qport; host = address.host })) (sym history_is)
     (record {
       of_slot = KeepsSlot-new windows.stays profile challenge qport address sends first;
-      of_client = KeepsClient-new windows.stays profile challenge qport dup sends fits;
+      of_client = KeepsClient-new windows.stays profile challenge qport dup applied sends fits;
       challenge = refl;
       host = refl;
     }) in

@@ -1,6 +1,6 @@
 -- What a client holds was accepted, and what it accepted was built.
-use Rattle.std.proofs.Common.{◌≡◌, ℕ, ◌+◌, ◌-◌, ◌<◌, ◌≤◌, List, length, get_or, Option, Some, None, Result, Ok, Err, sym, ap, subst, ◌∙◌, arith, inl, inr, refl}
-use Rattle.std.specs.Prelude.{All, Contains, IfSome, MatchOption}
+use Rattle.std.proofs.Common.{◌≡◌, ℕ, ◌+◌, ◌-◌, ◌<◌, ◌≤◌, List, length, get_or, Option, Some, None, Result, Ok, Err, sym, ap, subst, ◌∙◌, arith, inl, inr}
+use Rattle.std.specs.Prelude.{All, Contains, IfSome}
 use Rattle.std.specs.Result.{result_ok}
 use Rattle.std.proofs.lemmas.List.Elements.{All-get_or, All-contains}
 use Rattle.q3_profile.specs.declared.profile.Profile.{Profile}
@@ -12,19 +12,16 @@ use Rattle.q3_built.specs.Built.{Built, IsSnapshot, IsNear, IsBuilt}
 use Rattle.q3_slot.specs.Slot.{SlotState}
 use Rattle.q3_client.specs.Client.{ClientState}
 use Rattle.q3_world.specs.Layers.{RingLaws}
-use Rattle.q3_world.specs.MessageLaws.{AreBuilt, HoldsThis}
-use Rattle.q3_world.specs.World.{History, no_message, built_at, Played}
+use Rattle.q3_world.specs.MessageLaws.{HoldsThis}
+use Rattle.q3_world.specs.World.{History, no_message, built_at}
 use Rattle.q3_world.specs.StandsFor.{snapshot_in, WasBuilt, KeepsSlot, AreAsked}
 use Rattle.q3_world.proofs.Bases.{some_one, was_built_one}
 use Rattle.q3_svmsg.specs.Values as told
-use Rattle.q3_world.proofs.GamesParts.{newest}
-use Rattle.q3_entity.specs.Baselines.{AreLines}
 use Rattle.q3_entity.specs.declared.state.EntityState.{EntityState}
 use Rattle.q3_gamestate.specs.Laws.{IsGamestate}
 use Rattle.q3_gamestate.specs.Values.{Gamestate}
 use Rattle.q3_player.specs.declared.head.SnapHead.{SnapHead}
-use Rattle.q3_world.proofs.Lines.{no_lines_are}
-use Rattle.q3_world.specs.Games.{Carries, HasGames, IsOf, last_played, IsFresh, WasApplied}
+use Rattle.q3_world.specs.Games.{Carries}
 
 -- the messages that were begun are so
 abbrev pub AreMessages : Profile → ℕ → List Built → Type 0
@@ -78,12 +75,6 @@ view_was_built laws held began took number snapshot stands were viewed =
     let was = held_was_accepted laws held took number snapshot stands viewed in
     (was.1, All-contains (WasBuilt began) took snapshot were was.0)
 
--- so each that is held may have been built
-pub held_are_built : RingLaws → (profile : Profile) (challenge : ℕ) (held : HeldSnapshots) (began : List Built) (took : List Snapshot) → AreMessages profile challenge began → SnapshotsStandFor took held
-    → All (WasBuilt began) took → AreBuilt profile held
-held_are_built laws profile challenge held began took are stands were number snapshot viewed =
-    was_built_is profile challenge began snapshot are (view_was_built laws held began took number snapshot stands were viewed).1
-
 -- and under the number of one that was built there is no other
 pub holds_this : RingLaws → (held : HeldSnapshots) (began : List Built) (took : List Snapshot) (base : Snapshot) → SnapshotsStandFor took held → All (WasBuilt began) took → WasBuilt began base
     → HoldsThis held base
@@ -115,16 +106,3 @@ known_base profile slot client history n some few is keeps asked =
       | inl one ↦ one.base_is
       | inr game ↦ subst (λ (base : Option Snapshot). IfSome base (IsNear n)) (sym (ap (λ (b : Built). b.base) game.is)) tt
     ]
-
--- each message that was built is one that is read by the baselines that a client has
-pub lines_are : (profile : Profile) (slot : SlotState) (client : ClientState) (history : History) → AreMessages profile slot.challenge history.built
-    → HasGames client.state client.gathering.taken client.last_time history.built history.games history.accepted history.client_executed → AreLines profile.entity client.state.lines
-lines_are profile slot client history are has = of_last (last_played history.games) refl has.shows
-  where
-    of_last : (last : Option Played) → last_played history.games ≡ last → MatchOption last (IsFresh client.state) (λ played. IsOf client.state played history.client_executed)
-        → AreLines profile.entity client.state.lines
-    of_last None is fresh = subst (AreLines profile.entity) (sym fresh.lines) (no_lines_are profile)
-    of_last (Some played) is shows =
-        let last = newest history.games played has.rise is in
-        let applied = All-contains (WasApplied client.gathering.taken client.last_time history.built history.accepted history.client_executed) history.games played has.each last.there in
-        subst (AreLines profile.entity) (sym shows.lines) (game_built_is profile slot.challenge history.built played.number played.game are applied.carries).lines

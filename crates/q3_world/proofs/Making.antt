@@ -21,26 +21,31 @@ use Rattle.q3_client.specs.declared.client.Sent.TheVariants as answered_sent
 use Rattle.q3_client.specs.Client.{ClientState}
 use Rattle.q3_client.specs.Sending as speaks
 use Rattle.q3_client.specs.Sending.{said_bits, said_bytes, next_message, next_said, is_unclear as is_said_unclear}
-use Rattle.q3_built.specs.Built.{is_unclear, IsBuilt, IsNear, built_bits, built_bytes}
-use Rattle.q3_slot.specs.Slot.{SlotState, asked, primed}
+use Rattle.q3_built.specs.Built.{IsArea, is_unclear, IsBuilt, built_bits, built_bytes}
+use Rattle.q3_slot.specs.Slot.{SlotState, primed}
 use Rattle.q3_slot.specs.Emitting.{SlotEmission, next_frames, begun_next, emit_built, most_placed, emit_new, emit_slot, next_game, telling_of, emit_game, emit_next, next_snapshot, next_game_built}
 use Rattle.q3_server.specs.Server.{ServerState, Emission, places, slot_at, with_slot, emission_at, emit_from}
+use Rattle.q3_window.specs.Outgoing.{IsOutgoing}
+use Rattle.q3_slot.specs.Standing.{IsSlot}
+use Rattle.q3_server.specs.Standing as server_has
+use Rattle.q3_client.specs.Standing.{IsClient}
+use Rattle.q3_client.specs.Sending.{IsSaid}
+use Rattle.q3_world.proofs.Commanded.{MayName}
 use Rattle.q3_world.specs.Ends.{client_at, address_at}
 use Rattle.q3_world.specs.Kept.{kept_serve, kept_said, kept_send}
 use Rattle.q3_world.specs.World.{Whole, history_at, serve, say, send, with_built}
 use Rattle.q3_world.specs.Layers.{ScramblingLaws}
 use Rattle.q3_world.specs.StandsFor.{bytes_of}
-use Rattle.q3_world.proofs.Clients.{slot_begun, client_begun, BaseIs, asked_has, next_base, waits_empty, next_number, next_tells, next_is_snapshot}
+use Rattle.q3_world.proofs.Clients.{slot_begun, client_begun, asked_has, next_base, next_number}
 use Rattle.q3_world.proofs.Holding.{Holds, has_slot, has_client, same_server, Has}
 use Rattle.q3_world.proofs.Given.{joined_stays}
-use Rattle.q3_world.proofs.Begun.{Holds-handed, Holds-begun, Holds-too_long, handed_tag, Holds-goes, Holds-said, said_tag, executed_by_slot, executed_by_client}
-use Rattle.q3_world.proofs.Maps.{map_begun}
+use Rattle.q3_world.proofs.Begun.{Holds-handed, Holds-begun, Holds-too_long, handed_tag, Holds-goes, Holds-said, said_tag, executed_by_slot}
 use Rattle.q3_world.proofs.GamesMaps.{AreMapped-begun}
 use Rattle.q3_world.proofs.Agree.{Cited, kept_of, Agree, found_or, unnoted, left_alone}
 use Rattle.q3_map.specs.Map.{begins_game}
 use Rattle.q3_slot.specs.declared.stage.ClientStage.TheVariants.{Primed}
-use Rattle.q3_world.proofs.Bases.{KeepsFrames-built, KeepsFrames-game, if_some_then, frames_begun, frames_of_game}
-use Rattle.q3_world.proofs.Mapped.{has_snapshot, mapped_game, mapped_snapshot, next_is_game, state_short, mapped_said, asked_base}
+use Rattle.q3_world.proofs.Bases.{KeepsFrames-built, KeepsFrames-game, frames_begun, frames_of_game}
+use Rattle.q3_world.proofs.Mapped.{has_snapshot, mapped_game, mapped_snapshot, mapped_said, asked_base}
 
 -- ---- serving
 
@@ -73,6 +78,18 @@ sendable laws bits side key law begins is fits =
 low_byte : (number : ℕ) → number % 256 < 2 ^ 8
 low_byte number = omega arith
 
+-- a client as the server keeps it: one for which no gamestate was begun is connected, and one is owed on a map alone
+is_joined : (profile : Profile) (whole : Whole) (c : ℕ) (slot : SlotState) (client : ClientState) → Has profile whole c slot client → server_has.IsJoined profile whole.ends.server.map.id slot
+is_joined profile whole c slot client had = record {
+  player = had.keeps.of_slot.player;
+  begun = λ none. had.joined.mapped.stands.none.0 none;
+  owed = λ owed. (had.joined.mapped.stands.owed owed).1;
+}
+
+-- and what its slot has
+slot_stands : (profile : Profile) (slot : SlotState) → IsOutgoing slot.issued → IsArea slot.area.items → MayName slot.executed → IsSlot slot
+slot_stands profile slot window area names = record { window = window; executed = names.number; last = names.text; area = area }
+
 -- the message with the next snapshot is one that a server builds
 next_is_built : (profile : Profile) (whole : Whole) (c : ℕ) (slot : SlotState) (client : ClientState) → Cited profile → c < places → Has profile whole c slot client
     → slot.sending.number + 1 < sequence_end → is_unclear profile slot.executed.executed ≡ false → Holds profile whole
@@ -83,24 +100,9 @@ next_is_built profile whole c slot client cited lt had fits clear holds =
     let history = history_at whole.histories c in
     let keeps = had.keeps.of_slot in
     let joined = had.joined in
-    let next = begun_next map frames c slot in
-    let n = slot.sending.number + 1 in
     let names = executed_by_slot profile slot client history had.keeps.of_client joined.commanded in
-    let has = asked_has slot history.said history.built history.accepted joined.of_client.accepted joined.asked in
-    let base = next_base cited.server map frames c slot history.built keeps.sending.begun (holds.facts.frames.each c lt) has in
-    record {
-      telling = telling_of slot;
-      tells = next_tells profile slot keeps.window names clear;
-      lines = holds.facts.map.lines;
-      section = inl (record {
-        snapshot = next_snapshot map slot;
-        is = refl;
-        number = next_number map slot;
-        are = next_is_snapshot cited.server profile map slot holds.facts.map fits cited.zero keeps.player keeps.area;
-        waits = waits_empty map frames c slot (λ none. joined.mapped.stands.none.0 none);
-        base_is = if_some_then next.base (BaseIs n (asked slot) history.built) (IsNear n) (λ b known. known.0) base;
-      });
-    }
+    cited.begins.snapshot profile map slot cited.codec holds.facts.map (is_joined profile whole c slot client had) (slot_stands profile slot keeps.window keeps.area names)
+    frames c fits clear
 
 -- a snapshot is begun, unless it is too long
 pub served_built : (profile : Profile) (whole : Whole) (c : ℕ) (slot : SlotState) → Cited profile → c < places → slot_at whole.ends.server c ≡ Some slot
@@ -168,13 +170,8 @@ served_game profile whole c slot cited lt is owed fits clear holds =
       | inr short ↦
           let pushed = map_push bytes_of whole.sent (handed_tag c (slot_begun profile stands next) first) in
           let other = joined.mapped.stands.owed owed in
-          let game = next_is_game profile map c slot holds.facts.map other.1 (omega (arith, lt)) keeps.of_slot.window in
-          let built : IsBuilt profile slot.challenge n next = record {
-            telling = telling_of slot;
-            tells = next_tells profile slot keeps.of_slot.window names clear;
-            lines = holds.facts.map.lines;
-            section = inr (record { game = next_game map c slot; is = refl; last = refl; lines = refl; are = game });
-          } in
+          let built = cited.begins.game profile map slot cited.codec holds.facts.map (is_joined profile whole c slot client had.1) (slot_stands profile slot keeps.of_slot.window keeps.of_slot.area names)
+          c (omega (arith, lt)) owed clear in
           let kept = KeepsFrames-game frames whole.histories c (with_built history (Some next)) lt holds.facts.histories
           (frames_of_game frames c history.built next refl (holds.facts.frames.each c lt)) holds.facts.frames in
           let mapped = mapped_game map slot client history next (next_game map c slot) owed refl refl (holds.facts.map.tells other.1) refl refl begun joined.of_client.gathers.taken
@@ -182,7 +179,7 @@ served_game profile whole c slot cited lt is owed fits clear holds =
           rw short (record {
             same = rw (count, pushed) refl;
             holds = Holds-begun cited.windows profile whole c slot client Primed (Some n) false next (begins_game map) frames first cited.sends cited.gathers lt had.1 fits built (may short) refl refl tt refl
-                (map_begun profile map holds.facts.map) (joined_stays profile map (begins_game map) (AreMapped-begun map)) kept mapped holds;
+                (cited.maps.begun profile map holds.facts.map) (joined_stays profile map (begins_game map) (AreMapped-begun map)) kept mapped holds;
           })
     ]
 
@@ -263,17 +260,19 @@ said_text profile whole c client cited lt found fits clear holds =
     let bits = said_bits profile next in
     let first : UnderWay = record { message = said_bytes profile next; next = 0 } in
     let had = has_client profile whole c client lt found holds in
-    let names = executed_by_client profile had.0 client (history_at whole.histories c) had.1.keeps.of_slot had.1.joined.commanded in
-    let may = sendable cited.scrambles bits Client next.key cited.bytes (low_byte (bit_xor (bit_xor client.challenge client.state.id) client.gathering.taken)) names.text in
+    let keeps = had.1.keeps.of_client in
+    let is : IsClient client = record { applied = keeps.applied; taken = taken_fits profile whole c client lt found holds; window = keeps.window; few = keeps.moves.few; moves = record { each = keeps.moves.each } } in
+    let said_is : IsSaid profile client.challenge next = subst (λ (p : Profile). IsSaid p client.challenge next) keeps.by
+    (cited.says.next client is (subst (λ (p : Profile). is_said_unclear p (next_message client) ≡ false) (sym keeps.by) clear)) in
+    let may = sendable cited.scrambles bits Client next.key cited.bytes (low_byte (bit_xor (bit_xor client.challenge client.state.id) client.gathering.taken)) keeps.applied.last in
     elim (cases_Bool (nat_lt longest_message (message_length (length bits)))) [
       | inl long ↦ rw long (silent profile whole c client answered_sent.Overlong found holds)
       | inr short ↦
           let count = length-map whole.sent bytes_of in
-          let short_of = state_short profile whole.ends.server.map had.0 client (history_at whole.histories c) holds.facts.map had.1.keeps.of_slot.built had.1.joined.mapped in
           let pushed = map_push bytes_of whole.sent (said_tag c (address_at whole.ends c) (client_begun profile client) first) in
           rw short (record {
             same = rw (count, pushed) refl;
-            holds = Holds-said cited.windows profile whole c had.0 client first cited.sends cited.gathers lt had.1 refl fits short_of.id short_of.feed (taken_fits profile whole c client lt found holds) clear (may short)
+            holds = Holds-said cited.windows profile whole c had.0 client first cited.sends cited.gathers lt had.1 refl fits said_is (may short)
                 (mapped_said whole.ends.server.map had.0 client (history_at whole.histories c) had.1.joined.of_client.asks.0 had.1.joined.since had.1.joined.mapped) holds;
           })
     ]

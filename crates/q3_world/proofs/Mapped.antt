@@ -1,15 +1,15 @@
 -- What joins both ends of a client on the server's maps, over all that is noted of it.
 use Rattle.q3_svmsg.specs.Values as told
-use Rattle.std.proofs.Common.{[], List, None, Option, Some, ap, arith, false, inl, inr, length, refl, subst, sym, true, ℕ, ◌++◌, ◌+◌, ◌-◌, ◌<◌, ◌^◌, ◌∙◌, ◌∷◌, ◌≡◌, ◌≤◌, is_some}
-use Rattle.std.specs.Prelude.{All, Bool, Contains, IfSome, MatchOption, if◌then◌else◌, ◌==◌, ◌||◌}
+use Rattle.std.proofs.Common.{[], List, None, Option, Some, ap, arith, false, inl, inr, length, refl, subst, sym, true, ℕ, ◌++◌, ◌+◌, ◌<◌, ◌∙◌, ◌∷◌, ◌≡◌, ◌≤◌}
+use Rattle.std.specs.Prelude.{All, Bool, Contains, IfSome, if◌then◌else◌, ◌==◌, ◌||◌}
 use Rattle.std.proofs.Math.Seq.{take-append_seam, drop-append_seam}
 use Rattle.std.proofs.lemmas.Bool.{cases_Bool, eqb-false}
-use Rattle.std.proofs.lemmas.List.Elements.{All-contains, All-drop, All-head, All-take}
+use Rattle.std.proofs.lemmas.List.Elements.{All-drop, All-head, All-take}
 use Rattle.q3_client.specs.Client.{ClientState}
 use Rattle.q3_client.specs.Moves.{asks_delta}
 use Rattle.q3_client.specs.Sending.{Said, next_said}
 use Rattle.q3_clmsg.specs.declared.moves.Move.{Move}
-use Rattle.q3_clstate.specs.State.{AppliedState, after_gamestate, hearing}
+use Rattle.q3_clstate.specs.State.{after_gamestate, hearing}
 use Rattle.q3_entity.specs.Runs.{taken}
 use Rattle.q3_entity.specs.declared.state.EntityState.{EntityState}
 use Rattle.q3_gamestate.specs.Laws.{IsGamestate}
@@ -20,29 +20,26 @@ use Rattle.q3_profile.specs.declared.profile.Profile.{Profile}
 use Rattle.q3_ring.specs.Snapshot.{Snapshot}
 use Rattle.q3_rings.specs.Rings.{HeldSnapshots}
 use Rattle.q3_built.specs.Built.{Built}
-use Rattle.q3_slot.specs.Emitting.{next_game}
 use Rattle.q3_slot.specs.Slot.{SlotState, asked, is_active, plays_under, primed}
 use Rattle.q3_slot.specs.Slots.{tells}
 use Rattle.q3_slot.specs.Taking.{asks_game, goes_on, heads_of, waits}
 use Rattle.q3_slot.specs.declared.stage.ClientStage.TheVariants.{Active, Primed}
 use Rattle.q3_text.specs.declared.text.Command.{Command}
 use Rattle.q3_window.specs.Incoming.{IncomingState, fresh_of, jump_at}
-use Rattle.q3_window.specs.Outgoing.{IsOutgoing}
-use Rattle.q3_world.specs.Games.{AreMapped, AreSince, Carries, IsFresh, Tells, WasApplied, accepted_since, last_played, standing_of}
-use Rattle.q3_world.specs.StandsFor.{IsMap, WasAccepted}
-use Rattle.q3_world.specs.World.{History, Played, built_at, texts_of}
-use Rattle.q3_world.specs.Games.{IsOf}
+use Rattle.q3_world.specs.Games.{AreMapped, AreSince, Carries, Tells, accepted_since, standing_of}
+use Rattle.q3_world.specs.StandsFor.{WasAccepted}
+use Rattle.q3_world.specs.World.{History, built_at, texts_of}
 use Rattle.q3_world.proofs.Bases.{if_some, if_some_then}
 use Rattle.q3_world.proofs.Clients.{BaseIs}
 use Rattle.q3_world.proofs.Commanded.{ClientHears}
 use Rattle.q3_world.proofs.GamesBuilt.{AreMapped-game, AreMapped-issued, AreMapped-snapshot}
 use Rattle.q3_world.proofs.GamesHeard.{AreMapped-accepts, AreMapped-passes}
 use Rattle.q3_world.proofs.GamesMoves.{acks_built, AreSince-carried, goes_most}
-use Rattle.q3_world.proofs.GamesParts.{HasNone, cases_option, newest}
+use Rattle.q3_world.proofs.GamesParts.{HasNone, cases_option}
 use Rattle.q3_world.proofs.GamesSaid.{AreMapped-ignores, AreMapped-runs, AreMapped-said, enters_later, said_of_map, with_playing}
 use Rattle.q3_world.proofs.GamesTaken.{AreMapped-applies, IsKnown, known_under}
 use Rattle.q3_world.proofs.GamesTexts.{LeavesOwn}
-use Rattle.q3_world.proofs.Knowing.{AreMessages, KnownBase, game_built_is}
+use Rattle.q3_world.proofs.Knowing.{KnownBase}
 
 -- what joins them
 abbrev pub Mapped : MapState → SlotState → ClientState → History → Type 0
@@ -82,49 +79,7 @@ mapped_game map slot client history next game owed is under tells lines feed beg
     (slot.sending.number + 1) (omega (arith, begun)) owed is under tells lines feed taken
     (acks_built map (standing_of slot) client.state client.gathering.taken client.last_time history.built history.games history.said history.accepted history.client_executed taken mapped) mapped
 
--- the gamestate of a map may be sent
-pub next_is_game : (profile : Profile) (map : MapState) (c : ℕ) (slot : SlotState) → IsMap profile map → (map.id ≡ 0 → ⊥) → c < 2 ^ 32 → IsOutgoing slot.issued → IsGamestate profile (next_game map c slot)
-next_is_game profile map c slot is some lt window =
-    let numbers : slot.issued.acknowledged + length slot.issued.waiting ≤ 2 ^ 31 - 1 = window.numbers in
-    record {
-      command = omega (arith, numbers);
-      slot = lt;
-      feed = is.feed;
-      strings = is.strings;
-      texts = is.texts;
-      pending = is.pending;
-      lines = is.lines;
-      id = ap is_some (is.tells some);
-    }
-
 -- ---- a client begins a message
-
--- its id and its feed are ones that a gamestate may tell
-pub record IsShort (state : AppliedState) : Type 0 where
-  pub id : state.id < 2 ^ 32
-  pub feed : state.feed < 2 ^ 32
-
-pub state_short : (profile : Profile) (map : MapState) (slot : SlotState) (client : ClientState) (history : History) → IsMap profile map → AreMessages profile slot.challenge history.built
-    → Mapped map slot client history → IsShort client.state
-state_short profile map slot client history is are mapped =
-    elim (cases_option (last_played history.games)) [
-      | inl none ↦
-          let fresh = subst (λ (o : Option Played). MatchOption o (IsFresh client.state) (λ (played : Played). IsOf client.state played history.client_executed)) none mapped.has.shows in
-          let id = fresh.id in
-          let feed = fresh.feed in
-          record { id = omega (arith, id); feed = omega (arith, feed) }
-      | inr some ↦
-          let played = some.0 in
-          let of = subst (λ (o : Option Played). MatchOption o (IsFresh client.state) (λ (played : Played). IsOf client.state played history.client_executed)) some.1 mapped.has.shows in
-          let there = (newest history.games played mapped.has.rise some.1).there in
-          let applied = All-contains (WasApplied client.gathering.taken client.last_time history.built history.accepted history.client_executed) history.games played mapped.has.each there in
-          let most = (mapped.of_maps.ids played.number client.state.id played.game applied.carries of.id).1 in
-          let least = is.id in
-          record {
-            id = omega (arith, most, least);
-            feed = subst (λ (feed : ℕ). feed < 2 ^ 32) (sym of.feed) (game_built_is profile slot.challenge history.built played.number played.game are applied.carries).feed;
-          }
-    ]
 
 pub mapped_said : (map : MapState) (slot : SlotState) (client : ClientState) (history : History)
     → (client.delta ≡ true → WasAccepted (accepted_since history.games history.accepted) client.gathering.taken) → AreSince history.games client.moves → Mapped map slot client history

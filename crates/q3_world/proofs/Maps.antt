@@ -1,131 +1,23 @@
--- The map stays as the game handed it in.
-use Rattle.std.proofs.Common.{◌≡◌, ℕ, ◌*◌, ◌^◌, ◌<◌, true, false, List, [], ◌∷◌, length, get_or, map, take, drop, Option, Some, None, refl, sym, ap, subst, ◌∙◌, inl, inr, arith}
-use Rattle.std.specs.Prelude.{◌==◌, ◌&&◌, ◌||◌, not, nat_lt, nat_le, find, All, IfSome, codes, option_and_then}
+-- Which texts of config strings may go out as commands.
+use Rattle.std.proofs.Common.{◌≡◌, ℕ, ◌*◌, ◌<◌, true, false, List, [], ◌∷◌, length, get_or, map, take, drop, Option, Some, None, refl, sym, ap, ◌∙◌, inl, inr, arith}
+use Rattle.std.specs.Prelude.{◌==◌, ◌&&◌, ◌||◌, not, nat_lt, nat_le, find, All}
 use Rattle.std.specs.List.{range_with_len}
-use Rattle.std.proofs.lemmas.Bool.{cases_Bool, cases_eq, cond_both, ltb-true, ne_eqb, not-false, not-true, and_parts, eqb-false}
-use Rattle.std.proofs.lemmas.List.{get_or-set_same, get_or-set_other, length-set}
+use Rattle.std.proofs.lemmas.Bool.{cases_Bool, cond_both, ltb-true, ne_eqb, not-false, not-true, and_parts, eqb-false}
 use Rattle.std.proofs.lemmas.List.Elements.{All-nil, All-cons, All-weaker, All-map, All-take, All-drop, All-from_get_or}
-use Rattle.q3_profile.specs.declared.profile.Profile.{Profile}
-use Rattle.q3_fields.specs.Kinds.{Layout, end_mark}
-use Rattle.q3_fields.specs.States.{AreWords}
-use Rattle.q3_entity.specs.declared.state.EntityState.{EntityState}
-use Rattle.q3_entity.specs.Entities.{IsNormal}
-use Rattle.q3_entity.specs.Baselines.{Lines, AreLines, most_lines, set_at, with_line}
 use Rattle.q3_text.specs.Texts.{translated}
-use Rattle.q3_text.specs.Info.{info_of}
-use Rattle.q3_text.specs.Decimals.{info_number}
 use Rattle.q3_config.specs.declared.error.ConfigError.{ConfigError}
 use Rattle.q3_config.specs.declared.error.ConfigError.TheVariants.{Index}
-use Rattle.q3_config.specs.Strings.{Strings, AreStrings, places, is_config_byte, no_strings, with_string, chars_fault, room_fault, set_fault, admit_fault, after_set, server_id}
+use Rattle.q3_config.specs.Strings.{Strings, places, is_config_byte, chars_fault, admit_fault}
 use Rattle.q3_config.specs.Commands.{Change, piece_count, change_text, change_in, config_piece}
 use Rattle.q3_config.specs.Laws.{IsChange, SpelledIsRead, piece_texts}
-use Rattle.q3_map.specs.Map.{MapState, AreHeld, id_text, after_new_map, with_config, begins_game}
 use Rattle.q3_slot.specs.Slots.{is_of_index, changes_own}
-use Rattle.q3_world.specs.Layers.{ConfigLaws}
-use Rattle.q3_world.specs.StandsFor.{IsMap}
-use Rattle.q3_world.proofs.Clients.{none_held}
-use Rattle.q3_world.proofs.Lines.{no_lines_are}
-
--- ---- the time, the entities, and a gamestate
-
--- another time and other entities
-pub map_given : (profile : Profile) (map : MapState) (time : ℕ) (entities : List EntityState) → time < 2 ^ 32 → AreHeld profile.entity entities → IsMap profile map
-    → IsMap profile (record map { time = time; entities = entities })
-map_given profile map time entities short held is =
-    record {
-      id = is.id;
-      feed = is.feed;
-      time = short;
-      strings = is.strings;
-      texts = is.texts;
-      pending = is.pending;
-      tells = is.tells;
-      lines = is.lines;
-      entities = held;
-    }
-
--- a gamestate of the map is begun
-pub map_begun : (profile : Profile) (map : MapState) → IsMap profile map → IsMap profile (begins_game map)
-map_begun profile map is =
-    record {
-      id = is.id;
-      feed = is.feed;
-      time = is.time;
-      strings = is.strings;
-      texts = is.texts;
-      pending = is.pending;
-      tells = is.tells;
-      lines = is.lines;
-      entities = is.entities;
-    }
-
--- ---- a new map
-
-pub map_new : ConfigLaws → (profile : Profile) (map : MapState) (id feed : ℕ) → id < 2 ^ 31 → feed < 2 ^ 32 → IsMap profile map → IsMap profile (after_new_map map id feed)
-map_new laws profile map id feed least short is =
-    let text = id_text id in
-    let strings : AreStrings (with_string no_strings 1 text) =
-    subst (λ (fault : Option ConfigError). AreStrings (after_set no_strings 1 text fault)) (laws.new_map.fits id least) (laws.stay.set no_strings 1 text laws.stay.none) in
-    record {
-      id = least;
-      feed = short;
-      time = is.time;
-      strings = strings;
-      texts = (laws.texts.set no_strings 1 text None laws.texts.none (laws.new_map.bytes id)).each;
-      pending = refl;
-      tells = λ other. laws.new_map.told id least;
-      lines = no_lines_are profile;
-      entities = none_held profile.entity;
-    }
-
--- ---- a baseline
-
--- what is said of each state that is set is said of one more
-each_line : (P : ℕ → EntityState → Type 0) (lines : Lines) (state : EntityState) → state.number < length lines → P state.number state → ((number : ℕ) → IfSome (set_at lines number) (P number))
-    → (number : ℕ) → IfSome (set_at (with_line lines state) number) (P number)
-each_line P lines state lt here each number =
-    elim (cases_eq number state.number) [
-      | inl same ↦
-          subst (λ (n : ℕ). IfSome (set_at (with_line lines state) n) (P n)) (sym same)
-          (rw (get_or-set_same lines state.number (Some state) None lt) here)
-      | inr other ↦ rw (get_or-set_other lines state.number number (Some state) None other) (each number)
-    ]
-
-lines_with : (table : Layout) (lines : Lines) (state : EntityState) → state.number < most_lines → state.number < end_mark table → AreWords 64 state.words → IsNormal table state → AreLines table lines
-    → AreLines table (with_line lines state)
-lines_with table lines state lt below words normal are =
-    let within : state.number < length lines = subst (λ (count : ℕ). state.number < count) (sym are.places) lt in
-    record {
-      places = length-set lines state.number (Some state) ∙ are.places;
-      numbers = each_line (λ number one. one.number ≡ number) lines state within refl are.numbers;
-      below = each_line (λ number one. one.number < end_mark table) lines state within below are.below;
-      states = each_line (λ number one. AreWords 64 one.words) lines state within words are.states;
-      normal = each_line (λ number one. IsNormal table one) lines state within normal are.normal;
-    }
-
-pub map_lined : (profile : Profile) (map : MapState) (state : EntityState) → state.number < most_lines → state.number < end_mark profile.entity → AreWords 64 state.words → IsNormal profile.entity state
-    → IsMap profile map
-    → IsMap profile (record map { lines = with_line map.lines state })
-map_lined profile map state lt below words normal is =
-    record {
-      id = is.id;
-      feed = is.feed;
-      time = is.time;
-      strings = is.strings;
-      texts = is.texts;
-      pending = is.pending;
-      tells = is.tells;
-      lines = lines_with profile.entity map.lines state lt below words normal is.lines;
-      entities = is.entities;
-    }
 
 -- ---- a config string
 
--- a text that may go out as commands may be set: its index is one of a string, and each of its bytes may be carried
+-- a text that may go out as commands: its index is one of a string, and each of its bytes may be carried
 pub record MayGoOut (strings : Strings) (index : ℕ) (text : List ℕ) : Type 0 where
   pub within : index < places
   pub carried : All (λ byte. is_config_byte byte ≡ true) text
-  pub none : set_fault strings index text ≡ None
 
 abbrev some_fault : ConfigError → Option ConfigError
 some_fault fault = Some fault
@@ -148,10 +40,6 @@ all_carried (byte ∷ text) none =
       | inr fine ↦ All-cons (λ byte. is_config_byte byte ≡ true) byte text (not-false (is_config_byte byte) fine) (all_carried text (rw fine at none))
     ]
 
-may_set : (strings : Strings) (index : ℕ) (text : List ℕ) → nat_lt index places ≡ true → room_fault strings index text ≡ None → set_fault strings index text ≡ None
-unfolding set_fault
-may_set strings index text within none = rw within none
-
 pub may_go_out : (strings : Strings) (index : ℕ) (text : List ℕ) → admit_fault strings index text ≡ None → MayGoOut strings index text
 unfolding admit_fault
 may_go_out strings index text none =
@@ -161,31 +49,8 @@ may_go_out strings index text none =
     ]
   where
     of_chars : nat_lt index places ≡ true → (byte : Option ℕ) → find (λ byte. not (is_config_byte byte)) text ≡ byte → chars_fault strings index text byte ≡ None → MayGoOut strings index text
-    of_chars within None found fits = record { within = ltb-true index places within; carried = all_carried text found; none = may_set strings index text within fits }
+    of_chars within None found fits = record { within = ltb-true index places within; carried = all_carried text found }
     of_chars within (Some byte) found fits = absurd cc
-
--- the id stays where another string than the server's own is set
-id_stays : (strings : Strings) (index : ℕ) (text : List ℕ) → (index ≡ 1 → ⊥) → server_id (with_string strings index text) ≡ server_id strings
-unfolding server_id
-id_stays strings index text other =
-    ap (λ (string : List ℕ). option_and_then info_number (info_of string (codes "sv_serverid"))) (get_or-set_other strings.texts index 1 (map translated text) [] (λ e. other (sym e)))
-
-pub map_configured : ConfigLaws → (profile : Profile) (map : MapState) (index : ℕ) (text : List ℕ) → (index ≡ 1 → ⊥) → All (λ byte. 0 < byte) text → MayGoOut map.strings index text → IsMap profile map
-    → IsMap profile (with_config map index text)
-map_configured laws profile map index text other some may is =
-    let strings : AreStrings (with_string map.strings index text) =
-    subst (λ (fault : Option ConfigError). AreStrings (after_set map.strings index text fault)) may.none (laws.stay.set map.strings index text is.strings) in
-    record {
-      id = is.id;
-      feed = is.feed;
-      time = is.time;
-      strings = strings;
-      texts = (laws.texts.set map.strings index text None (record { each = is.texts; pending = rw is.pending tt }) some).each;
-      pending = is.pending;
-      tells = λ known. id_stays map.strings index text other ∙ is.tells known;
-      lines = is.lines;
-      entities = is.entities;
-    }
 
 -- ---- the commands of a change
 

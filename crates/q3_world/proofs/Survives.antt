@@ -118,10 +118,10 @@ client_first client number message (suc count) legible does few =
     ∙ ap (λ (x : Gathering). record client { gathering = x }) (sym (gathers_more client.gathering server_header number message count)))))
 
 pub built_survives : BuiltIsRead → PiecesComeWhole → FirstComePartial → BuiltSurvives
-built_survives reads whole partial profile codec client number built legible may is of_profile are_lines under takes same are known =
+built_survives reads whole partial profile codec client number built legible may is of_profile applied under takes same known =
     let message = built_bytes profile built in
     let does = comes whole partial client.gathering server_header number message may in
-    let read = reads profile codec client number built is of_profile are_lines under takes same are known in
+    let read = reads profile codec client number built is of_profile applied under takes same known in
     let last = last_index message in
     let bytes : ℕ → List ℕ = datagram server_header number message in
     let gathers : ℕ → Gathering = gathers_first client.gathering server_header number message in (

@@ -10,7 +10,7 @@ use Rattle.q3_rings.specs.Rings.{is_young}
 use Rattle.q3_rings.specs.Accepted.{AreAccepted, newest_of, age_of, held_among}
 use Rattle.q3_clstate.specs.declared.applied.Applied.{Applied}
 use Rattle.q3_clstate.specs.declared.applied.SnapOutcome.TheVariants.{Accepted, NoSnap}
-use Rattle.q3_built.specs.Built.{Built, IsNear, IsBuilt}
+use Rattle.q3_built.specs.Built.{IsNear, IsBuilt}
 use Rattle.q3_svmsg.specs.Values as told
 use Rattle.q3_svmsg.specs.Values.{Told}
 use Rattle.q3_server.specs.Server.{places}
@@ -19,12 +19,12 @@ use Rattle.q3_world.specs.Ends.{Ends, client_at}
 use Rattle.q3_world.specs.World.{no_message, history_at, built_at}
 use Rattle.q3_world.specs.Layers.{Layers, RingLaws}
 use Rattle.q3_world.specs.Schedules.{kept_then, whole_then, BytesFollowTags, AppliedWasBuilt, outcome_of, UsualNeverSkips, outcome_in}
+use Rattle.q3_world.proofs.Arriving.{waits_none}
 use Rattle.q3_world.proofs.Bases.{if_some_then}
 use Rattle.q3_world.proofs.Knowing.{KnownBase, known_base}
 use Rattle.q3_world.proofs.Holding.{Holds, has_client}
 use Rattle.q3_world.specs.Games.{accepted_since}
 use Rattle.q3_world.proofs.Mapped.{mapped_base}
-use Rattle.q3_profile.specs.declared.profile.Profile.{Profile}
 use Rattle.q3_world.proofs.Stood.{Stood, stood}
 
 abbrev held_so : Snapshot → Result Snapshot NoBase
@@ -55,14 +55,6 @@ usual_in ring accepted base told.Nothing is = inl refl
 usual_in ring accepted base (told.Game game) is = inl refl
 usual_in ring accepted base (told.Snap number head entities) is = inr is
 usual_in ring accepted base (told.Skipped number) is = inl refl
-
--- a message for a client that doesn't play has no base
-waits_none : (profile : Profile) (challenge n : ℕ) (built : Built) → IsBuilt profile challenge n built → built.under ≡ None → built.base ≡ None
-waits_none profile challenge n built is under =
-    elim is.section [
-      | inl one ↦ (one.waits (sym (ap (λ (b : Built). b.under) one.is) ∙ under)).1
-      | inr made ↦ ap (λ (b : Built). b.base) made.is
-    ]
 
 -- a client that is there has a place
 has_place : (clients : List (Option ClientState)) (c : ℕ) (client : ClientState) → get_or clients c None ≡ Some client → c < length clients

@@ -1,26 +1,13 @@
 -- An event of one client leaves what the others have.
-use Rattle.std.specs.Prelude.{◌≡◌, ◌≢◌, ℕ, ◌-◌, List, Option, Some, None, Result, Ok, Err, slice_get}
-use Rattle.q3_io.specs.declared.address.Address.{Address}
-use Rattle.q3_chan.specs.declared.qport.NoQport.{NoQport}
-use Rattle.q3_chan.specs.Senders.{qport_of}
+use Rattle.std.specs.Prelude.{◌≡◌, ◌≢◌, ℕ, ◌-◌, Option, Some, None, slice_get}
 use Rattle.q3_script.specs.declared.event.Event.{Event}
 use Rattle.q3_script.specs.declared.event.Event.TheVariants.{Client, Port, Map, Player, Area, Config, Say, TypeText, Move, Serve, Send, Deliver, Toclient, Toserver}
-use Rattle.q3_ring.specs.Snapshot.{Snapshot}
-use Rattle.q3_frames.specs.Frames.{FramesState, held_frame}
-use Rattle.q3_server.specs.Server.{ServerState, slot_at}
-use Rattle.q3_server.specs.Taking.{sender_of}
+use Rattle.q3_server.specs.Server.{slot_at}
+use Rattle.q3_server.specs.Apart.{KeepsFrames, taker_of}
 use Rattle.q3_world.specs.declared.made.Direction.{Direction}
 use Rattle.q3_world.specs.declared.made.Direction.TheVariants.{ToClient, ToServer}
 use Rattle.q3_world.specs.Ends.{Ends, client_at, address_at}
 use Rattle.q3_world.specs.Kept.{SentBytes, Kept, kept_step}
-
--- the client that the server finds for bytes from an address, by the host and the qport, if it finds one
-abbrev pub found_by : ServerState → Address → Result ℕ NoQport → Option ℕ
-found_by server from (Ok qport) = sender_of server from.host qport
-found_by server from (Err e) = None
-
-abbrev pub taker_of : ServerState → Address → List ℕ → Option ℕ
-taker_of server from bytes = found_by server from (qport_of bytes)
 
 -- a datagram is neither for the client at a place nor found to be of it
 abbrev pub IsOfOther : Ends → ℕ → SentBytes → Direction → Type 0
@@ -50,10 +37,6 @@ IsApart kept (Deliver number) d = IsOfOthers kept.ends d (slice_get kept.datagra
 IsApart kept (Toclient c bytes) d = d ≢ c
 IsApart kept (Toserver c bytes) d = taker_of kept.ends.server (address_at kept.ends c) bytes ≢ Some d
 IsApart kept other d = Unit {0}
-
--- the frames that a slot has were its frames before, the same: others may have lost their entities' places
-abbrev pub KeepsFrames : ℕ → FramesState → FramesState → Type 0
-KeepsFrames d old new = (number : ℕ) (frame : Snapshot) → held_frame new d number ≡ Some frame → held_frame old d number ≡ Some frame
 
 -- a client has the same slot, the same frames as far as they are there, the same end and the same address
 pub record IsLeft (d : ℕ) (old new : Ends) : Type 0 where

@@ -5,19 +5,23 @@ use Rattle.q3_entity.specs.Laws.{NormalIsNormal as EntityNormalIsNormal}
 use Rattle.q3_chan.specs.Senders.{QportIsTold}
 use Rattle.q3_chan.specs.Laws.{SentIsTagged, TaggedDoes, EndsGather, EndsSend, SideFrontStays, SideBytesStay}
 use Rattle.q3_frames.specs.Laws.{HeldWasBuilt, BuildKeeps, BaseIsNear}
-use Rattle.q3_map.specs.Laws.{ListsStayHeld, NewMapsTell}
-use Rattle.q3_config.specs.Laws.{StringsStay, TextsStay, PiecesAreTexts, PiecesMakeChange, SpelledIsRead}
+use Rattle.q3_map.specs.Laws.{ListsStayHeld}
+use Rattle.q3_config.specs.Laws.{PiecesAreTexts, PiecesMakeChange, SpelledIsRead}
 use Rattle.q3_window.specs.Flow.{FlowLaws}
 use Rattle.q3_window.specs.Laws.{StaysOutgoing}
 use Rattle.q3_rings.specs.Laws.{AcceptedIsHeld, NothingStands, AcceptIsAdded, BaseIsOfList, HeldWasAccepted, NearIsHeldByAge, UsualRingHolds}
+use Rattle.q3_server.specs.Apart.{SlotsApart}
+use Rattle.q3_server.specs.Laws.{MapStays, BeginsAsBuilt}
+use Rattle.q3_client.specs.Laws.{BeginsSaid, ClientStays}
 use Rattle.q3_world.specs.MessageLaws.{BuiltIsRead, SaidIsRead}
 
--- that a server's entities stay held, what its frames hold, and which of these is a base
+-- that a server's entities stay held, what its frames hold, which of these is a base, and what a call for one client leaves the others
 pub record ServerLaws : Type 0 where
   pub lists : ListsStayHeld
   pub held : HeldWasBuilt
   pub keeps : BuildKeeps
   pub near : BaseIsNear
+  pub apart : SlotsApart
 
 -- what a client holds, by all that it accepted
 pub record RingLaws : Type 0 where
@@ -34,12 +38,8 @@ pub record ScramblingLaws : Type 0 where
   pub front : SideFrontStays
   pub bytes : SideBytesStay
 
--- what config strings keep within, that those of a new map tell its id, and that the pieces of a change are texts of commands, which
--- make the change
+-- that the pieces of a change are texts of commands, which make the change
 pub record ConfigLaws : Type 0 where
-  pub stay : StringsStay
-  pub texts : TextsStay
-  pub new_map : NewMapsTell
   pub pieces : PiecesAreTexts
   pub make : PiecesMakeChange
   pub read : SpelledIsRead
@@ -49,12 +49,16 @@ pub record WindowLaws : Type 0 where
   pub flow : FlowLaws
   pub stays : StaysOutgoing
 
--- what either end begins is read back, the normal form of a state is normal, what a datagram does and which qport it tells, how
+-- what either end begins is read back, what the messages left at a client, what the game hands in and what either end begins is well formed, the normal form of a state is normal, what a datagram does and which qport it tells, how
 -- both ends gather and send, how many bytes a message has, what a server and a client hold, what becomes
--- of commands, what scrambling leaves, and what config strings keep
+-- of commands, what scrambling leaves, and what the pieces of a config change make
 pub record Layers : Type 0 where
   pub reads : BuiltIsRead
   pub hears : SaidIsRead
+  pub stays : ClientStays
+  pub maps : MapStays
+  pub begins : BeginsAsBuilt
+  pub says : BeginsSaid
   pub entity : EntityNormalIsNormal
   pub normal : NormalIsNormal
   pub zero : ZeroIsNormal

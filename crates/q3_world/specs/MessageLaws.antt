@@ -4,7 +4,6 @@ use Rattle.std.specs.List.{range_with_len}
 use Rattle.q3_profile.specs.declared.profile.Profile.{Profile}
 use Rattle.q3_profile.specs.Profile.{IsCodec}
 use Rattle.q3_io.specs.declared.address.Address.{Address}
-use Rattle.q3_entity.specs.Baselines.{AreLines}
 use Rattle.q3_chan.specs.Datagrams.{Header, server_header, client_header, sequence_end, last_index, datagram}
 use Rattle.q3_chan.specs.Gathering.{Gathering}
 use Rattle.q3_chan.specs.Laws.{IsSendable}
@@ -22,27 +21,24 @@ use Rattle.q3_slot.specs.Taking as by_slot
 use Rattle.q3_server.specs.Server.{ServerState, slot_at}
 use Rattle.q3_server.specs.Taking.{sender_of, taken_at}
 use Rattle.q3_server.specs.Taking as hears
+use Rattle.q3_clstate.specs.Standing.{IsApplied}
 use Rattle.q3_client.specs.declared.client.ClientTook.TheVariants.{Partial}
 use Rattle.q3_client.specs.Client.{ClientState, Taken, answers, receive_message, receive_bytes, applies, take_at}
 use Rattle.q3_client.specs.Sending.{said_bytes, Said, IsSaid}
-
--- each snapshot that is held is one that a server may have built
-abbrev pub AreBuilt : Profile → HeldSnapshots → Type 0
-AreBuilt profile held = (number : ℕ) (snapshot : Snapshot) → view_at held number ≡ Some snapshot → IsSnapshot profile snapshot
 
 -- what is held under the number of a base is that base
 abbrev pub HoldsThis : HeldSnapshots → Snapshot → Type 0
 HoldsThis held base = (snapshot : Snapshot) → view_at held base.head.number ≡ Some snapshot → snapshot ≡ base
 
 -- a message that was built is received from its bytes as its value: where the client joined with the challenge for which it was
--- built, its window takes the acknowledgement and has the text by which the message is scrambled, and, where the client plays, has
+-- built, all that it has is well formed, as of every client, its window takes the acknowledgement and has the text by which the message is scrambled, and, where the client plays, has
 -- the baselines of its map, and what is held lends no other snapshot under the number of its base. It is whole, or as skipped where
 -- its base isn't held
 abbrev pub BuiltIsRead : Type 0
 BuiltIsRead = (profile : Profile) → IsCodec profile → (client : ClientState) (number : ℕ) (built : Built) → IsBuilt profile client.challenge number built
-    → client.state.profile ≡ profile → AreLines profile.entity client.state.lines → IfSome built.under (λ game. client.state.lines ≡ built.lines)
+    → client.state.profile ≡ profile → IsApplied client.state → IfSome built.under (λ game. client.state.lines ≡ built.lines)
     → (acknowledge_at client.issued built.message.ack).answer ≡ Ok tt → text_at client.issued built.message.ack ≡ built.key.text
-    → AreBuilt profile client.state.held → IfSome built.base (λ base. IsSnapshot profile base × HoldsThis client.state.held base)
+    → IfSome built.base (λ base. IsSnapshot profile base × HoldsThis client.state.held base)
     → receive_bytes client number (built_bytes profile built) ≡ Ok (receive_message client number built.message)
 
 -- a message that a client began is read back by the server as what it is to the map, where its slot's window takes the acknowledgement
@@ -89,9 +85,9 @@ AppliesIt client number message taken =
 abbrev pub BuiltSurvives : Type 0
 BuiltSurvives = (profile : Profile) → IsCodec profile → (client : ClientState) (number : ℕ) (built : Built) → client.dropped ≡ None
     → MayCome server_header number (built_bytes profile built) client.gathering → IsBuilt profile client.challenge number built
-    → client.state.profile ≡ profile → AreLines profile.entity client.state.lines → IfSome built.under (λ game. client.state.lines ≡ built.lines)
+    → client.state.profile ≡ profile → IsApplied client.state → IfSome built.under (λ game. client.state.lines ≡ built.lines)
     → (acknowledge_at client.issued built.message.ack).answer ≡ Ok tt → text_at client.issued built.message.ack ≡ built.key.text
-    → AreBuilt profile client.state.held → IfSome built.base (λ base. IsSnapshot profile base × HoldsThis client.state.held base)
+    → IfSome built.base (λ base. IsSnapshot profile base × HoldsThis client.state.held base)
     → ((index : ℕ) → index < last_index (built_bytes profile built)
     → GathersMore client (take_at (client_after client (first_datagrams server_header number (built_bytes profile built) index)) (datagram server_header number (built_bytes profile built) index)))
     × AppliesIt client number built.message

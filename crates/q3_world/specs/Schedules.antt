@@ -320,9 +320,9 @@ UsualNeverSkips = (profile : Profile) (all : List Event) (number c : ℕ) (appli
 abbrev pub playing_of : SlotState → History → ℕ → Playing
 playing_of slot history n = goes_on slot (said_at history.said n).message (said_at history.said n).message.moves
 
--- the slot of a client goes on as the moves of a message say
+-- the slot of a client is there, and goes on as the moves of a message say
 abbrev pub GoesOnPlaying : Option SlotState → Playing → Type 0
-GoesOnPlaying after playing = IfSome after (λ slot. (slot.stage ≡ playing.stage) × (slot.delta ≡ playing.delta) × (slot.last_run ≡ playing.last_run))
+GoesOnPlaying after playing = MatchOption after ⊥ (λ slot. (slot.stage ≡ playing.stage) × (slot.delta ≡ playing.delta) × (slot.last_run ≡ playing.last_run))
 
 -- where the bytes of a client's datagram bring a message whole to its slot, and the message is of the map, it is run: its commands
 -- above the last one executed, and its moves as the slot stands. Of one of another map nothing is run, and a gamestate may be owed

@@ -1,6 +1,6 @@
 -- What is kept stands for a whole world: both ends are the same, and each datagram's bytes are those of the message
 -- that its tag names.
-use Rattle.std.specs.Prelude.{◌≡◌, ◌≢◌, ℕ, zero, suc, ◌+◌, ◌^◌, ◌<◌, ◌≤◌, ◌⊎◌, ◌↔◌, true, false, List, [], ◌∷◌, ◌++◌, length, map, All, Contains, Option, Some, None, IfSome, slice_index_or}
+use Rattle.std.specs.Prelude.{◌≡◌, ℕ, zero, suc, ◌+◌, ◌^◌, ◌<◌, ◌≤◌, ◌⊎◌, ◌↔◌, true, false, List, [], ◌∷◌, ◌++◌, length, map, All, Contains, Option, Some, None, IfSome, slice_index_or}
 use Rattle.std.specs.List.{last_or}
 use Rattle.q3_profile.specs.declared.profile.Profile.{Profile}
 use Rattle.q3_profile.specs.Profile.{IsCodec, IsProfile}
@@ -13,23 +13,22 @@ use Rattle.q3_text.specs.declared.text.Command.{Command}
 use Rattle.q3_text.specs.Texts.{IsText}
 use Rattle.q3_window.specs.Outgoing.{IsOutgoing}
 use Rattle.q3_window.specs.Flow.{Carriage, Flow}
-use Rattle.q3_text.specs.Texts.{IsTextByte}
-use Rattle.q3_config.specs.Strings.{AreStrings, server_id}
 use Rattle.q3_clmsg.specs.declared.moves.Move.{Move}
 use Rattle.q3_clmsg.specs.Moves.{IsMove}
-use Rattle.q3_entity.specs.Baselines.{AreLines}
 use Rattle.q3_svmsg.specs.Values as told
 use Rattle.q3_svmsg.specs.Values.{Told}
 use Rattle.q3_ring.specs.Snapshot.{Snapshot}
 use Rattle.q3_frames.specs.Frames.{FramesState, AreFrames, held_frame}
 use Rattle.q3_rings.specs.Rings.{view_at}
 use Rattle.q3_rings.specs.Accepted.{SnapshotsStandFor}
-use Rattle.q3_map.specs.Map.{MapState, AreHeld}
+use Rattle.q3_map.specs.Map.{MapState}
 use Rattle.q3_built.specs.Built.{Built, IsHeld, IsArea, IsBuilt, built_bytes}
 use Rattle.q3_slot.specs.Slot.{SlotState}
 use Rattle.q3_slot.specs.Taking.{last_time}
+use Rattle.q3_server.specs.Standing.{IsMap}
 use Rattle.q3_server.specs.Server.{places, slot_at}
 use Rattle.q3_server.specs.Taking.{sender_of}
+use Rattle.q3_clstate.specs.Standing.{IsApplied}
 use Rattle.q3_client.specs.declared.moves.Issued.{Issued}
 use Rattle.q3_client.specs.Client.{ClientState}
 use Rattle.q3_client.specs.Moves.{most_moves}
@@ -120,10 +119,11 @@ pub record KeepsMoves (moves : List Issued) (begun : ℕ) (issued : List Move) :
   pub marks : MarksRise 0 begun moves
   pub each : All (λ (i : Issued). IsMove i.one) moves
 
--- what a client keeps that joined with this qport, what it said, the moves that it issued: their times rise, and those of
+-- what a client keeps that joined with this qport: all that the messages left is well formed; what it said, the moves that it issued: their times rise, and those of
 -- each message were issued one directly after the other; and the commands that it issued
 pub record KeepsClient (profile : Profile) (client : ClientState) (of_qport : ℕ) (began : List Said) (issued : List Move) (commands : List (List ℕ)) : Type 0 where
   pub by : client.state.profile ≡ profile
+  pub applied : IsApplied client.state
   pub ring : client.state.held.ring ≡ profile.parse_ring
   pub from : client.gathering.side ≡ Server
   pub fits : of_qport < 2 ^ 16
@@ -172,19 +172,6 @@ pub record KeepsFrames (frames : FramesState) (histories : List History) : Type 
   pub are : AreFrames frames
   pub count : length frames.slots ≡ places
   pub each : (c : ℕ) → c < places → AreOfBuilt frames c (history_at histories c).built
-
--- the map as the game handed it in: the strings are ones that a gamestate may carry, the first tells the map's id, and the baselines and
--- entities are in normal form
-pub record IsMap (profile : Profile) (map : MapState) : Type 0 where
-  pub id : map.id < 2 ^ 31
-  pub feed : map.feed < 2 ^ 32
-  pub time : map.time < 2 ^ 32
-  pub strings : AreStrings map.strings
-  pub texts : All (All IsTextByte) map.strings.texts
-  pub pending : map.strings.pending ≡ None
-  pub tells : map.id ≢ 0 → server_id map.strings ≡ Some map.id
-  pub lines : AreLines profile.entity map.lines
-  pub entities : AreHeld profile.entity map.entities
 
 -- what holds of the whole world: its parts have a place for each client, what the game handed in is as the server holds it, each
 -- client is at both ends or at none, the server finds it by its host and its qport, and each tag and each frame is so

@@ -7,13 +7,16 @@ ghost use Rattle.q3_world.specs.Schedules.{StepFollows, BytesFollowTags, AlwaysL
 
 use q3_bits::laws as bits;
 use q3_chan::laws as chan;
+use q3_client::laws as client;
 use q3_clmsg::laws as clmsg;
+use q3_clstate::laws as clstate;
 use q3_config::laws as config;
 use q3_entity::laws as entity;
 use q3_frames::laws as frames;
 use q3_map::laws as map;
 use q3_player::laws as player;
 use q3_rings::laws as rings;
+use q3_server::laws as server;
 use q3_svmsg::laws as svmsg;
 use q3_window::laws as window;
 
@@ -26,6 +29,7 @@ pub fn built_is_read()
     chan::ends_scramble();
     svmsg::written_is_read();
     svmsg::read_is_skipped();
+    clstate::applied_is_context();
 }
 
 /// A message that a client began is read back by the server.
@@ -62,6 +66,10 @@ pub(crate) fn layers()
 {
     built_is_read();
     said_is_read();
+    client::client_stays();
+    server::map_stays();
+    server::begins_built();
+    client::begins_said();
     entity::normal_is_normal();
     player::normal_is_normal();
     player::zero_is_normal();
@@ -73,15 +81,13 @@ pub(crate) fn layers()
     chan::ends_scramble();
     bits::message_holds_bits();
     map::lists_stay_held();
-    map::new_maps_tell();
-    config::strings_stay();
-    config::texts_stay();
     config::pieces_are_texts();
     config::pieces_make_change();
     config::spelled_is_read();
     frames::held_was_built();
     frames::build_keeps();
     frames::base_is_near();
+    server::slots_apart();
     rings::nothing_stands();
     rings::accept_is_added();
     rings::accepted_is_held();

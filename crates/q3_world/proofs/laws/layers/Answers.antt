@@ -4,6 +4,10 @@ pub returns : goal.returns
 returns c = record {
   reads = c.built_is_read.ensures;
   hears = c.said_is_read.ensures;
+  stays = c.client_stays.ensures;
+  maps = c.map_stays.ensures;
+  begins = c.begins_built.ensures;
+  says = c.begins_said.ensures;
   entity = c.normal_is_normal.ensures;
   normal = c.normal_is_normal-2.ensures;
   zero = c.zero_is_normal.ensures;
@@ -18,6 +22,7 @@ returns c = record {
     held = c.held_was_built.ensures;
     keeps = c.build_keeps.ensures;
     near = c.base_is_near.ensures;
+    apart = c.slots_apart.ensures;
   };
   windows = record { flow = c.commands_flow.ensures; stays = c.stays_outgoing.ensures };
   scrambles = record { front = c.ends_scramble.ensures.front; bytes = c.ends_scramble.ensures.bytes };
@@ -31,9 +36,6 @@ returns c = record {
     usual = c.usual_ring_holds.ensures;
   };
   configs = record {
-    stay = c.strings_stay.ensures;
-    texts = c.texts_stay.ensures;
-    new_map = c.new_maps_tell.ensures;
     pieces = c.pieces_are_texts.ensures;
     make = c.pieces_make_change.ensures;
     read = c.spelled_is_read.ensures;

@@ -12,5 +12,5 @@ invariant_of-self c =
       was.1,
       was.2,
       search rules,
-      moves_pushed c.self.inside.moves.items c.push_back.new.self.items c.self.inside.moves.capacity issued (search rules) c.move_fits.ensures was.4,
+      moves_pushed c.self.inside.moves.items c.push_back.new.self.items c.self.inside.moves.capacity issued (search rules) (c.is_issuable.ensures.fits (search rules)) was.4,
     )

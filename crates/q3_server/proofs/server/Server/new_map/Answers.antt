@@ -1,4 +1,4 @@
-use Rattle.std.proofs.Common.{rules, ◌≡◌, ℕ, List, Option, None, ◌++◌, take, drop, length}
+use Rattle.std.proofs.Common.{rules, arith, ◌≡◌, ℕ, List, Option, None, ◌++◌, take, drop, length}
 use Rattle.std.specs.Prelude.{option_map, map}
 use Rattle.q3_slot.specs.Slot.{SlotState, on_new_map}
 use Rattle.q3_server.proofs.KeepsClients.{all_written}
@@ -17,5 +17,5 @@ invariant_of-self-2 c =
       search rules,
       search rules,
       search rules,
-      server_begun c.self.inside.profile c.self.inside.map c.new_map.new.self c.self.inside.slots.items c.below.ensures c.args.id c.args.feed slots c.requires c.long_fits.ensures (search rules) are was.5,
+      server_begun c.self.inside.profile c.self.inside.map c.new_map.new.self c.self.inside.slots.items c.below.ensures c.args.id c.args.feed slots c.requires (omega arith) (search rules) are was.5,
     )

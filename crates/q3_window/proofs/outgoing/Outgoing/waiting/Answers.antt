@@ -4,8 +4,8 @@ use Rattle.q3_window.specs.Cells.{places}
 use Rattle.q3_window.proofs.Round.{lent_within, lent_past, length-texts_from}
 use Rattle.q3_window.proofs.outgoing.Outgoing.waiting.Goals as goal
 
-pub returns-then-count-behind : goal.returns-then-count-behind
-returns-then-count-behind c =
+pub returns-then-count-behind-clause-waiting : goal.returns-then-count-behind-clause-waiting
+returns-then-count-behind-clause-waiting c =
     let inside = c.self.inside in
     let cells = inside.cells.items in
     let kept = c.self.invariant.kept in
@@ -25,8 +25,8 @@ slice_bounds-result-length-3 c =
     let count = inside.issued - inside.acknowledged - (c.len.result - (inside.acknowledged + 1) % 64) in
     sym (length-take-le count c.deref-3.result.now (omega arith))
 
-pub returns : goal.returns
-returns c =
+pub returns-clause-waiting : goal.returns-clause-waiting
+returns-clause-waiting c =
     let inside = c.self.inside in
     let cells = inside.cells.items in
     let kept = c.self.invariant.kept in

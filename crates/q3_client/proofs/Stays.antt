@@ -1,0 +1,197 @@
+-- What a client keeps stays well formed and in range, whatever is handed in and whatever comes.
+use Rattle.std.proofs.Common.{◌≡◌, ℕ, ◌+◌, ◌%◌, ◌^◌, ◌<◌, ◌≤◌, Bool, List, [], ◌++◌, length, take, Option, Some, None, Result, Ok, Err, refl, sym, ap, subst, ◌∙◌, arith, ◌-◌, ◌∷◌}
+use Rattle.std.specs.Prelude.{◌==◌, ◌||◌, not, nat_lt, nat_le, if◌then◌else◌}
+use Rattle.std.proofs.lemmas.Bool.{cond_both, eqb-true}
+use Rattle.std.proofs.lemmas.List.{length-drop}
+use Rattle.circular_buffer.specs.Buffer.{keep_last}
+use Rattle.q3_bits.specs.Bits.{bits_of}
+use Rattle.q3_bits.specs.ResultBind.{◌>>=◌, bind_ok}
+use Rattle.q3_text.specs.Texts.{IsText}
+use Rattle.q3_profile.specs.declared.profile.Profile.{Profile}
+use Rattle.q3_profile.specs.Profile.{IsCodec}
+use Rattle.q3_chan.specs.declared.gatherer.Gathered.{Gathered}
+use Rattle.q3_chan.specs.declared.gatherer.Gathered.TheVariants as gathered
+use Rattle.q3_chan.specs.Datagrams.{fragment_size, longest_message, is_fragment, number_in, header_length, start_in, count_in, behind_header}
+use Rattle.q3_chan.specs.Gathering.{Gathering, Took, answers as gathers, arrives, emptied, gathering_of, take_whole, add_piece, take_piece, take_fragment, take_newer, is_connectionless, gathered as gathered_of}
+use Rattle.q3_svmsg.specs.declared.error.Illegible.{Illegible}
+use Rattle.q3_svmsg.specs.Reading.{bits_read, ack_at}
+use Rattle.q3_window.specs.Outgoing.{OutgoingState, IsOutgoing, new_outgoing, issue_at, acknowledge_at, text_at}
+use Rattle.q3_window.specs.Laws.{StaysOutgoing}
+use Rattle.q3_clmsg.specs.declared.moves.Move.{Move}
+use Rattle.q3_clmsg.specs.Moves.{IsMove}
+use Rattle.q3_clstate.specs.State.{AppliedState, Application, new_state, apply_at, state_behind}
+use Rattle.q3_clstate.specs.Standing.{IsApplied}
+use Rattle.q3_clstate.specs.Laws.{ApplyStays}
+use Rattle.q3_client.specs.declared.client.ClientTook.{ClientTook}
+use Rattle.q3_client.specs.declared.moves.Issued.{Issued}
+use Rattle.q3_client.specs.declared.client.MoveError.{MoveError}
+use Rattle.q3_client.specs.declared.client.MoveError.TheVariants.{NoGame, NotLater, Range}
+use Rattle.q3_client.specs.Client.{ClientState, Taken, Reception, new_client, type_at, answers, applies_read, take_answer, take_unless, take_at, receive_bytes, ack_taken, cleared, moves_behind}
+use Rattle.q3_client.specs.Moves.{Handed, most_moves, is_issuable, issue, add_move_at}
+use Rattle.q3_client.specs.Standing.{AreMoves, IsClient}
+use Rattle.q3_client.proofs.Begins.{no_moves, moves_pushed, moves_wiped}
+
+-- ---- what was gathered
+
+abbrev number_of : Gathered → ℕ
+number_of (gathered.Whole number count) = number
+number_of other = 0
+
+-- the newest number taken, and that of a message that came whole, fit a long
+record Fits (took : Took) : Type 0 where
+  taken : took.gathering.taken < 2 ^ 32
+  number : number_of took.answer < 2 ^ 32
+
+record AreShort (g : Gathering) : Type 0 where
+  taken : g.taken < 2 ^ 32
+  number : g.number < 2 ^ 32
+
+piece_fits : (g : Gathering) (piece : List ℕ) → AreShort g → Fits (add_piece g piece)
+piece_fits g piece are =
+    cond_both (nat_lt (length piece) fragment_size) (arrives (emptied g) g.number (g.bytes ++ piece)) (gathers (record g { bytes = g.bytes ++ piece }) gathered.Partial) Fits
+    (λ e. record { taken = are.number; number = are.number }) (λ e. record { taken = are.taken; number = omega arith })
+
+there_fits : (g : Gathering) (count : ℕ) (there : List ℕ) → AreShort g → Fits (take_piece g count there)
+there_fits g count there are =
+    cond_both (nat_lt fragment_size count || nat_lt (length there) count || nat_lt longest_message (length g.bytes + count)) (gathers g gathered.BadFragment) (add_piece g (take count there)) Fits
+    (λ e. record { taken = are.taken; number = omega arith }) (λ e. piece_fits g (take count there) are)
+
+fragment_fits : (g : Gathering) (start count : ℕ) (there : List ℕ) → AreShort g → Fits (take_fragment g start count there)
+fragment_fits g start count there are =
+    cond_both (start == length g.bytes) (take_piece g count there) (gathers g gathered.OutOfOrder) Fits
+    (λ e. there_fits g count there are) (λ e. record { taken = are.taken; number = omega arith })
+
+newer_fits : (g : Gathering) (datagram : List ℕ) → g.taken < 2 ^ 32 → Fits (take_newer g datagram)
+newer_fits g datagram few =
+    let n = number_in datagram in
+    let short : n < 2 ^ 32 = omega arith in
+    let message = behind_header g.side datagram in
+    let now = gathering_of g n in
+    let are : AreShort now = cond_both (n == g.number) g (record g { number = n; bytes = [] }) AreShort
+    (λ same. record { taken = few; number = let e = eqb-true n g.number same in omega (arith, e, short) }) (λ other. record { taken = few; number = short }) in
+    cond_both (is_fragment datagram) (take_fragment now (start_in g.side datagram) (count_in g.side datagram) message) (take_whole g n message) Fits
+    (λ e. fragment_fits now (start_in g.side datagram) (count_in g.side datagram) message are)
+    (λ e. cond_both (nat_lt longest_message (length message)) (gathers g gathered.BadFragment) (arrives g n message) Fits
+    (λ long. record { taken = few; number = omega arith }) (λ fits. record { taken = short; number = short }))
+
+gathered_fits : (g : Gathering) (datagram : List ℕ) → g.taken < 2 ^ 32 → Fits (gathered_of g datagram)
+unfolding gathered_of
+gathered_fits g datagram few =
+    let newer : Took = if nat_le (number_in datagram) g.taken then gathers g gathered.Old else take_newer g datagram in
+    let headed : Took = if nat_lt (length datagram) (header_length g.side (is_fragment datagram)) then gathers g gathered.Runt else newer in
+    let bare : Took = if is_connectionless datagram then gathers g gathered.Connectionless else headed in
+    cond_both (nat_lt (length datagram) 4) (gathers g gathered.Runt) bare Fits (λ e. record { taken = few; number = omega arith })
+    (λ e. cond_both (is_connectionless datagram) (gathers g gathered.Connectionless) headed Fits (λ e. record { taken = few; number = omega arith })
+    (λ e. cond_both (nat_lt (length datagram) (header_length g.side (is_fragment datagram))) (gathers g gathered.Runt) newer Fits (λ e. record { taken = few; number = omega arith })
+    (λ e. cond_both (nat_le (number_in datagram) g.taken) (gathers g gathered.Old) (take_newer g datagram) Fits (λ e. record { taken = few; number = omega arith })
+    (λ e. newer_fits g datagram few))))
+
+-- ---- what is received
+
+-- the state and the window behind a message
+pub record AreReceived (received : Reception) : Type 0 where
+  pub applied : IsApplied received.application.state
+  pub window : IsOutgoing received.issued
+
+abbrev received_with : ClientState → ℕ → Result Application Illegible → Result Reception Illegible
+received_with client ack applied =
+    applied >>= λ application. Ok (record { issued = (acknowledge_at client.issued ack).window; application = application })
+
+abbrev received_behind : ClientState → ℕ → List ℕ → ℕ × ℕ → Result Reception Illegible
+received_behind client n bytes ack =
+    ack_taken ack.0 (acknowledge_at client.issued ack.0).answer >>= λ taken.
+    received_with client ack.0 (apply_at client.state n (cleared client.challenge n (text_at client.issued ack.0) bytes))
+
+abbrev received_as : Reception → Result Reception Illegible
+received_as reception = Ok reception
+
+same : (one other : Reception) → received_as one ≡ received_as other → one ≡ other
+same one other e = cc
+
+were_received : StaysOutgoing → (client : ClientState) (ack : ℕ) (applied : Result Application Illegible) (received : Reception) → IsOutgoing client.issued
+    → IsApplied (state_behind client.state applied) → received_with client ack applied ≡ Ok received → AreReceived received
+were_received stays client ack (Ok application) received window is e =
+    subst AreReceived (same (record { issued = (acknowledge_at client.issued ack).window; application = application }) received e)
+    (record { applied = is; window = stays.acknowledges client.issued ack window })
+were_received stays client ack (Err cause) received window is e = absurd cc
+
+pub are_received : ApplyStays → StaysOutgoing → (client : ClientState) (n : ℕ) (bytes : List ℕ) (received : Reception) → n < 2 ^ 32 → IsApplied client.state → IsOutgoing client.issued
+    → receive_bytes client n bytes ≡ Ok received → AreReceived received
+are_received applies stays client n bytes received fits is window e =
+    let long = bind_ok (bits_read (ack_at client.state.profile.code (bits_of bytes))) (received_behind client n bytes) received e in
+    let ack = long.0.0 in
+    let plain = cleared client.challenge n (text_at client.issued ack) bytes in
+    let taken = bind_ok (ack_taken ack (acknowledge_at client.issued ack).answer) (λ (taken : Unit {0}). received_with client ack (apply_at client.state n plain)) received long.2 in
+    were_received stays client ack (apply_at client.state n plain) received window (applies.apply client.state n plain fits is) taken.2
+
+-- ---- a client
+
+-- with what was gathered
+gathered_client : (client : ClientState) (g : Gathering) → g.taken < 2 ^ 32 → IsClient client → IsClient (record client { gathering = g })
+gathered_client client g few is = record { applied = is.applied; taken = few; window = is.window; few = is.few; moves = is.moves }
+
+few_behind : (game : Bool) (moves : List Issued) → length moves ≤ most_moves → length (moves_behind game moves) ≤ most_moves
+few_behind game moves few = cond_both game [] moves (λ (moves : List Issued). length moves ≤ most_moves) (λ e. omega arith) (λ e. few)
+
+read_stays : (client : ClientState) (received : Result Reception Illegible) → ((reception : Reception) → received ≡ Ok reception → AreReceived reception) → IsClient client
+    → IsClient (applies_read client received).client
+read_stays client (Err cause) are is = record { applied = is.applied; taken = is.taken; window = is.window; few = is.few; moves = is.moves }
+read_stays client (Ok reception) are is =
+    let behind = are reception refl in
+    let game = reception.application.answer.game in
+    record { applied = behind.applied; taken = is.taken; window = behind.window; few = few_behind game client.moves is.few; moves = moves_wiped game client.moves is.moves }
+
+answer_stays : (client : ClientState) (answer : Gathered) (receive : ℕ → Result Reception Illegible) → number_of answer < 2 ^ 32
+    → ((n : ℕ) (reception : Reception) → n < 2 ^ 32 → receive n ≡ Ok reception → AreReceived reception) → IsClient client → IsClient (take_answer client answer receive).client
+answer_stays client (gathered.Whole n count) receive fits are is = read_stays client (receive n) (λ reception e. are n reception fits e) is
+answer_stays client gathered.Partial receive fits are is = is
+answer_stays client gathered.Old receive fits are is = is
+answer_stays client gathered.OutOfOrder receive fits are is = is
+answer_stays client gathered.BadFragment receive fits are is = is
+answer_stays client gathered.Runt receive fits are is = is
+answer_stays client gathered.Connectionless receive fits are is = is
+
+unless_stays : ApplyStays → StaysOutgoing → (client : ClientState) (datagram : List ℕ) (dropped : Option Illegible) → IsClient client → IsClient (take_unless client datagram dropped).client
+unless_stays applies stays client datagram (Some cause) is = is
+unless_stays applies stays client datagram None is =
+    let took = gathered_of client.gathering datagram in
+    let fits = gathered_fits client.gathering datagram is.taken in
+    answer_stays (record client { gathering = took.gathering }) took.answer (λ n. receive_bytes client n took.message) fits.number
+    (λ n reception short e. are_received applies stays client n took.message reception short is.applied is.window e) (gathered_client client took.gathering fits.taken is)
+
+-- whatever bytes it takes
+pub takes_stay : ApplyStays → StaysOutgoing → (client : ClientState) (datagram : List ℕ) → IsClient client → IsClient (take_at client datagram).client
+unfolding take_at
+takes_stay applies stays client datagram is = unless_stays applies stays client datagram client.dropped is
+
+pub joins_stay : ApplyStays → StaysOutgoing → (profile : Profile) (challenge qport dup : ℕ) → IsCodec profile → 512 ≤ profile.parse_ring → IsClient (new_client profile challenge qport dup)
+joins_stay applies stays profile challenge qport dup codec room =
+    record { applied = applies.none profile codec room; taken = omega arith; window = stays.opens; few = omega arith; moves = no_moves }
+
+pub types_stay : StaysOutgoing → (client : ClientState) (text : List ℕ) → IsText text → IsClient client → IsClient (type_at client text).client
+types_stay stays client text is_text is =
+    record { applied = is.applied; taken = is.taken; window = stays.issues client.issued text is.window is_text; few = is.few; moves = is.moves }
+
+-- a move is issued
+issue_stays : (client : ClientState) (one : Move) → IsMove one → IsClient client → IsClient (issue client one)
+issue_stays client one is_one is =
+    let issued : Issued = record { begun = client.sending.number; one = one } in
+    let more : List Issued = client.moves ++ issued ∷ [] in
+    let few : length (keep_last most_moves more) ≤ most_moves = let counted = length-drop (length more - most_moves) more in omega (arith, counted) in
+    record {
+      applied = is.applied;
+      taken = is.taken;
+      window = is.window;
+      few = few;
+      moves = moves_pushed client.moves (keep_last most_moves more) most_moves issued refl is_one is.moves;
+    }
+
+pub moves_stay : (client : ClientState) (one : Move) → IsMove one → IsClient client → IsClient (add_move_at client one).client
+moves_stay client one is_one is =
+    let in_range : Handed MoveError = if is_issuable one then record { client = issue client one; answer = Ok tt } else record { client = client; answer = Err Range } in
+    let later : Handed MoveError = if nat_le one.time client.last_time then record { client = client; answer = Err (NotLater client.last_time) } else in_range in
+    let Stays = λ (handed : Handed MoveError). IsClient handed.client in
+    cond_both (not client.state.has_game) (record { client = client; answer = Err NoGame }) later Stays (λ e. is)
+    (λ e. cond_both (nat_le one.time client.last_time) (record { client = client; answer = Err (NotLater client.last_time) }) in_range Stays (λ e. is)
+    (λ e. cond_both (is_issuable one) (record { client = issue client one; answer = Ok tt }) (record { client = client; answer = Err Range }) Stays
+    (λ e. issue_stays client one is_one is) (λ e. is)))

@@ -1,0 +1,14 @@
+use Rattle.q3_client.proofs.Stays.{are_received, joins_stay, moves_stay, types_stay, takes_stay}
+use Rattle.q3_client.proofs.laws.client_stays.Goals as goal
+
+pub returns : goal.returns
+returns c =
+    let applies = c.apply_stays.ensures in
+    let stays = c.stays_outgoing.ensures in
+    record {
+      joins = joins_stay applies stays;
+      moves = moves_stay;
+      types = types_stay stays;
+      takes = takes_stay applies stays;
+      receives = λ client number bytes received fits is window e. (are_received applies stays client number bytes received fits is window e).applied;
+    }

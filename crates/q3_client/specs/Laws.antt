@@ -1,0 +1,30 @@
+-- Laws of a client's end.
+use Rattle.std.specs.Prelude.{◌≡◌, ℕ, ◌^◌, ◌<◌, ◌≤◌, false, List, IfSome, Ok}
+use Rattle.q3_text.specs.Texts.{IsText}
+use Rattle.q3_window.specs.Outgoing.{IsOutgoing}
+use Rattle.q3_clstate.specs.Standing.{IsApplied}
+use Rattle.q3_profile.specs.declared.profile.Profile.{Profile}
+use Rattle.q3_profile.specs.Profile.{IsCodec}
+use Rattle.q3_clmsg.specs.declared.moves.Move.{Move}
+use Rattle.q3_clmsg.specs.Moves.{IsMove}
+use Rattle.q3_client.specs.Moves.{add_move_at}
+use Rattle.q3_client.specs.Client.{ClientState, Reception, new_client, type_at, take_at, receive_bytes}
+use Rattle.q3_client.specs.Sending.{IsSaid, next_message, next_said, is_unclear, emit_at}
+use Rattle.q3_client.specs.Standing.{IsClient}
+
+-- a client's next message is one that it may begin, whatever it keeps, where its leading longs aren't hidden; and so is what it begins
+pub record BeginsSaid : Type 0 where
+  pub next : (client : ClientState) → IsClient client → is_unclear client.state.profile (next_message client) ≡ false
+      → IsSaid client.state.profile client.challenge (next_said client)
+  pub began : (client : ClientState) → IsClient client → IfSome (emit_at client).began (IsSaid client.state.profile client.challenge)
+
+-- a client is well formed once it joined, and stays so, whatever move or command is issued and whatever bytes it
+-- takes;
+-- so does what the messages left, where a message is received from its bytes
+pub record ClientStays : Type 0 where
+  pub joins : (profile : Profile) (challenge qport dup : ℕ) → IsCodec profile → 512 ≤ profile.parse_ring → IsClient (new_client profile challenge qport dup)
+  pub moves : (client : ClientState) (one : Move) → IsMove one → IsClient client → IsClient (add_move_at client one).client
+  pub types : (client : ClientState) (text : List ℕ) → IsText text → IsClient client → IsClient (type_at client text).client
+  pub takes : (client : ClientState) (datagram : List ℕ) → IsClient client → IsClient (take_at client datagram).client
+  pub receives : (client : ClientState) (number : ℕ) (bytes : List ℕ) (received : Reception) → number < 2 ^ 32 → IsApplied client.state → IsOutgoing client.issued
+      → receive_bytes client number bytes ≡ Ok received → IsApplied received.application.state

@@ -1,0 +1,19 @@
+//! Laws of a client's end, each the contract of a call that does nothing but cite the laws below it.
+
+ghost use Rattle.q3_client.specs.Laws.{BeginsSaid, ClientStays};
+
+use q3_clstate::laws as clstate;
+use q3_window::laws as window;
+
+/// What a client begins is a message that it may begin, whatever it keeps.
+pub fn begins_said()
+    ensures { BeginsSaid }
+{}
+
+/// A client is well formed once it joined, and stays so, whatever move or command is issued and whatever bytes it takes.
+pub fn client_stays()
+    ensures { ClientStays }
+{
+    clstate::apply_stays();
+    window::stays_outgoing();
+}

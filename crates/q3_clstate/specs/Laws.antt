@@ -1,0 +1,18 @@
+-- Laws of what the messages that were applied left.
+use Rattle.std.specs.Prelude.{ℕ, ◌^◌, ◌<◌, ◌≤◌, List}
+use Rattle.q3_profile.specs.declared.profile.Profile.{Profile}
+use Rattle.q3_profile.specs.Profile.{IsCodec}
+use Rattle.q3_svmsg.specs.Values.{Context}
+use Rattle.q3_svmsg.specs.Laws.{IsContext}
+use Rattle.q3_clstate.specs.State.{AppliedState, new_state, context_of, apply_at, state_behind}
+use Rattle.q3_clstate.specs.Standing.{IsApplied}
+
+-- all that a state holds is well formed and in range: at first, and behind any bytes as a message of any number
+pub record ApplyStays : Type 0 where
+  pub none : (profile : Profile) → IsCodec profile → 512 ≤ profile.parse_ring → IsApplied (new_state profile)
+  pub apply : (state : AppliedState) (number : ℕ) (message : List ℕ) → number < 2 ^ 32 → IsApplied state
+      → IsApplied (state_behind state (apply_at state number message))
+
+-- and so is what a message is read against
+abbrev pub AppliedIsContext : Type 0
+AppliedIsContext = (state : AppliedState) → IsApplied state → IsContext state.profile (context_of state.held state.lines)

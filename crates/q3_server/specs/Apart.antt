@@ -1,0 +1,42 @@
+-- A call of the server for one client leaves what the others have.
+use Rattle.std.specs.Prelude.{◌≡◌, ◌≢◌, ℕ, List, Option, Some, None, Result, Ok, Err}
+use Rattle.q3_io.specs.declared.address.Address.{Address}
+use Rattle.q3_chan.specs.declared.qport.NoQport.{NoQport}
+use Rattle.q3_chan.specs.Senders.{qport_of}
+use Rattle.q3_entity.specs.declared.state.EntityState.{EntityState}
+use Rattle.q3_player.specs.declared.state.PlayerState.{PlayerState}
+use Rattle.q3_ring.specs.Snapshot.{Snapshot}
+use Rattle.q3_frames.specs.Frames.{FramesState, held_frame}
+use Rattle.q3_server.specs.Server.{ServerState, slot_at, add_client_at, set_baseline_at, set_entity_at, remove_entity_at, set_time_at, set_player_at, set_area_at, say_at, emit_at}
+use Rattle.q3_server.specs.Taking.{sender_of, take_at}
+
+-- the client that the server finds for bytes from an address, by the host and the qport, if it finds one
+abbrev pub found_by : ServerState → Address → Result ℕ NoQport → Option ℕ
+found_by server from (Ok qport) = sender_of server from.host qport
+found_by server from (Err e) = None
+
+abbrev pub taker_of : ServerState → Address → List ℕ → Option ℕ
+taker_of server from bytes = found_by server from (qport_of bytes)
+
+-- the frames that a slot has were its frames before, the same: others may have lost their entities' places
+abbrev pub KeepsFrames : ℕ → FramesState → FramesState → Type 0
+KeepsFrames d old new = (number : ℕ) (frame : Snapshot) → held_frame new d number ≡ Some frame → held_frame old d number ≡ Some frame
+
+-- the slot at a place is the same, with the same frames as far as they are there
+pub record SlotStays (d : ℕ) (old new : ServerState) : Type 0 where
+  pub slot : slot_at new d ≡ slot_at old d
+  pub frames : KeepsFrames d old.frames new.frames
+
+-- a call for another client, or for the map alone, leaves a slot and its frames, in every state and whatever bytes arrive. A new map, and
+-- a change of a config string, are of every client
+pub record SlotsApart : Type 0 where
+  pub joins : (server : ServerState) (c challenge qport d : ℕ) (address : Address) → d ≢ c → SlotStays d server (add_client_at server c challenge qport address).server
+  pub baseline : (server : ServerState) (state : EntityState) (d : ℕ) → SlotStays d server (set_baseline_at server state).server
+  pub entity : (server : ServerState) (state : EntityState) (d : ℕ) → SlotStays d server (set_entity_at server state)
+  pub remove : (server : ServerState) (number d : ℕ) → SlotStays d server (remove_entity_at server number)
+  pub time : (server : ServerState) (time d : ℕ) → SlotStays d server (set_time_at server time)
+  pub player : (server : ServerState) (c d : ℕ) (player : PlayerState) → d ≢ c → SlotStays d server (set_player_at server c player).server
+  pub area : (server : ServerState) (c d : ℕ) (area : List ℕ) → d ≢ c → SlotStays d server (set_area_at server c area).server
+  pub says : (server : ServerState) (c d : ℕ) (text : List ℕ) → d ≢ c → SlotStays d server (say_at server c text).server
+  pub emits : (server : ServerState) (c d : ℕ) → d ≢ c → SlotStays d server (emit_at server c).server
+  pub takes : (server : ServerState) (d : ℕ) (from : Address) (bytes : List ℕ) → taker_of server from bytes ≢ Some d → SlotStays d server (take_at server from bytes).server

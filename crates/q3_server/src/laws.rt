@@ -1,0 +1,47 @@
+//! Laws of the server's end, each the contract of a call that does nothing but cite the laws below it.
+
+ghost use Rattle.q3_server.specs.Apart.{SlotsApart};
+ghost use Rattle.q3_server.specs.Standing.{Below};
+ghost use Rattle.q3_server.specs.Laws.{MapStays, BeginsAsBuilt};
+
+use q3_config::laws as config;
+use q3_entity::laws as entity;
+use q3_map::laws as map;
+use q3_player::laws as player;
+
+/// The laws on which it rests that what a server begins is well formed.
+pub(crate) fn below()
+    ensures { Below }
+{
+    entity::normal_is_normal();
+    entity::no_lines_are_lines();
+    entity::line_is_added();
+    player::normal_is_normal();
+    player::zero_is_normal();
+    map::lists_stay_held();
+    map::new_maps_tell();
+    config::strings_stay();
+    config::texts_stay();
+    q3_frames::laws::base_is_near();
+}
+
+/// The map is well formed before the first, and stays so, whatever the game hands in.
+pub fn map_stays()
+    ensures { MapStays }
+{
+    below();
+}
+
+/// What a server begins for a client is a message as it builds one, whatever was handed in and whatever came.
+pub fn begins_built()
+    ensures { BeginsAsBuilt }
+{
+    below();
+}
+
+/// A call for another client, or for the map alone, leaves a slot and its frames, in every state and whatever bytes arrive.
+pub fn slots_apart()
+    ensures { SlotsApart }
+{
+    q3_frames::laws::held_was_built();
+}
