@@ -98,7 +98,7 @@ next_is_message client is =
 -- and so is what it is scrambled by
 pub next_is_said : (client : ClientState) → IsClient client → is_unclear client.state.profile (next_message client) ≡ false
     → IsSaid client.state.profile client.challenge (next_said client)
-next_is_said client is clear = record { message = next_is_message client is; feed = is.applied.feed; start = refl; text = is.applied.last; clear = clear }
+next_is_said client is clear = record { message = next_is_message client is; feed = is.applied.feed; key = refl; text = is.applied.last; clear = clear }
 
 -- what was begun, if anything was
 abbrev Begins : ClientState → Emission → Type 0

@@ -2,6 +2,7 @@
 use Rattle.std.specs.Prelude.{◌≡◌, ℕ, ◌+◌, ◌^◌, ◌<◌, true, false, List, IfSome, None}
 use Rattle.q3_profile.specs.declared.profile.Profile.{Profile}
 use Rattle.q3_profile.specs.Profile.{IsCodec}
+use Rattle.q3_fields.specs.Kinds.{end_mark}
 use Rattle.q3_fields.specs.States.{AreWords}
 use Rattle.q3_entity.specs.declared.state.EntityState.{EntityState}
 use Rattle.q3_config.specs.Strings.{admit_fault}
@@ -20,12 +21,12 @@ use Rattle.q3_server.specs.Standing.{IsMap, IsJoined, IsServer, BeginsBuilt}
 pub record MapStays : Type 0 where
   pub none : (profile : Profile) → IsMap profile no_map
   pub timed : (profile : Profile) (map : MapState) (time : ℕ) → time < 2 ^ 32 → IsMap profile map → IsMap profile (set_time_at map time)
-  pub entered : (profile : Profile) (map : MapState) (state : EntityState) → IsCodec profile → state.number < 1023 → AreWords 64 state.words → IsMap profile map
+  pub entered : (profile : Profile) (map : MapState) (state : EntityState) → IsCodec profile → state.number < end_mark profile.entity → AreWords 64 state.words → IsMap profile map
       → IsMap profile (set_entity_at profile.entity map state)
   pub removed : (profile : Profile) (map : MapState) (number : ℕ) → IsMap profile map → IsMap profile (remove_entity_at map number)
   pub begun : (profile : Profile) (map : MapState) → IsMap profile map → IsMap profile (begins_game map)
   pub new_map : (profile : Profile) (map : MapState) (id feed : ℕ) → id < 2 ^ 31 → feed < 2 ^ 32 → IsMap profile map → IsMap profile (after_new_map map id feed)
-  pub lined : (profile : Profile) (map : MapState) (state : EntityState) → IsCodec profile → state.number < 1023 → AreWords 64 state.words → IsMap profile map
+  pub lined : (profile : Profile) (map : MapState) (state : EntityState) → IsCodec profile → state.number < end_mark profile.entity → AreWords 64 state.words → IsMap profile map
       → IsMap profile (set_baseline_at profile.entity map state).map
   pub configured : (profile : Profile) (map : MapState) (index : ℕ) (text : List ℕ) → (index ≡ 1 → ⊥) → admit_fault map.strings index text ≡ None → IsMap profile map
       → IsMap profile (with_config map index text)

@@ -54,6 +54,6 @@ fn message_with_nothing_in_it(rt: HostRuntime) {
         Ok(())
     );
     assert_eq!(rt; message.ack, 0);
-    assert!(rt; message.commands.is_empty());
+    assert!(rt; message.commands.as_slice().is_empty());
     assert_eq!(rt; message.section, Section::Nothing);
 }

@@ -11,8 +11,8 @@ returns-in-Nothing-clause-state c =
     let message = c.read_server_message.new.into in
     let now = the_view c.self.inside in
     let none : message.section ≡ Nothing = search rules in
-    let commands : c.deref-3.result.now ≡ message.commands.value.items = search rules in
-    let ran : c.deref-4.result.now ≡ fresh_of now.executed.executed message.commands.value.items = search rules in
+    let commands : c.as_slice.result.now ≡ message.commands = search rules in
+    let ran : c.as_slice-2.result.now ≡ fresh_of now.executed.executed message.commands = search rules in
     rw (← c.self.view_is, ← c.in_ok-read_server_message.ensures.reads, none, c.execute.ensures.window, commands, c.execute-2.ensures, ran) refl
 
 pub returns-in-Snap-default-true-clause-state : goal.returns-in-Snap-default-true-clause-state
@@ -33,9 +33,9 @@ returns-in-Snap-default-false-clause-state c =
     let now = the_view c.self.inside in
     let base = c.in-Snap-default-false.base in
     let skipped : message.section ≡ Snap base false = search rules in
-    let commands : c.deref-3.result.now ≡ message.commands.value.items = search rules in
-    let ran : c.deref-4.result.now ≡ fresh_of now.executed.executed message.commands.value.items = search rules in
-    let heard = hearing now message.commands.value.items in
+    let commands : c.as_slice.result.now ≡ message.commands = search rules in
+    let ran : c.as_slice-2.result.now ≡ fresh_of now.executed.executed message.commands = search rules in
+    let heard = hearing now message.commands in
     rw (← c.self.view_is, ← c.in_ok-read_server_message.ensures.reads, skipped, c.execute.ensures.window, commands, c.execute-2.ensures, ran)
     (skip_state heard c.args.number base (is_stale now.held c.args.number))
 
@@ -45,8 +45,8 @@ invariant_of-self-in-Nothing c =
     let fits : c.args.number < 2 ^ 32 = omega arith in
     let message = c.read_server_message.new.into in
     let none : message.section ≡ Nothing = search rules in
-    let commands : c.deref-3.result.now ≡ message.commands.value.items = search rules in
-    let ran : c.deref-4.result.now ≡ fresh_of now.executed.executed message.commands.value.items = search rules in
+    let commands : c.as_slice.result.now ≡ message.commands = search rules in
+    let ran : c.as_slice-2.result.now ≡ fresh_of now.executed.executed message.commands = search rules in
     stands_as (state_behind now (apply_at now c.args.number c.args.message.now)) _ (c.apply_stays.ensures.apply now c.args.number c.args.message.now fits c.self.invariant)
     (rw (← c.in_ok-read_server_message.ensures.reads, none, c.execute.ensures.window, commands, c.execute-2.ensures, ran) refl)
 
@@ -57,9 +57,9 @@ invariant_of-self-in-Snap-default-true c =
     let message = c.read_server_message.new.into in
     let base = c.in-Snap-default-true.base in
     let held : message.section ≡ Snap base true = search rules in
-    let commands : c.deref-3.result.now ≡ message.commands.value.items = search rules in
-    let ran : c.deref-4.result.now ≡ fresh_of now.executed.executed message.commands.value.items = search rules in
-    let heard = hearing now message.commands.value.items in
+    let commands : c.as_slice.result.now ≡ message.commands = search rules in
+    let ran : c.as_slice-2.result.now ≡ fresh_of now.executed.executed message.commands = search rules in
+    let heard = hearing now message.commands in
     stands_as (state_behind now (apply_at now c.args.number c.args.message.now)) _ (c.apply_stays.ensures.apply now c.args.number c.args.message.now fits c.self.invariant)
     (rw (← c.in_ok-read_server_message.ensures.reads, held, c.accept-snap.ensures.held, c.accept-snap.ensures.lines, c.execute.ensures.window, commands, c.execute-2.ensures, ran)
     (snap_state heard c.args.number base (record { head = message.head; entities = message.entities.value.items }) (is_stale now.held c.args.number)))
@@ -71,9 +71,9 @@ invariant_of-self-in-Snap-default-false c =
     let message = c.read_server_message.new.into in
     let base = c.in-Snap-default-false.base in
     let skipped : message.section ≡ Snap base false = search rules in
-    let commands : c.deref-3.result.now ≡ message.commands.value.items = search rules in
-    let ran : c.deref-4.result.now ≡ fresh_of now.executed.executed message.commands.value.items = search rules in
-    let heard = hearing now message.commands.value.items in
+    let commands : c.as_slice.result.now ≡ message.commands = search rules in
+    let ran : c.as_slice-2.result.now ≡ fresh_of now.executed.executed message.commands = search rules in
+    let heard = hearing now message.commands in
     stands_as (state_behind now (apply_at now c.args.number c.args.message.now)) _ (c.apply_stays.ensures.apply now c.args.number c.args.message.now fits c.self.invariant)
     (rw (← c.in_ok-read_server_message.ensures.reads, skipped, c.execute.ensures.window, commands, c.execute-2.ensures, ran)
     (skip_state heard c.args.number base (is_stale now.held c.args.number)))
@@ -84,7 +84,7 @@ invariant_of-self-in-Game c =
     let fits : c.args.number < 2 ^ 32 = omega arith in
     let message = c.read_server_message.new.into in
     let game : message.section ≡ Game = search rules in
-    let commands : c.deref-3.result.now ≡ message.commands.value.items = search rules in
-    let ran : c.deref-4.result.now ≡ fresh_of now.executed.executed message.commands.value.items = search rules in
+    let commands : c.as_slice.result.now ≡ message.commands = search rules in
+    let ran : c.as_slice-2.result.now ≡ fresh_of now.executed.executed message.commands = search rules in
     stands_as (state_behind now (apply_at now c.args.number c.args.message.now)) _ (c.apply_stays.ensures.apply now c.args.number c.args.message.now fits c.self.invariant)
     (rw (← c.in_ok-read_server_message.ensures.reads, game, c.start.ensures.settings, c.start-in-Game.ensures.held, c.start-in-Game.ensures.lines, c.start.ensures.lines, c.jump.ensures, c.execute.ensures.window, commands, c.execute-2.ensures, ran) refl)
