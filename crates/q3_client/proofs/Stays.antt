@@ -5,7 +5,7 @@ use Rattle.std.proofs.lemmas.Bool.{cond_both, eqb-true}
 use Rattle.std.proofs.lemmas.List.{length-drop}
 use Rattle.circular_buffer.specs.Buffer.{keep_last}
 use Rattle.q3_bits.specs.Bits.{bits_of}
-use Rattle.q3_bits.specs.ResultBind.{◌>>=◌, bind_ok}
+use Rattle.q3_bits.specs.ResultBind.{◌>>=◌, bind_ok, fault_as}
 use Rattle.q3_text.specs.Texts.{IsText}
 use Rattle.q3_profile.specs.declared.profile.Profile.{Profile}
 use Rattle.q3_profile.specs.Profile.{IsCodec}
@@ -14,7 +14,8 @@ use Rattle.q3_chan.specs.declared.gatherer.Gathered.TheVariants as gathered
 use Rattle.q3_chan.specs.Datagrams.{fragment_size, longest_message, is_fragment, number_in, header_length, start_in, count_in, behind_header}
 use Rattle.q3_chan.specs.Gathering.{Gathering, Took, answers as gathers, arrives, emptied, gathering_of, take_whole, add_piece, take_piece, take_fragment, take_newer, is_connectionless, gathered as gathered_of}
 use Rattle.q3_svmsg.specs.declared.error.Illegible.{Illegible}
-use Rattle.q3_svmsg.specs.Reading.{bits_read, ack_at}
+use Rattle.q3_svmsg.specs.declared.error.Illegible.TheVariants.{Bits}
+use Rattle.q3_svmsg.specs.Reading.{ack_at}
 use Rattle.q3_window.specs.Outgoing.{OutgoingState, IsOutgoing, new_outgoing, issue_at, acknowledge_at, text_at}
 use Rattle.q3_window.specs.Laws.{StaysOutgoing}
 use Rattle.q3_clmsg.specs.declared.moves.Move.{Move}
@@ -118,7 +119,7 @@ were_received stays client ack (Err cause) received window is e = absurd cc
 pub are_received : ApplyStays → StaysOutgoing → (client : ClientState) (n : ℕ) (bytes : List ℕ) (received : Reception) → n < 2 ^ 32 → IsApplied client.state → IsOutgoing client.issued
     → receive_bytes client n bytes ≡ Ok received → AreReceived received
 are_received applies stays client n bytes received fits is window e =
-    let long = bind_ok (bits_read (ack_at client.state.profile.code (bits_of bytes))) (received_behind client n bytes) received e in
+    let long = bind_ok (fault_as Bits (ack_at client.state.profile.code (bits_of bytes))) (received_behind client n bytes) received e in
     let ack = long.0.0 in
     let plain = cleared client.challenge n (text_at client.issued ack) bytes in
     let taken = bind_ok (ack_taken ack (acknowledge_at client.issued ack).answer) (λ (taken : Unit {0}). received_with client ack (apply_at client.state n plain)) received long.2 in

@@ -26,7 +26,10 @@ fn a_wire_in_memory_gives_what_it_was_told(rt: HostRuntime) {
     assert_eq!(rt; wire.receive(&mut into), Ok(None));
     assert_eq!(rt; wire.send(here(1), b"wxyz"), Ok(()));
     assert_eq!(rt; wire.send(here(1), b""), Err(Failed));
-    assert!(rt; wire.sent(0).is_some_and(|sent| sent.0 == here(1) && sent.1 == b"wxyz".as_slice()));
+    assert!(rt;
+        wire.sent(0)
+            .is_some_and(|sent| sent.0 == here(1) && sent.1 == b"wxyz".as_slice())
+    );
 }
 
 #[test]
@@ -38,7 +41,9 @@ fn a_clock_in_memory_gives_its_last_reading_again(rt: HostRuntime) {
 
 /// Ports outside the range from which the system gives others.
 const ONE: u16 = 21_968;
+
 const OTHER: u16 = 21_969;
+
 const NOBODYS: u16 = 21_970;
 
 #[test]
