@@ -5,7 +5,7 @@ use std::alloc::{AllocError, Global};
 use std::process::Abort;
 use std::test::*;
 
-/// The lines of a profile but for its code. What they say is nobody's concern who proves a test.
+/// The lines of a profile but for its code.
 fn front() -> &'static str {
     "protocol = 68\nserver_ring = 262144\nparse_ring = 65536\nentity = [0, 32, -24]\nplayer = [8]\ncode = ["
 }

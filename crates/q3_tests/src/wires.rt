@@ -57,7 +57,10 @@ fn sockets_of_the_system_send_and_receive(rt: HostRuntime) {
     let first = clock.now();
     assert_eq!(rt; other.receive(&mut into), Ok(None));
     assert_eq!(rt; other.receive(&mut into), Ok(None));
-    assert!(rt; clock.now() > first);
+    // each waits a millisecond, and no second
+    let last = clock.now();
+    assert!(rt; last > first);
+    assert!(rt; last - first < 2_000);
     assert_eq!(rt; one.send(here(OTHER), b"abc"), Ok(()));
     assert_eq!(rt; other.receive(&mut into), Ok(Some((here(ONE), 2))));
     assert_eq!(rt; into, *b"ab");

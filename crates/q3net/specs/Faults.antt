@@ -30,8 +30,8 @@ words_fault OutOfMemory = NoMemory
 words_fault _ = Usage
 
 -- such a fault
-abbrev pub KeepsWords : Fault → Type 0
-KeepsWords fault = (fault ≡ NoMemory) ⊎ (fault ≡ Usage)
+abbrev pub IsWordsFault : Fault → Type 0
+IsWordsFault fault = (fault ≡ NoMemory) ⊎ (fault ≡ Usage)
 
 -- a part of a run answers what its input says, unless memory runs out or a read fails
 abbrev pub Gets : {A : Type 0} → Result A Fault → Result A Fault → Type 0
