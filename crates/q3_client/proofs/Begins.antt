@@ -104,7 +104,7 @@ next_is_said client is clear = record { message = next_is_message client is; fee
 abbrev Begins : ClientState → Emission → Type 0
 Begins client emission = IfSome emission.began (IsSaid client.state.profile client.challenge)
 
-begins_new : (client : ClientState) → IsClient client → Begins client (emit_new client)
+pub begins_new : (client : ClientState) → IsClient client → Begins client (emit_new client)
 begins_new client is =
     let next = next_said client in
     let bits = said_bits client.state.profile next in

@@ -18,9 +18,8 @@ pub record BeginsSaid : Type 0 where
       → IsSaid client.state.profile client.challenge (next_said client)
   pub began : (client : ClientState) → IsClient client → IfSome (emit_at client).began (IsSaid client.state.profile client.challenge)
 
--- a client is well formed once it joined, and stays so, whatever move or command is issued and whatever bytes it
--- takes;
--- so does what the messages left, where a message is received from its bytes
+-- a client is well formed once it joined, and stays so, whatever move or command is issued and whatever bytes it takes; what the
+-- messages left stays so too, where a message is received from its bytes
 pub record ClientStays : Type 0 where
   pub joins : (profile : Profile) (challenge qport dup : ℕ) → IsCodec profile → 512 ≤ profile.parse_ring → IsClient (new_client profile challenge qport dup)
   pub moves : (client : ClientState) (one : Move) → IsMove one → IsClient client → IsClient (add_move_at client one).client

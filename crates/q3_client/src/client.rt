@@ -3,7 +3,7 @@
 //! and "move section", by q3_clmsg, "reliable command windows", by q3_window, "which moves may be issued", "which moves a
 //! message carries", and "unclear messages" and "end of message numbers", which are this project's own.
 
-ghost use Rattle.std.specs.Prelude.{◌≡◌, ◌≤◌, IfOk, IfSome, option_map};
+ghost use Rattle.std.specs.Prelude.{◌≡◌, ◌≤◌, [], None, IfOk, IfSome, option_map};
 ghost use Rattle.q3_window.specs.Outgoing.{issued_of};
 ghost use Rattle.q3_entity.specs.Entities.{Rises, run_of};
 ghost use Rattle.q3_chan.specs.Sending.{HandsOut};
@@ -11,7 +11,7 @@ ghost use Rattle.q3_rings.specs.Loans.{snapshot_of};
 ghost use Rattle.q3_rings.specs.Rings.{view_at};
 ghost use Rattle.q3_client.specs.Client.{new_client, type_at, take_at, is_accepted, moves_behind};
 ghost use Rattle.q3_client.specs.Moves.{add_move_at};
-ghost use Rattle.q3_client.specs.Sending.{emit_at, IsSaid};
+ghost use Rattle.q3_client.specs.Sending.{emit_at, emit_new, IsSaid};
 
 use crate::moves::{Issued, MOST_MOVES, carry, is_issuable};
 use crate::receiving::{gather, receive_front};
@@ -274,6 +274,18 @@ impl Client {
                 number: self.sender.number(),
             };
         }
+        self.emit_new(out)
+    }
+
+    /// The same of a client that wasn't dropped, where nothing is left of a message.
+    fn emit_new(&mut self, out: &mut Datagram) -> Sent
+        requires idle { self.old.sending.under_way ≡ None }
+        requires out { out.old.items ≡ [] }
+        ensures client { self.new ≡ (emit_new self.old).client }
+        ensures answer { result ≡ (emit_new self.old).answer }
+        ensures piece { HandsOut (emit_new self.old).piece out.new.items }
+        ensures began { IfSome (emit_new self.old).began (IsSaid self.old.state.profile self.old.challenge) }
+    {
         let number = self.sender.number() + 1;
         if number >= SEQUENCE_END {
             return Sent::SequenceEnd;

@@ -10,7 +10,8 @@ pub fn begins_said()
     ensures { BeginsSaid }
 {}
 
-/// A client is well formed once it joined, and stays so, whatever move or command is issued and whatever bytes it takes.
+/// A client is well formed once it joined, and stays so, whatever move or command is issued and whatever bytes it takes; what the
+/// messages left stays so too, where a message is received from its bytes.
 pub fn client_stays()
     ensures { ClientStays }
 {

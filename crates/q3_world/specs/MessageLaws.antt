@@ -31,9 +31,9 @@ abbrev pub HoldsThis : HeldSnapshots → Snapshot → Type 0
 HoldsThis held base = (snapshot : Snapshot) → view_at held base.head.number ≡ Some snapshot → snapshot ≡ base
 
 -- a message that was built is received from its bytes as its value: where the client joined with the challenge for which it was
--- built, all that it has is well formed, as of every client, its window takes the acknowledgement and has the text by which the message is scrambled, and, where the client plays, has
--- the baselines of its map, and what is held lends no other snapshot under the number of its base. It is whole, or as skipped where
--- its base isn't held
+-- built, what the messages left is well formed, as at every client, its window takes the acknowledgement and has the text by which the
+-- message is scrambled, and, where the client plays, has the baselines of its map, and what is held lends no other snapshot under the
+-- number of its base. It is whole, or as skipped where its base isn't held
 abbrev pub BuiltIsRead : Type 0
 BuiltIsRead = (profile : Profile) → IsCodec profile → (client : ClientState) (number : ℕ) (built : Built) → IsBuilt profile client.challenge number built
     → client.state.profile ≡ profile → IsApplied client.state → IfSome built.under (λ game. client.state.lines ≡ built.lines)
