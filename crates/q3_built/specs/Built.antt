@@ -71,9 +71,13 @@ is_unclear profile ack = chan.is_unclear Server (length (row_bits profile.code (
 abbrev pub built_bits : Profile → Built → List Bool
 built_bits profile built = message_text profile built.lines (option_map base_from built.base) built.message
 
+-- its bytes before they are scrambled
+abbrev pub plain_bytes : Profile → Built → List ℕ
+plain_bytes profile built = message_bytes (built_bits profile built)
+
 -- and its bytes, scrambled behind the leading long
 abbrev pub built_bytes : Profile → Built → List ℕ
-built_bytes profile built = server_scrambled built.key (message_bytes (built_bits profile built))
+built_bytes profile built = server_scrambled built.key (plain_bytes profile built)
 
 -- a player as the server holds it: a state of the program's type, in normal form
 pub record IsHeld (profile : Profile) (player : PlayerState) : Type 0 where

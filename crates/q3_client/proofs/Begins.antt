@@ -5,10 +5,7 @@ use Rattle.std.proofs.lemmas.List.{length-map}
 use Rattle.std.proofs.lemmas.List.Elements.{All-nil, All-cons, All-head, All-tail, All-push, All-drop, All-map, All-filter}
 use Rattle.std.proofs.lemmas.Bool.{cases_Bool}
 use Rattle.circular_buffer.specs.Buffer.{keep_last}
-use Rattle.q3_text.specs.declared.text.Command.{Command}
-use Rattle.q3_text.specs.Commands.{numbered}
-use Rattle.q3_text.specs.Texts.{IsText}
-use Rattle.q3_strings.specs.Laws.{IsCommand}
+use Rattle.q3_strings.specs.Laws.{NumberedAreCommands}
 use Rattle.q3_window.specs.Outgoing.{OutgoingState, IsOutgoing, carried as waiting_of}
 use Rattle.q3_chan.specs.Datagrams.{sequence_end, longest_message}
 use Rattle.q3_chan.specs.Sending.{UnderWay}
@@ -53,39 +50,24 @@ few_pass test (issued ∷ moves) =
       | inr stays ↦ rw stays (omega (arith, few))
     ]
 
--- ---- commands
-
--- texts by number are commands
-numbered_are : (first : ℕ) (texts : List (List ℕ)) → first + length texts ≤ 2 ^ 32 → All IsText texts → All IsCommand (numbered first texts)
-unfolding numbered
-numbered_are first [] few are = All-nil IsCommand
-numbered_are first (text ∷ texts) few are =
-    All-cons IsCommand (record { number = first; text = text }) (numbered (first + 1) texts)
-    (record { number = omega (arith, few); text = All-head IsText text texts are })
-    (numbered_are (first + 1) texts (omega (arith, few)) (All-tail IsText text texts are))
-
-numbered_count : (first : ℕ) (texts : List (List ℕ)) → length (numbered first texts) ≡ length texts
-unfolding numbered
-numbered_count first [] = refl
-numbered_count first (text ∷ texts) = ap suc (numbered_count (first + 1) texts)
-
 -- ---- what a client begins
 
 -- the next message is one that an end may send
-next_is_message : (client : ClientState) → IsClient client → IsMessage (next_message client)
-next_is_message client is =
+next_is_message : NumberedAreCommands → (client : ClientState) → IsClient client → IsMessage (next_message client)
+next_is_message law client is =
     let number = client.sending.number + 1 in
     let those = filter (is_carried number client.dup) client.moves in
     let first = client.issued.acknowledged + 1 in
     let numbers : client.issued.acknowledged + length client.issued.waiting ≤ 2 ^ 31 - 1 = is.window.numbers in
     let waiting = is.window.few in
     let few = is.few in
+    let commands = law first client.issued.waiting (omega (arith, numbers)) is.window.texts in
     record {
       id = let least = is.applied.id in omega (arith, least);
       acknowledged = is.taken;
       command = is.applied.executed;
-      few = omega (arith, waiting, numbered_count first client.issued.waiting);
-      commands = numbered_are first client.issued.waiting (omega (arith, numbers)) is.window.texts;
+      few = omega (arith, waiting, commands.1);
+      commands = commands.0;
       few_moves = omega (arith, few, few_pass (is_carried number client.dup) client.moves, length-map those one_of);
       moves = All-map IsMove one_of those (All-filter (is_carried number client.dup) (λ (issued : Issued). IsMove issued.one) client.moves is.moves.each);
       whole = λ none. none_asked (carried number client.dup client.moves) none;
@@ -96,16 +78,16 @@ next_is_message client is =
     none_asked (one ∷ moves) none = let long : length (one ∷ moves) ≡ 0 = ap (λ (l : List Move). length l) none in absurd (omega (arith, long))
 
 -- and so is what it is scrambled by
-pub next_is_said : (client : ClientState) → IsClient client → is_unclear client.state.profile (next_message client) ≡ false
+pub next_is_said : NumberedAreCommands → (client : ClientState) → IsClient client → is_unclear client.state.profile (next_message client) ≡ false
     → IsSaid client.state.profile client.challenge (next_said client)
-next_is_said client is clear = record { message = next_is_message client is; feed = is.applied.feed; key = refl; text = is.applied.last; clear = clear }
+next_is_said law client is clear = record { message = next_is_message law client is; feed = is.applied.feed; key = refl; text = is.applied.last; clear = clear }
 
 -- what was begun, if anything was
 abbrev Begins : ClientState → Emission → Type 0
 Begins client emission = IfSome emission.began (IsSaid client.state.profile client.challenge)
 
-pub begins_new : (client : ClientState) → IsClient client → Begins client (emit_new client)
-begins_new client is =
+pub begins_new : NumberedAreCommands → (client : ClientState) → IsClient client → Begins client (emit_new client)
+begins_new law client is =
     let next = next_said client in
     let bits = said_bits client.state.profile next in
     elim (cases_Bool (nat_le sequence_end (client.sending.number + 1))) [
@@ -114,20 +96,20 @@ begins_new client is =
         | inl hidden ↦ rw (goes, hidden) tt
         | inr clear ↦ elim (cases_Bool (nat_lt longest_message (message_length (length bits)))) [
           | inl long ↦ rw (goes, clear, long) tt
-          | inr short ↦ rw (goes, clear, short) (next_is_said client is clear)
+          | inr short ↦ rw (goes, clear, short) (next_is_said law client is clear)
         ]
       ]
     ]
 
-begins_left : (client : ClientState) (left : Option UnderWay) → IsClient client → Begins client (emit_left client left)
-begins_left client None is = begins_new client is
-begins_left client (Some left) is = tt
+begins_left : NumberedAreCommands → (client : ClientState) (left : Option UnderWay) → IsClient client → Begins client (emit_left client left)
+begins_left law client None is = begins_new law client is
+begins_left law client (Some left) is = tt
 
-begins_unless : (client : ClientState) (cause : Option Illegible) → IsClient client → Begins client (emit_unless client cause)
-begins_unless client None is = begins_left client client.sending.under_way is
-begins_unless client (Some cause) is = tt
+begins_unless : NumberedAreCommands → (client : ClientState) (cause : Option Illegible) → IsClient client → Begins client (emit_unless client cause)
+begins_unless law client None is = begins_left law client client.sending.under_way is
+begins_unless law client (Some cause) is = tt
 
 -- whatever it keeps
-pub begins : (client : ClientState) → IsClient client → IfSome (emit_at client).began (IsSaid client.state.profile client.challenge)
+pub begins : NumberedAreCommands → (client : ClientState) → IsClient client → IfSome (emit_at client).began (IsSaid client.state.profile client.challenge)
 unfolding emit_at
-begins client is = begins_unless client client.dropped is
+begins law client is = begins_unless law client client.dropped is

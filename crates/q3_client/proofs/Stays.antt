@@ -94,14 +94,15 @@ pub record AreReceived (received : Reception) : Type 0 where
   pub applied : IsApplied received.application.state
   pub window : IsOutgoing received.issued
 
-abbrev received_with : ClientState → ℕ → Result Application Illegible → Result Reception Illegible
-received_with client ack applied =
-    applied >>= λ application. Ok (record { issued = (acknowledge_at client.issued ack).window; application = application })
+abbrev received_with : ClientState → ℕ → List ℕ → Result Application Illegible → Result Reception Illegible
+received_with client ack plain applied =
+    applied >>= λ application. Ok (record { message = plain; issued = (acknowledge_at client.issued ack).window; application = application })
 
 abbrev received_behind : ClientState → ℕ → List ℕ → ℕ × ℕ → Result Reception Illegible
 received_behind client n bytes ack =
     ack_taken ack.0 (acknowledge_at client.issued ack.0).answer >>= λ taken.
-    received_with client ack.0 (apply_at client.state n (cleared client.challenge n (text_at client.issued ack.0) bytes))
+    received_with client ack.0 (cleared client.challenge n (text_at client.issued ack.0) bytes)
+    (apply_at client.state n (cleared client.challenge n (text_at client.issued ack.0) bytes))
 
 abbrev received_as : Reception → Result Reception Illegible
 received_as reception = Ok reception
@@ -109,12 +110,12 @@ received_as reception = Ok reception
 same : (one other : Reception) → received_as one ≡ received_as other → one ≡ other
 same one other e = cc
 
-were_received : StaysOutgoing → (client : ClientState) (ack : ℕ) (applied : Result Application Illegible) (received : Reception) → IsOutgoing client.issued
-    → IsApplied (state_behind client.state applied) → received_with client ack applied ≡ Ok received → AreReceived received
-were_received stays client ack (Ok application) received window is e =
-    subst AreReceived (same (record { issued = (acknowledge_at client.issued ack).window; application = application }) received e)
+were_received : StaysOutgoing → (client : ClientState) (ack : ℕ) (plain : List ℕ) (applied : Result Application Illegible) (received : Reception) → IsOutgoing client.issued
+    → IsApplied (state_behind client.state applied) → received_with client ack plain applied ≡ Ok received → AreReceived received
+were_received stays client ack plain (Ok application) received window is e =
+    subst AreReceived (same (record { message = plain; issued = (acknowledge_at client.issued ack).window; application = application }) received e)
     (record { applied = is; window = stays.acknowledges client.issued ack window })
-were_received stays client ack (Err cause) received window is e = absurd cc
+were_received stays client ack plain (Err cause) received window is e = absurd cc
 
 pub are_received : ApplyStays → StaysOutgoing → (client : ClientState) (n : ℕ) (bytes : List ℕ) (received : Reception) → n < 2 ^ 32 → IsApplied client.state → IsOutgoing client.issued
     → receive_bytes client n bytes ≡ Ok received → AreReceived received
@@ -122,8 +123,8 @@ are_received applies stays client n bytes received fits is window e =
     let long = bind_ok (fault_as Bits (ack_at client.state.profile.code (bits_of bytes))) (received_behind client n bytes) received e in
     let ack = long.0.0 in
     let plain = cleared client.challenge n (text_at client.issued ack) bytes in
-    let taken = bind_ok (ack_taken ack (acknowledge_at client.issued ack).answer) (λ (taken : Unit {0}). received_with client ack (apply_at client.state n plain)) received long.2 in
-    were_received stays client ack (apply_at client.state n plain) received window (applies.apply client.state n plain fits is) taken.2
+    let taken = bind_ok (ack_taken ack (acknowledge_at client.issued ack).answer) (λ (taken : Unit {0}). received_with client ack plain (apply_at client.state n plain)) received long.2 in
+    were_received stays client ack plain (apply_at client.state n plain) received window (applies.apply client.state n plain fits is) taken.2
 
 -- ---- a client
 

@@ -25,12 +25,13 @@ use Rattle.q3_client.specs.declared.client.ClientTook.{ClientTook}
 use Rattle.q3_client.specs.declared.client.ClientTook.TheVariants.{Dropped, Runt, Connectionless, Old, OutOfOrder, BadFragment, Partial, Illegible, Applied}
 use Rattle.q3_client.specs.declared.moves.Issued.{Issued}
 
--- a client: what the messages that were applied left; how it joined, of how many messages before it a message repeats the
--- moves, the newest number taken and what was gathered, whether the newest message's snapshot was accepted, why it was dropped,
--- if it was, what is being sent, the commands that it issued, the newest 32 moves issued, and the time of the last, 0 before the
--- first
+-- a client: what the messages that were applied left, and the bytes of the last of them, cleared, none before the first; how it
+-- joined, of how many messages before it a message repeats the moves, the newest number taken and what was gathered, whether the
+-- newest message's snapshot was accepted, why it was dropped, if it was, what is being sent, the commands that it issued, the newest
+-- 32 moves issued, and the time of the last, 0 before the first
 pub record ClientState : Type 0 where
   pub state : AppliedState
+  pub message : List ℕ
   pub challenge : ℕ
   pub qport : ℕ
   pub dup : ℕ
@@ -47,6 +48,7 @@ abbrev pub new_client : Profile → ℕ → ℕ → ℕ → ClientState
 new_client profile challenge qport dup =
     record {
       state = new_state profile;
+      message = [];
       challenge = challenge;
       qport = qport;
       dup = dup;
@@ -89,14 +91,17 @@ is_accepted other = false
 abbrev pub moves_behind : Bool → List Issued → List Issued
 moves_behind game moves = if game then [] else moves
 
--- what a message is to a client: its commands once the acknowledgement is taken, and what applying the message gives
+-- what a message is to a client: its bytes, cleared, its commands once the acknowledgement is taken, and what applying the message
+-- gives
 pub record Reception : Type 0 where
+  pub message : List ℕ
   pub issued : OutgoingState
   pub application : Application
 
--- what the whole value of a message of a number is to it
-abbrev pub receive_message : ClientState → ℕ → Message → Reception
-receive_message client number message = record {
+-- what the whole value of a message of a number is to it, whose bytes are these before they are scrambled
+abbrev pub receive_message : ClientState → ℕ → Message → List ℕ → Reception
+receive_message client number message plain = record {
+  message = plain;
   issued = (acknowledge_at client.issued message.ack).window;
   application = apply_message client.state number message;
 }
@@ -117,7 +122,11 @@ receive_by state issued challenge number bytes = do
   ack ← fault_as causes.Bits (ack_at state.profile.code (bits_of bytes))
   taken ← ack_taken ack.0 (acknowledge_at issued ack.0).answer
   application ← apply_at state number (cleared challenge number (text_at issued ack.0) bytes)
-  Ok (record { issued = (acknowledge_at issued ack.0).window; application = application })
+  Ok (record {
+    message = cleared challenge number (text_at issued ack.0) bytes;
+    issued = (acknowledge_at issued ack.0).window;
+    application = application;
+  })
 
 -- and to a client
 abbrev pub receive_bytes : ClientState → ℕ → List ℕ → Result Reception cause.Illegible
@@ -130,6 +139,7 @@ applies client received =
     record {
       client = record client {
         state = applied.state;
+        message = received.message;
         issued = received.issued;
         delta = is_accepted applied.answer.snap;
         moves = moves_behind applied.answer.game client.moves;

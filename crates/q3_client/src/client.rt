@@ -3,9 +3,10 @@
 //! and "move section", by q3_clmsg, "reliable command windows", by q3_window, "which moves may be issued", "which moves a
 //! message carries", and "unclear messages" and "end of message numbers", which are this project's own.
 
-ghost use Rattle.std.specs.Prelude.{◌≡◌, ◌≤◌, [], None, IfOk, IfSome, option_map};
+ghost use Rattle.std.specs.Prelude.{◌≡◌, ◌≤◌, [], length, None, IfOk, IfSome, option_map};
 ghost use Rattle.q3_window.specs.Outgoing.{issued_of};
 ghost use Rattle.q3_entity.specs.Entities.{Rises, run_of};
+ghost use Rattle.q3_chan.specs.Datagrams.{longest_message};
 ghost use Rattle.q3_chan.specs.Sending.{HandsOut};
 ghost use Rattle.q3_rings.specs.Loans.{snapshot_of};
 ghost use Rattle.q3_rings.specs.Rings.{view_at};
@@ -24,11 +25,13 @@ use q3_clmsg::Move;
 use q3_clstate::{Applied, ClState, Log, SnapOutcome};
 use q3_profile::Profile;
 use q3_rings::SnapView;
+use q3_strings::laws;
 use q3_svmsg::Illegible;
 use q3_text::Text;
 use q3_window::{Outgoing, WindowFull};
 use std::alloc::Global;
 use std::marker::Model;
+use std::mem::swap;
 
 /// What a client's take answers.
 #[derive(Clone, Copy, Debug, PartialEq, Eq)]
@@ -82,12 +85,14 @@ pub enum Sent {
     Message { number: u32, bytes: usize },
 }
 
-/// A client: what the messages that were applied left, with a copy of the profile; what it gathers, a place for the bytes of a
-/// message that came whole, whether the newest message's snapshot was accepted, what it sends, the commands and the moves that
+/// A client: what the messages that were applied left, with a copy of the profile, and the bytes of the last, cleared; what it
+/// gathers, a place for the bytes of a message that came whole, whether the newest message's snapshot was accepted, what it sends, the commands and the moves that
 /// it issued, and places for the moves and the bytes of a message. After `new` no call takes memory.
 #[derive(Drop)]
 pub struct Client {
     state: ClState,
+    message: Vec<u8>,
+    length: usize,
     challenge: u32,
     qport: u16,
     dup: u8,
@@ -104,7 +109,7 @@ pub struct Client {
 }
 
 impl Model for Client {
-    ghost use Rattle.std.specs.Prelude.{◌≡◌, ◌<◌, length};
+    ghost use Rattle.std.specs.Prelude.{◌≡◌, ◌<◌, ◌≤◌, length, take};
     ghost use Rattle.q3_chan.specs.Datagrams.{longest_message, sequence_end};
     ghost use Rattle.q3_client.specs.Client.{ClientState};
     ghost use Rattle.q3_client.specs.Moves.{most_moves};
@@ -114,6 +119,7 @@ impl Model for Client {
 
     ghost view = { λ c. record {
       state = c.state;
+      message = take c.length c.message.items;
       challenge = c.challenge;
       qport = c.qport;
       dup = c.dup;
@@ -127,7 +133,7 @@ impl Model for Client {
     } };
 
     ghost invariant = { λ c. (length c.whole.items ≡ longest_message) × (length c.buffer.items ≡ longest_message) × (c.sender.number < sequence_end)
-        × (c.moves.capacity ≡ most_moves) × AreMoves c.moves.items };
+        × (c.moves.capacity ≡ most_moves) × AreMoves c.moves.items × (length c.message.items ≡ longest_message) × (c.length ≤ longest_message) };
 }
 
 impl Client {
@@ -145,21 +151,31 @@ impl Client {
         requires most { profile.now.parse_ring ≤ 65536 }
         ensures { IfOk result (λ client. client ≡ new_client profile.now challenge qport dup) }
     {
+        let state = ClState::new(alloc, profile)?;
+        let message = vec![in alloc; 0; LONGEST_MESSAGE]?;
+        let gatherer = Gatherer::new(alloc, Side::Server)?;
+        let whole = vec![in alloc; 0; LONGEST_MESSAGE]?;
+        let sender = Sender::new(alloc, Side::Client, qport)?;
+        let outgoing = Outgoing::new(alloc)?;
+        let moves = HeapCircularBuffer::with_capacity(alloc, MOST_MOVES)?;
+        let buffer = vec![in alloc; 0; LONGEST_MESSAGE]?;
         Ok(Client {
-            state: ClState::new(alloc, profile)?,
+            state,
+            message,
+            length: 0,
             challenge,
             qport,
             dup,
-            gatherer: Gatherer::new(alloc, Side::Server)?,
-            whole: vec![in alloc; 0; LONGEST_MESSAGE]?,
+            gatherer,
+            whole,
             delta: false,
             dropped: None,
-            sender: Sender::new(alloc, Side::Client, qport)?,
-            outgoing: Outgoing::new(alloc)?,
-            moves: HeapCircularBuffer::with_capacity(alloc, MOST_MOVES)?,
+            sender,
+            outgoing,
+            moves,
             last_time: 0,
             carried: ArrayVec::new(),
-            buffer: vec![in alloc; 0; LONGEST_MESSAGE]?,
+            buffer,
         })
     }
 
@@ -195,6 +211,8 @@ impl Client {
             log,
         ) {
             Ok(applied) => {
+                swap(&mut self.whole, &mut self.message);
+                self.length = length;
                 self.note(&applied);
                 ClientTook::Applied(applied)
             }
@@ -294,6 +312,7 @@ impl Client {
         if is_unclear(&self.state, acknowledged) {
             return Sent::Unclear;
         }
+        laws::numbered_are_commands();
         // a ring holds no more than it has room for
         prove!(self.moves.len() <= MOST_MOVES);
         carry(&self.moves, number, self.dup, &mut self.carried);
@@ -311,6 +330,14 @@ impl Client {
         self.sender.start(&self.buffer[..bytes]);
         self.sender.next(out);
         Sent::Message { number, bytes }
+    }
+
+    /// The bytes of the last message that was applied, cleared; none before the first.
+    pub fn message(&self) -> &[u8]
+        ensures message { result.now ≡ self.now.message }
+        ensures short { length result.now ≤ longest_message }
+    {
+        &self.message[..self.length]
     }
 
     /// What the messages that were applied left.

@@ -3,12 +3,15 @@
 ghost use Rattle.q3_client.specs.Laws.{BeginsSaid, ClientStays};
 
 use q3_clstate::laws as clstate;
+use q3_strings::laws as strings;
 use q3_window::laws as window;
 
 /// What a client begins is a message that it may begin, whatever it keeps.
 pub fn begins_said()
     ensures { BeginsSaid }
-{}
+{
+    strings::numbered_are_commands();
+}
 
 /// A client is well formed once it joined, and stays so, whatever move or command is issued and whatever bytes it takes; what the
 /// messages left stays so too, where a message is received from its bytes.

@@ -6,7 +6,7 @@ ghost use Rattle.q3_chan.specs.Datagrams.{longest_message};
 ghost use Rattle.q3_chan.specs.Gathering.{gathered, Delivers};
 ghost use Rattle.q3_window.specs.Outgoing.{issued_of};
 ghost use Rattle.q3_client.specs.Client.{receive_by};
-ghost use Rattle.q3_client.specs.Receiving.{acknowledged_by, state_received, issued_received, answer_received, heard_received};
+ghost use Rattle.q3_client.specs.Receiving.{acknowledged_by, state_received, issued_received, answer_received, heard_received, message_received};
 
 use q3_bits::Code;
 use q3_chan::{Gathered, Gatherer, scramble_server};
@@ -25,7 +25,7 @@ pub(crate) fn gather(gatherer: &mut Gatherer, datagram: &[u8], whole: &mut Vec<u
     gatherer.take(datagram, whole)
 }
 
-/// Receives the message of a number that stands in the first bytes of `whole`, so many.
+/// Receives the message of a number that stands in the first bytes of `whole`, so many, where it is cleared.
 pub(crate) fn receive_front(
     state: &mut ClState,
     outgoing: &mut Outgoing,
@@ -41,6 +41,7 @@ pub(crate) fn receive_front(
     ensures issued { outgoing.new ≡ issued_received outgoing.old (receive_by state.old outgoing.old challenge number (take count whole.old.items)) }
     ensures answer { result ≡ answer_received (receive_by state.old outgoing.old challenge number (take count whole.old.items)) }
     ensures log { log.new.commands ≡ heard_received (receive_by state.old outgoing.old challenge number (take count whole.old.items)) }
+    ensures message { IfOk result (λ applied. take count whole.new.items ≡ message_received [] (receive_by state.old outgoing.old challenge number (take count whole.old.items))) }
     ensures room { length whole.new.items ≡ length whole.old.items }
 {
     receive(state, outgoing, challenge, number, &mut whole[..count], log)
@@ -62,6 +63,7 @@ fn receive(
     ensures issued { outgoing.new ≡ issued_received outgoing.old (receive_by state.old outgoing.old challenge number bytes.old) }
     ensures answer { result ≡ answer_received (receive_by state.old outgoing.old challenge number bytes.old) }
     ensures log { log.new.commands ≡ heard_received (receive_by state.old outgoing.old challenge number bytes.old) }
+    ensures message { IfOk result (λ applied. bytes.new ≡ message_received [] (receive_by state.old outgoing.old challenge number bytes.old)) }
 {
     let ack = acknowledged_by(&state.profile().code, outgoing, bytes)?;
     scramble_server(bytes, challenge, number, outgoing.text(ack));

@@ -4,7 +4,7 @@ use Rattle.std.proofs.lemmas.Bool.{cases_Bool, ltb-true}
 use Rattle.std.proofs.Math.Pow.{pow_mono}
 use Rattle.std.specs.Option.{is_some}
 use Rattle.q3_bits.specs.ResultBind.{bind_ok}
-use Rattle.q3_fields.specs.Kinds.{Layout, end_mark, most_number_bits}
+use Rattle.q3_fields.specs.Kinds.{Layout, end_mark}
 use Rattle.q3_entity.specs.declared.state.EntityState.{EntityState}
 use Rattle.q3_entity.specs.declared.reading.Entry.{Entry}
 use Rattle.q3_entity.specs.declared.reading.Entry.TheVariants.{Removed, Changed, Same}
@@ -24,7 +24,7 @@ rise-more limit more least (x ∷ xs) below rise = (rise.0, omega (arith, rise.1
 -- a list rises
 pub list_rises : ListRises
 list_rises table entities is_table list =
-    let most : 2 ^ table.number_bits ≤ 2 ^ most_number_bits = pow_mono is_table.number_bits.1 in
+    let most : 2 ^ table.number_bits ≤ 2 ^ 16 = pow_mono is_table.number_bits.1 in
     record { rise = rise-more (end_mark table) (2 ^ 16) 0 entities (omega (arith, most)) list.rise; few = list.few }
 
 -- one more behind them

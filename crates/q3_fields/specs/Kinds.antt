@@ -30,7 +30,7 @@ kinds_from i (width ∷ widths) = do
   kinds ← kinds_from (i + 1) widths
   Ok (kind ∷ kinds)
 
--- how many bits a number of an entity may have: at least and at most
+-- how many bits a number of an entity has in this protocol: at least and at most
 abbrev pub least_number_bits : ℕ
 least_number_bits = 10
 
@@ -54,10 +54,10 @@ pub record AreKinds (kinds : List Kind) : Type 0 where
   pub few : length kinds ≤ 64
   pub each : All IsKind kinds
 
--- a table has such fields, and numbers of so many bits
+-- a table has such fields, and numbers of 1 to 16 bits
 pub record IsTable (table : Layout) : Type 0 where
   pub kinds : AreKinds table.kinds
-  pub number_bits : (least_number_bits ≤ table.number_bits) × (table.number_bits ≤ most_number_bits)
+  pub number_bits : (1 ≤ table.number_bits) × (table.number_bits ≤ 16)
 
 -- the end mark of the entity numbers: all bits 1
 abbrev pub end_mark : Layout → ℕ

@@ -1,6 +1,6 @@
 //! Tables of fields. Keeps the rule "field tables", the engine's `entityStateFields` and `playerStateFields`.
 
-ghost use Rattle.std.specs.Prelude.{◌≡◌, ◌≤◌, length, slice_get, IfOk, IfSome};
+ghost use Rattle.std.specs.Prelude.{◌≡◌, ◌≤◌, ◌×◌, length, slice_get, IfOk, IfSome};
 ghost use Rattle.q3_fields.specs.Kinds.{IsKind, IsTable, kind_of, table_of, end_mark, least_number_bits, most_number_bits, least_end, most_end};
 
 use crate::kind::Kind;
@@ -15,7 +15,7 @@ pub enum TableError {
     Width(usize),
 }
 
-/// How many bits a number of an entity has in this protocol.
+/// How many bits a number of an entity has at least.
 const LEAST_NUMBER_BITS: u32 = 10;
 
 /// How many bits a number of an entity has at most.
@@ -73,6 +73,7 @@ impl Table {
     pub fn copy(&self) -> Table
         ensures copy { result ≡ self.now }
         ensures is_table { IsTable self.now }
+        ensures numbers { (least_number_bits ≤ self.now.number_bits) × (self.now.number_bits ≤ most_number_bits) }
     {
         Table {
             count: self.count,

@@ -13,7 +13,7 @@ use Rattle.std.proofs.lemmas.Bool.{cases_Bool, cases_lt, ltb-true, ltb-false, le
 use Rattle.q3_entity.specs.declared.state.EntityState.{EntityState}
 use Rattle.q3_fields.specs.Kinds.{Layout, end_mark, most_end}
 use Rattle.q3_entity.specs.Entities.{RiseFrom, IsList, Rises, most_entities}
-use Rattle.q3_map.specs.Map.{with_entity, without_entity, AreNumbered}
+use Rattle.q3_map.specs.Map.{with_entity, without_entity}
 
 -- ---- rising numbers
 
@@ -42,9 +42,12 @@ rise_wider limit wider least (entity ∷ others) le rise =
     (rise.0, omega (arith, rise.1, le), rise_wider limit wider (entity.number + 1) others le rise.2)
 
 -- the lowest of entities whose numbers rise are those of a snapshot
-pub lowest_listed : (table : Layout) (entities : List EntityState) → AreNumbered table entities → IsList table (take most_entities entities)
-lowest_listed table entities numbered =
-    record { rise = rise_take (end_mark table) 0 most_entities entities numbered.rise; few = few_taken most_entities entities }
+pub lowest_listed : (table : Layout) (entities : List EntityState) → RiseFrom most_end 0 entities → most_end ≤ end_mark table → IsList table (take most_entities entities)
+lowest_listed table entities rise wide =
+    record {
+      rise = rise_wider most_end (end_mark table) 0 (take most_entities entities) wide (rise_take most_end 0 most_entities entities rise);
+      few = few_taken most_entities entities;
+    }
 
 pub lowest_rise : (entities : List EntityState) → RiseFrom most_end 0 entities → Rises (take most_entities entities)
 lowest_rise entities rise =

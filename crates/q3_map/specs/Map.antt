@@ -116,7 +116,3 @@ pub record AreHeld (table : Layout) (entities : List EntityState) : Type 0 where
   pub rise : RiseFrom (end_mark table) 0 entities
   pub states : AreStates entities
   pub normal : AreNormal table entities
-
--- entities by rising number, below the end mark of a table
-pub record AreNumbered (table : Layout) (entities : List EntityState) : Type 0 where
-  pub rise : RiseFrom (end_mark table) 0 entities

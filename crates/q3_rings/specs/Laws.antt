@@ -18,7 +18,8 @@ HeldWasHeld = (snapshots : HeldSnapshots) (accepted : Snapshot) (number : ℕ) (
     → ((number ≡ accepted.head.number) × (held ≡ accepted))
     ⊎ ((number ≡ accepted.head.number → ⊥) × (held_snapshot snapshots number ≡ Ok held))
 
--- what every such value is holds where none was accepted, and stays so where one is that is newer than all others
+-- that snapshots are held as a client holds them: so it is where none was accepted, and stays where one is accepted that is newer than
+-- all others
 pub record SnapshotsStay : Type 0 where
   pub none : (ring : ℕ) → 512 ≤ ring → AreHeldSnapshots (no_snapshots ring)
   pub accept : (snapshots : HeldSnapshots) (snapshot : Snapshot) → AreHeldSnapshots snapshots → snapshots.newest < snapshot.head.number

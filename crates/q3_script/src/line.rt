@@ -146,7 +146,7 @@ fn config_text(alloc: Global, left: &[u8]) -> Result<Result<(u32, Bytes), LineCa
     }
 }
 
-/// Such lines are few: apart, their code doesn't slow down the others.
+/// A `config` line. Such lines are few: apart, their code doesn't slow down the others.
 #[tactic(auto, unfolding(crate::specs::Lines::config_line))]
 #[inline(never)]
 fn config(alloc: Global, left: &[u8]) -> Result<Result<Event, LineCause>, NoMemory>
@@ -255,6 +255,7 @@ fn hand(alloc: Global, left: &[u8]) -> Result<Result<(u8, Bytes), LineCause>, No
     }
 }
 
+/// A `toclient` line.
 #[tactic(auto, unfolding(crate::specs::Lines::toclient_line))]
 #[inline(never)]
 fn toclient(alloc: Global, left: &[u8]) -> Result<Result<Event, LineCause>, NoMemory>
@@ -266,6 +267,7 @@ fn toclient(alloc: Global, left: &[u8]) -> Result<Result<Event, LineCause>, NoMe
     }
 }
 
+/// A `toserver` line.
 #[tactic(auto, unfolding(crate::specs::Lines::toserver_line))]
 #[inline(never)]
 fn toserver(alloc: Global, left: &[u8]) -> Result<Result<Event, LineCause>, NoMemory>

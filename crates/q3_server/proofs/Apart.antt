@@ -16,13 +16,13 @@ use Rattle.q3_frames.specs.Frames.{FramesState, build_at}
 use Rattle.q3_frames.specs.Laws.{HeldWasBuilt}
 use Rattle.q3_map.specs.Map.{MapState, begins_game}
 use Rattle.q3_built.specs.Built.{Built, built_bits, is_unclear, number_of}
-use Rattle.q3_slot.specs.Slot.{SlotState, is_of, new_slot, primed, with_area, with_player}
+use Rattle.q3_slot.specs.Slot.{SlotState, is_of, new_slot, primed, with_area, with_delayed, with_player}
 use Rattle.q3_slot.specs.declared.answer.Emitted.TheVariants as emitted
 use Rattle.q3_slot.specs.Emitting.{SlotEmission, begun_next, emit_bits, emit_built, emit_game, emit_game_bits, emit_new, emit_next, emit_slot, is_overlong, most_placed, next_frames, next_game_built, next_snapshot}
 use Rattle.q3_slot.specs.Emitting as emits
 use Rattle.q3_server.specs.declared.server.SlotError.{SlotError}
 use Rattle.q3_server.specs.declared.server.SlotError.TheVariants.{Range}
-use Rattle.q3_server.specs.Server.{Handed, ServerState, add_apart, add_client_at, add_to, emit_at, emit_from, give, remove_entity_at, say_at, say_to, set_area_at, set_baseline_at, set_entity_at, set_player_at, set_time_at, slot_at, with_slot}
+use Rattle.q3_server.specs.Server.{Handed, ServerState, add_apart, add_client_at, add_to, emit_at, emit_from, give, remove_entity_at, say_at, say_to, set_area_at, set_baseline_at, set_delayed_at, set_entity_at, set_player_at, set_time_at, slot_at, with_slot}
 use Rattle.q3_server.specs.Taking as hears
 use Rattle.q3_server.specs.Apart.{KeepsFrames, SlotStays, SlotsApart, found_by, taker_of}
 
@@ -138,6 +138,7 @@ slots_apart held = record {
   time = λ server time d. stays d server (set_time_at server time) refl refl;
   player = λ server c d player ne. gives server c d (λ slot. with_player server.profile slot player) (slot_at server c) ne;
   area = λ server c d area ne. gives server c d (λ slot. with_area slot area) (slot_at server c) ne;
+  delays = λ server c d on ne. gives server c d (λ slot. with_delayed slot on) (slot_at server c) ne;
   says = λ server c d text ne. says server c d text (slot_at server c) ne;
   emits = λ server c d ne. emits_to held server c d (slot_at server c) ne;
   takes = takes;

@@ -4,10 +4,6 @@ use Rattle.std.specs.Prelude.{◌||◌, nat_le, nat_lt, if◌then◌else◌, All
 use Rattle.std.proofs.lemmas.Bool.{cases_Bool, cond_both, leb-false, both_ways}
 use Rattle.std.proofs.lemmas.List.{get_or_past}
 use Rattle.std.proofs.lemmas.List.Elements.{All-nil, All-cons, All-head, All-tail}
-use Rattle.q3_text.specs.declared.text.Command.{Command}
-use Rattle.q3_text.specs.Commands.{numbered}
-use Rattle.q3_text.specs.Texts.{IsText}
-use Rattle.q3_strings.specs.Laws.{IsCommand}
 use Rattle.q3_window.specs.Outgoing.{OutgoingState, IsOutgoing, carried}
 use Rattle.q3_profile.specs.declared.profile.Profile.{Profile}
 use Rattle.q3_player.specs.State.{zero_player}
@@ -27,22 +23,6 @@ use Rattle.q3_server.specs.Server.{ServerState, slot_at, emission_at, emit_from,
 use Rattle.q3_server.specs.Standing.{IsMap, IsJoined, IsServer, BeginsBuilt, Below}
 use Rattle.q3_server.proofs.KeepsMap.{none_held}
 use Rattle.q3_server.proofs.KeepsClients.{zero_held, at_place}
-
--- ---- commands
-
--- texts by number are commands
-numbered_are : (first : ℕ) (texts : List (List ℕ)) → first + length texts ≤ 2 ^ 32 → All IsText texts → All IsCommand (numbered first texts)
-unfolding numbered
-numbered_are first [] few are = All-nil IsCommand
-numbered_are first (text ∷ texts) few are =
-    All-cons IsCommand (record { number = first; text = text }) (numbered (first + 1) texts)
-    (record { number = omega (arith, few); text = All-head IsText text texts are })
-    (numbered_are (first + 1) texts (omega (arith, few)) (All-tail IsText text texts are))
-
-numbered_count : (first : ℕ) (texts : List (List ℕ)) → length (numbered first texts) ≡ length texts
-unfolding numbered
-numbered_count first [] = refl
-numbered_count first (text ∷ texts) = ap suc (numbered_count (first + 1) texts)
 
 -- ---- the next message
 
@@ -72,11 +52,12 @@ module _ (below : Below) (profile : Profile) (map : MapState) (slot : SlotState)
       let first = slot.issued.acknowledged + 1 in
       let numbers : slot.issued.acknowledged + length slot.issued.waiting ≤ 2 ^ 31 - 1 = is.window.numbers in
       let few = is.window.few in
+      let waiting = below.commands first slot.issued.waiting (omega (arith, numbers)) is.window.texts in
       record {
         ack = is.executed;
         text = is.last;
-        few = omega (arith, few, numbered_count first slot.issued.waiting);
-        commands = numbered_are first slot.issued.waiting (omega (arith, numbers)) is.window.texts;
+        few = omega (arith, few, waiting.1);
+        commands = waiting.0;
         key = refl;
         clear = clear;
       }

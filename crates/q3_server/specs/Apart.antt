@@ -1,5 +1,5 @@
 -- A call of the server for one client leaves what the others have.
-use Rattle.std.specs.Prelude.{◌≡◌, ◌≢◌, ℕ, List, Option, Some, None, Result, Ok, Err}
+use Rattle.std.specs.Prelude.{◌≡◌, ◌≢◌, ℕ, Bool, List, Option, Some, None, Result, Ok, Err}
 use Rattle.q3_io.specs.declared.address.Address.{Address}
 use Rattle.q3_chan.specs.declared.qport.NoQport.{NoQport}
 use Rattle.q3_chan.specs.Senders.{qport_of}
@@ -7,7 +7,7 @@ use Rattle.q3_entity.specs.declared.state.EntityState.{EntityState}
 use Rattle.q3_player.specs.declared.state.PlayerState.{PlayerState}
 use Rattle.q3_ring.specs.Snapshot.{Snapshot}
 use Rattle.q3_frames.specs.Frames.{FramesState, held_frame}
-use Rattle.q3_server.specs.Server.{ServerState, slot_at, add_client_at, set_baseline_at, set_entity_at, remove_entity_at, set_time_at, set_player_at, set_area_at, say_at, emit_at}
+use Rattle.q3_server.specs.Server.{ServerState, slot_at, add_client_at, set_baseline_at, set_entity_at, remove_entity_at, set_time_at, set_player_at, set_area_at, set_delayed_at, say_at, emit_at}
 use Rattle.q3_server.specs.Taking.{sender_of, take_at}
 
 -- the client that the server finds for bytes from an address, by the host and the qport, if it finds one
@@ -37,6 +37,7 @@ pub record SlotsApart : Type 0 where
   pub time : (server : ServerState) (time d : ℕ) → SlotStays d server (set_time_at server time)
   pub player : (server : ServerState) (c d : ℕ) (player : PlayerState) → d ≢ c → SlotStays d server (set_player_at server c player).server
   pub area : (server : ServerState) (c d : ℕ) (area : List ℕ) → d ≢ c → SlotStays d server (set_area_at server c area).server
+  pub delays : (server : ServerState) (c d : ℕ) (on : Bool) → d ≢ c → SlotStays d server (set_delayed_at server c on).server
   pub says : (server : ServerState) (c d : ℕ) (text : List ℕ) → d ≢ c → SlotStays d server (say_at server c text).server
   pub emits : (server : ServerState) (c d : ℕ) → d ≢ c → SlotStays d server (emit_at server c).server
   pub takes : (server : ServerState) (d : ℕ) (from : Address) (bytes : List ℕ) → taker_of server from bytes ≢ Some d → SlotStays d server (take_at server from bytes).server

@@ -3,6 +3,7 @@ use Rattle.std.specs.Prelude.{◌≡◌, ◌≢◌, ℕ, ◌+◌, ◌^◌, ◌<�
 use Rattle.q3_profile.specs.declared.profile.Profile.{Profile}
 use Rattle.q3_profile.specs.Profile.{IsCodec}
 use Rattle.q3_text.specs.Texts.{IsTextByte}
+use Rattle.q3_strings.specs.Laws.{NumberedAreCommands}
 use Rattle.q3_config.specs.Strings.{AreStrings, server_id}
 use Rattle.q3_config.specs.Laws.{StringsStay, TextsStay}
 use Rattle.q3_player.specs.Laws.{NormalIsNormal, ZeroIsNormal}
@@ -53,6 +54,7 @@ BeginsBuilt server c =
 
 -- the laws of lower crates on which that rests
 pub record Below : Type 0 where
+  pub commands : NumberedAreCommands
   pub entity : EntityNormalIsNormal
   pub no_lines : NoLinesAreLines
   pub line : LineIsAdded

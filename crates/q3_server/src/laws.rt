@@ -13,6 +13,7 @@ use q3_player::laws as player;
 pub(crate) fn below()
     ensures { Below }
 {
+    q3_strings::laws::numbered_are_commands();
     entity::normal_is_normal();
     entity::no_lines_are_lines();
     entity::line_is_added();

@@ -7,7 +7,6 @@ ghost use Rattle.q3_chan.specs.Datagrams.{longest_message, sequence_end};
 ghost use Rattle.q3_chan.specs.Gathering.{Gathering};
 ghost use Rattle.q3_chan.specs.Sending.{HandsOut, IsIdle};
 ghost use Rattle.q3_frames.specs.Frames.{FramesState};
-ghost use Rattle.q3_map.specs.Map.{AreNumbered};
 ghost use Rattle.q3_slot.specs.Emitting.{most_placed};
 ghost use Rattle.q3_slot.specs.Slots.{HoldLists, game_emission, slot_of, snapshot_emission};
 
@@ -83,7 +82,6 @@ pub(crate) fn begin_snapshot(
     requires number { sender.old.number + 1 < sequence_end }
     requires slot { to.slot < length frames.old.slots }
     requires placed { frames.old.placed ≤ most_placed }
-    requires numbered { AreNumbered profile.now.entity map.now.entities }
     requires lists { HoldLists profile.now.entity frames.old }
     requires buffer { length buffer.old ≡ longest_message }
     requires out { out.old.items ≡ [] }

@@ -12,7 +12,6 @@ ghost use Rattle.q3_config.specs.Laws.{piece_texts};
 ghost use Rattle.q3_window.specs.Outgoing.{fits, total_of, with_texts};
 ghost use Rattle.q3_slot.specs.Slot.{SlotState, is_of, new_slot, on_new_map, sending_of, with_area, with_delayed, with_player};
 ghost use Rattle.q3_slot.specs.Standing.{IsSlot};
-ghost use Rattle.q3_map.specs.Map.{AreNumbered};
 ghost use Rattle.q3_slot.specs.Slots.{HoldLists, game_emission, given, changes_own, slot_saying, said_of_slot, lacks_places, lacks_room, tells, slot_after, map_after, frames_after, answer_of, piece_of, slot_behind, taken_of};
 
 use crate::answer::{Emitted, NoClient, SayError};
@@ -307,7 +306,6 @@ impl Slot {
     ) -> Emitted
         requires out { out.old.items ≡ [] }
         requires slot { slot < length frames.old.slots }
-        requires numbered { AreNumbered profile.now.entity map.old.entities }
         requires lists { HoldLists profile.now.entity frames.old }
         requires buffer { length buffer.old ≡ longest_message }
         ensures slot { self.new ≡ slot_after profile.now map.old frames.old slot self.old }

@@ -1,6 +1,7 @@
 pub mod Fronts
 pub mod Rows
 pub mod Spelled
+pub mod Numbered
 pub mod Nops
 pub mod Turns
 pub mod OperationTurns

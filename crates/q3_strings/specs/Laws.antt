@@ -1,9 +1,10 @@
--- Laws of bytes, of strings and of commands.
+-- Laws of bytes, of strings, of commands and of rows of operations.
 use Rattle.std.specs.Prelude.{◌≡◌, ◌≢◌, ℕ, ◌+◌, ◌^◌, ◌<◌, ◌≤◌, Bool, List, [], ◌∷◌, ◌++◌, length, All, Ok, Err}
 use Rattle.q3_bits.specs.Words.{IsCode, row_bits, field_at}
 use Rattle.q3_bits.specs.declared.reader.ReadError.{ReadError}
 use Rattle.q3_bits.specs.declared.reader.ReadError.TheVariants.{End}
 use Rattle.q3_text.specs.declared.text.Command.{Command}
+use Rattle.q3_text.specs.Commands.{numbered}
 use Rattle.q3_text.specs.Texts.{IsText, IsTextByte}
 use Rattle.q3_strings.specs.Texts.{bytes_row, string_bits, command_bits}
 use Rattle.q3_strings.specs.Reading.{bytes_after, string_after, command_after}
@@ -59,6 +60,11 @@ CommandSpelledIsRead = (words : List (List Bool)) (command : Command) (spelling 
 abbrev pub CommandsAreSpelled : Type 0
 CommandsAreSpelled = (words : List (List Bool)) (operation : ℕ) (commands : List Command) → All IsCommand commands
     → SpellsCommands words operation commands (commands_bits words operation commands)
+
+-- texts under numbers from a first one on, of 32 bits each, are as many commands
+abbrev pub NumberedAreCommands : Type 0
+NumberedAreCommands = (first : ℕ) (texts : List (List ℕ)) → first + length texts ≤ 2 ^ 32 → All IsText texts
+    → All IsCommand (numbered first texts) × (length (numbered first texts) ≡ length texts)
 
 -- a nop before commands, and before the nops behind them, is a nop of theirs
 abbrev pub NopIsSpelled : Type 0

@@ -1,6 +1,6 @@
 //! Laws of bytes, of strings, of commands and of operations, each the contract of a call that does nothing but cite the laws below it.
 
-ghost use Rattle.q3_strings.specs.Laws.{BytesWerePut, BytesAreRead, StringIsSpelled, StringReadIsSpelled, StringSpelledIsRead, CommandIsSpelled, CommandReadIsSpelled, CommandSpelledIsRead, CommandsAreSpelled, NopIsSpelled, NopsAreNops, TurnsAreTaken, RowReadIsSpelled, RowSpelledIsRead, EndingReadIsSpelled, EndingSpelledIsRead};
+ghost use Rattle.q3_strings.specs.Laws.{BytesWerePut, BytesAreRead, StringIsSpelled, StringReadIsSpelled, StringSpelledIsRead, CommandIsSpelled, CommandReadIsSpelled, CommandSpelledIsRead, CommandsAreSpelled, NumberedAreCommands, NopIsSpelled, NopsAreNops, TurnsAreTaken, RowReadIsSpelled, RowSpelledIsRead, EndingReadIsSpelled, EndingSpelledIsRead};
 
 use q3_bits::laws;
 
@@ -67,6 +67,11 @@ pub fn commands_are_spelled()
 {
     command_is_spelled();
 }
+
+/// Texts under numbers of 32 bits are as many commands.
+pub fn numbered_are_commands()
+    ensures { NumberedAreCommands }
+{}
 
 /// A nop before commands, and before the nops behind them, is a nop of theirs.
 pub fn nop_is_spelled()

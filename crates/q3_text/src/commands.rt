@@ -12,7 +12,7 @@ use std::marker::Model;
 const MOST_COMMANDS: usize = 64;
 
 /// At most 64 commands. To a caller it is their list. The places lie on the heap: `new` takes their memory, and no later
-/// call takes any. A place is written over when it is used again, and never blanked.
+/// call takes any. A place is written over when it is used again.
 #[derive(Drop)]
 pub struct Commands {
     places: Vec<Command>,

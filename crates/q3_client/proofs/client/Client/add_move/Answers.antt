@@ -13,4 +13,6 @@ invariant_of-self c =
       was.2,
       search rules,
       moves_pushed c.self.inside.moves.items c.push_back.new.self.items c.self.inside.moves.capacity issued (search rules) (c.is_issuable.ensures.fits (search rules)) was.4,
+      was.5,
+      was.6,
     )

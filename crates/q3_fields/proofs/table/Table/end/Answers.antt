@@ -7,13 +7,13 @@ use Rattle.q3_fields.proofs.table.Table.end.Goals as goal
 pub returns-clause-most : goal.returns-clause-most
 returns-clause-most c =
     let bits = c.self.inside.number_bits in
-    let within = c.self.invariant.table.number_bits in
+    let within = c.self.invariant.numbers in
     let most : 2 ^ bits ≤ 2 ^ most_number_bits = pow_mono within.1 in
     omega (arith, most, one_shl bits 32 (omega (arith, within.1)))
 
 pub returns-clause-least : goal.returns-clause-least
 returns-clause-least c =
     let bits = c.self.inside.number_bits in
-    let within = c.self.invariant.table.number_bits in
+    let within = c.self.invariant.numbers in
     let least : 2 ^ least_number_bits ≤ 2 ^ bits = pow_mono within.0 in
     omega (arith, least, one_shl bits 32 (omega (arith, within.1)))

@@ -14,6 +14,3 @@ invariant_of-self c =
       search rules,
       server_emitted c.self.inside.profile c.self.inside.map c.self.inside.slots.items c.args.slot c.index_mut.result.now c.emit.new.self (search rules) (search rules) c.self.invariant.5 c.self.inside.frames c.emit.new.map c.emit.ensures.slot c.emit.ensures.map,
     )
-
-pub emit-requires-clause-numbered : goal.emit-requires-clause-numbered
-emit-requires-clause-numbered c = record { rise = c.self.invariant.5.is_map.entities.rise }
