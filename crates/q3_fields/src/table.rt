@@ -1,6 +1,6 @@
 //! Tables of fields. Keeps the rule "field tables", the engine's `entityStateFields` and `playerStateFields`.
 
-ghost use Rattle.std.specs.Prelude.{◌≡◌, ◌≤◌, ◌×◌, length, slice_get, IfOk, IfSome};
+ghost use Rattle.std.specs.Prelude.{◌≡◌, ◌≤◌, length, slice_get, IfOk, IfSome};
 ghost use Rattle.q3_fields.specs.Kinds.{IsKind, IsTable, kind_of, table_of, end_mark, least_number_bits, most_number_bits, least_end, most_end};
 
 use crate::kind::Kind;
