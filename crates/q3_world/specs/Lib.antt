@@ -2,8 +2,8 @@ pub mod MessageLaws
 pub mod Layers
 pub mod Apart
 pub mod Ends
+pub mod EndsLent
 pub mod Counts
-pub mod Executed
 pub mod Kept
 pub mod Moves
 pub mod World
@@ -11,4 +11,5 @@ pub mod Games
 pub mod StandsFor
 pub mod Report
 pub mod Outcome
+pub mod Doing
 pub mod Schedules

@@ -2,10 +2,10 @@
 #![tactic(auto)]
 
 pub mod counts;
+mod ends;
 pub mod laws;
 mod made;
 mod places;
-mod replay;
 pub mod world;
 
 pub use counts::Counts;

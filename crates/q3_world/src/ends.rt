@@ -1,0 +1,299 @@
+//! Both ends of every client, and what a line of a script does at them.
+
+ghost use Rattle.std.specs.Prelude.{◌≡◌, ◌<◌, ◌≤◌, ◌+◌, [], length, vec_capacity, IfOk, IfSome, IsSome, OnErr, OnOk};
+ghost use Rattle.std.specs.Borrow.{sem};
+ghost use Rattle.q3_profile.specs.Profile.{IsProfile, IsCodec};
+ghost use Rattle.q3_script.specs.Grammar.{IsReplayEvent};
+ghost use Rattle.q3_server.specs.Server.{places, emit_at};
+ghost use Rattle.q3_report.specs.Answers.{Given, Shown};
+ghost use Rattle.q3_report.specs.Tellings.{answered_of, showing_of};
+ghost use Rattle.q3_ends.specs.AtServer.{server_line};
+
+use crate::made::{Direction, Made, keep};
+use crate::places::{Place, no_places};
+use q3_bits::NoMemory;
+use q3_chan::{DATAGRAM_ROOM, Datagram};
+use q3_client::Client;
+use q3_clmsg::Move;
+use q3_clstate::Log;
+use q3_ends::client::{add_move, client_takes, show, type_text};
+use q3_ends::server::{server_line, server_takes};
+use q3_io::Address;
+use q3_profile::Profile;
+use q3_report::{Answer, Front, HandedIn, MoveRefused, Shown, TypeRefused};
+use q3_script::Event;
+use q3_server::{Heard, MOST_SLOTS, NoClient, Server};
+use q3_text::Text;
+use std::alloc::Global;
+use std::marker::Model;
+
+/// A server, and each client that was added, at its place.
+#[derive(Drop)]
+pub(crate) struct Ends {
+    server: Server,
+    clients: Vec<Option<Place>>,
+}
+
+impl Model for Ends {
+    ghost use Rattle.std.specs.Prelude.{◌≡◌, length};
+    ghost use Rattle.q3_server.specs.Server.{places};
+    ghost use Rattle.q3_world.specs.Ends as both;
+
+    ghost Value = { both.Ends };
+
+    ghost view = { λ e. record { server = e.server; clients = e.clients.items } };
+
+    ghost invariant = { λ e. length e.clients.items ≡ places };
+}
+
+impl Ends {
+    ghost use Rattle.q3_world.specs.Ends.{place_at, new_ends, join, set_port, to_server, type_text, add_move, show, hand_client, hand_server, step_in, line_of};
+    ghost use Rattle.q3_world.specs.Kept.{Kept, arrive_at, kept_serve, kept_send};
+    ghost use Rattle.q3_world.specs.EndsLent.{EndsEndAs, StepsOrStays};
+
+    /// A server by this profile, and no client. `Err` is want of memory.
+    pub fn new(alloc: Global, profile: &Profile) -> Result<Ends, NoMemory>
+        requires { IsProfile profile.now }
+        ensures made { IfOk result (λ made. made ≡ new_ends profile.now) }
+        ensures codec { OnOk result (IsCodec profile.now) }
+    {
+        Ok(Ends {
+            server: Server::new(alloc, profile, MOST_SLOTS)?,
+            clients: no_places(alloc)?,
+        })
+    }
+
+    /// What a line does that hands something in, hands bytes to an end, or shows a client. Where a datagram is taken, the list of the end
+    /// that takes it tells what was executed and run; both lists may hold anything before. `Err` is want of memory, at `client` alone,
+    /// and changes nothing.
+    #[tactic(auto, unfolding(crate::specs::Ends::line_of))]
+    pub fn line<'a>(
+        &'a mut self,
+        alloc: Global,
+        profile: &Profile,
+        event: &Event,
+        log: &'a mut Log,
+        heard: &'a mut Heard,
+    ) -> Result<Answer<'a>, NoMemory>
+        requires profile { IsProfile profile.now }
+        requires event { IsReplayEvent event.now }
+        requires line { IsSome (step_in (line_of profile.now self.old event.now)) }
+        ensures* ends { sem 𝓛 (StepsOrStays self.entry result (step_in (line_of profile.now self.old event.now))) }
+        ensures answer { IfOk result (λ answer. IfSome (step_in (line_of profile.now self.old event.now)) (λ step. answered_of answer ≡ step.answer)) }
+    {
+        match event {
+            Event::Client {
+                c,
+                challenge,
+                qport,
+                dup,
+                address,
+            } => match self.join(alloc, profile, *c, *challenge, *qport, *dup, *address) {
+                Ok(handed) => Ok(Answer::HandedIn(handed)),
+                Err(error) => Err(error),
+            },
+            Event::Port { c, port } => Ok(Answer::HandedIn(self.set_port(*c, *port))),
+            Event::TypeText { c, text } => Ok(Answer::HandedIn(self.type_text(*c, text))),
+            Event::Move { c, one } => Ok(Answer::HandedIn(self.add_move(*c, one))),
+            Event::Show { c } => Ok(self.show(*c)),
+            Event::Toclient { c, bytes } => Ok(self.hand_client(*c, bytes.bytes(), log)),
+            Event::Toserver { c, bytes } => Ok(self.hand_server(*c, bytes.bytes(), heard)),
+            _ => Ok(Answer::HandedIn(self.game_line(event))),
+        }
+    }
+
+    /// A client joins, at both ends. The memory of its own end is taken first.
+    fn join(
+        &mut self,
+        alloc: Global,
+        profile: &Profile,
+        c: u8,
+        challenge: u32,
+        qport: u16,
+        dup: u8,
+        address: Address,
+    ) -> Result<HandedIn, NoMemory>
+        requires profile { IsProfile profile.now }
+        requires place { c < places }
+        ensures ok { IfOk result (λ handed. join profile.now self.old c challenge qport dup address ≡ record { ends = self.new; answer = Given handed }) }
+        ensures err { OnErr result (self.new ≡ self.old) }
+    {
+        let client = Client::new(alloc, profile, challenge, qport, dup)?;
+        if let Err(error) = self.server.add_client(c, challenge, qport, address) {
+            return Ok(HandedIn::Client {
+                c,
+                outcome: Err(error),
+            });
+        }
+        self.clients[c as usize] = Some(Place { client, address });
+        Ok(HandedIn::Client { c, outcome: Ok(()) })
+    }
+
+    /// A client's later datagrams come from another port.
+    fn set_port(&mut self, c: u8, port: u16) -> HandedIn
+        requires { c < places }
+        ensures { set_port self.old c port ≡ record { ends = self.new; answer = Given result } }
+    {
+        let Some(place) = &mut self.clients[c as usize] else {
+            return HandedIn::Port {
+                c,
+                outcome: Err(NoClient),
+            };
+        };
+        place.address.port = port;
+        HandedIn::Port { c, outcome: Ok(()) }
+    }
+
+    /// A line of the game, at the server.
+    fn game_line(&mut self, event: &Event) -> HandedIn
+        requires event { IsReplayEvent event.now }
+        requires line { IsSome (server_line self.old.server event.now) }
+        ensures { IfSome (server_line self.old.server event.now) (λ step. to_server self.old step ≡ record { ends = self.new; answer = Given result }) }
+    {
+        server_line(&mut self.server, event).unwrap()
+    }
+
+    /// A client issues a command.
+    fn type_text(&mut self, c: u8, text: &Text) -> HandedIn
+        requires { c < places }
+        ensures { type_text self.old c text.now ≡ record { ends = self.new; answer = Given result } }
+    {
+        let Some(place) = &mut self.clients[c as usize] else {
+            return HandedIn::TypeText {
+                c,
+                outcome: Err(TypeRefused::NoClient),
+            };
+        };
+        type_text(&mut place.client, c, text)
+    }
+
+    /// A client issues a move.
+    fn add_move(&mut self, c: u8, one: &Move) -> HandedIn
+        requires { c < places }
+        ensures { add_move self.old c one.now ≡ record { ends = self.new; answer = Given result } }
+    {
+        let Some(place) = &mut self.clients[c as usize] else {
+            return HandedIn::Move {
+                c,
+                outcome: Err(MoveRefused::NoClient),
+            };
+        };
+        add_move(&mut place.client, c, one)
+    }
+
+    /// What a client shows.
+    fn show(&self, c: u8) -> Answer<'_>
+        requires { c < places }
+        ensures { show self.now c ≡ record { ends = self.now; answer = answered_of result } }
+    {
+        let shown = match &self.clients[c as usize] {
+            None => Shown::NoClient,
+            Some(place) => show(&place.client),
+        };
+        Answer::Show { c, shown }
+    }
+
+    /// Bytes are handed to a client.
+    fn hand_client<'a>(&'a mut self, c: u8, bytes: &[u8], log: &'a mut Log) -> Answer<'a>
+        requires { c < places }
+        ensures* ends { sem 𝓛 (EndsEndAs self.entry (hand_client self.old c bytes.now).ends) }
+        ensures answer { answered_of result ≡ (hand_client self.old c bytes.now).answer }
+    {
+        let front = Front::Toclient { c };
+        match &mut self.clients[c as usize] {
+            None => Answer::Untaken { front },
+            Some(place) => client_takes(&mut place.client, front, c, bytes, log),
+        }
+    }
+
+    /// Bytes are handed to the server, from a client's address.
+    fn hand_server<'a>(&mut self, c: u8, bytes: &[u8], heard: &'a mut Heard) -> Answer<'a>
+        requires { c < places }
+        ensures { hand_server self.old c bytes.now ≡ record { ends = self.new; answer = answered_of result } }
+    {
+        let front = Front::Toserver { c };
+        let Some(place) = &self.clients[c as usize] else {
+            return Answer::Untaken { front };
+        };
+        let from = place.address;
+        server_takes(&mut self.server, front, from, bytes, heard)
+    }
+
+    /// A datagram arrives: the end that it goes to takes it.
+    pub fn arrive<'a>(
+        &'a mut self,
+        number: u32,
+        sent: &Made,
+        log: &'a mut Log,
+        heard: &'a mut Heard,
+    ) -> Answer<'a>
+        ensures* ends { sem 𝓛 (EndsEndAs self.entry (arrive_at self.old number sent.now sent.now.direction).ends) }
+        ensures answer { answered_of result ≡ (arrive_at self.old number sent.now sent.now.direction).answer }
+    {
+        let front = Front::Deliver { datagram: number };
+        if let Direction::ToServer { from } = sent.direction {
+            return server_takes(&mut self.server, front, from, &sent.bytes, heard);
+        }
+        match &mut self.clients[sent.client as usize] {
+            None => Answer::Untaken { front },
+            Some(place) => client_takes(&mut place.client, front, sent.client, &sent.bytes, log),
+        }
+    }
+
+    /// The server makes a datagram for a client, which is kept behind the others under the next number, if it is handed out.
+    pub fn serve<'a>(
+        &mut self,
+        c: u8,
+        datagrams: &mut Vec<Made>,
+        bytes: Vec<u8>,
+        datagram: u32,
+    ) -> Answer<'a>
+        requires place { c < places }
+        requires room { length datagrams.old.items + 1 ≤ vec_capacity datagrams.old }
+        requires bytes { (bytes.items ≡ []) × (DATAGRAM_ROOM ≤ vec_capacity bytes) }
+        requires number { datagram ≡ length datagrams.old.items + 1 }
+        ensures { (kept : Kept) → kept.ends ≡ self.old → kept.datagrams ≡ datagrams.old.items → kept_serve kept c (emit_at kept.ends.server c)
+            ≡ record { kept = record kept { ends = self.new; datagrams = datagrams.new.items }; answer = answered_of result } }
+    {
+        let mut out = Datagram::new();
+        let emitted = self.server.emit(c, &mut out);
+        keep(datagrams, c, Direction::ToClient, bytes, &out);
+        Answer::Serve {
+            c,
+            emitted,
+            datagram,
+        }
+    }
+
+    /// A client makes a datagram, which is kept likewise.
+    pub fn send<'a>(
+        &mut self,
+        c: u8,
+        datagrams: &mut Vec<Made>,
+        bytes: Vec<u8>,
+        datagram: u32,
+    ) -> Answer<'a>
+        requires place { c < places }
+        requires room { length datagrams.old.items + 1 ≤ vec_capacity datagrams.old }
+        requires bytes { (bytes.items ≡ []) × (DATAGRAM_ROOM ≤ vec_capacity bytes) }
+        requires number { datagram ≡ length datagrams.old.items + 1 }
+        ensures { (kept : Kept) → kept.ends ≡ self.old → kept.datagrams ≡ datagrams.old.items → kept_send kept c (place_at kept.ends c)
+            ≡ record { kept = record kept { ends = self.new; datagrams = datagrams.new.items }; answer = answered_of result } }
+    {
+        let Some(place) = &mut self.clients[c as usize] else {
+            return Answer::Send {
+                c,
+                sent: Err(NoClient),
+                datagram,
+            };
+        };
+        let mut out = Datagram::new();
+        let (sent, from) = place.send(&mut out);
+        keep(datagrams, c, Direction::ToServer { from }, bytes, &out);
+        Answer::Send {
+            c,
+            sent: Ok(sent),
+            datagram,
+        }
+    }
+}
