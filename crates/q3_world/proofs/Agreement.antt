@@ -3,10 +3,10 @@ use Rattle.std.proofs.Common.{None, Option, Some, ◌≡◌, List, false, true, 
 use Rattle.std.specs.Prelude.{map}
 use Rattle.std.proofs.lemmas.Bool.{both_ways, cases_Bool}
 use Rattle.q3_client.specs.Client.{ClientState}
-use Rattle.q3_world.specs.Schedules.{IsOwn}
+use Rattle.q3_world.specs.ByTags.{IsOwn}
 use Rattle.q3_world.proofs.Foreign.{bytes_seen, handed_seen, steps_seen}
 use Rattle.q3_world.proofs.Ported.{holds_port}
-use Rattle.q3_world.proofs.Stood.{Stood, stays_foreign}
+use Rattle.q3_world.proofs.StaysForeign.{stays_foreign}
 use Rattle.q3_profile.specs.declared.profile.Profile.{Profile}
 use Rattle.q3_script.specs.declared.event.Event.{Event}
 use Rattle.q3_script.specs.declared.event.Event.TheVariants as events
@@ -59,14 +59,11 @@ steps_agree profile whole (events.Toserver c bytes) cited is own holds = absurd 
 -- ---- what stands for a whole
 
 -- it is what is kept of the whole
-kept_so : (profile : Profile) (kept : Kept) (whole : Whole) → kept.profile ≡ profile → kept.ends ≡ whole.ends → kept.datagrams ≡ map bytes_of whole.sent → kept ≡ kept_of profile whole
+pub kept_so : (profile : Profile) (kept : Kept) (whole : Whole) → kept.profile ≡ profile → kept.ends ≡ whole.ends → kept.datagrams ≡ map bytes_of whole.sent → kept ≡ kept_of profile whole
 kept_so profile kept whole by ends datagrams =
     ap (λ (p : Profile). record { profile = p; ends = kept.ends; datagrams = kept.datagrams }) by
     ∙ (ap (λ (e : Ends). record { profile = profile; ends = e; datagrams = kept.datagrams }) ends
     ∙ ap (λ (d : List SentBytes). record { profile = profile; ends = whole.ends; datagrams = d }) datagrams)
-
-pub kept_is : (profile : Profile) (kept : Kept) (whole : Whole) → Stood profile kept whole → kept ≡ kept_of profile whole
-kept_is profile kept whole stands = kept_so profile kept whole stands.by stands.ends stands.datagrams
 
 pub stands_of : (profile : Profile) (whole : Whole) → (whole.foreign ≡ false → Holds profile whole) → StandsFor profile (kept_of profile whole) whole
 stands_of profile whole holds = record { by = refl; ends = refl; datagrams = refl; facts = λ own. (holds own).facts; joined = λ own. (holds own).joined }

@@ -1,11 +1,11 @@
 -- What a message that was built does at a client, by all that the client accepted.
-use Rattle.std.proofs.Common.{◌≡◌, ℕ, zero, suc, ◌+◌, ◌<◌, true, false, List, Option, Some, None, Result, Ok, Err, refl, sym, ap, ◌∙◌, inl, inr, arith}
+use Rattle.std.proofs.Common.{◌≡◌, ◌<◌, true, false, List, Option, Some, None, Result, Ok, Err, refl, sym, ap, ◌∙◌, inl, inr, arith, ℕ}
 use Rattle.std.specs.Prelude.{◌⊎◌, Contains, IfSome, is_ok, if◌then◌else◌}
 use Rattle.std.proofs.lemmas.Bool.{cases_Bool, lt-leb}
 use Rattle.q3_ring.specs.Snapshot.{Snapshot}
 use Rattle.q3_rings.specs.declared.rings.NoBase.{NoBase}
 use Rattle.q3_rings.specs.declared.rings.NoBase.TheVariants.{EntitiesGone}
-use Rattle.q3_rings.specs.Rings.{HeldSnapshots, is_young, held_snapshot}
+use Rattle.q3_rings.specs.Rings.{is_young, held_snapshot}
 use Rattle.q3_rings.specs.Accepted.{SnapshotsStandFor, age_of}
 use Rattle.q3_clstate.specs.declared.applied.SnapOutcome.TheVariants.{Accepted, Skipped}
 use Rattle.q3_gamestate.specs.Values.{Gamestate}
@@ -14,12 +14,8 @@ use Rattle.q3_text.specs.declared.text.Command.{Command}
 use Rattle.q3_svmsg.specs.Values.{Message}
 use Rattle.q3_built.specs.Built.{Built, Telling, number_of, message_of, built_of, game_message_of, game_built_of, IsNear}
 use Rattle.q3_world.specs.Layers.{RingLaws}
-use Rattle.q3_world.specs.Schedules.{outcome_of}
-
--- a base that a message names is there where it is held
-pub has_base_is : (held : HeldSnapshots) (number : ℕ) → 0 < number → has_base held number ≡ is_ok (held_snapshot held number)
-has_base_is held zero some = absurd (omega (arith, some))
-has_base_is held (suc number) some = let same : number + 1 ≡ suc number = omega arith in ap (λ (k : ℕ). is_ok (held_snapshot held k)) same
+use Rattle.q3_world.specs.Answering.{outcome_of}
+use Rattle.q3_messages.proofs.BuiltText.{has_base_is}
 
 -- a message is applied in one of two ways: its snapshot is accepted, or skipped because the entities of its base are gone
 abbrev pub IsAccepted : AppliedState → List Snapshot → ℕ → Telling → Option Snapshot → Snapshot → Type 0

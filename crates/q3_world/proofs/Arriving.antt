@@ -1,6 +1,6 @@
 -- A datagram arrives by its bytes as by its tag.
 use Rattle.q3_rings.specs.declared.rings.NoBase.TheVariants.{EntitiesGone}
-use Rattle.std.proofs.Common.{◌≡◌, ℕ, ◌-◌, ◌^◌, ◌<◌, Bool, true, false, List, [], ◌∷◌, length, Option, Some, None, Result, Ok, refl, sym, ap, subst, ◌∙◌, inl, inr, arith, lit<, ◌++◌, ◌≤◌}
+use Rattle.std.proofs.Common.{◌≡◌, ◌-◌, ◌^◌, ◌<◌, Bool, true, false, List, [], ◌∷◌, length, Option, Some, None, Result, Ok, refl, sym, ap, subst, ◌∙◌, inl, inr, arith, ◌++◌, ◌≤◌, ℕ, lit<}
 use Rattle.std.specs.Prelude.{◌||◌, slice_get, All, Contains, ◌⊎◌, IfSome, if◌then◌else◌, map}
 use Rattle.std.specs.Option.{option_map}
 use Rattle.std.proofs.lemmas.List.{append-nil}
@@ -20,7 +20,6 @@ use Rattle.q3_ring.specs.Snapshot.{Snapshot}
 use Rattle.q3_rings.specs.Rings.{accept_at}
 use Rattle.q3_clstate.specs.State.{Application, apply_message, AppliedState, accepts, after_gamestate, applies_game, heard_with, hearing, passes}
 use Rattle.q3_chan.specs.declared.side.Side.{Side}
-use Rattle.q3_chan.specs.declared.side.Side.TheVariants.{Server, Client}
 use Rattle.q3_chan.specs.declared.gatherer.Gathered.{Gathered}
 use Rattle.q3_chan.specs.declared.gatherer.Gathered.TheVariants as gathered
 use Rattle.q3_chan.specs.declared.qport.NoQport.{NoQport}
@@ -30,18 +29,18 @@ use Rattle.q3_chan.specs.Gathering.{Gathering, Took, gathered as gathered_of}
 use Rattle.q3_chan.specs.Tags.{tagged, IsQuiet, PieceDoes}
 use Rattle.q3_chan.specs.Senders.{qport_of}
 use Rattle.q3_chan.specs.Laws.{HoldsFront, SentIsTagged, Gathers}
-use Rattle.q3_client.specs.Client.{ClientState, Taken, Reception, receive_message, receive_bytes, applies, applies_read, take_answer, take_gathered, take_unless, take_at}
+use Rattle.q3_client.specs.Client.{ClientState, Taken, Reception, receive_message, receive_bytes, applies, applies_read, take_answer, take_gathered, take_at}
 use Rattle.q3_client.specs.Sending.{said_bytes, Said, IsSaid}
-use Rattle.q3_built.specs.Built.{Built, IsNear, IsSnapshot, IsBuilt, BuildsGame, BuildsSnapshot, Telling, number_of, built_bytes}
+use Rattle.q3_built.specs.Built.{Built, IsNear, IsSnapshot, IsBuilt, BuildsGame, BuildsSnapshot, Telling, number_of, built_bytes, plain_bytes}
 use Rattle.q3_slot.specs.Slot.{SlotState}
-use Rattle.q3_slot.specs.Taking.{asked_with, delta_behind, runs, last_run_of, said_by, Came, OfMap, OfOther, asks_game, heads_of, moves_on, came_as, goes_on}
+use Rattle.q3_slot.specs.Taking.{asked_with, delta_behind, said_by, Came, OfMap, OfOther, asks_game, heads_of, moves_on, came_as, goes_on}
 use Rattle.q3_server.specs.Server.{places, slot_at}
 use Rattle.q3_server.specs.Taking.{sender_of}
 use Rattle.q3_slot.specs.Taking as by_slot
 use Rattle.q3_server.specs.Taking as hears
 use Rattle.q3_world.specs.declared.made.Direction.{Direction}
 use Rattle.q3_world.specs.declared.made.Direction.TheVariants.{ToClient, ToServer}
-use Rattle.q3_world.specs.MessageLaws.{HoldsThis}
+use Rattle.q3_messages.specs.MessageLaws.{HoldsThis}
 use Rattle.q3_world.specs.Ends.{client_at, address_at}
 use Rattle.q3_world.specs.Kept.{kept_client_took, kept_to_client, kept_server_took, kept_arrive, kept_deliver, kept_step}
 use Rattle.q3_world.specs.World.{Tag, Whole, History, no_said, history_at, named, client_took, to_client, said_under, server_took, to_server, arrive, deliver, step, Played, game_in, texts_of, with_game, with_taken, with_heard, deliver_as}
@@ -49,7 +48,7 @@ use Rattle.q3_world.specs.StandsFor.{BeginsMessages, KeepsSlot, IsPiece, IsSent,
 use Rattle.q3_world.proofs.MoveLists.{consecutive_issued}
 use Rattle.q3_world.proofs.Clients.{no_client, no_end, at_number, said_number, KeepsSlot-ran, KeepsSlot-acknowledged}
 use Rattle.q3_world.proofs.Joined.{TakesBuilt-gathered, TakesBuilt-passed, TakesBuilt-accepted, TakesBuilt-started, AreAsked-accepted}
-use Rattle.q3_world.proofs.Bases.{if_some_then}
+use Rattle.q3_messages.proofs.Options.{if_some_then}
 use Rattle.q3_clstate.specs.Standing.{IsApplied}
 use Rattle.q3_world.proofs.Knowing.{KnownBase, known_base, was_built_is, holds_this}
 use Rattle.q3_world.proofs.Applying.{applies_message, applies_game_message}
@@ -70,6 +69,7 @@ use Rattle.q3_world.proofs.Mapped.{fresh_own, jump_same, mapped_accepted, mapped
 use Rattle.q3_world.proofs.Plays.{plays_are, plays_on}
 use Rattle.q3_world.specs.Games.{Carries, accepted_since, AreMapped, standing_of}
 use Rattle.std.proofs.lemmas.Bool.{cases_Bool}
+use Rattle.q3_messages.proofs.Survives.{taken_by_bytes}
 
 -- ---- what a datagram does
 
@@ -117,18 +117,18 @@ quiet_client client gathered.Connectionless read is = absurd is
 
 -- what comes whole is received as the message that was built
 pub taken_alike : (profile : Profile) (client : ClientState) (took : Took) (number : ℕ) (built : Built)
-    → (client.gathering.taken < number → receive_bytes client number (built_bytes profile built) ≡ Ok (receive_message client number built.message))
+    → (client.gathering.taken < number → receive_bytes client number (built_bytes profile built) ≡ Ok (receive_message client number built.message (plain_bytes profile built)))
     → PieceDoes client.gathering number (built_bytes profile built) took
-    → take_gathered client took (λ n. receive_bytes client n took.message) ≡ take_gathered client took (λ n. Ok (receive_message client n built.message))
+    → take_gathered client took (λ n. receive_bytes client n took.message) ≡ take_gathered client took (λ n. Ok (receive_message client n built.message (plain_bytes profile built)))
 taken_alike profile client took number built received does =
     let now = record client { gathering = took.gathering } in
     elim does.either [
-      | inl waits ↦ quiet_same now took.answer (λ n. receive_bytes client n took.message) (λ n. Ok (receive_message client n built.message)) waits.quiet
+      | inl waits ↦ quiet_same now took.answer (λ n. receive_bytes client n took.message) (λ n. Ok (receive_message client n built.message (plain_bytes profile built))) waits.quiet
       | inr came ↦
-          let read : receive_bytes client number took.message ≡ Ok (receive_message client number built.message) =
+          let read : receive_bytes client number took.message ≡ Ok (receive_message client number built.message (plain_bytes profile built)) =
           ap (λ (m : List ℕ). receive_bytes client number m) came.message_is ∙ received came.newer in
           ap (λ (a : Gathered). take_answer now a (λ n. receive_bytes client n took.message)) came.answer
-          ∙ (ap (λ (x : Read). applies_read now x) read ∙ ap (λ (a : Gathered). take_answer now a (λ n. Ok (receive_message client n built.message))) (sym came.answer))
+          ∙ (ap (λ (x : Read). applies_read now x) read ∙ ap (λ (a : Gathered). take_answer now a (λ n. Ok (receive_message client n built.message (plain_bytes profile built)))) (sym came.answer))
     ]
 
 -- a tag of a datagram for a client
@@ -216,7 +216,7 @@ names profile whole tag slot client cited is had =
 -- by its bytes it is received as the value that was built
 pub received_alike : (profile : Profile) (whole : Whole) (c n : ℕ) (slot : SlotState) (client : ClientState) (built : Built) → Cited profile → Has profile whole c slot client
     → Named profile whole c n slot client built → client.gathering.taken < n
-    → receive_bytes client n (built_bytes profile built) ≡ Ok (receive_message client n built.message)
+    → receive_bytes client n (built_bytes profile built) ≡ Ok (receive_message client n built.message (plain_bytes profile built))
 received_alike profile whole c n slot client built cited had named_is newer =
     let history = history_at whole.histories c in
     let takes = had.joined.of_client in
@@ -263,7 +263,7 @@ pub holds_piece : (profile : Profile) (whole : Whole) (c datagram n : ℕ) (slot
     → n ≤ length (history_at whole.histories c).built → Has profile whole c slot client → PieceDoes client.gathering n (built_bytes profile built) took
     → Gathers (messages_of profile (history_at whole.histories c).built) (length (history_at whole.histories c).built) took.gathering
     → Named profile whole c n slot client built
-    → Holds profile whole → Holds profile (client_took whole datagram c n built.message.section (take_gathered client took (λ k. Ok (receive_message client k built.message)))).whole
+    → Holds profile whole → Holds profile (client_took whole datagram c n built.message.section (take_gathered client took (λ k. Ok (receive_message client k built.message (plain_bytes profile built))))).whole
 holds_piece profile whole c datagram n slot client took built cited lt within had does gathers named_is holds =
     let g = took.gathering in
     let map = whole.ends.server.map in
@@ -271,7 +271,7 @@ holds_piece profile whole c datagram n slot client took built cited lt within ha
     let since = accepted_since history.games history.accepted in
     let state = client.state in
     let now = record client { gathering = g } in
-    let read : ℕ → Read = λ k. Ok (receive_message client k built.message) in
+    let read : ℕ → Read = λ k. Ok (receive_message client k built.message (plain_bytes profile built)) in
     let joined = had.joined.of_client in
     let mapped = had.joined.mapped in
     let window = had.keeps.of_client.window in
@@ -279,7 +279,7 @@ holds_piece profile whole c datagram n slot client took built cited lt within ha
       | inl waits ↦
           let same = quiet_client now took.answer read waits.quiet in
           let noted = nothing_noted history n client.last_time (take_answer now took.answer read) built.message.section same.accepted same.heard (same.game built.message.section) in
-          rw (noted, same.client_is) (Holds-taken profile whole c slot client g state client.issued client.delta false history.games history.accepted history.client_executed lt had does.side refl refl
+          rw (noted, same.client_is) (Holds-taken profile whole c slot client g state client.message client.issued client.delta false history.games history.accepted history.client_executed lt had does.side refl refl
           (waits_so slot client history g waits.taken had.keeps.of_client.applied window had.joined.commanded)
           (TakesBuilt-gathered profile client history.built history.accepted since g waits.taken gathers joined) had.joined.asked
           (subst (λ (k : ℕ). AreMapped map (standing_of slot) state k client.last_time history.built history.games history.said history.accepted history.client_executed) (sym waits.taken) mapped) had.joined.since holds)
@@ -290,6 +290,7 @@ holds_piece profile whole c datagram n slot client took built cited lt within ha
           let taken = came.taken in
           let hears = named_is.hears newer in
           let after = window_heard client built in
+          let plain = plain_bytes profile built in
           let commands = built.message.commands in
           let fresh = fresh_of state.executed.executed commands in
           let texts = texts_of fresh in
@@ -305,9 +306,9 @@ holds_piece profile whole c datagram n slot client took built cited lt within ha
           subst (λ (k : ℕ). Flow after slot.executed history.client_commands history.server_executed (carried_said history.said) (acks_built history.built) k slot.gathering.taken) (sym taken) hears.to_server in
           let to_client : Flow slot.issued (executes state.executed commands) history.server_commands heard (carried_built history.built) (acks_said history.said) slot.gathering.taken g.taken =
           subst (λ (k : ℕ). Flow slot.issued (executes state.executed commands) history.server_commands heard (carried_built history.built) (acks_said history.said) slot.gathering.taken k) (sym taken) hears.to_client in
-          let applied_as : Application → Taken = λ application. applies now (record { issued = after; application = application }) in
+          let applied_as : Application → Taken = λ application. applies now (record { message = plain; issued = after; application = application }) in
           let short = had.keeps.of_slot.sending.short in
-          let applied = cited.stays.receives client n (built_bytes profile built) (receive_message client n built.message) (omega (arith, within, short)) had.keeps.of_client.applied window
+          let applied = cited.stays.receives client n (built_bytes profile built) (receive_message client n built.message plain) (omega (arith, within, short)) had.keeps.of_client.applied window
           (received_alike profile whole c n slot client built cited had named_is newer) in
           let came_so : take_answer now took.answer read ≡ applied_as (apply_message state n built.message) = ap (λ (a : Gathered). take_answer now a read) came.answer in
           elim is.section [
@@ -320,13 +321,13 @@ holds_piece profile whole c datagram n slot client took built cited lt within ha
                   | inl accepted ↦
                       let state' = record (hearing state commands) { number = n; held = accept_at state.held snapshot } in
                       let since_is = since_more history.games history.accepted snapshot mapped.has in
-                      let takes = TakesBuilt-accepted cited.rings profile client history.built history.accepted since g state' after client.moves snapshot (taken ∙ sym number_is) gathers one.are.few (named_is.was is.telling one)
+                      let takes = TakesBuilt-accepted cited.rings profile client history.built history.accepted since g state' plain after client.moves snapshot (taken ∙ sym number_is) gathers one.are.few (named_is.was is.telling one)
                       (omega (arith, newer, number_is)) refl joined in
                       subst (λ (t : Taken). Holds profile (client_took whole datagram c n built.message.section t).whole) (sym (came_so ∙ ap applied_as accepted.1))
                       (subst (λ (s : Told). Holds profile (client_took whole datagram c n s (applied_as (heard_with state commands (accepts (hearing state commands) n (number_of built.base) snapshot)))).whole) (sym section)
-                      (Holds-taken profile whole c slot client g state' after true false history.games (history.accepted ++ snapshot ∷ []) heard lt had does.side refl refl
+                      (Holds-taken profile whole c slot client g state' plain after true false history.games (history.accepted ++ snapshot ∷ []) heard lt had does.side refl refl
                       (record { applied = subst (λ (a : Application). IsApplied a.state) accepted.1 applied; is = still; to_client = to_client; to_server = to_server })
-                      (subst (λ (s : List Snapshot). TakesBuilt profile (taking.client_took client g state' after true false) history.built (history.accepted ++ snapshot ∷ []) s) (sym since_is) takes)
+                      (subst (λ (s : List Snapshot). TakesBuilt profile (taking.client_took client g state' plain after true false) history.built (history.accepted ++ snapshot ∷ []) s) (sym since_is) takes)
                       (AreAsked-accepted slot history.said history.built history.accepted snapshot had.joined.asked)
                       (at_taken state' history.games (history.accepted ++ snapshot ∷ []) heard (mapped_accepted map slot client history n commands snapshot (accept_at state.held snapshot) newer number_is own mapped))
                       had.joined.since holds))
@@ -334,9 +335,9 @@ holds_piece profile whole c datagram n slot client took built cited lt within ha
                       let state' = record (hearing state commands) { number = n } in
                       subst (λ (t : Taken). Holds profile (client_took whole datagram c n built.message.section t).whole) (sym (came_so ∙ ap applied_as skipped.2))
                       (subst (λ (s : Told). Holds profile (client_took whole datagram c n s (applied_as (heard_with state commands (passes (hearing state commands) n (Skipped (number_of built.base) (EntitiesGone skipped.0)))))).whole) (sym section)
-                      (Holds-taken profile whole c slot client g state' after false false history.games history.accepted heard lt had does.side refl refl
+                      (Holds-taken profile whole c slot client g state' plain after false false history.games history.accepted heard lt had does.side refl refl
                       (record { applied = subst (λ (a : Application). IsApplied a.state) skipped.2 applied; is = still; to_client = to_client; to_server = to_server })
-                      (TakesBuilt-passed profile client history.built history.accepted since g state' after client.moves (omega (arith, taken, newer)) gathers refl joined) had.joined.asked
+                      (TakesBuilt-passed profile client history.built history.accepted since g state' plain after client.moves (omega (arith, taken, newer)) gathers refl joined) had.joined.asked
                       (at_taken state' history.games history.accepted heard (mapped_passed map slot client history n commands state.held newer own mapped)) had.joined.since holds))
                 ]
             | inr made ↦
@@ -349,27 +350,21 @@ holds_piece profile whole c datagram n slot client took built cited lt within ha
                 let played : Played = record { number = n; game = game; accepted = length history.accepted; executed = length heard; time = client.last_time } in
                 let games = history.games ++ played ∷ [] in
                 let since_is : accepted_since games history.accepted ≡ [] = since_none history.games history.accepted played refl in
-                let takes = TakesBuilt-started cited.rings profile client history.built history.accepted since g state' after [] (omega (arith, taken, newer)) gathers (subst (λ (k : ℕ). 512 ≤ k) (sym had.keeps.of_client.ring) cited.ring) refl joined in
+                let takes = TakesBuilt-started cited.rings profile client history.built history.accepted since g state' plain after [] (omega (arith, taken, newer)) gathers (subst (λ (k : ℕ). 512 ≤ k) (sym had.keeps.of_client.ring) cited.ring) refl joined in
                 subst (λ (t : Taken). Holds profile (client_took whole datagram c n built.message.section t).whole) (sym (came_so ∙ ap applied_as (applies_game_message state n built is.telling game made.is)))
                 (subst (λ (s : Told). Holds profile (client_took whole datagram c n s (applied_as (heard_with state commands (applies_game (hearing state commands) n game)))).whole) (sym section)
-                (Holds-taken profile whole c slot client g state' after false true games history.accepted heard lt had does.side refl refl
+                (Holds-taken profile whole c slot client g state' plain after false true games history.accepted heard lt had does.side refl refl
                 (record {
                   applied = subst (λ (a : Application). IsApplied a.state) (applies_game_message state n built is.telling game made.is) applied;
                   is = still;
                   to_client = subst (λ (i : IncomingState). Flow slot.issued i history.server_commands heard (carried_built history.built) (acks_said history.said) slot.gathering.taken g.taken) (sym jumped) to_client;
                   to_server = to_server;
                 })
-                (subst (λ (s : List Snapshot). TakesBuilt profile (taking.client_took client g state' after false true) history.built history.accepted s) (sym since_is) takes) had.joined.asked
+                (subst (λ (s : List Snapshot). TakesBuilt profile (taking.client_took client g state' plain after false true) history.built history.accepted s) (sym since_is) takes) had.joined.asked
                 (at_taken state' games history.accepted heard (mapped_started profile map slot client history n commands game newer (named_is.carries is.telling made) made.are joined.most mapped))
                 (AreSince-started history.games played) holds))
           ]
     ]
-
--- a client takes a datagram by what its bytes do
-pub taken_by_bytes : (client : ClientState) (bytes : List ℕ) (took : Took) → client.dropped ≡ None → gathered_of client.gathering bytes ≡ took
-    → take_at client bytes ≡ take_gathered client took (λ n. receive_bytes client n took.message)
-unfolding take_at
-taken_by_bytes client bytes took legible e = ap (λ (dropped : Option Illegible). take_unless client bytes dropped) legible ∙ rw e refl
 
 pub delivered_to : (profile : Profile) (whole : Whole) (number : ℕ) (tag : Tag) (found : Option ClientState) → Cited profile
     → IsFor profile whole tag → client_at whole.ends tag.client ≡ found → Holds profile whole

@@ -1,5 +1,5 @@
 -- Bases: what the frames of a server hold, what a client accepted, and that both are what was built.
-use Rattle.std.proofs.Common.{◌≡◌, ℕ, ◌+◌, ◌-◌, ◌<◌, ◌≤◌, List, [], ◌∷◌, ◌++◌, length, Option, Some, None, refl, sym, ap, subst, ◌∙◌, inl, inr, arith}
+use Rattle.std.proofs.Common.{◌≡◌, ◌+◌, ◌-◌, ◌<◌, ◌≤◌, List, [], ◌∷◌, ◌++◌, length, Option, Some, None, refl, sym, ap, subst, ◌∙◌, inl, inr, arith, ℕ}
 use Rattle.std.specs.Prelude.{IfSome, All, Contains}
 use Rattle.std.proofs.lemmas.List.{length_push, get_or_push}
 use Rattle.std.proofs.lemmas.List.Elements.{All-contains, Contains-append_left, All-drop, All-contains_itself}
@@ -40,10 +40,6 @@ was_built_last built telling lines base snapshot number =
 pub if_some : {X : Type 0} (o : Option X) (P : X → Type 0) → ((x : X) → o ≡ Some x → P x) → IfSome o P
 if_some None P each = tt
 if_some (Some x) P each = each x refl
-
-pub if_some_then : {X : Type 0} (o : Option X) (P Q : X → Type 0) → ((x : X) → P x → Q x) → IfSome o P → IfSome o Q
-if_some_then None P Q each is = tt
-if_some_then (Some x) P Q each is = each x is
 
 -- what was accepted stays so
 pub was_accepted_more : (accepted more : List Snapshot) (number : ℕ) → WasAccepted accepted number → WasAccepted (accepted ++ more) number

@@ -24,7 +24,8 @@ use Rattle.q3_world.specs.World.{Tag, History, Whole, history_at, with_history, 
 use Rattle.q3_server.specs.Standing.{IsMap}
 use Rattle.q3_world.specs.StandsFor.{messages_of, messages_said, KeepsClient, KeepsFrames, WasBuilt, acks_built, carried_said, AreCommanded, IsJoined}
 use Rattle.q3_world.proofs.Growth.{HistoryGrows-same, HistoryGrows-built, HistoryGrows-said}
-use Rattle.q3_world.proofs.Bases.{KeepsFrames-built, frames_too_long, if_some_then, since_accepted}
+use Rattle.q3_world.proofs.Bases.{KeepsFrames-built, frames_too_long, since_accepted}
+use Rattle.q3_messages.proofs.Options.{if_some_then}
 use Rattle.q3_world.proofs.Clients.{KeepsSlot-handed, KeepsClient-handed, KeepsClient-begun, client_begun, slot_begun, KeepsSlot-begun, BaseIs, next_number, KeepsSlot-stands}
 use Rattle.q3_world.proofs.Joined.{TakesBuilt-same, TakesSaid-same, TakesBuilt-more, TakesSaid-more, AreAsked-same, AreAsked-said, AreAsked-built}
 use Rattle.q3_world.proofs.Commanded.{MayName, may_name, AreCommanded-built, AreCommanded-said, ack_built, carriage_built}

@@ -31,8 +31,8 @@ use Rattle.q3_world.proofs.Holding.{Holds, Has, sent_grows, with_server_of, Hold
 -- ---- a datagram arrives at a client
 
 -- the client behind it
-abbrev pub client_took : ClientState → Gathering → AppliedState → OutgoingState → Bool → Bool → ClientState
-client_took client g state window delta game = record client { gathering = g; state = state; issued = window; delta = delta; moves = moves_behind game client.moves }
+abbrev pub client_took : ClientState → Gathering → AppliedState → List ℕ → OutgoingState → Bool → Bool → ClientState
+client_took client g state message window delta game = record client { gathering = g; state = state; message = message; issued = window; delta = delta; moves = moves_behind game client.moves }
 
 -- what a client's state, its window and its commands are behind it
 pub record TakesSo (slot : SlotState) (history : History) (g : Gathering) (state : AppliedState) (window : OutgoingState) (executed : List (List ℕ)) : Type 0 where
@@ -46,22 +46,22 @@ pub record TakesSo (slot : SlotState) (history : History) (g : Gathering) (state
 abbrev pub took_noted : History → List Played → List Snapshot → List (List ℕ) → History
 took_noted history games accepted executed = record history { games = games; accepted = accepted; client_executed = executed }
 
-pub Holds-taken : (profile : Profile) (whole : Whole) (c : ℕ) (slot : SlotState) (client : ClientState) (g : Gathering) (state : AppliedState) (window : OutgoingState) (delta game : Bool)
+pub Holds-taken : (profile : Profile) (whole : Whole) (c : ℕ) (slot : SlotState) (client : ClientState) (g : Gathering) (state : AppliedState) (message : List ℕ) (window : OutgoingState) (delta game : Bool)
     (games : List Played) (accepted : List Snapshot) (executed : List (List ℕ)) → c < places
     → Has profile whole c slot client → g.side ≡ client.gathering.side → state.profile ≡ client.state.profile → state.held.ring ≡ client.state.held.ring
     → TakesSo slot (history_at whole.histories c) g state window executed
-    → TakesBuilt profile (client_took client g state window delta game) (history_at whole.histories c).built accepted (accepted_since games accepted)
+    → TakesBuilt profile (client_took client g state message window delta game) (history_at whole.histories c).built accepted (accepted_since games accepted)
     → AreAsked slot (history_at whole.histories c).said (history_at whole.histories c).built accepted
     → AreMapped whole.ends.server.map (standing_of slot) state g.taken client.last_time (history_at whole.histories c).built games (history_at whole.histories c).said accepted executed
     → AreSince games (moves_behind game client.moves) → Holds profile whole
-    → Holds profile (with_client_of whole c (client_took client g state window delta game) (took_noted (history_at whole.histories c) games accepted executed) whole.sent)
-Holds-taken profile whole c slot client g state window delta game games accepted executed lt had side by ring so takes asked mapped later holds =
+    → Holds profile (with_client_of whole c (client_took client g state message window delta game) (took_noted (history_at whole.histories c) games accepted executed) whole.sent)
+Holds-taken profile whole c slot client g state message window delta game games accepted executed lt had side by ring so takes asked mapped later holds =
     let history = history_at whole.histories c in
     let noted = took_noted history games accepted executed in
     let keeps = had.keeps in
     let joined = had.joined in
     let grows = HistoryGrows-beside history noted refl refl refl refl in
-    Holds-client profile whole c slot client (client_took client g state window delta game) noted whole.sent lt had
+    Holds-client profile whole c slot client (client_took client g state message window delta game) noted whole.sent lt had
     (record {
       host = refl;
       qport = refl;
@@ -70,7 +70,7 @@ Holds-taken profile whole c slot client g state window delta game games accepted
       grows = grows;
       keeps = record {
         of_slot = keeps.of_slot;
-        of_client = KeepsClient-took profile client history.qport history.said history.issued history.client_commands g state window delta game so.applied so.is side by ring keeps.of_client;
+        of_client = KeepsClient-took profile client history.qport history.said history.issued history.client_commands g state message window delta game so.applied so.is side by ring keeps.of_client;
         challenge = keeps.challenge;
         host = keeps.host;
       };

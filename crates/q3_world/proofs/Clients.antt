@@ -39,7 +39,8 @@ use Rattle.q3_world.specs.World.{History, no_history, no_message, no_said, built
 use Rattle.q3_world.specs.StandsFor.{messages_of, messages_said, KeepsSlot, KeepsClient, AreEnds, IsClient, WasBuilt, HasSnapshot, AreOfBuilt, KeepsMoves, AreAsked}
 use Rattle.q3_world.specs.Moves.{TimesRise, AreConsecutive}
 use Rattle.q3_world.proofs.Growth.{was_built_more, each_more, messages_stay, messages_said_stay}
-use Rattle.q3_world.proofs.Bases.{accepted_has, if_some, if_some_then, found_base}
+use Rattle.q3_world.proofs.Bases.{accepted_has, if_some, found_base}
+use Rattle.q3_messages.proofs.Options.{if_some_then}
 use Rattle.q3_world.proofs.Beginning.{BeginsMessages-new, BeginsMessages-handed, BeginsMessages-started}
 use Rattle.q3_world.proofs.MoveLists.{last_time-append, TimesRise-append, carried_consecutive, AreConsecutive-more, KeepsMoves-none, KeepsMoves-wiped, KeepsMoves-begun, KeepsMoves-push}
 
@@ -330,10 +331,10 @@ client_begun profile client = record client { sending = started client.sending (
 
 module _ (profile : Profile) (client : ClientState) (qport : ℕ) (said : List Said) (issued : List Move) (commands : List (List ℕ)) where
   -- a datagram came, and with it a message, if one did; a gamestate wipes the moves
-  pub KeepsClient-took : (g : Gathering) (state : AppliedState) (window : OutgoingState) (delta game : Bool) → IsApplied state → IsOutgoing window → g.side ≡ client.gathering.side → state.profile ≡ client.state.profile
+  pub KeepsClient-took : (g : Gathering) (state : AppliedState) (message : List ℕ) (window : OutgoingState) (delta game : Bool) → IsApplied state → IsOutgoing window → g.side ≡ client.gathering.side → state.profile ≡ client.state.profile
       → state.held.ring ≡ client.state.held.ring → KeepsClient profile client qport said issued commands
-      → KeepsClient profile (record client { gathering = g; state = state; issued = window; delta = delta; moves = moves_behind game client.moves }) qport said issued commands
-  KeepsClient-took g state window delta game applied is side by ring keeps =
+      → KeepsClient profile (record client { gathering = g; state = state; message = message; issued = window; delta = delta; moves = moves_behind game client.moves }) qport said issued commands
+  KeepsClient-took g state message window delta game applied is side by ring keeps =
       record {
         by = by ∙ keeps.by;
         applied = applied;

@@ -1,14 +1,14 @@
 -- Each client is found by its host and its qport.
-use Rattle.std.proofs.Common.{◌≡◌, ℕ, zero, suc, ◌<◌, Bool, true, false, cond, List, [], ◌∷◌, length, get_or, set, Option, Some, None, refl, sym, ap, subst, ◌∙◌, inl, inr, arith}
+use Rattle.std.proofs.Common.{◌≡◌, zero, suc, ◌<◌, Bool, true, false, cond, List, [], ◌∷◌, length, get_or, set, Option, Some, None, refl, sym, ap, subst, ◌∙◌, inl, inr, arith, ℕ}
 use Rattle.std.specs.Prelude.{position, nat_lt, not, ◌+◌, ◌==◌, ◌≤◌}
 use Rattle.std.specs.List.{position_or_len}
 use Rattle.std.proofs.lemmas.List.{length-set, get_or-set_other}
-use Rattle.std.proofs.lemmas.List.Folds.{position_or_len-set}
 use Rattle.std.proofs.lemmas.List.Sums.{prefix_len-le-length}
 use Rattle.std.proofs.lemmas.Bool.{cases_Bool, cases_eq, lt-ltb, ltb-false, eqb-true, eq-eqb, and_parts}
 use Rattle.q3_slot.specs.Slot.{SlotState, is_of}
 use Rattle.q3_server.specs.Server.{places}
 use Rattle.q3_world.proofs.OnePlace.{set_there}
+use Rattle.q3_messages.proofs.Survives.{put_alike}
 
 -- the slots are so
 abbrev pub AllFound : List (Option SlotState) → Type 0
@@ -57,10 +57,6 @@ put_found test xs c x none lt passes =
     let there = put_found_or_len test xs c x (not_found test xs none) lt passes in
     let within : nat_lt c (length (set xs c x)) ≡ true = lt-ltb c (length (set xs c x)) (omega (arith, lt, length-set xs c x)) in
     rw there (rw within refl)
-
--- what is put and passes where what it replaces does changes no position
-pub put_alike : {X : Type 0} (test : X → Bool) (xs : List X) (c : ℕ) (x d : X) → test x ≡ test (get_or xs c d) → position test (set xs c x) ≡ position test xs
-put_alike test xs c x d same = rw (position_or_len-set test xs c x d same, length-set xs c x) refl
 
 -- ---- slots
 

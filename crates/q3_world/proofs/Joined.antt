@@ -27,7 +27,8 @@ use Rattle.q3_client.specs.Sending.{Said}
 use Rattle.q3_world.specs.Layers.{RingLaws}
 use Rattle.q3_world.specs.StandsFor.{messages_of, messages_said, WasBuilt, Rise, WasAccepted, TakesBuilt, TakesSaid, AreAsked}
 use Rattle.q3_world.proofs.Growth.{was_built_more, messages_stay, messages_said_stay}
-use Rattle.q3_world.proofs.Bases.{was_built_one, if_some_then, was_accepted_more}
+use Rattle.q3_world.proofs.Bases.{was_built_one, was_accepted_more}
+use Rattle.q3_messages.proofs.Options.{if_some_then}
 use Rattle.q3_world.proofs.MoveLists.{contains_more}
 use Rattle.q3_world.proofs.Clients.{BaseIs}
 
@@ -176,11 +177,11 @@ most_rise : (accepted : List Snapshot) (most more : ℕ) → most ≤ more → A
 most_rise accepted most more le are = All-weaker (λ (s : Snapshot). s.head.number ≤ most) (λ (s : Snapshot). s.head.number ≤ more) (λ s below. omega (arith, below, le)) accepted are
 
 -- a newer message came whole of which no snapshot is accepted, and what is held stays
-pub TakesBuilt-passed : (profile : Profile) (client : ClientState) (built : List Built) (accepted since : List Snapshot) (g : Gathering) (state : AppliedState) (window : OutgoingState) (moves : List Issued)
+pub TakesBuilt-passed : (profile : Profile) (client : ClientState) (built : List Built) (accepted since : List Snapshot) (g : Gathering) (state : AppliedState) (message : List ℕ) (window : OutgoingState) (moves : List Issued)
     → client.gathering.taken < g.taken → Gathers (messages_of profile built) (length built) g → state.held ≡ client.state.held
     → TakesBuilt profile client built accepted since
-    → TakesBuilt profile (record client { gathering = g; state = state; issued = window; delta = false; moves = moves }) built accepted since
-TakesBuilt-passed profile client built accepted since g state window moves newer gathers held takes =
+    → TakesBuilt profile (record client { gathering = g; state = state; message = message; issued = window; delta = false; moves = moves }) built accepted since
+TakesBuilt-passed profile client built accepted since g state message window moves newer gathers held takes =
     let below = takes.below in
     record {
       accepted = takes.accepted;
@@ -195,11 +196,11 @@ TakesBuilt-passed profile client built accepted since g state window moves newer
     }
 
 -- a gamestate was applied: nothing is held any more
-pub TakesBuilt-started : RingLaws → (profile : Profile) (client : ClientState) (built : List Built) (accepted since : List Snapshot) (g : Gathering) (state : AppliedState) (window : OutgoingState) (moves : List Issued)
+pub TakesBuilt-started : RingLaws → (profile : Profile) (client : ClientState) (built : List Built) (accepted since : List Snapshot) (g : Gathering) (state : AppliedState) (message : List ℕ) (window : OutgoingState) (moves : List Issued)
     → client.gathering.taken < g.taken → Gathers (messages_of profile built) (length built) g → 512 ≤ client.state.held.ring → state.held ≡ no_snapshots client.state.held.ring
     → TakesBuilt profile client built accepted since
-    → TakesBuilt profile (record client { gathering = g; state = state; issued = window; delta = false; moves = moves }) built accepted []
-TakesBuilt-started laws profile client built accepted since g state window moves newer gathers ring held takes =
+    → TakesBuilt profile (record client { gathering = g; state = state; message = message; issued = window; delta = false; moves = moves }) built accepted []
+TakesBuilt-started laws profile client built accepted since g state message window moves newer gathers ring held takes =
     record {
       accepted = takes.accepted;
       rise = takes.rise;
@@ -213,11 +214,11 @@ TakesBuilt-started laws profile client built accepted since g state window moves
     }
 
 -- a newer snapshot that was built came whole and is accepted
-pub TakesBuilt-accepted : RingLaws → (profile : Profile) (client : ClientState) (built : List Built) (accepted since : List Snapshot) (g : Gathering) (state : AppliedState) (window : OutgoingState) (moves : List Issued) (snapshot : Snapshot)
+pub TakesBuilt-accepted : RingLaws → (profile : Profile) (client : ClientState) (built : List Built) (accepted since : List Snapshot) (g : Gathering) (state : AppliedState) (message : List ℕ) (window : OutgoingState) (moves : List Issued) (snapshot : Snapshot)
     → g.taken ≡ snapshot.head.number → Gathers (messages_of profile built) (length built) g → length snapshot.entities ≤ most_entities
     → WasBuilt built snapshot → client.gathering.taken < snapshot.head.number → state.held ≡ accept_at client.state.held snapshot → TakesBuilt profile client built accepted since
-    → TakesBuilt profile (record client { gathering = g; state = state; issued = window; delta = true; moves = moves }) built (accepted ++ snapshot ∷ []) (since ++ snapshot ∷ [])
-TakesBuilt-accepted laws profile client built accepted since g state window moves snapshot taken gathers few was newer held takes =
+    → TakesBuilt profile (record client { gathering = g; state = state; message = message; issued = window; delta = true; moves = moves }) built (accepted ++ snapshot ∷ []) (since ++ snapshot ∷ [])
+TakesBuilt-accepted laws profile client built accepted since g state message window moves snapshot taken gathers few was newer held takes =
     let below = takes.below in
     let stands = takes.stands in
     let newest = stands.newest in

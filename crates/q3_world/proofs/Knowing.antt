@@ -1,5 +1,5 @@
 -- What a client holds was accepted, and what it accepted was built.
-use Rattle.std.proofs.Common.{◌≡◌, ℕ, ◌+◌, ◌-◌, ◌<◌, ◌≤◌, List, length, get_or, Option, Some, None, Result, Ok, Err, sym, ap, subst, ◌∙◌, arith, inl, inr}
+use Rattle.std.proofs.Common.{◌≡◌, ◌+◌, ◌-◌, ◌<◌, ◌≤◌, List, length, get_or, Option, Some, None, Result, Ok, Err, sym, ap, subst, ◌∙◌, arith, inl, inr, ℕ}
 use Rattle.std.specs.Prelude.{All, Contains, IfSome}
 use Rattle.std.specs.Result.{result_ok}
 use Rattle.std.proofs.lemmas.List.Elements.{All-get_or, All-contains}
@@ -12,7 +12,7 @@ use Rattle.q3_built.specs.Built.{Built, IsSnapshot, IsNear, IsBuilt}
 use Rattle.q3_slot.specs.Slot.{SlotState}
 use Rattle.q3_client.specs.Client.{ClientState}
 use Rattle.q3_world.specs.Layers.{RingLaws}
-use Rattle.q3_world.specs.MessageLaws.{HoldsThis}
+use Rattle.q3_messages.specs.MessageLaws.{HoldsThis}
 use Rattle.q3_world.specs.World.{History, no_message, built_at}
 use Rattle.q3_world.specs.StandsFor.{snapshot_in, WasBuilt, KeepsSlot, AreAsked}
 use Rattle.q3_world.proofs.Bases.{some_one, was_built_one}
@@ -22,6 +22,7 @@ use Rattle.q3_gamestate.specs.Laws.{IsGamestate}
 use Rattle.q3_gamestate.specs.Values.{Gamestate}
 use Rattle.q3_player.specs.declared.head.SnapHead.{SnapHead}
 use Rattle.q3_world.specs.Games.{Carries}
+use Rattle.q3_messages.proofs.Options.{three_some}
 
 -- the messages that were begun are so
 abbrev pub AreMessages : Profile → ℕ → List Built → Type 0
@@ -83,10 +84,6 @@ holds_this laws held began took base stands were was snapshot viewed =
     was_built_one began snapshot base known.0 known.1 was
 
 -- ---- the base of a message
-
-pub three_some : {X : Type 0} (o : Option X) (P Q R : X → Type 0) → IfSome o P → IfSome o Q → IfSome o R → IfSome o (λ x. P x × Q x × R x)
-three_some None P Q R p q r = tt
-three_some (Some x) P Q R p q r = (p, q, r)
 
 -- it is near, was built, and was accepted
 abbrev pub KnownBase : ℕ → List Built → List Snapshot → Snapshot → Type 0

@@ -29,7 +29,8 @@ use Rattle.q3_window.specs.Incoming.{IncomingState, fresh_of, jump_at}
 use Rattle.q3_world.specs.Games.{AreMapped, AreSince, Carries, Tells, accepted_since, standing_of}
 use Rattle.q3_world.specs.StandsFor.{WasAccepted}
 use Rattle.q3_world.specs.World.{History, built_at, texts_of}
-use Rattle.q3_world.proofs.Bases.{if_some, if_some_then}
+use Rattle.q3_world.proofs.Bases.{if_some}
+use Rattle.q3_messages.proofs.Options.{if_some_then}
 use Rattle.q3_world.proofs.Clients.{BaseIs}
 use Rattle.q3_world.proofs.Commanded.{ClientHears}
 use Rattle.q3_world.proofs.GamesBuilt.{AreMapped-game, AreMapped-issued, AreMapped-snapshot}

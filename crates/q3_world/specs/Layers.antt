@@ -13,7 +13,7 @@ use Rattle.q3_rings.specs.Laws.{AcceptedIsHeld, NothingStands, AcceptIsAdded, Ba
 use Rattle.q3_server.specs.Apart.{SlotsApart}
 use Rattle.q3_server.specs.Laws.{MapStays, BeginsAsBuilt}
 use Rattle.q3_client.specs.Laws.{BeginsSaid, ClientStays}
-use Rattle.q3_world.specs.MessageLaws.{BuiltIsRead, SaidIsRead}
+use Rattle.q3_messages.specs.MessageLaws.{BuiltIsRead, SaidIsRead}
 
 -- that a server's entities stay held, what its frames hold, which of these is a base, and what a call for one client leaves the others
 pub record ServerLaws : Type 0 where

@@ -1,4 +1,3 @@
-pub mod MessageLaws
 pub mod Layers
 pub mod Apart
 pub mod Ends
@@ -12,4 +11,5 @@ pub mod StandsFor
 pub mod Report
 pub mod Outcome
 pub mod Doing
-pub mod Schedules
+pub mod Answering
+pub mod ByTags

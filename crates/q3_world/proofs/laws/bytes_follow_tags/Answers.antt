@@ -1,4 +1,4 @@
-use Rattle.q3_world.proofs.EverySchedule.{bytes_follow_tags}
+use Rattle.q3_world.proofs.ByTags.{bytes_follow_tags}
 use Rattle.q3_world.proofs.laws.bytes_follow_tags.Goals as goal
 
 pub returns : goal.returns

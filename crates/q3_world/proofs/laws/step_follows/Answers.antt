@@ -1,4 +1,4 @@
-use Rattle.q3_world.proofs.EverySchedule.{step_follows}
+use Rattle.q3_world.proofs.ByTags.{step_follows}
 use Rattle.q3_world.proofs.laws.step_follows.Goals as goal
 
 pub returns : goal.returns

@@ -1,4 +1,4 @@
-use Rattle.q3_world.proofs.EverySchedule.{stands_opening}
+use Rattle.q3_world.proofs.ByTags.{stands_opening}
 use Rattle.q3_world.proofs.world.World.new.Goals as goal
 
 pub returns-clause-stands : goal.returns-clause-stands

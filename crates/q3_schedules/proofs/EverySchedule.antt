@@ -1,0 +1,507 @@
+-- Every list of events: what holds after it, and what it answers.
+use Rattle.std.proofs.Common.{◌≡◌, ◌+◌, ◌-◌, ◌<◌, List, length, get_or, false, Option, Some, None, Result, Ok, refl, sym, ap, subst, ◌∙◌, inl, inr, arith, Bool, ℕ}
+use Rattle.std.specs.Prelude.{slice_get, All, Contains, IfSome, MatchOption}
+use Rattle.std.specs.List.{last_or}
+use Rattle.std.specs.Option.{option_map}
+use Rattle.std.specs.Result.{result_ok}
+use Rattle.std.proofs.lemmas.Option.{slice_get-map}
+use Rattle.std.proofs.lemmas.List.Elements.{All-nil, All-get_or, All-contains}
+use Rattle.q3_profile.specs.declared.profile.Profile.{Profile}
+use Rattle.q3_script.specs.declared.event.Event.{Event}
+use Rattle.q3_script.specs.declared.event.Event.TheVariants as events
+use Rattle.q3_ring.specs.Snapshot.{Snapshot}
+use Rattle.q3_rings.specs.Rings.{held_snapshot, view_at}
+use Rattle.q3_rings.specs.declared.rings.NoBase.TheVariants.{EntitiesGone}
+use Rattle.q3_rings.specs.Accepted.{held_among}
+use Rattle.q3_window.specs.Incoming.{fresh_of}
+use Rattle.q3_clstate.specs.State.{AppliedState, Application, apply_message}
+use Rattle.q3_clstate.specs.declared.applied.Applied.{Applied as AppliedSo}
+use Rattle.q3_chan.specs.declared.gatherer.Gathered.{Gathered}
+use Rattle.q3_chan.specs.declared.gatherer.Gathered.TheVariants as gathered
+use Rattle.q3_chan.specs.declared.gatherer.Gathered.TheVariants.{Whole as CameWhole}
+use Rattle.q3_chan.specs.Gathering.{Took, gathered as gathered_of}
+use Rattle.q3_chan.specs.Tags.{tagged, IsQuiet}
+use Rattle.q3_chan.specs.Laws.{TaggedDoes}
+use Rattle.q3_clstate.specs.declared.applied.SnapOutcome.{SnapOutcome}
+use Rattle.q3_clstate.specs.declared.applied.SnapOutcome.TheVariants.{Accepted, Skipped, NoSnap}
+use Rattle.q3_client.specs.declared.client.ClientTook.TheVariants.{Applied}
+use Rattle.q3_svmsg.specs.declared.error.Illegible.{Illegible}
+use Rattle.q3_client.specs.declared.client.ClientTook.{ClientTook}
+use Rattle.q3_slot.specs.declared.taking.ServerTook.{ServerTook}
+use Rattle.q3_slot.specs.declared.taking.ServerTook.TheVariants.{Stranger}
+use Rattle.q3_io.specs.declared.address.Address.{Address}
+use Rattle.q3_report.specs.declared.answer.Answer.TheVariants as variants
+use Rattle.q3_report.specs.declared.answer.Answer.TheVariants.{Unknown, Deliver}
+use Rattle.q3_world.specs.declared.made.Direction.{Direction}
+use Rattle.q3_world.specs.declared.made.Direction.TheVariants.{ToClient, ToServer}
+use Rattle.q3_world.specs.Layers.{Layers, RingLaws}
+use Rattle.q3_built.specs.Built.{Built, number_of, IsNear, IsBuilt, built_bytes, plain_bytes}
+use Rattle.q3_slot.specs.Slot.{SlotState}
+use Rattle.q3_server.specs.Server.{places, slot_at}
+use Rattle.q3_client.specs.Client.{ClientState, Taken, Reception, receive_message, take_answer, take_gathered}
+use Rattle.q3_lines.specs.ServerLines.{ran_nothing}
+use Rattle.q3_world.specs.Ends.{Ends, Answered, delivered, client_at, address_at, with_client, newest}
+use Rattle.q3_world.specs.Kept.{SentBytes, Kept, KeptStep, kept_step}
+use Rattle.q3_world.specs.World.{Tag, Step, Whole, History, history_at, built_at, step, after, deliver, arrive, to_client, to_server, named, Played}
+use Rattle.q3_world.specs.StandsFor.{IsSent, IsClient, WasBuilt, Rise, IsJoined, bytes_of}
+use Rattle.q3_world.specs.ByTags.{kept_then, whole_then, BytesFollowTags}
+use Rattle.q3_world.specs.Answering.{outcome_of, applied_of, is_game, outcome_in}
+use Rattle.q3_schedules.specs.Schedules.{AcceptedWereBuilt, ShownWasBuilt, ShownIsNewest, AsksForAccepted, heard_of, Shows, AppliedWasBuilt, NewerIsAccepted, BasesWereAccepted, HeldIsAccepted, ViewsWereBuilt, AnswersSo, StateIsOfGame}
+use Rattle.q3_world.proofs.Holding.{Holds, Has, has_client}
+use Rattle.q3_world.proofs.Agree.{Cited, seen}
+use Rattle.q3_world.proofs.ByTags.{cited_of}
+use Rattle.q3_world.proofs.Arriving.{IsFor, Named, names, is_sent, is_for, tag_is, delivers_agree}
+use Rattle.q3_schedules.proofs.Stood.{kept_is, Stood, step_own, stood}
+use Rattle.q3_messages.proofs.Options.{if_some_then, three_some}
+use Rattle.q3_world.proofs.Knowing.{KnownBase, view_was_built}
+use Rattle.q3_world.proofs.Applying.{applies_message, applies_game_message}
+use Rattle.q3_world.proofs.OnePlace.{set_there}
+use Rattle.q3_world.specs.Games.{Carries, HasGames, IsFresh, IsOf, WasApplied, accepted_since, last_played}
+use Rattle.q3_map.specs.Map.{MapState}
+use Rattle.q3_svmsg.specs.Values.{Told}
+use Rattle.q3_world.proofs.GamesParts.{newest as games_newest}
+use Rattle.q3_world.proofs.GamesMoves.{since_were}
+
+-- what stands after the events
+abbrev Then : Profile → List Event → Type 0
+Then profile all = Stood profile (kept_then profile all) (whole_then profile all)
+
+-- ---- what was accepted
+
+abbrev WereAccepted : History → Type 0
+WereAccepted history = All (WasBuilt history.built) history.accepted × Rise history.accepted
+
+-- what a client accepted, wherever it is
+accepted_by : (profile : Profile) (map : MapState) (slot : Option SlotState) (client : Option ClientState) (address : Address) (history : History)
+    → IsClient profile slot client address history → IsJoined profile map slot client history → WereAccepted history
+accepted_by profile map None None address history is joined = rw is (All-nil _, (λ j k d lt within. absurd (omega (arith, within))))
+accepted_by profile map None (Some client) address history is joined = absurd is
+accepted_by profile map (Some slot) None address history is joined = absurd is
+accepted_by profile map (Some slot) (Some client) address history is joined = (joined.of_client.accepted, joined.of_client.rise)
+
+pub accepted_were_built : BytesFollowTags → AcceptedWereBuilt
+accepted_were_built law profile all c is are within =
+    let stands : Then profile all = stood law profile all is are in
+    let whole = whole_then profile all in
+    accepted_by profile whole.ends.server.map (slot_at whole.ends.server c) (client_at whole.ends c) (address_at whole.ends c) (history_at whole.histories c)
+    (stands.facts.each c within) (stands.joined c within)
+
+-- what a client accepted since the last gamestate that it applied, and that it was built
+abbrev since_of : History → List Snapshot
+since_of history = accepted_since history.games history.accepted
+
+since_built : (history : History) → All (WasBuilt history.built) history.accepted → All (WasBuilt history.built) (since_of history)
+since_built history were = since_were history.games history.accepted (WasBuilt history.built) were
+
+-- what a client that is there shows was built
+newest_was : RingLaws → (profile : Profile) (map : MapState) (slot : Option SlotState) (client : Option ClientState) (address : Address) (history : History) (snapshot : Snapshot)
+    → newest client ≡ Some snapshot → IsClient profile slot client address history → IsJoined profile map slot client history → WasBuilt history.built snapshot
+newest_was laws profile map slot None address history snapshot shown is joined = absurd cc
+newest_was laws profile map None (Some client) address history snapshot shown is joined = absurd is
+newest_was laws profile map (Some slot) (Some client) address history snapshot shown is joined =
+    let takes = joined.of_client in
+    (view_was_built laws client.state.held history.built (since_of history) client.state.held.newest snapshot takes.stands (since_built history takes.accepted) shown).1
+
+-- what a show by bytes prints
+pub shows : (kept : Kept) (c : ℕ) → (kept_step kept (events.Show c)).answer.snapshot ≡ newest (client_at kept.ends c)
+unfolding kept_step
+shows kept c = refl
+
+pub shown_was_built : BytesFollowTags → Layers → ShownWasBuilt
+shown_was_built law below profile all c snapshot is are within shown =
+    let stands : Then profile all = stood law profile all is are in
+    let whole = whole_then profile all in
+    newest_was below.rings profile whole.ends.server.map (slot_at whole.ends.server c) (client_at whole.ends c) (address_at whole.ends c) (history_at whole.histories c) snapshot
+    (ap (λ (e : Ends). newest (client_at e c)) (sym stands.ends) ∙ (sym (shows (kept_then profile all) c) ∙ shown))
+    (stands.facts.each c within) (stands.joined c within)
+
+-- and it is the newest that the client accepted since
+newest_by : (profile : Profile) (map : MapState) (slot : Option SlotState) (client : Option ClientState) (address : Address) (history : History)
+    → IsClient profile slot client address history → IsJoined profile map slot client history → newest client ≡ last_or None (since_of history)
+newest_by profile map None None address history is joined = rw is refl
+newest_by profile map None (Some client) address history is joined = absurd is
+newest_by profile map (Some slot) None address history is joined = absurd is
+newest_by profile map (Some slot) (Some client) address history is joined = joined.of_client.shows
+
+pub shown_is_newest : BytesFollowTags → ShownIsNewest
+shown_is_newest law profile all c is are within =
+    let stands : Then profile all = stood law profile all is are in
+    let whole = whole_then profile all in
+    shows (kept_then profile all) c
+    ∙ (ap (λ (e : Ends). newest (client_at e c)) stands.ends
+    ∙ newest_by profile whole.ends.server.map (slot_at whole.ends.server c) (client_at whole.ends c) (address_at whole.ends c) (history_at whole.histories c)
+    (stands.facts.each c within) (stands.joined c within))
+
+pub asks_for_accepted : BytesFollowTags → AsksForAccepted
+asks_for_accepted law profile all c client is are within found =
+    let stands : Then profile all = stood law profile all is are in
+    let whole = whole_then profile all in
+    let holds : Holds profile whole = record { facts = stands.facts; joined = stands.joined; own = stands.own } in
+    let had = has_client profile whole c client within (ap (λ (e : Ends). client_at e c) (sym stands.ends) ∙ found) holds in
+    had.1.joined.of_client.asks
+
+-- ---- what a client holds
+
+-- each base of a message is near
+near_of : (profile : Profile) (challenge n : ℕ) (built : Built) → IsBuilt profile challenge n built → IfSome built.base (IsNear n)
+near_of profile challenge n built is =
+    elim is.section [
+      | inl one ↦ one.base_is
+      | inr made ↦ subst (λ (base : Option Snapshot). IfSome base (IsNear n)) (sym (ap (λ (b : Built). b.base) made.is)) tt
+    ]
+
+bases_by : (profile : Profile) (map : MapState) (slot : Option SlotState) (client : Option ClientState) (address : Address) (history : History) (k : ℕ) (d : Built)
+    → IsClient profile slot client address history → IsJoined profile map slot client history → k < length history.built
+    → IfSome (get_or history.built k d).base (KnownBase (k + 1) history.built history.accepted)
+bases_by profile map None None address history k d is joined lt =
+    let none : length history.built ≡ 0 = ap (λ (h : History). length h.built) is in absurd (omega (arith, lt, none))
+bases_by profile map None (Some client) address history k d is joined lt = absurd is
+bases_by profile map (Some slot) None address history k d is joined lt = absurd is
+bases_by profile map (Some slot) (Some client) address history k d is joined lt =
+    three_some (get_or history.built k d).base (IsNear (k + 1)) (WasBuilt history.built) (Contains history.accepted)
+    (near_of profile slot.challenge (k + 1) (get_or history.built k d) (is.of_slot.built k d lt))
+    (All-get_or (λ (b : Built). IfSome b.base (WasBuilt history.built)) history.built k d lt is.of_slot.bases)
+    (All-get_or (λ (b : Built). IfSome b.base (Contains history.accepted)) history.built k d lt joined.asked.bases)
+
+pub bases_were_accepted : BytesFollowTags → BasesWereAccepted
+bases_were_accepted law profile all c k d is are within lt =
+    let stands : Then profile all = stood law profile all is are in
+    let whole = whole_then profile all in
+    bases_by profile whole.ends.server.map (slot_at whole.ends.server c) (client_at whole.ends c) (address_at whole.ends c) (history_at whole.histories c) k d
+    (stands.facts.each c within) (stands.joined c within) lt
+
+pub views_were_built : BytesFollowTags → Layers → ViewsWereBuilt
+views_were_built law below profile all c number client snapshot is are within found viewed =
+    let stands : Then profile all = stood law profile all is are in
+    let whole = whole_then profile all in
+    let holds : Holds profile whole = record { facts = stands.facts; joined = stands.joined; own = stands.own } in
+    let had = has_client profile whole c client within (ap (λ (e : Ends). client_at e c) (sym stands.ends) ∙ found) holds in
+    let takes = had.1.joined.of_client in
+    let history = history_at whole.histories c in
+    view_was_built below.rings client.state.held history.built (since_of history) number snapshot takes.stands (since_built history takes.accepted) viewed
+
+pub held_is_accepted : BytesFollowTags → Layers → HeldIsAccepted
+held_is_accepted law below profile all c number client is are within found =
+    let stands : Then profile all = stood law profile all is are in
+    let whole = whole_then profile all in
+    let holds : Holds profile whole = record { facts = stands.facts; joined = stands.joined; own = stands.own } in
+    let had = has_client profile whole c client within (ap (λ (e : Ends). client_at e c) (sym stands.ends) ∙ found) holds in
+    let since = since_of (history_at whole.histories c) in
+    subst (λ (ring : ℕ). held_snapshot client.state.held number ≡ held_among ring since number) had.1.keeps.of_client.ring
+    (below.rings.of_list since client.state.held number had.1.joined.of_client.stands)
+
+-- ---- newer messages
+
+-- a tag that has these bytes
+pub tag_of : (found : Option Tag) (sent : SentBytes) → option_map bytes_of found ≡ Some sent → (tag : Tag) × (found ≡ Some tag) × (bytes_of tag ≡ sent)
+tag_of None sent e = absurd cc
+tag_of (Some tag) sent e = (tag, refl, cc)
+
+-- what a client makes of a piece that brings its message whole, by its tag
+came_whole : TaggedDoes → (profile : Profile) (whole : Whole) (tag : Tag) (client : ClientState) (n count : ℕ)
+    → (tagged client.gathering tag.number (built_bytes profile (named whole.histories tag)) tag.index).answer ≡ CameWhole n count
+    → (n ≡ tag.number) × (client.gathering.taken < tag.number)
+came_whole does_so profile whole tag client n count e =
+    let does = does_so client.gathering tag.number (built_bytes profile (named whole.histories tag)) tag.index in
+    elim does.either [
+      | inl waits ↦ absurd (subst IsQuiet e waits.quiet)
+      | inr came ↦ (whole_is (sym e ∙ came.answer), came.newer)
+    ]
+  where
+    whole_is : {count' number' : ℕ} → CameWhole n count ≡ CameWhole number' count' → n ≡ number'
+    whole_is same = cc
+
+-- what a client's delivery answers
+abbrev pub delivered_so : ℕ → ℕ → Taken → Answered
+delivered_so number c taken = delivered number c taken.client.state taken.answer taken.heard
+
+pub answers_tag : (profile : Profile) (whole : Whole) (number : ℕ) (tag : Tag) (client : ClientState) → whole.foreign ≡ false → slice_get whole.sent (number - 1) ≡ Some tag
+    → tag.direction ≡ ToClient → client_at whole.ends tag.client ≡ Some client
+    → (step profile whole (events.Deliver number)).answer
+    ≡ delivered_so number tag.client (take_gathered client (tagged client.gathering tag.number (built_bytes profile (named whole.histories tag)) tag.index)
+    (λ n. Ok (receive_message client n (named whole.histories tag).message (plain_bytes profile (named whole.histories tag)))))
+unfolding step
+answers_tag profile whole number tag client own at way found = rw (own, at, way, found) refl
+
+-- what is answered of a message that was built, by what its client accepted since the last gamestate that it applied
+abbrev pub applied_now : Profile → History → ℕ → Built → AppliedSo
+applied_now profile history n built = applied_of profile.parse_ring (accepted_since history.games history.accepted) n built
+
+-- what a message that was built does at its client, and what is answered of it
+pub record Outcome (profile : Profile) (whole : Whole) (c n : ℕ) (client : ClientState) (built : Built) : Type 0 where
+  pub answer : (apply_message client.state n built.message).answer ≡ applied_now profile (history_at whole.histories c) n built
+  pub executed : client.state.executed.executed ≡ length (history_at whole.histories c).client_executed
+  pub number : (apply_message client.state n built.message).state.number ≡ n
+  pub shows : (base : ℕ) → (apply_message client.state n built.message).answer.snap ≡ Accepted base
+      → (snapshot : Snapshot) × (view_at (apply_message client.state n built.message).state.held (apply_message client.state n built.message).state.held.newest ≡ Some snapshot)
+      × (snapshot.head.number ≡ n) × WasBuilt (history_at whole.histories c).built snapshot
+
+pub outcome : (profile : Profile) (whole : Whole) (c n : ℕ) (slot : SlotState) (client : ClientState) (built : Built) → Cited profile → Has profile whole c slot client
+    → client.gathering.taken < n → Named profile whole c n slot client built → Outcome profile whole c n client built
+outcome profile whole c n slot client built cited had newer named_is =
+    let history = history_at whole.histories c in
+    let since = since_of history in
+    let state = client.state in
+    let is = named_is.is in
+    let takes = had.joined.of_client in
+    let below = takes.below in
+    let above : state.held.newest < n = omega (arith, newer, below) in
+    let counted = had.joined.commanded.to_client.runs.executed in
+    elim is.section [
+      | inl one ↦
+          let snapshot = one.snapshot in
+          let number_is = one.number in
+          let section = ap (λ (b : Built). b.message.section) one.is in
+          let known = if_some_then built.base (KnownBase n history.built since) (λ base. IsNear n base × Contains since base) (λ base known. (known.0, known.2)) (named_is.base newer) in
+          let told : (snap : SnapOutcome) → outcome_of state.held.ring since built.base ≡ snap → answer_with n false snap ≡ applied_now profile history n built =
+          λ snap so. ap (λ (snap : SnapOutcome). answer_with n false snap) (sym so)
+          ∙ (ap (λ (ring : ℕ). answer_with n false (outcome_of ring since built.base)) had.keeps.of_client.ring ∙ sym (of_section profile.parse_ring since n built.base section)) in
+          elim (applies_message cited.rings state since n built is.telling snapshot one.is takes.stands above known) [
+            | inl accepted ↦ record {
+              answer = ap (λ (a : Application). a.answer) accepted.1 ∙ told (Accepted (number_of built.base)) accepted.0;
+              executed = counted;
+              number = ap (λ (a : Application). a.state.number) accepted.1;
+              shows = λ base so. (
+                snapshot,
+                ap (λ (a : Application). view_at a.state.held a.state.held.newest) accepted.1
+                    ∙ ap (λ r. result_ok r) (cited.rings.there state.held snapshot takes.stands.held (omega (arith, above, number_is)) one.are.few),
+                number_is,
+                named_is.was is.telling one,
+              );
+            }
+            | inr skipped ↦ record {
+              answer = ap (λ (a : Application). a.answer) skipped.2 ∙ told (Skipped (number_of built.base) (EntitiesGone skipped.0)) skipped.1;
+              executed = counted;
+              number = ap (λ (a : Application). a.state.number) skipped.2;
+              shows = λ base so. absurd (skipped_not_accepted (number_of built.base) skipped.0 base (sym (ap (λ (a : Application). a.answer.snap) skipped.2) ∙ so));
+            }
+          ]
+      | inr made ↦
+          let section = ap (λ (b : Built). b.message.section) made.is in
+          let applied = applies_game_message state n built is.telling made.game made.is in
+          record {
+            answer = ap (λ (a : Application). a.answer) applied ∙ sym (of_section profile.parse_ring since n built.base section);
+            executed = counted;
+            number = ap (λ (a : Application). a.state.number) applied;
+            shows = λ base so. absurd (none_not_accepted base (sym (ap (λ (a : Application). a.answer.snap) applied) ∙ so));
+          }
+    ]
+  where
+    answer_with : ℕ → Bool → SnapOutcome → AppliedSo
+    answer_with n game snap = record { number = n; game = game; snap = snap }
+
+    -- by its section
+    of_section : {section : Told} (ring : ℕ) (since : List Snapshot) (n : ℕ) (base : Option Snapshot) → built.message.section ≡ section
+        → answer_with n (is_game built.message.section) (outcome_in ring since base built.message.section) ≡ answer_with n (is_game section) (outcome_in ring since base section)
+    of_section ring since n base is = ap (λ (s : Told). answer_with n (is_game s) (outcome_in ring since base s)) is
+
+    skipped_not_accepted : (base age other : ℕ) → Skipped base (EntitiesGone age) ≡ Accepted other → ⊥
+    skipped_not_accepted base age other e = absurd cc
+
+    none_not_accepted : (other : ℕ) → NoSnap ≡ Accepted other → ⊥
+    none_not_accepted other e = absurd cc
+
+-- what is answered of a message that came whole, and what is executed of it
+pub whole_answer : (profile : Profile) (whole : Whole) (number c n : ℕ) (client now : ClientState) → Outcome profile whole c n client (built_at (history_at whole.histories c).built n)
+    → (count : ℕ)
+    → AnswersSo (delivered_so number c (take_answer now (CameWhole n count) (λ k. Ok (receive_message client k (built_at (history_at whole.histories c).built n).message (plain_bytes profile (built_at (history_at whole.histories c).built n))))))
+    (Deliver number c (Applied (applied_now profile (history_at whole.histories c) n (built_at (history_at whole.histories c).built n))))
+    (record ran_nothing { commands = heard_of (history_at whole.histories c) n })
+whole_answer profile whole number c n client now out count =
+    let commands = (built_at (history_at whole.histories c).built n).message.commands in (
+      ap (λ (a : AppliedSo). Deliver number c (Applied a)) out.answer,
+      ap (λ (k : ℕ). record ran_nothing { commands = fresh_of k commands }) out.executed,
+    )
+
+pub newer_is_accepted : BytesFollowTags → Layers → NewerIsAccepted
+newer_is_accepted law below profile all number n count sent client is are at way found came =
+    let stands : Then profile all = stood law profile all is are in
+    let kept = kept_then profile all in
+    let whole = whole_then profile all in
+    let cited = cited_of below profile is in
+    let holds : Holds profile whole = record { facts = stands.facts; joined = stands.joined; own = stands.own } in
+    let tag = tag_of (slice_get whole.sent (number - 1)) sent
+    (sym (slice_get-map bytes_of whole.sent (number - 1)) ∙ (ap (λ (d : List SentBytes). slice_get d (number - 1)) (sym stands.datagrams) ∙ at)) in
+    let goes : tag.0.direction ≡ ToClient = ap (λ (s : SentBytes). s.direction) tag.2 ∙ way in
+    let sent_is = is_for profile whole tag.0 goes (is_sent profile whole (number - 1) tag.0 tag.1 holds) in
+    let client_is : client_at whole.ends tag.0.client ≡ Some client =
+    ap (λ (e : Ends). client_at e tag.0.client) (sym stands.ends) ∙ (ap (λ (s : SentBytes). client_at kept.ends s.client) tag.2 ∙ found) in
+    let had = has_client profile whole tag.0.client client sent_is.0 client_is holds in
+    let built = named whole.histories tag.0 in
+    let took = tagged client.gathering tag.0.number (built_bytes profile built) tag.0.index in
+    let now = record client { gathering = took.gathering } in
+    let answer : took.answer ≡ CameWhole n count =
+    ap (λ (t : Took). t.answer) (sym (tag_is profile whole tag.0 client cited sent_is client_is holds))
+    ∙ (ap (λ (s : SentBytes). (gathered_of client.gathering s.bytes).answer) tag.2 ∙ came) in
+    let whole_is = came_whole below.does profile whole tag.0 client n count answer in
+    let out = outcome profile whole tag.0.client tag.0.number had.0 client built cited had.1 whole_is.1 (names profile whole tag.0 had.0 client cited sent_is had.1) in
+    let by_bytes = ap (λ (k : Kept). (kept_step k (events.Deliver number)).answer) (kept_is profile kept whole stands)
+    ∙ ap (λ (s : KeptStep). s.answer) (delivers_agree profile whole number cited holds).same in
+    let so : ℕ → ℕ → Type 0 = λ c k.
+    AnswersSo (kept_step kept (events.Deliver number)).answer
+    (Deliver number c (Applied (applied_now profile (history_at whole.histories c) k (built_at (history_at whole.histories c).built k))))
+    (record ran_nothing { commands = heard_of (history_at whole.histories c) k }) in
+    let given : (kept_step kept (events.Deliver number)).answer
+    ≡ delivered_so number tag.0.client (take_answer now (CameWhole tag.0.number count) (λ j. Ok (receive_message client j built.message (plain_bytes profile built)))) =
+    by_bytes
+    ∙ (answers_tag profile whole number tag.0 client stands.own tag.1 goes client_is
+    ∙ (ap (λ (a : Gathered). delivered_so number tag.0.client (take_answer now a (λ k. Ok (receive_message client k built.message (plain_bytes profile built))))) answer
+    ∙ ap (λ (k : ℕ). delivered_so number tag.0.client (take_answer now (CameWhole k count) (λ j. Ok (receive_message client j built.message (plain_bytes profile built))))) whole_is.0)) in
+    let by_tag = whole_answer profile whole number tag.0.client tag.0.number client now out count in
+    let here : so tag.0.client tag.0.number = (ap (λ (a : Answered). a.answer) given ∙ by_tag.0, ap (λ (a : Answered). a.ran) given ∙ by_tag.1) in
+    subst (λ (s : SentBytes). so s.client n) tag.2 (subst (λ (k : ℕ). so tag.0.client k) (sym whole_is.0) here)
+
+-- ---- what is applied
+
+-- two answers of a delivery
+same_delivered : (number c c' : ℕ) (took took' : ClientTook) → Deliver number c took ≡ Deliver number c' took' → (c ≡ c') × (took ≡ took')
+same_delivered number c c' took took' e = (cc, cc)
+
+not_to_server : (datagram : ℕ) (took : ServerTook) (number c : ℕ) (took' : ClientTook) → variants.ToServer datagram took ≡ Deliver number c took' → ⊥
+not_to_server datagram took number c took' e = absurd cc
+
+not_delivered : (number c : ℕ) (took : ClientTook) → Unknown number ≡ Deliver number c took → ⊥
+not_delivered number c took e = absurd cc
+
+-- what a delivery answers as applied
+abbrev Applies : Profile → List Tag → ℕ → Ends → Ends → ℕ → AppliedSo → History → Type 0
+Applies profile sent number before now c applied history =
+    ((client : ClientState) × (client_at before c ≡ Some client) × (client.gathering.taken < applied.number))
+    × (applied ≡ applied_now profile history applied.number (built_at history.built applied.number))
+    × ((tag : Tag) × (slice_get sent (number - 1) ≡ Some tag) × (tag.direction ≡ ToClient) × (tag.client ≡ c) × (tag.number ≡ applied.number))
+    × ((base : ℕ) → applied.snap ≡ Accepted base → Shows now c applied.number history.built)
+    × ((after : ClientState) × (client_at now c ≡ Some after) × (after.state.number ≡ applied.number))
+
+-- where nothing came whole, nothing is answered as applied
+quiet_applies : (client : ClientState) (answer : Gathered) (apply : ℕ → Result Reception Illegible) (applied : AppliedSo) → IsQuiet answer
+    → (take_answer client answer apply).answer ≡ Applied applied → ⊥
+quiet_applies client (CameWhole number count) apply applied is e = is
+quiet_applies client gathered.Partial apply applied is e = absurd cc
+quiet_applies client gathered.Old apply applied is e = absurd cc
+quiet_applies client gathered.OutOfOrder apply applied is e = absurd cc
+quiet_applies client gathered.BadFragment apply applied is e = is
+quiet_applies client gathered.Runt apply applied is e = is
+quiet_applies client gathered.Connectionless apply applied is e = is
+
+-- of a message that came whole
+applied_whole : (profile : Profile) (whole : Whole) (number c : ℕ) (applied : AppliedSo) (tag : Tag) (client next : ClientState) → length whole.ends.clients ≡ places → tag.client < places
+    → slice_get whole.sent (number - 1) ≡ Some tag → tag.direction ≡ ToClient
+    → client_at whole.ends tag.client ≡ Some client → client.gathering.taken < tag.number
+    → next.state ≡ (apply_message client.state tag.number (named whole.histories tag).message).state
+    → Outcome profile whole tag.client tag.number client (named whole.histories tag)
+    → Deliver number tag.client (Applied (apply_message client.state tag.number (named whole.histories tag).message).answer) ≡ Deliver number c (Applied applied)
+    → Applies profile whole.sent number whole.ends (with_client whole.ends tag.client next) c applied (history_at whole.histories c)
+applied_whole profile whole number c applied tag client next count lt at way found newer state_is out e =
+    let history = history_at whole.histories tag.client in
+    let answer = (apply_message client.state tag.number (named whole.histories tag).message).answer in
+    let alike = same_delivered number tag.client c (Applied answer) (Applied applied) e in
+    let took = alike.1 in
+    let same : answer ≡ applied = one_applied answer applied took in
+    let is : applied_now profile history tag.number (named whole.histories tag) ≡ applied = sym out.answer ∙ same in
+    let numbered : tag.number ≡ applied.number = ap (λ (a : AppliedSo). a.number) is in
+    let there = set_there whole.ends.clients tag.client None (Some next) count lt in
+    subst (λ (k : ℕ). Applies profile whole.sent number whole.ends (with_client whole.ends tag.client next) k applied (history_at whole.histories k)) alike.0 (
+      (client, found, omega (arith, numbered, newer)),
+      sym is ∙ ap (λ (k : ℕ). applied_now profile history k (built_at history.built k)) numbered,
+      (tag, at, way, refl, numbered),
+      λ base so.
+          let shown = out.shows base (ap (λ (a : AppliedSo). a.snap) same ∙ so) in (
+            shown.0,
+            ap newest there ∙ (ap (λ (s : AppliedState). view_at s.held s.held.newest) state_is ∙ shown.1),
+            shown.2 ∙ numbered,
+            shown.3,
+          ),
+      (next, there, ap (λ (s : AppliedState). s.number) state_is ∙ (out.number ∙ numbered)),
+    )
+  where
+    one_applied : (x y : AppliedSo) → Applied x ≡ Applied y → x ≡ y
+    one_applied x y same = cc
+
+abbrev AppliesSo : Profile → Whole → ℕ → ℕ → AppliedSo → Step → Type 0
+AppliesSo profile whole number c applied next =
+    next.answer.answer ≡ Deliver number c (Applied applied) → Applies profile whole.sent number whole.ends next.whole.ends c applied (history_at whole.histories c)
+
+applied_arrive : (profile : Profile) (whole : Whole) (number c : ℕ) (applied : AppliedSo) (tag : Tag) (found : Option ClientState) → Cited profile → slice_get whole.sent (number - 1) ≡ Some tag → tag.direction ≡ ToClient
+    → client_at whole.ends tag.client ≡ found → IsFor profile whole tag → Holds profile whole → AppliesSo profile whole number c applied (to_client profile whole number tag found)
+applied_arrive profile whole number c applied tag None cited sent_at way at is holds = λ e. absurd (not_delivered number c (Applied applied) e)
+applied_arrive profile whole number c applied tag (Some client) cited sent_at way at is holds =
+    let built = named whole.histories tag in
+    let took = tagged client.gathering tag.number (built_bytes profile built) tag.index in
+    let does = cited.does client.gathering tag.number (built_bytes profile built) tag.index in
+    let now = record client { gathering = took.gathering } in
+    let apply : ℕ → Result Reception Illegible = λ k. Ok (receive_message client k built.message (plain_bytes profile built)) in
+    let had = has_client profile whole tag.client client is.0 at holds in
+    elim does.either [
+      | inl waits ↦ λ e. absurd (quiet_applies now took.answer apply applied waits.quiet
+          (same_delivered number tag.client c (take_answer now took.answer apply).answer (Applied applied) e).1)
+      | inr came ↦
+          let out = outcome profile whole tag.client tag.number had.0 client built cited had.1 came.newer (names profile whole tag had.0 client cited is had.1) in
+          let taken = take_answer now (CameWhole tag.number (length (built_bytes profile built))) apply in
+          let does_so : take_answer now took.answer apply ≡ taken = ap (λ (a : Gathered). take_answer now a apply) came.answer in
+          λ e. subst (λ (t : Taken). Applies profile whole.sent number whole.ends (with_client whole.ends tag.client t.client) c applied (history_at whole.histories c)) (sym does_so)
+          (applied_whole profile whole number c applied tag client taken.client holds.facts.clients is.0 sent_at way at came.newer refl out
+          (ap (λ (t : Taken). Deliver number tag.client t.answer) (sym does_so) ∙ e))
+    ]
+
+-- where the server takes a datagram, nothing is answered as applied
+not_applied : (profile : Profile) (whole : Whole) (number c : ℕ) (applied : AppliedSo) (tag : Tag) (from : Address) (found : Option SlotState)
+    → AppliesSo profile whole number c applied (to_server profile whole number tag from found)
+not_applied profile whole number c applied tag from None e = absurd (not_to_server number Stranger number c (Applied applied) e)
+not_applied profile whole number c applied tag from (Some slot) e = absurd (not_to_server number _ number c (Applied applied) e)
+
+applied_go : (profile : Profile) (whole : Whole) (number c : ℕ) (applied : AppliedSo) (tag : Tag) (direction : Direction) → Cited profile → slice_get whole.sent (number - 1) ≡ Some tag → tag.direction ≡ direction
+    → IsSent profile whole.histories tag → Holds profile whole → AppliesSo profile whole number c applied (arrive profile whole number tag direction)
+applied_go profile whole number c applied tag ToClient cited at way is holds =
+    applied_arrive profile whole number c applied tag (client_at whole.ends tag.client) cited at way refl (is_for profile whole tag way is) holds
+applied_go profile whole number c applied tag (ToServer from) cited at way is holds = not_applied profile whole number c applied tag from (slot_at whole.ends.server tag.client)
+
+applied_deliver : (profile : Profile) (whole : Whole) (number c : ℕ) (applied : AppliedSo) (found : Option Tag) → Cited profile → slice_get whole.sent (number - 1) ≡ found → Holds profile whole
+    → AppliesSo profile whole number c applied (deliver profile whole number found)
+applied_deliver profile whole number c applied None cited at holds = λ e. absurd (not_delivered number c (Applied applied) e)
+applied_deliver profile whole number c applied (Some tag) cited at holds =
+    applied_go profile whole number c applied tag tag.direction cited at refl (is_sent profile whole (number - 1) tag at holds) holds
+
+-- by tags
+applied_step : (profile : Profile) (whole : Whole) (number c : ℕ) (applied : AppliedSo) → Cited profile → Holds profile whole
+    → AppliesSo profile whole number c applied (step profile whole (events.Deliver number))
+unfolding step
+applied_step profile whole number c applied cited holds =
+    subst (AppliesSo profile whole number c applied) (sym (step_own profile whole number holds.own)) (applied_deliver profile whole number c applied (slice_get whole.sent (number - 1)) cited refl holds)
+
+-- and by bytes
+pub applied_was_built : BytesFollowTags → Layers → AppliedWasBuilt
+applied_was_built law below profile all number c applied is are e =
+    let stands : Then profile all = stood law profile all is are in
+    let kept = kept_then profile all in
+    let whole = whole_then profile all in
+    let history = history_at whole.histories c in
+    let cited = cited_of below profile is in
+    let holds : Holds profile whole = record { facts = stands.facts; joined = stands.joined; own = stands.own } in
+    let same : kept_step kept (events.Deliver number) ≡ seen profile (step profile whole (events.Deliver number)) =
+    ap (λ (k : Kept). kept_step k (events.Deliver number)) (kept_is profile kept whole stands) ∙ (delivers_agree profile whole number cited holds).same in
+    subst (λ (before : Ends). Applies profile whole.sent number before (kept_step kept (events.Deliver number)).kept.ends c applied history) (sym stands.ends)
+    (subst (λ (s : KeptStep). Applies profile whole.sent number whole.ends s.kept.ends c applied history) (sym same)
+    (applied_step profile whole number c applied cited holds (sym (ap (λ (s : KeptStep). s.answer.answer) same) ∙ e)))
+
+-- ---- a client's state
+
+-- by the last gamestate that a client applied
+state_by : (client : ClientState) (history : History) → HasGames client.state client.gathering.taken client.last_time history.built history.games history.accepted history.client_executed
+    → MatchOption (last_played history.games) (IsFresh client.state)
+    (λ played. Carries history.built played.number played.game × IsOf client.state played history.client_executed)
+state_by client history has = of_last (last_played history.games) refl has.shows
+  where
+    of_last : (last : Option Played) → last_played history.games ≡ last → MatchOption last (IsFresh client.state) (λ played. IsOf client.state played history.client_executed)
+        → MatchOption last (IsFresh client.state) (λ played. Carries history.built played.number played.game × IsOf client.state played history.client_executed)
+    of_last None is fresh = fresh
+    of_last (Some played) is shows =
+        let last = games_newest history.games played has.rise is in
+        ((All-contains (WasApplied client.gathering.taken client.last_time history.built history.accepted history.client_executed) history.games played has.each last.there).carries, shows)
+
+pub state_is_of_game : BytesFollowTags → StateIsOfGame
+state_is_of_game law profile all c client is are within found =
+    let stands : Then profile all = stood law profile all is are in
+    let whole = whole_then profile all in
+    let holds : Holds profile whole = record { facts = stands.facts; joined = stands.joined; own = stands.own } in
+    let had = has_client profile whole c client within (ap (λ (e : Ends). client_at e c) (sym stands.ends) ∙ found) holds in
+    state_by client (history_at whole.histories c) had.1.joined.mapped.has

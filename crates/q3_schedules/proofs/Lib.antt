@@ -1,0 +1,17 @@
+pub mod Stood
+pub mod EverySchedule
+pub mod GamesLaws
+pub mod Usual
+pub mod Legible
+pub mod RunIssued
+pub mod Unknown
+pub mod InOrder
+pub mod Prefixes
+pub mod Keys
+pub mod ServedShown
+pub mod Follows
+pub mod FollowsHeard
+pub mod FollowsGiven
+pub mod FollowsEvents
+pub mod Following
+pub mod Entering

@@ -1,0 +1,5 @@
+use Rattle.q3_schedules.proofs.EverySchedule.{newer_is_accepted}
+use Rattle.q3_schedules.proofs.laws.newer_is_accepted.Goals as goal
+
+pub returns : goal.returns
+returns c = newer_is_accepted c.bytes_follow_tags.ensures c.layers.ensures

@@ -1,5 +1,0 @@
-use Rattle.q3_world.proofs.Legible.{always_legible}
-use Rattle.q3_world.proofs.laws.always_legible.Goals as goal
-
-pub returns : goal.returns
-returns c = always_legible c.step_follows.ensures c.layers.ensures

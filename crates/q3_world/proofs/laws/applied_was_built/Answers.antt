@@ -1,5 +1,0 @@
-use Rattle.q3_world.proofs.EverySchedule.{applied_was_built}
-use Rattle.q3_world.proofs.laws.applied_was_built.Goals as goal
-
-pub returns : goal.returns
-returns c = applied_was_built c.bytes_follow_tags.ensures c.layers.ensures

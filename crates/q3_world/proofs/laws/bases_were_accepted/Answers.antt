@@ -1,5 +1,0 @@
-use Rattle.q3_world.proofs.EverySchedule.{bases_were_accepted}
-use Rattle.q3_world.proofs.laws.bases_were_accepted.Goals as goal
-
-pub returns : goal.returns
-returns c = bases_were_accepted c.bytes_follow_tags.ensures

@@ -1,5 +1,0 @@
-use Rattle.q3_world.proofs.Prefixes.{commands_are_prefixes}
-use Rattle.q3_world.proofs.laws.commands_are_prefixes.Goals as goal
-
-pub returns : goal.returns
-returns c = commands_are_prefixes c.bytes_follow_tags.ensures

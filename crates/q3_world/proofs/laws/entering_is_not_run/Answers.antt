@@ -1,5 +1,0 @@
-use Rattle.q3_world.proofs.Entering.{entering_is_not_run}
-use Rattle.q3_world.proofs.laws.entering_is_not_run.Goals as goal
-
-pub returns : goal.returns
-returns c = entering_is_not_run c.bytes_follow_tags.ensures c.layers.ensures

@@ -1,5 +1,0 @@
-use Rattle.q3_world.proofs.Prefixes.{executed_goes_on}
-use Rattle.q3_world.proofs.laws.executed_goes_on.Goals as goal
-
-pub returns : goal.returns
-returns c = executed_goes_on c.bytes_follow_tags.ensures c.layers.ensures

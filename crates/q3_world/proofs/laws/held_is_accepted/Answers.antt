@@ -1,5 +1,0 @@
-use Rattle.q3_world.proofs.EverySchedule.{held_is_accepted}
-use Rattle.q3_world.proofs.laws.held_is_accepted.Goals as goal
-
-pub returns : goal.returns
-returns c = held_is_accepted c.bytes_follow_tags.ensures c.layers.ensures

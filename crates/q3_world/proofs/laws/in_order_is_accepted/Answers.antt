@@ -1,5 +1,0 @@
-use Rattle.q3_world.proofs.InOrder.{in_order_is_accepted}
-use Rattle.q3_world.proofs.laws.in_order_is_accepted.Goals as goal
-
-pub returns : goal.returns
-returns c = in_order_is_accepted c.bytes_follow_tags.ensures c.layers.ensures c.pieces_are_tagged.ensures.whole

@@ -1,5 +1,0 @@
-use Rattle.q3_world.proofs.RunIssued.{moves_were_issued}
-use Rattle.q3_world.proofs.laws.moves_were_issued.Goals as goal
-
-pub returns : goal.returns
-returns c = moves_were_issued c.bytes_follow_tags.ensures

@@ -1,5 +1,0 @@
-use Rattle.q3_world.proofs.EverySchedule.{shown_is_newest}
-use Rattle.q3_world.proofs.laws.shown_is_newest.Goals as goal
-
-pub returns : goal.returns
-returns c = shown_is_newest c.bytes_follow_tags.ensures

@@ -1,5 +1,0 @@
-use Rattle.q3_world.proofs.EverySchedule.{state_is_of_game}
-use Rattle.q3_world.proofs.laws.state_is_of_game.Goals as goal
-
-pub returns : goal.returns
-returns c = state_is_of_game c.bytes_follow_tags.ensures

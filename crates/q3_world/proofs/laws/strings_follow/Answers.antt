@@ -1,5 +1,0 @@
-use Rattle.q3_world.proofs.Following.{strings_follow}
-use Rattle.q3_world.proofs.laws.strings_follow.Goals as goal
-
-pub returns : goal.returns
-returns c = strings_follow c.bytes_follow_tags.ensures c.layers.ensures
