@@ -92,7 +92,7 @@ pub enum Sent {
 pub struct Client {
     state: ClState,
     message: Vec<u8>,
-    length: usize,
+    message_length: usize,
     challenge: u32,
     qport: u16,
     dup: u8,
@@ -119,7 +119,7 @@ impl Model for Client {
 
     ghost view = { λ c. record {
       state = c.state;
-      message = take c.length c.message.items;
+      message = take c.message_length c.message.items;
       challenge = c.challenge;
       qport = c.qport;
       dup = c.dup;
@@ -133,7 +133,7 @@ impl Model for Client {
     } };
 
     ghost invariant = { λ c. (length c.whole.items ≡ longest_message) × (length c.buffer.items ≡ longest_message) × (c.sender.number < sequence_end)
-        × (c.moves.capacity ≡ most_moves) × AreMoves c.moves.items × (length c.message.items ≡ longest_message) × (c.length ≤ longest_message) };
+        × (c.moves.capacity ≡ most_moves) × AreMoves c.moves.items × (length c.message.items ≡ longest_message) × (c.message_length ≤ longest_message) };
 }
 
 impl Client {
@@ -162,7 +162,7 @@ impl Client {
         Ok(Client {
             state,
             message,
-            length: 0,
+            message_length: 0,
             challenge,
             qport,
             dup,
@@ -212,7 +212,7 @@ impl Client {
         ) {
             Ok(applied) => {
                 swap(&mut self.whole, &mut self.message);
-                self.length = length;
+                self.message_length = length;
                 self.note(&applied);
                 ClientTook::Applied(applied)
             }
@@ -337,7 +337,7 @@ impl Client {
         ensures message { result.now ≡ self.now.message }
         ensures short { length result.now ≤ longest_message }
     {
-        &self.message[..self.length]
+        &self.message[..self.message_length]
     }
 
     /// What the messages that were applied left.
