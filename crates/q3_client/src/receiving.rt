@@ -5,13 +5,14 @@ ghost use Rattle.std.specs.Prelude.{◌≡◌, ◌≤◌, [], length, take, IfOk
 ghost use Rattle.q3_chan.specs.Datagrams.{longest_message};
 ghost use Rattle.q3_chan.specs.Gathering.{gathered, Delivers};
 ghost use Rattle.q3_window.specs.Outgoing.{issued_of};
-ghost use Rattle.q3_client.specs.Client.{receive_by};
+ghost use Rattle.q3_client.specs.Client.{cleared, receive_by};
 ghost use Rattle.q3_client.specs.Receiving.{acknowledged_by, state_received, issued_received, answer_received, heard_received, message_received};
 
 use q3_bits::Code;
 use q3_chan::{Gathered, Gatherer, scramble_server};
 use q3_clstate::{Applied, ClState, Log};
 use q3_svmsg::{Illegible, read_ack};
+use q3_text::Text;
 use q3_window::Outgoing;
 
 /// Takes a datagram. A message that it completes stands at the front of `whole`.
@@ -44,32 +45,45 @@ pub(crate) fn receive_front(
     ensures message { IfOk result (λ applied. take count whole.new.items ≡ message_received [] (receive_by state.old outgoing.old challenge number (take count whole.old.items))) }
     ensures room { length whole.new.items ≡ length whole.old.items }
 {
-    receive(state, outgoing, challenge, number, &mut whole[..count], log)
+    receive(state, outgoing, challenge, number, whole.as_mut_slice(), count, log)
 }
 
-/// Receives a message of a number, any bytes: its acknowledgement is read, the bytes are cleared by the text of the command
-/// that it acknowledges, what they say is applied, and only then the acknowledgement is taken. `Err` is why it isn't
-/// legible; nothing changes then but the bytes.
+/// Receives the message of a number that stands in the first of these bytes, so many: its acknowledgement is read, they are
+/// cleared by the text of the command that it acknowledges, what they say is applied, and only then the acknowledgement is taken.
+/// `Err` is why it isn't legible; nothing changes then but the bytes.
 fn receive(
     state: &mut ClState,
     outgoing: &mut Outgoing,
     challenge: u32,
     number: u32,
     bytes: &mut [u8],
+    count: usize,
     log: &mut Log,
 ) -> Result<Applied, Illegible>
-    requires { log.old.commands ≡ [] }
-    ensures state { state.new ≡ state_received state.old (receive_by state.old outgoing.old challenge number bytes.old) }
-    ensures issued { outgoing.new ≡ issued_received outgoing.old (receive_by state.old outgoing.old challenge number bytes.old) }
-    ensures answer { result ≡ answer_received (receive_by state.old outgoing.old challenge number bytes.old) }
-    ensures log { log.new.commands ≡ heard_received (receive_by state.old outgoing.old challenge number bytes.old) }
-    ensures message { IfOk result (λ applied. bytes.new ≡ message_received [] (receive_by state.old outgoing.old challenge number bytes.old)) }
+    requires within { count ≤ length bytes.old }
+    requires empty { log.old.commands ≡ [] }
+    ensures state { state.new ≡ state_received state.old (receive_by state.old outgoing.old challenge number (take count bytes.old)) }
+    ensures issued { outgoing.new ≡ issued_received outgoing.old (receive_by state.old outgoing.old challenge number (take count bytes.old)) }
+    ensures answer { result ≡ answer_received (receive_by state.old outgoing.old challenge number (take count bytes.old)) }
+    ensures log { log.new.commands ≡ heard_received (receive_by state.old outgoing.old challenge number (take count bytes.old)) }
+    ensures message { IfOk result (λ applied. take count bytes.new ≡ message_received [] (receive_by state.old outgoing.old challenge number (take count bytes.old))) }
+    ensures long { length bytes.new ≡ length bytes.old }
 {
-    let ack = acknowledged_by(&state.profile().code, outgoing, bytes)?;
-    scramble_server(bytes, challenge, number, outgoing.text(ack));
-    let applied = state.apply(number, bytes, log)?;
+    let ack = acknowledged_by(&state.profile().code, outgoing, &bytes[..count])?;
+    clear_front(bytes, count, challenge, number, outgoing.text(ack));
+    let applied = state.apply(number, &bytes[..count], log)?;
     let _ = outgoing.acknowledge(ack);
     Ok(applied)
+}
+
+/// Clears the message that stands in the first of these bytes.
+fn clear_front(bytes: &mut [u8], count: usize, challenge: u32, number: u32, text: &Text)
+    requires { count ≤ length bytes.old }
+    ensures cleared { take count bytes.new ≡ cleared challenge number text.now (take count bytes.old) }
+    ensures long { length bytes.new ≡ length bytes.old }
+{
+    let front = &mut bytes[..count];
+    scramble_server(front, challenge, number, text);
 }
 
 /// The number of the command that a message acknowledges. `Err` where its bits don't read, or with `Ack` where the window
