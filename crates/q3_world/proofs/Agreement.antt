@@ -1,5 +1,5 @@
 -- A step by bytes is a step by tags.
-use Rattle.std.proofs.Common.{None, Option, Some, ◌≡◌, List, false, true, refl, sym, ap, subst, ◌∙◌, arith, inl, inr}
+use Rattle.std.proofs.Common.{None, Option, Some, ◌≡◌, ℕ, List, false, true, refl, sym, ap, subst, ◌∙◌, arith, inl, inr}
 use Rattle.std.specs.Prelude.{map}
 use Rattle.std.proofs.lemmas.Bool.{both_ways, cases_Bool}
 use Rattle.q3_report.specs.Answers.{Answered}

@@ -637,7 +637,7 @@ said_tag_is profile whole tag from slot cited is at holds =
     let had = has_slot profile whole tag.client slot is.0 at holds in
     let keeps = had.1.keeps in
     let at_said = said_number profile history.said tag.number is.2.some in
-    piece_is (messages_said profile history.said) slot.gathering (client_header history.qport) (length history.said) had.0.sending tag cited.tags had.1.joined.of_slot.gathers.front keeps.of_slot.from keeps.of_client.fits
+    piece_is (messages_said profile history.said) slot.gathering (client_header history.qport) (length history.said) had.0.client.sending tag cited.tags had.1.joined.of_slot.gathers.front keeps.of_slot.from keeps.of_client.fits
     keeps.of_client.sending is.2
     ∙ ap (λ (m : List ℕ). tagged slot.gathering tag.number m tag.index) at_said
 

@@ -240,5 +240,5 @@ Holds-said windows profile whole c slot place left sends gathers lt had way fits
     asks_so delta [] so = absurd cc
     asks_so delta (one ∷ moves) so = so
 
-    asks_only : (place : Place) → (next_message place.client).delta ≡ true → place.client.delta ≡ true
-    asks_only place.client so = asks_so place.client.delta (next_message place.client).moves so
+    asks_only : (client : ClientState) → (next_message client).delta ≡ true → client.delta ≡ true
+    asks_only client so = asks_so client.delta (next_message client).moves so
