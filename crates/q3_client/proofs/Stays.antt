@@ -4,7 +4,7 @@ use Rattle.std.specs.Prelude.{◌==◌, ◌||◌, not, nat_lt, nat_le, if◌then
 use Rattle.std.proofs.lemmas.Bool.{cond_both, eqb-true}
 use Rattle.std.proofs.lemmas.List.{length-drop}
 use Rattle.circular_buffer.specs.Buffer.{keep_last}
-use Rattle.q3_bits.specs.Bits.{bits_of}
+use Rattle.q3_bits.specs.Bits.{bits_of, message_bytes, message_length}
 use Rattle.q3_bits.specs.ResultBind.{◌>>=◌, bind_ok, fault_as}
 use Rattle.q3_text.specs.Texts.{IsText}
 use Rattle.q3_profile.specs.declared.profile.Profile.{Profile}
@@ -13,6 +13,9 @@ use Rattle.q3_chan.specs.declared.gatherer.Gathered.{Gathered}
 use Rattle.q3_chan.specs.declared.gatherer.Gathered.TheVariants as gathered
 use Rattle.q3_chan.specs.Datagrams.{fragment_size, longest_message, is_fragment, number_in, header_length, start_in, count_in, behind_header}
 use Rattle.q3_chan.specs.Gathering.{Gathering, Took, answers as gathers, arrives, emptied, gathering_of, take_whole, add_piece, take_piece, take_fragment, take_newer, is_connectionless, gathered as gathered_of}
+use Rattle.q3_chan.specs.Datagrams.{sequence_end}
+use Rattle.q3_chan.specs.Sending.{Sending, UnderWay, started, next_of}
+use Rattle.q3_chan.specs.Keys.{client_scrambled}
 use Rattle.q3_svmsg.specs.declared.error.Illegible.{Illegible}
 use Rattle.q3_svmsg.specs.declared.error.Illegible.TheVariants.{Bits}
 use Rattle.q3_svmsg.specs.Reading.{ack_at}
@@ -29,6 +32,8 @@ use Rattle.q3_client.specs.declared.client.MoveError.{MoveError}
 use Rattle.q3_client.specs.declared.client.MoveError.TheVariants.{NoGame, NotLater, Range}
 use Rattle.q3_client.specs.Client.{ClientState, Taken, Reception, new_client, type_at, answers, applies_read, take_answer, take_unless, take_at, receive_bytes, ack_taken, cleared, moves_behind}
 use Rattle.q3_client.specs.Moves.{Handed, most_moves, is_issuable, issue, add_move_at}
+use Rattle.q3_client.specs.declared.client.Sent.TheVariants as sent
+use Rattle.q3_client.specs.Sending.{Said, Emission, next_message, next_said, said_bits, is_unclear, nothing, hand_out, emit_bits, emit_new, emit_left, emit_unless, emit_at}
 use Rattle.q3_client.specs.Standing.{AreMoves, IsClient}
 use Rattle.q3_client.proofs.Begins.{no_moves, moves_pushed, moves_wiped}
 
@@ -165,6 +170,44 @@ unless_stays applies stays client datagram None is =
 pub takes_stay : ApplyStays → StaysOutgoing → (client : ClientState) (datagram : List ℕ) → IsClient client → IsClient (take_at client datagram).client
 unfolding take_at
 takes_stay applies stays client datagram is = unless_stays applies stays client datagram client.dropped is
+
+-- ---- what it sends
+
+-- whatever is being sent
+sending_client : (client : ClientState) (sending : Sending) → IsClient client → IsClient (record client { sending = sending })
+sending_client client sending is = record { applied = is.applied; taken = is.taken; window = is.window; few = is.few; moves = is.moves }
+
+bits_stay : (client : ClientState) (said : Said) (bits : List Bool) → IsClient client → IsClient (emit_bits client said bits).client
+bits_stay client said bits is =
+    let begun = started client.sending (client_scrambled said.key (message_bytes bits)) in
+    cond_both (nat_lt longest_message (message_length (length bits))) (nothing client sent.Overlong)
+    (hand_out (record client { sending = begun }) 0 (sent.Message (client.sending.number + 1) (message_length (length bits))) (Some said)) (λ (emission : Emission). IsClient emission.client)
+    (λ long. is) (λ short. sending_client client (next_of begun).sending is)
+
+new_stays : (client : ClientState) → IsClient client → IsClient (emit_new client).client
+new_stays client is =
+    let message = next_message client in
+    let begun : Emission = emit_bits client (next_said client) (said_bits client.state.profile (next_said client)) in
+    let clear : Emission = if is_unclear client.state.profile message then nothing client sent.Unclear else begun in
+    let Stays = λ (emission : Emission). IsClient emission.client in
+    cond_both (nat_le sequence_end (client.sending.number + 1)) (nothing client sent.SequenceEnd) clear Stays (λ e. is)
+    (λ e. cond_both (is_unclear client.state.profile message) (nothing client sent.Unclear) begun Stays (λ e. is)
+    (λ e. bits_stay client (next_said client) (said_bits client.state.profile (next_said client)) is))
+
+left_stays : (client : ClientState) (left : Option UnderWay) → IsClient client → IsClient (emit_left client left).client
+left_stays client None is = new_stays client is
+left_stays client (Some left) is = sending_client client (next_of client.sending).sending is
+
+sends_stay : (client : ClientState) (dropped : Option Illegible) → IsClient client → IsClient (emit_unless client dropped).client
+sends_stay client None is = left_stays client client.sending.under_way is
+sends_stay client (Some cause) is = is
+
+-- whatever it emits
+pub emits_stay : (client : ClientState) → IsClient client → IsClient (emit_at client).client
+unfolding emit_at
+emits_stay client is = sends_stay client client.dropped is
+
+-- ---- what is handed in
 
 pub joins_stay : ApplyStays → StaysOutgoing → (profile : Profile) (challenge qport dup : ℕ) → IsCodec profile → 512 ≤ profile.parse_ring → IsClient (new_client profile challenge qport dup)
 joins_stay applies stays profile challenge qport dup codec room =

@@ -13,8 +13,8 @@ pub fn begins_said()
     strings::numbered_are_commands();
 }
 
-/// A client is well formed once it joined, and stays so, whatever move or command is issued and whatever bytes it takes; what the
-/// messages left stays so too, where a message is received from its bytes.
+/// A client is well formed once it joined, and stays so, whatever move or command is issued, whatever it emits and whatever bytes it
+/// takes; what the messages left stays so too, where a message is received from its bytes.
 pub fn client_stays()
     ensures { ClientStays }
 {

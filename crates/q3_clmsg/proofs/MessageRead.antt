@@ -6,7 +6,7 @@ use Rattle.q3_bits.specs.Laws.{PutIsRead}
 use Rattle.q3_text.specs.declared.text.Command.{Command}
 use Rattle.q3_strings.specs.Commands.{commands_bits, SpellsNops, SpellsCommands}
 use Rattle.q3_strings.specs.Operations.{ending_after}
-use Rattle.q3_strings.specs.Rows.{row-behind, row-first, row-last}
+use Rattle.q3_strings.specs.Rows.{row-behind, row-first, row-last, operations-parts}
 use Rattle.q3_strings.specs.Laws.{NopsAreNops, RowSpelledIsRead, EndingSpelledIsRead}
 use Rattle.q3_clmsg.specs.declared.moves.Move.{Move}
 use Rattle.q3_clmsg.specs.Moves.{no_move}
@@ -128,10 +128,15 @@ pub message_is_read : PutIsRead → NopsAreNops → RowSpelledIsRead → EndingS
 unfolding client_after
 message_is_read put nops_law row_law ending_law words key message text rest code fits s =
     let start : Message = record { id = message.id; acknowledged = message.acknowledged; command = message.command; commands = []; delta = false; moves = [] } in
-    let bits = s.commands ++ (s.nops ++ (s.section ++ (s.behind ++ (end words ++ rest)))) in
+    let operations = s.of_operations in
+    let behind = operations.of_ending in
+    let bits = operations.text ++ (operations.nops ++ (s.section ++ (behind.0 ++ (end words ++ rest)))) in
     let longs = row_bits words ((message.id, 32) ∷ (message.acknowledged, 32) ∷ (message.command, 32) ∷ []) in
-    let same : text ++ rest ≡ longs ++ bits = rw s.whole (simp append_assoc) in
+    let same : text ++ rest ≡ longs ++ bits =
+    ap (λ (text : List Bool). text ++ rest) s.whole
+    ∙ append_assoc longs s.operations rest
+    ∙ ap (λ (left : List Bool). longs ++ left) (operations-parts words 4 5 message.commands s.section s.operations rest operations) in
     let heads = heads_are_read put words code message.id message.acknowledged message.command bits s.id s.acknowledged s.command in
     rw (same, heads.1)
-    (operations_are_read put row_law ending_law words code key nops_law start message.commands message.delta message.moves s.commands s.nops s.section s.behind rest
-    refl refl refl s.few s.of_commands s.of_nops s.of_section s.of_behind)
+    (operations_are_read put row_law ending_law words code key nops_law start message.commands message.delta message.moves operations.text operations.nops s.section behind.0 rest
+    refl refl refl s.few operations.of_commands operations.of_nops s.of_section behind.1)

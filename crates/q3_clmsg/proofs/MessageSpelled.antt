@@ -58,15 +58,19 @@ message_is_spelled commands_are words key message code fits is =
       acknowledged = is.acknowledged;
       command = is.command;
       few = is.few;
-      commands = commands;
-      nops = [];
       section = section;
-      behind = [];
-      of_commands = commands_are words 4 message.commands is.commands;
-      of_nops = (0, row-empty words);
+      operations = commands ++ [] ++ section ++ ([] ++ end words);
       of_section = section_is_spelled words key message.delta message.moves is.few_moves is.moves is.whole;
-      of_behind = (0, row-empty words);
-      whole = simp append-nil;
+      of_operations = record {
+        text = commands;
+        nops = [];
+        ending = [] ++ end words;
+        of_commands = commands_are words 4 message.commands is.commands;
+        of_nops = (0, row-empty words);
+        of_ending = ([], (0, row-empty words), refl);
+        whole = refl;
+      };
+      whole = simp (append-nil, append_assoc);
     }
 
 -- ---- the moves that were read
@@ -315,21 +319,25 @@ message_behind words key message bits rest heads were read =
         moves = read.moves;
         whole = read.whole;
       },
-      longs message.id message.acknowledged message.command ++ read.commands ++ nops ++ section ++ behind ++ end words,
+      longs message.id message.acknowledged message.command ++ (read.commands ++ nops ++ section ++ (behind ++ end words)),
       front ∙ simp append_assoc,
       record {
         id = id;
         acknowledged = acknowledged;
         command = command;
         few = read.few;
-        commands = read.commands;
-        nops = nops;
         section = section;
-        behind = behind;
-        of_commands = subst (λ (commands : List Command). SpellsCommands words 4 commands read.commands) (sym read.all) read.of_commands;
-        of_nops = read.of_nops;
+        operations = read.commands ++ nops ++ section ++ (behind ++ end words);
         of_section = read.of_section;
-        of_behind = read.of_behind;
+        of_operations = record {
+          text = read.commands;
+          nops = nops;
+          ending = behind ++ end words;
+          of_commands = subst (λ (commands : List Command). SpellsCommands words 4 commands read.commands) (sym read.all) read.of_commands;
+          of_nops = read.of_nops;
+          of_ending = (behind, read.of_behind, refl);
+          whole = refl;
+        };
         whole = refl;
       },
     )

@@ -2,7 +2,7 @@
 -- in 32 bits where 8 would do, fields marked as changed that are as they were, and -128 for -127.
 use Rattle.std.specs.Prelude.{◌≡◌, ◌⊎◌, ℕ, ◌+◌, ◌%◌, ◌^◌, ◌<◌, ◌≤◌, Bool, false, List, [], ◌∷◌, ◌++◌, length}
 use Rattle.q3_bits.specs.Words.{field_bits, row_bits}
-use Rattle.q3_strings.specs.Commands.{SpellsNops, SpellsCommands}
+use Rattle.q3_strings.specs.Commands.{SpellsOperations}
 use Rattle.q3_clmsg.specs.declared.moves.Move.{Move}
 use Rattle.q3_clmsg.specs.Moves.{no_move, move_widths, fields_of, move_of, move_key, hidden}
 use Rattle.q3_clmsg.specs.Texts.{move_operation}
@@ -45,19 +45,14 @@ SpellsSection words key delta moves bits =
     (text : List Bool) × (length moves ≤ 32) × SpellsMoves words key no_move moves text
     × (bits ≡ row_bits words ((move_operation delta, 8) ∷ (length moves, 8) ∷ []) ++ text)
 
--- the bits spell a message by its key, up to its end
+-- the bits spell a message by its key, up to its end: commands are the operation 4, and the end is 5
 pub record SpellsMessage (words : List (List Bool)) (key : ℕ) (message : Message) (bits : List Bool) : Type 0 where
   pub id : message.id < 2 ^ 32
   pub acknowledged : message.acknowledged < 2 ^ 32
   pub command : message.command < 2 ^ 32
   pub few : length message.commands ≤ 64
-  pub commands : List Bool
-  pub nops : List Bool
   pub section : List Bool
-  pub behind : List Bool
-  pub of_commands : SpellsCommands words 4 message.commands commands
-  pub of_nops : SpellsNops words nops
+  pub operations : List Bool
   pub of_section : SpellsSection words key message.delta message.moves section
-  pub of_behind : SpellsNops words behind
-  pub whole : bits ≡ row_bits words ((message.id, 32) ∷ (message.acknowledged, 32) ∷ (message.command, 32) ∷ [])
-      ++ commands ++ nops ++ section ++ behind ++ row_bits words ((5, 8) ∷ [])
+  pub of_operations : SpellsOperations words 4 5 message.commands section operations
+  pub whole : bits ≡ row_bits words ((message.id, 32) ∷ (message.acknowledged, 32) ∷ (message.command, 32) ∷ []) ++ operations

@@ -1,9 +1,22 @@
 //! Laws of small floats, of the normal form, of field texts and of the delta of words, each the contract of a call that does nothing but cite
 //! the laws below it.
 
+ghost use Rattle.std.specs.Prelude.{◌<◌, ◌^◌, All};
+ghost use Rattle.q3_fields.specs.States.{AreWords};
 ghost use Rattle.q3_fields.specs.Laws.{SmallOfPattern, PatternOfSmall, NormIsNormal, NormHasItsText, PlayerFieldIsSpelled, EntityFieldIsSpelled, PlayerReadIsSpelled, EntityReadIsSpelled, PlayerSpelledIsRead, EntitySpelledIsRead, PlayerWrittenIsRead, EntityWrittenIsRead, NormalWordsAreNormal, ZerosAreNormal, LastChangedIsLeast, WordsAreSpelled, UnchangedIsNormal, WordsReadAreSpelled, WordsSpelledAreRead, WordsEndAlike};
 
 use q3_bits::laws;
+
+/// Words are of 32 bits, as their type tells.
+pub fn are_words<const N: usize>(words: &[u32; N])
+    ensures { AreWords N words.now }
+{
+    words_fit(words);
+}
+
+fn words_fit(words: &[u32])
+    ensures { All (λ word. word < 2 ^ 32) words.now }
+{}
 
 /// The number of a whole number's pattern is that number.
 pub fn small_of_pattern()

@@ -1,9 +1,10 @@
 //! The frames of each slot. Keeps the rules "server frames and their shared entity ring" and "choice of the delta base", the
 //! engine's `SV_BuildClientSnapshot` and `SV_WriteSnapshotToClient` (sv_snapshot.c); the comparisons are this project's own.
 
-ghost use Rattle.std.specs.Prelude.{◌≡◌, ◌^◌, ◌<◌, ◌≤◌, length, option_map, replicate, IfOk, IfSome};
+ghost use Rattle.std.specs.Prelude.{◌≡◌, ◌+◌, ◌^◌, ◌<◌, ◌≤◌, length, option_map, replicate, IfOk, IfSome};
 ghost use Rattle.q3_entity.specs.Entities.{Rises, run_of};
 ghost use Rattle.q3_ring.specs.Places.{no_places};
+ghost use Rattle.q3_ring.specs.Ring.{PlacesOnce};
 ghost use Rattle.q3_frames.specs.Frames.{no_frames, is_near, base_of, build_at};
 
 use q3_entity::{EntityState, Run};
@@ -25,14 +26,18 @@ pub struct Base<'a> {
 }
 
 /// For each slot its newest frames, 32 at most, each in the place of its number modulo 32. The entities of all frames lie in
-/// one ring, and those of frames that are built one after the other from the same entities lie there once. After `new` no call
-/// takes memory.
+/// one ring, and those of frames that are built one after the other for several slots from the same entities lie there once.
+/// After `new` no call takes memory.
 #[derive(Drop)]
 pub struct Frames {
     ring: Ring,
     slots: Vec<Places>,
     /// How many entities the frames had, all together: no fewer than were placed in the ring.
     placed: u64,
+    /// Whether a change was noted since entities were placed last.
+    changed: bool,
+    /// The slot of the frame that was built last.
+    last: u8,
 }
 
 impl Model for Frames {
@@ -63,7 +68,17 @@ impl Frames {
             ring: Ring::new(alloc, ring)?,
             slots: empty_slots(alloc, slots)?,
             placed: 0,
+            changed: false,
+            last: 0,
         })
+    }
+
+    /// Notes that the entities of the next frames may be others than those of the last one, so that the next that are placed
+    /// aren't compared with these. What frames there are stays.
+    pub fn note_change(&mut self)
+        ensures { self.new ≡ self.old }
+    {
+        self.changed = true;
     }
 
     /// Builds a frame of a slot: its head, and its entities, which count behind those of all frames before it. What stood in
@@ -76,9 +91,12 @@ impl Frames {
     {
         laws::placed_is_there();
         laws::others_stay();
-        let first = self.ring.place_once(entities);
+        // a slot that comes again begins another round
+        let first = place(&mut self.ring, entities, self.changed || slot == self.last);
         self.slots[slot as usize].keep(head, first, entities.len(), self.placed);
         self.placed += entities.len() as u64;
+        self.changed = self.changed && entities.is_empty();
+        self.last = slot;
     }
 
     /// Lends the base of a slot's message, whose own frame was built before: the frame of the client's delta number, 0 for
@@ -109,6 +127,21 @@ impl Frames {
     {
         self.placed
     }
+}
+
+/// Places entities in a ring, and answers how many were placed before them. Those that aren't fresh are compared with those that
+/// were placed last, and the same lie there once.
+fn place(ring: &mut Ring, entities: &[EntityState], fresh: bool) -> u64
+    requires few { length entities.now ≤ length ring.old.recent }
+    requires count { ring.old.placed + length entities.now < 2 ^ 64 }
+    ensures { PlacesOnce ring.old ring.new entities.now result }
+{
+    if !fresh {
+        return ring.place_once(entities);
+    }
+    let first = ring.placed();
+    ring.place(entities);
+    first
 }
 
 /// Whether the frame of a number may be the base of a message, by the numbers.

@@ -1,3 +1,4 @@
+mod Arrays
 pub mod Changes
 pub mod Normal
 pub mod Same

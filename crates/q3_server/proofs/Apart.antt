@@ -22,7 +22,7 @@ use Rattle.q3_slot.specs.Emitting.{SlotEmission, begun_next, emit_bits, emit_bui
 use Rattle.q3_slot.specs.Emitting as emits
 use Rattle.q3_server.specs.declared.server.SlotError.{SlotError}
 use Rattle.q3_server.specs.declared.server.SlotError.TheVariants.{Range}
-use Rattle.q3_server.specs.Server.{Handed, ServerState, add_apart, add_client_at, add_to, emit_at, emit_from, give, remove_entity_at, say_at, say_to, set_area_at, set_baseline_at, set_delayed_at, set_entity_at, set_player_at, set_time_at, slot_at, with_slot}
+use Rattle.q3_server.specs.Server.{Handed, ServerState, add_apart, add_client_at, add_to, emit_at, emit_from, give, remove_entity_at, say_to, set_baseline_at, set_entity_at, set_time_at, slot_at, with_slot}
 use Rattle.q3_server.specs.Taking as hears
 use Rattle.q3_server.specs.Apart.{KeepsFrames, SlotStays, SlotsApart, found_by, taker_of}
 

@@ -1,10 +1,9 @@
 -- What a server begins is a message as a server builds it.
-use Rattle.std.proofs.Common.{◌≡◌, ℕ, suc, ◌+◌, ◌^◌, ◌<◌, ◌≤◌, Bool, true, false, List, [], ◌∷◌, length, get_or, Option, Some, None, refl, sym, ap, subst, ◌∙◌, inl, inr, arith, lit<, is_some}
-use Rattle.std.specs.Prelude.{◌||◌, nat_le, nat_lt, if◌then◌else◌, All, IfSome, ◌⊎◌, ◌-◌}
+use Rattle.std.proofs.Common.{◌≡◌, ℕ, ◌+◌, ◌^◌, ◌<◌, ◌≤◌, Bool, true, false, [], length, Option, Some, None, refl, sym, ap, subst, ◌∙◌, inl, inr, arith, lit<, is_some}
+use Rattle.std.specs.Prelude.{nat_le, nat_lt, if◌then◌else◌, IfSome, ◌-◌}
 use Rattle.std.proofs.lemmas.Bool.{cases_Bool, cond_both, leb-false, both_ways}
 use Rattle.std.proofs.lemmas.List.{get_or_past}
-use Rattle.std.proofs.lemmas.List.Elements.{All-nil, All-cons, All-head, All-tail}
-use Rattle.q3_window.specs.Outgoing.{OutgoingState, IsOutgoing, carried}
+use Rattle.std.proofs.lemmas.List.Elements.{All-nil}
 use Rattle.q3_profile.specs.declared.profile.Profile.{Profile}
 use Rattle.q3_player.specs.State.{zero_player}
 use Rattle.q3_chan.specs.Datagrams.{sequence_end}
@@ -19,7 +18,7 @@ use Rattle.q3_built.specs.Built.{Built, IsHeld, IsArea, IsSnapshot, IsNear, IsTe
 use Rattle.q3_slot.specs.Slot.{SlotState, is_active, plays_under, asked}
 use Rattle.q3_slot.specs.Emitting.{SlotEmission, snapshot_flags, played_snapshot, waiting_snapshot, next_snapshot, next_frames, telling_of, begun_next, next_game, next_game_built, is_overlong, most_placed, emit_built, emit_game, emit_new, emit_slot}
 use Rattle.q3_slot.specs.Standing.{IsSlot}
-use Rattle.q3_server.specs.Server.{ServerState, slot_at, emission_at, emit_from, emit_at}
+use Rattle.q3_server.specs.Server.{ServerState, slot_at, emit_from, emit_at}
 use Rattle.q3_server.specs.Standing.{IsMap, IsJoined, IsServer, BeginsBuilt, Below}
 use Rattle.q3_server.proofs.KeepsMap.{none_held}
 use Rattle.q3_server.proofs.KeepsClients.{zero_held, at_place}

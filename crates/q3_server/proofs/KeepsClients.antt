@@ -1,13 +1,13 @@
 -- What a server keeps of each client stays so.
-use Rattle.std.proofs.Common.{◌≡◌, ℕ, zero, suc, ◌+◌, ◌^◌, ◌<◌, ◌≤◌, Bool, true, false, List, [], ◌∷◌, length, get_or, set, take, drop, ◌++◌, Option, Some, None, Result, Ok, Err, refl, sym, ap, subst, ◌∙◌, inl, inr, arith, option_map}
-use Rattle.std.specs.Prelude.{◌==◌, ◌&&◌, ◌||◌, not, nat_le, nat_lt, map as map_list, replicate, if◌then◌else◌, All, IfSome}
-use Rattle.std.proofs.lemmas.Bool.{cases_Bool, cases_lt, cond_both, and_parts, eqb-false, not-true, true≢false}
+use Rattle.std.proofs.Common.{◌≡◌, ℕ, zero, suc, ◌+◌, ◌<◌, Bool, true, false, List, [], ◌∷◌, length, get_or, set, take, drop, ◌++◌, Option, Some, None, Result, Ok, Err, refl, sym, ap, subst, ◌∙◌, inl, inr, arith, option_map}
+use Rattle.std.specs.Prelude.{◌==◌, ◌&&◌, ◌||◌, not, nat_le, nat_lt, map as map_list, replicate, All, IfSome}
+use Rattle.std.proofs.lemmas.Bool.{cases_Bool, cases_lt, cond_both, and_parts, eqb-false, not-true}
 use Rattle.std.proofs.lemmas.List.{get_or_past, take_all, drop_all, append-nil, length-map}
 use Rattle.std.proofs.lemmas.List.Elements.{All-nil, All-cons, All-head, All-tail, All-get_or, All-set}
 use Rattle.q3_io.specs.declared.address.Address.{Address}
 use Rattle.q3_profile.specs.declared.profile.Profile.{Profile}
 use Rattle.q3_profile.specs.Profile.{IsCodec}
-use Rattle.q3_player.specs.State.{zero_player, normal_player, IsState}
+use Rattle.q3_player.specs.State.{zero_player, IsState}
 use Rattle.q3_player.specs.declared.state.PlayerState.{PlayerState}
 use Rattle.q3_chan.specs.declared.gatherer.Gathered.{Gathered}
 use Rattle.q3_chan.specs.declared.gatherer.Gathered.TheVariants as gathered
@@ -19,15 +19,15 @@ use Rattle.q3_clmsg.specs.Values.{Message}
 use Rattle.q3_window.specs.Incoming.{gap_in}
 use Rattle.q3_window.specs.Outgoing.{with_texts}
 use Rattle.q3_frames.specs.Frames.{FramesState}
-use Rattle.q3_map.specs.Map.{MapState, begins_game}
+use Rattle.q3_map.specs.Map.{MapState}
 use Rattle.q3_slot.specs.declared.stage.ClientStage.{ClientStage}
 use Rattle.q3_slot.specs.declared.stage.ClientStage.TheVariants.{Connected, Primed, Active}
 use Rattle.q3_built.specs.Built.{Built, IsHeld, is_unclear, built_bits}
-use Rattle.q3_slot.specs.Slot.{SlotState, new_slot, is_active, is_connected, on_new_map, with_player, with_area, with_delayed, primed}
-use Rattle.q3_slot.specs.Slots.{changes_own, issues, say_slot, slot_saying, tells, slot_behind, slot_after, map_after, emission_of}
+use Rattle.q3_slot.specs.Slot.{SlotState, new_slot, is_active, is_connected, on_new_map, with_player, with_area, with_delayed}
+use Rattle.q3_slot.specs.Slots.{changes_own, say_slot, slot_saying, tells, slot_behind, slot_after, map_after, emission_of}
 use Rattle.q3_slot.specs.Taking as took
 use Rattle.q3_slot.specs.Taking.{Came, OfMap, OfOther, Leading, asks_game, is_behind_game, moves_on, goes_on, run_unless, run_read, said_by, take_slot}
-use Rattle.q3_slot.specs.Emitting.{SlotEmission, is_overlong, most_placed, next_frames, begun_next, next_game_built, emit_built, emit_game, emit_next, emit_new, emit_slot}
+use Rattle.q3_slot.specs.Emitting.{SlotEmission, is_overlong, most_placed, next_frames, begun_next, next_game_built, emit_built, emit_game, emit_new, emit_slot}
 use Rattle.q3_chan.specs.Datagrams.{sequence_end}
 use Rattle.q3_server.specs.Standing.{IsMap, IsJoined, AreJoined, IsServer, Below}
 use Rattle.q3_server.proofs.KeepsMap.{map_begun}
@@ -46,21 +46,21 @@ joined_new below profile id challenge qport address codec = record { player = ze
 joined_on_map : Below → (profile : Profile) (id next : ℕ) (slot : SlotState) → IsCodec profile → IsJoined profile id slot → IsJoined profile next (on_new_map slot)
 joined_on_map below profile id next slot codec is = record { player = zero_held below profile codec; begun = λ none. refl; owed = λ owes. absurd cc }
 
-joined_player : Below → (profile : Profile) (id : ℕ) (player : PlayerState) (slot : SlotState) → IsCodec profile → IsState player → IsJoined profile id slot
+pub joined_player : Below → (profile : Profile) (id : ℕ) (player : PlayerState) (slot : SlotState) → IsCodec profile → IsState player → IsJoined profile id slot
     → IsJoined profile id (with_player profile slot player)
 joined_player below profile id player slot codec state is =
     let made = below.player profile.player.kinds player codec.player.kinds state in
     record { player = record { state = made.0; normal = made.1 }; begun = is.begun; owed = is.owed }
 
-joined_area : (profile : Profile) (id : ℕ) (area : List ℕ) (slot : SlotState) → IsJoined profile id slot → IsJoined profile id (with_area slot area)
+pub joined_area : (profile : Profile) (id : ℕ) (area : List ℕ) (slot : SlotState) → IsJoined profile id slot → IsJoined profile id (with_area slot area)
 joined_area profile id area slot is = record { player = is.player; begun = is.begun; owed = is.owed }
 
 -- which is delayed, or isn't
-joined_delayed : (profile : Profile) (id : ℕ) (on : Bool) (slot : SlotState) → IsJoined profile id slot → IsJoined profile id (with_delayed slot on)
+pub joined_delayed : (profile : Profile) (id : ℕ) (on : Bool) (slot : SlotState) → IsJoined profile id slot → IsJoined profile id (with_delayed slot on)
 joined_delayed profile id on slot is = record { player = is.player; begun = is.begun; owed = is.owed }
 
 -- to which a command is issued
-joined_issued : (profile : Profile) (id : ℕ) (text : List ℕ) (slot : SlotState) → IsJoined profile id slot → IsJoined profile id (say_slot slot text).slot
+pub joined_issued : (profile : Profile) (id : ℕ) (text : List ℕ) (slot : SlotState) → IsJoined profile id slot → IsJoined profile id (say_slot slot text).slot
 joined_issued profile id text slot is =
     elim (cases_Bool (changes_own text)) [
       | inl own ↦ rw own is
@@ -116,7 +116,7 @@ module _ (profile : Profile) (map : MapState) (c : ℕ) where
   joined_answered slot gathered.Runt read is = is
   joined_answered slot gathered.Connectionless read is = is
 
-  joined_took : (from : Address) (datagram : List ℕ) (slot : SlotState) → IsJoined profile map.id slot → IsJoined profile map.id (take_slot profile map c from datagram slot).slot
+  pub joined_took : (from : Address) (datagram : List ℕ) (slot : SlotState) → IsJoined profile map.id slot → IsJoined profile map.id (take_slot profile map c from datagram slot).slot
   joined_took from datagram slot is =
       let gathering = gathered_of slot.gathering datagram in
       joined_answered (record slot { address = from; gathering = gathering.gathering }) gathering.answer (λ number. said_by profile map slot gathering.message)
@@ -180,7 +180,7 @@ found_place : (profile : Profile) (id : ℕ) (slots : List (Option SlotState)) (
 found_place profile id slots c found within at are = subst (IsPlace profile id) (sym at) (All-get_or (IsPlace profile id) slots c found within are.each)
 
 -- one is put there
-place_set : (profile : Profile) (id : ℕ) (slots : List (Option SlotState)) (c : ℕ) (now : Option SlotState) → IfSome now (IsJoined profile id) → AreJoined profile id slots
+pub place_set : (profile : Profile) (id : ℕ) (slots : List (Option SlotState)) (c : ℕ) (now : Option SlotState) → IfSome now (IsJoined profile id) → AreJoined profile id slots
     → AreJoined profile id (set slots c now)
 place_set profile id slots c now is are = record { each = All-set (IsPlace profile id) slots c now is are.each }
 
@@ -207,6 +207,18 @@ nobody profile id count = record { each = none count }
     none (suc count) = All-cons (IsPlace profile id) None (replicate count None) tt (none count)
 
 -- ---- the same of each call
+
+-- a slot emits
+pub server_behind : (profile : Profile) (map : MapState) (slots : List (Option SlotState)) (frames : FramesState) (c : ℕ) (slot : SlotState) → IsJoined profile map.id slot
+    → IsServer profile map slots → IsServer profile (emission_of profile map frames c slot).map (set slots c (Some (emission_of profile map frames c slot).slot))
+server_behind profile map slots frames c slot here is =
+    let emits = emits_slot profile map frames c slot is.is_map here slot.sending.under_way in
+    let now : Option SlotState = Some (emission_of profile map frames c slot).slot in
+    record {
+      codec = is.codec;
+      is_map = emits.is_map;
+      clients = subst (λ (id : ℕ). AreJoined profile id (set slots c now)) (sym emits.id) (place_set profile map.id slots c now emits.client is.clients);
+    }
 
 module _ (profile : Profile) (map : MapState) (slots : List (Option SlotState)) (c : ℕ) (found now : Option SlotState) (within : c < length slots) (at : found ≡ get_or slots c found)
     (is : IsServer profile map slots) where
@@ -244,13 +256,7 @@ module _ (profile : Profile) (map : MapState) (slots : List (Option SlotState)) 
       of_found None now after here =
           record { codec = is.codec; is_map = is.is_map; clients = place_set profile map.id slots c now (subst (IsPlace profile map.id) (sym after) tt) is.clients }
       of_found (Some slot) now after here =
-          let emits = emits_slot profile map frames c slot is.is_map here slot.sending.under_way in
-          record {
-            codec = is.codec;
-            is_map = emits.is_map;
-            clients = subst (λ (id : ℕ). AreJoined profile id (set slots c now)) (sym emits.id)
-                (place_set profile map.id slots c now (subst (IsPlace profile map.id) (sym after) emits.client) is.clients);
-          }
+          subst (λ (n : Option SlotState). IsServer profile (map_after profile map frames c (Some slot)) (set slots c n)) (sym after) (server_behind profile map slots frames c slot here is)
 
 -- a client joins
 pub server_joined : Below → (profile : Profile) (map : MapState) (slots : List (Option SlotState)) (c challenge qport : ℕ) (address : Address) (now : Option SlotState)

@@ -1,5 +1,5 @@
 -- What a server keeps stays so, call by call.
-use Rattle.std.proofs.Common.{◌≡◌, ℕ, ◌^◌, ◌<◌, ◌≤◌, true, false, List, Option, Some, None, Result, Ok, Err, refl, sym, ap, subst, ◌∙◌, inl, inr, arith, option_map}
+use Rattle.std.proofs.Common.{◌≡◌, ℕ, ◌^◌, ◌<◌, List, Option, None, Result, Ok, Err, refl, sym, ap, subst, inl, inr, option_map}
 use Rattle.std.specs.Prelude.{nat_le, replicate, map as map_list}
 use Rattle.std.proofs.lemmas.Bool.{cases_Bool, cond_both}
 use Rattle.q3_profile.specs.declared.profile.Profile.{Profile}

@@ -47,6 +47,10 @@ pub record IsServer (profile : Profile) (map : MapState) (slots : List (Option S
   pub is_map : IsMap profile map
   pub clients : AreJoined profile map.id slots
 
+-- and as one value
+abbrev pub IsServerState : ServerState → Type 0
+IsServerState server = IsServer server.profile server.map server.slots
+
 -- what is begun for the client in a slot is a message as a server builds it
 abbrev pub BeginsBuilt : ServerState → ℕ → Type 0
 BeginsBuilt server c =

@@ -2,7 +2,7 @@
 
 ghost use Rattle.q3_server.specs.Apart.{SlotsApart};
 ghost use Rattle.q3_server.specs.Standing.{Below};
-ghost use Rattle.q3_server.specs.Laws.{MapStays, BeginsAsBuilt};
+ghost use Rattle.q3_server.specs.Laws.{MapStays, ServerStays, BeginsAsBuilt};
 
 use q3_config::laws as config;
 use q3_entity::laws as entity;
@@ -29,6 +29,13 @@ pub(crate) fn below()
 /// The map is well formed before the first, and stays so, whatever the game hands in.
 pub fn map_stays()
     ensures { MapStays }
+{
+    below();
+}
+
+/// A server is well formed with no client, and stays so, whatever the game hands in, whatever it emits and whatever bytes arrive.
+pub fn server_stays()
+    ensures { ServerStays }
 {
     below();
 }

@@ -4,7 +4,6 @@
 pub mod laws;
 pub mod server;
 mod slots;
-mod standing;
 
 pub use q3_map::{Late, NotLater};
 pub use q3_slot::{Emitted, Heard, NoClient, SayError, ServerTook};

@@ -17,12 +17,12 @@ ghost use Rattle.q3_server.specs.Taking.{take_at};
 
 use crate::laws::below;
 use crate::slots::{begin_map, first_without_room, is_kept, tell_all};
-use crate::standing::{entity_fits, player_fits};
 use q3_bits::NoMemory;
 use q3_chan::{Datagram, LONGEST_MESSAGE, NoQport, qport_of};
 use q3_clmsg::ClientMessage;
 use q3_config::{ConfigError, Configs};
 use q3_entity::EntityState;
+use q3_fields::laws::are_words;
 use q3_frames::Frames;
 use q3_io::Address;
 use q3_map::{Late, Map, NotLater};
@@ -165,6 +165,7 @@ impl Server {
         below();
         self.map.new_map(id, feed)?;
         begin_map(&mut self.slots);
+        self.frames.note_change();
         Ok(())
     }
 
@@ -176,7 +177,7 @@ impl Server {
         ensures { set_baseline_at self.old state.now ≡ record { server = self.new; answer = result } }
     {
         below();
-        entity_fits(state);
+        are_words(&state.words);
         self.map.set_baseline(&self.profile.entity, state)
     }
 
@@ -232,8 +233,9 @@ impl Server {
         ensures { self.new ≡ set_entity_at self.old state.now }
     {
         below();
-        entity_fits(state);
+        are_words(&state.words);
         self.map.set_entity(&self.profile.entity, state);
+        self.frames.note_change();
     }
 
     /// Takes an entity away. An absent one changes nothing.
@@ -242,6 +244,7 @@ impl Server {
     {
         below();
         self.map.remove_entity(number);
+        self.frames.note_change();
     }
 
     /// Takes over the player of a client. `NoClient` comes exactly where no client was added in the slot.
@@ -249,7 +252,7 @@ impl Server {
         ensures { set_player_at self.old slot player.now ≡ record { server = self.new; answer = result } }
     {
         below();
-        player_fits(player);
+        player.stand();
         if !self.has(slot) {
             return Err(NoClient);
         }

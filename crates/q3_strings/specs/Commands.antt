@@ -43,3 +43,14 @@ pub record SpellsRow (words : List (List Bool)) (command : ℕ) (commands : List
 -- nops, and the operation `end`
 abbrev pub SpellsEnding : List (List Bool) → ℕ → List Bool → Type 0
 SpellsEnding words end bits = (nops : List Bool) × SpellsNops words nops × (bits ≡ nops ++ row_bits words ((end, 8) ∷ []))
+
+-- the operations of a message up to its end: commands, each behind the operation `command`, a section that has an operation of its own, or
+-- nothing, and the operation `end`, with nops before each
+pub record SpellsOperations (words : List (List Bool)) (command end : ℕ) (commands : List Command) (section bits : List Bool) : Type 0 where
+  pub text : List Bool
+  pub nops : List Bool
+  pub ending : List Bool
+  pub of_commands : SpellsCommands words command commands text
+  pub of_nops : SpellsNops words nops
+  pub of_ending : SpellsEnding words end ending
+  pub whole : bits ≡ text ++ nops ++ section ++ ending

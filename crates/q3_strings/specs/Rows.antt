@@ -1,9 +1,11 @@
--- How rows of fields are read, by what is known of one field.
+-- How rows of fields are read, by what is known of one field, and of which parts the operations of a message are.
 use Rattle.std.specs.Prelude.{◌≡◌, ℕ, ◌^◌, ◌<◌, Bool, List, [], ◌∷◌, ◌++◌, Ok, refl}
 use Rattle.std.proofs.Common.{ap, ◌∙◌, sym, append_assoc}
 use Rattle.std.proofs.lemmas.List.{append-nil}
 use Rattle.q3_bits.specs.Words.{IsCode, field_bits, field_at, row_bits}
 use Rattle.q3_bits.specs.Laws.{ReadWasPut, PutIsRead}
+use Rattle.q3_text.specs.declared.text.Command.{Command}
+use Rattle.q3_strings.specs.Commands.{SpellsOperations}
 
 -- of no fields there is no text
 pub row-none : (words : List (List Bool)) (bits : List Bool) → bits ≡ row_bits words [] ++ bits
@@ -51,3 +53,18 @@ module _ (words : List (List Bool)) (code : IsCode words) (put : PutIsRead) wher
   pub row-last : (value width : ℕ) (rest : List Bool) → value < 2 ^ width → field_at words width (row_bits words ((value, width) ∷ []) ++ rest) ≡ Ok (value, rest)
   unfolding row_bits
   row-last value width rest fits = row-first value width [] rest fits
+
+-- the operations of a message, part by part, with what is behind them
+pub operations-parts : (words : List (List Bool)) (command last : ℕ) (commands : List Command) (section bits rest : List Bool) (is : SpellsOperations words command last commands section bits)
+    → bits ++ rest ≡ is.text ++ (is.nops ++ (section ++ (is.of_ending.0 ++ (row_bits words ((last, 8) ∷ []) ++ rest))))
+operations-parts words command last commands section bits rest is =
+    let text = is.text in
+    let nops = is.nops in
+    let behind = is.of_ending.0 in
+    let end = row_bits words ((last, 8) ∷ []) in
+    ap (λ (bits : List Bool). bits ++ rest) is.whole
+    ∙ append_assoc (text ++ nops ++ section) is.ending rest
+    ∙ append_assoc (text ++ nops) section (is.ending ++ rest)
+    ∙ append_assoc text nops (section ++ (is.ending ++ rest))
+    ∙ ap (λ (ending : List Bool). text ++ (nops ++ (section ++ (ending ++ rest)))) is.of_ending.2
+    ∙ ap (λ (left : List Bool). text ++ (nops ++ (section ++ left))) (append_assoc behind end rest)

@@ -11,7 +11,7 @@ use Rattle.q3_svmsg.specs.Spelling.{SpellsSection}
 use Rattle.q3_svmsg.specs.Laws.{IsContext, SpelledIsRead}
 use Rattle.q3_strings.specs.Commands.{SpellsNops, SpellsCommands}
 use Rattle.q3_strings.specs.Operations.{ending_after}
-use Rattle.q3_strings.specs.Rows.{row-last}
+use Rattle.q3_strings.specs.Rows.{row-last, operations-parts}
 use Rattle.q3_svmsg.proofs.Below.{IsRead}
 use Rattle.q3_svmsg.proofs.SectionSpelled.{ReadsSection, TakenSection, snapshot_is_read, skipped_is_read}
 use Rattle.q3_svmsg.proofs.Games.{game_is_read}
@@ -113,7 +113,14 @@ unfolding message_after
 message_is_read laws profile context number message text rest codec is s =
     let words = profile.code in
     let start : Message = record { ack = message.ack; commands = []; section = Nothing } in
-    let bits = s.commands ++ (s.nops ++ (s.section ++ (s.behind ++ (end words ++ rest)))) in
-    let same : text ++ rest ≡ row_bits words ((message.ack, 32) ∷ []) ++ bits = rw s.whole (simp append_assoc) in
+    let operations = s.of_operations in
+    let behind = operations.of_ending in
+    let bits = operations.text ++ (operations.nops ++ (s.section ++ (behind.0 ++ (end words ++ rest)))) in
+    let ack = row_bits words ((message.ack, 32) ∷ []) in
+    let same : text ++ rest ≡ ack ++ bits =
+    ap (λ (text : List Bool). text ++ rest) s.whole
+    ∙ append_assoc ack s.operations rest
+    ∙ ap (λ (left : List Bool). ack ++ left) (operations-parts words 5 8 message.commands s.section s.operations rest operations) in
     rw (same, row-last words codec.code laws.put message.ack 32 bits s.ack)
-    (operations_are_read laws profile context number codec is start message.commands message.section s.commands s.nops s.section s.behind rest refl refl s.few s.of_commands s.of_nops s.of_section s.of_behind)
+    (operations_are_read laws profile context number codec is start message.commands message.section operations.text operations.nops s.section behind.0 rest
+    refl refl s.few operations.of_commands operations.of_nops s.of_section behind.1)

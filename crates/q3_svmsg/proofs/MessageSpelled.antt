@@ -166,7 +166,7 @@ message_was_spelled laws profile context number message bits rest codec is e =
     let behind = read.behind in
     let low = subst (λ (n : ℕ). n < 2 ^ 32) (sym read.ack) was.fits in (
       λ fits. record { ack = low; few = read.few; commands = subst (All IsCommand) (sym read.all) read.each; section = read.is fits; number_is = read.number_is },
-      row_bits words ((message.ack, 32) ∷ []) ++ read.commands ++ read.nops ++ section ++ behind ++ end words,
+      row_bits words ((message.ack, 32) ∷ []) ++ (read.commands ++ read.nops ++ section ++ (behind ++ end words)),
       was.row [] ack.0.1 (row-none words ack.0.1)
           ∙ ap (λ (n : ℕ). row_bits words ((n, 32) ∷ []) ++ ack.0.1) (sym read.ack)
           ∙ ap (λ (left : List Bool). row_bits words ((message.ack, 32) ∷ []) ++ left) read.parts
@@ -174,14 +174,18 @@ message_was_spelled laws profile context number message bits rest codec is e =
       record {
         ack = low;
         few = read.few;
-        commands = read.commands;
-        nops = read.nops;
         section = section;
-        behind = behind;
-        of_commands = subst (λ (commands : List Command). SpellsCommands words 5 commands read.commands) (sym read.all) read.of_commands;
-        of_nops = read.of_nops;
+        operations = read.commands ++ read.nops ++ section ++ (behind ++ end words);
         of_section = read.of_section;
-        of_behind = read.of_behind;
+        of_operations = record {
+          text = read.commands;
+          nops = read.nops;
+          ending = behind ++ end words;
+          of_commands = subst (λ (commands : List Command). SpellsCommands words 5 commands read.commands) (sym read.all) read.of_commands;
+          of_nops = read.of_nops;
+          of_ending = (behind, read.of_behind, refl);
+          whole = refl;
+        };
         whole = refl;
       },
     )

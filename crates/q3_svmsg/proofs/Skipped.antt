@@ -89,14 +89,10 @@ message_is_skipped zero_is spelled alike read list_law skip_law skipped_law was_
     let spells : SpellsMessage profile other number skipped text = record {
       ack = s.ack;
       few = s.few;
-      commands = s.commands;
-      nops = s.nops;
       section = s.section;
-      behind = s.behind;
-      of_commands = s.of_commands;
-      of_nops = s.of_nops;
+      operations = s.operations;
       of_section = snapshot_over zero_is spelled alike read list_law skip_law skipped_law profile context other number base head entities s.section codec is some none of_snapshot;
-      of_behind = s.of_behind;
+      of_operations = s.of_operations;
       whole = s.whole;
     } in
     ap (λ (bits : List Bool). message_after profile other number bits) found.2 ∙ is_read profile other number skipped text rest codec is' spells

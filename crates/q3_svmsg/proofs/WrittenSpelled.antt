@@ -1,7 +1,8 @@
 -- What is written of a message spells it.
-use Rattle.std.proofs.Common.{◌≡◌, ◌⊎◌, ◌+◌, ◌-◌, ◌<◌, ◌==◌, ◌&&◌, ℕ, zero, suc, Bool, true, false, nat_lt, if◌then◌else◌, [], Option, Some, None, IsSome, refl, sym, ap, ◌∙◌, arith, inl, inr}
+use Rattle.std.proofs.Common.{◌≡◌, ◌⊎◌, ◌+◌, ◌-◌, ◌<◌, ◌==◌, ◌&&◌, ℕ, zero, suc, Bool, true, false, nat_lt, if◌then◌else◌, [], ◌∷◌, ◌++◌, Option, Some, None, IsSome, refl, sym, ap, ◌∙◌, append_assoc, arith, inl, inr}
 use Rattle.std.proofs.lemmas.Bool.Decides.{nat_tests}
 use Rattle.std.proofs.lemmas.List.{append-nil}
+use Rattle.q3_bits.specs.Words.{row_bits}
 use Rattle.q3_strings.specs.Commands.{commands_bits}
 use Rattle.q3_strings.specs.Rows.{row-empty}
 use Rattle.q3_player.specs.Delta.{player_delta}
@@ -88,13 +89,17 @@ message_is_spelled below profile context number message codec is_context is =
     record {
       ack = is.ack;
       few = is.few;
-      commands = commands;
-      nops = [];
       section = section;
-      behind = [];
-      of_commands = below.commands words 5 message.commands is.commands;
-      of_nops = (0, row-empty words);
+      operations = commands ++ [] ++ section ++ ([] ++ row_bits words ((8, 8) ∷ []));
       of_section = section_is_spelled below profile context number message.section codec is_context is.section is.number_is;
-      of_behind = (0, row-empty words);
-      whole = simp append-nil;
+      of_operations = record {
+        text = commands;
+        nops = [];
+        ending = [] ++ row_bits words ((8, 8) ∷ []);
+        of_commands = below.commands words 5 message.commands is.commands;
+        of_nops = (0, row-empty words);
+        of_ending = ([], (0, row-empty words), refl);
+        whole = refl;
+      };
+      whole = simp (append-nil, append_assoc);
     }

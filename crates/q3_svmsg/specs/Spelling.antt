@@ -3,7 +3,7 @@
 use Rattle.std.specs.Prelude.{◌≡◌, ◌⊎◌, ℕ, ◌^◌, ◌<◌, ◌≤◌, Bool, List, [], ◌∷◌, ◌++◌, length, All, None, IsSome}
 use Rattle.q3_bits.specs.Words.{row_bits}
 use Rattle.q3_strings.specs.Texts.{bytes_row}
-use Rattle.q3_strings.specs.Commands.{SpellsNops, SpellsCommands}
+use Rattle.q3_strings.specs.Commands.{SpellsOperations}
 use Rattle.q3_player.specs.declared.head.SnapHead.{SnapHead}
 use Rattle.q3_player.specs.State.{IsState, zero_player}
 use Rattle.q3_player.specs.Spelling.{SpellsPlayer}
@@ -62,16 +62,12 @@ SpellsSection profile context number (Game game) bits = SpellsGamestate profile 
 SpellsSection profile context number (Snap base head entities) bits = SpellsSnapshot profile context number base head entities bits
 SpellsSection profile context number (Skipped base) bits = SpellsSkippedSnapshot profile context number base bits
 
--- the bits spell a message under a number, up to its end
+-- the bits spell a message under a number, up to its end: commands are the operation 5, and the end is 8
 pub record SpellsMessage (profile : Profile) (context : Context) (number : ℕ) (message : Message) (bits : List Bool) : Type 0 where
   pub ack : message.ack < 2 ^ 32
   pub few : length message.commands ≤ 64
-  pub commands : List Bool
-  pub nops : List Bool
   pub section : List Bool
-  pub behind : List Bool
-  pub of_commands : SpellsCommands profile.code 5 message.commands commands
-  pub of_nops : SpellsNops profile.code nops
+  pub operations : List Bool
   pub of_section : SpellsSection profile context number message.section section
-  pub of_behind : SpellsNops profile.code behind
-  pub whole : bits ≡ row_bits profile.code ((message.ack, 32) ∷ []) ++ commands ++ nops ++ section ++ behind ++ row_bits profile.code ((8, 8) ∷ [])
+  pub of_operations : SpellsOperations profile.code 5 8 message.commands section operations
+  pub whole : bits ≡ row_bits profile.code ((message.ack, 32) ∷ []) ++ operations

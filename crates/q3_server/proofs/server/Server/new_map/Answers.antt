@@ -1,4 +1,4 @@
-use Rattle.std.proofs.Common.{rules, arith, ◌≡◌, ℕ, List, Option, None, ◌++◌, take, drop, length}
+use Rattle.std.proofs.Common.{rules, arith, ◌≡◌, List, Option, ◌++◌, take, drop, length}
 use Rattle.std.specs.Prelude.{option_map, map}
 use Rattle.q3_slot.specs.Slot.{SlotState, on_new_map}
 use Rattle.q3_server.proofs.KeepsClients.{all_written}

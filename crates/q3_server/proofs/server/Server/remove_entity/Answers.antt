@@ -1,4 +1,4 @@
-use Rattle.std.proofs.Common.{rules, ◌≡◌, ℕ, List, Option, None, ◌++◌, take, drop, length}
+use Rattle.std.proofs.Common.{rules}
 use Rattle.q3_server.proofs.KeepsServer.{server_removed}
 use Rattle.q3_server.proofs.server.Server.remove_entity.Goals as goal
 

@@ -1,4 +1,4 @@
-use Rattle.std.proofs.Common.{rules, ◌≡◌, ℕ, List, Option, None, ◌++◌, take, drop, length}
+use Rattle.std.proofs.Common.{rules}
 use Rattle.q3_server.proofs.KeepsClients.{server_said}
 use Rattle.q3_server.proofs.server.Server.say.Goals as goal
 

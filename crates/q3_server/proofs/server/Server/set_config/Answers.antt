@@ -1,4 +1,4 @@
-use Rattle.std.proofs.Common.{rules, ◌≡◌, ℕ, List, Option, None, ◌++◌, take, drop, length}
+use Rattle.std.proofs.Common.{rules, ◌≡◌, List, Option, None, ◌++◌, take, drop, length}
 use Rattle.std.specs.Prelude.{option_map, map}
 use Rattle.q3_config.specs.Laws.{piece_texts}
 use Rattle.q3_slot.specs.Slot.{SlotState}

@@ -14,5 +14,5 @@ invariant_of-self c =
       search rules,
       search rules,
       search rules,
-      server_entered c.self.inside.profile c.self.inside.map c.set_entity.new.self c.self.inside.slots.items c.below.ensures c.args.state.now below c.entity_fits.ensures c.set_entity.ensures was.5,
+      server_entered c.self.inside.profile c.self.inside.map c.set_entity.new.self c.self.inside.slots.items c.below.ensures c.args.state.now below c.are_words.ensures c.set_entity.ensures was.5,
     )

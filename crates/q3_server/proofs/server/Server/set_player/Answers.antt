@@ -1,4 +1,4 @@
-use Rattle.std.proofs.Common.{rules, ◌≡◌, ℕ, List, Option, None, ◌++◌, take, drop, length}
+use Rattle.std.proofs.Common.{rules}
 use Rattle.q3_server.proofs.KeepsClients.{server_player}
 use Rattle.q3_server.proofs.server.Server.set_player.Goals as goal
 
@@ -10,5 +10,5 @@ invariant_of-self c =
       search rules,
       search rules,
       search rules,
-      server_player c.self.inside.profile c.self.inside.map c.self.inside.slots.items c.args.slot c.index_mut.result.now c.set_player.new.self (search rules) (search rules) was.5 c.below.ensures c.args.player.now c.player_fits.ensures c.set_player.ensures.slot,
+      server_player c.self.inside.profile c.self.inside.map c.self.inside.slots.items c.args.slot c.index_mut.result.now c.set_player.new.self (search rules) (search rules) was.5 c.below.ensures c.args.player.now c.stand.ensures c.set_player.ensures.slot,
     )
