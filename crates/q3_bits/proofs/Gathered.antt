@@ -11,7 +11,7 @@ use Rattle.q3_bits.specs.Words.{IsCode, raw_at, byte_from, byte_at, bytes_at, fi
 use Rattle.q3_bits.specs.Streams.{Reads}
 use Rattle.q3_bits.proofs.Numbers.{length-low_bits, length-bits_of, low_bits-add, low_bits-join, low_bits-number_of_take, number_of-take_lt, number_of-low_bits, number_of-mod, number_of-nil, number_of-cons, bits_of-nil}
 use Rattle.q3_bits.proofs.Windows.{drop-bytes}
-use Rattle.q3_bits.proofs.CodeText.{raw_at_few, raw_at_enough, field_no_raw, bytes_at-zero, byte_at-is, onto, bytes_more, bytes_end, field_found, field_at_some, field_again}
+use Rattle.q3_bits.proofs.CodeText.{raw_at_few, raw_at_enough, field_no_raw, bytes_at-zero, byte_at-is, onto, onto_nothing, answer, bytes_more, bytes_end, field_found, field_at_some, field_again}
 
 -- as many bits as were gathered and the bytes have
 pub length-ahead : (count bits : ℕ) (bytes : List ℕ) → length (low_bits count bits ++ bits_of bytes) ≡ count + 8 * length bytes
@@ -121,6 +121,19 @@ pub field_more : (words : List (List Bool)) (width value : ℕ) (bits rest more 
 field_more words width value bits rest more code e =
     let put = field_at_some words code width bits (value, rest) e in
     ap (λ (xs : List Bool). field_at words width (xs ++ more)) put.1 ∙ ap (field_at words width) (append_assoc _ rest more) ∙ field_again words code width value (rest ++ more) put.0
+
+-- a byte whose word was gathered
+pub field_byte : (words : List (List Bool)) (bits byte long count : ℕ) → long ≤ count → byte_from 0 words (low_bits count bits) ≡ Some (byte, drop long (low_bits count bits))
+    → field_at words 8 (low_bits count bits) ≡ Ok (byte, low_bits (count - long) (bits / 2 ^ long))
+field_byte words bits byte long count enough found =
+    let text = low_bits count bits in
+    let rest = drop long text in
+    let first : byte_at words text ≡ Ok (byte, rest) = rw (byte_at-is, found) refl in
+    let one : 0 + 1 * byte ≡ byte = omega arith in
+    let raw : raw_at 0 text ≡ Ok (0, text) = rw (raw_at_enough 0 text (omega arith), number_of-nil) refl in
+    let bytes : bytes_at words 1 text ≡ Ok (byte, rest) =
+    sym (onto_nothing (bytes_at words 1 text)) ∙ bytes_more words 1 0 0 1 text (byte, rest) (omega arith) first ∙ bytes_end words (0 + 1 * byte) (256 * 1) rest ∙ ap (λ (n : ℕ). answer n rest) one in
+    field_found words 8 text (0, text) (byte, rest) raw bytes ∙ ap (λ (n : ℕ). answer n rest) one ∙ ap (answer byte) (drop-low_bits long count bits enough)
 
 -- so many are left where they were gathered, or all were
 pub has-left : (n count bits : ℕ) (bytes : List ℕ) → n ≤ 24 → (25 ≤ count) ⊎ (length bytes ≡ 0)

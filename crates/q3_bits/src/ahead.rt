@@ -37,6 +37,18 @@ impl<'a> Ahead<'a> {
         }
     }
 
+    /// The same, made anew.
+    #[inline]
+    pub(crate) fn copy(&self) -> Ahead<'a>
+        ensures { bits_ahead result ≡ bits_ahead self.now }
+    {
+        Ahead {
+            bits: self.bits,
+            count: self.count,
+            rest: self.rest,
+        }
+    }
+
     /// Gathers as many bytes more as there is room for.
     #[inline(never)]
     pub(crate) fn refill(&mut self)
@@ -50,6 +62,17 @@ impl<'a> Ahead<'a> {
             return;
         }
         self.refill_last(room);
+    }
+
+    /// The same, with as many bytes more gathered as there is room for, where eight are left.
+    #[inline]
+    pub(crate) fn fuller(self) -> Ahead<'a>
+        ensures { bits_ahead result ≡ bits_ahead self.entry }
+    {
+        match first_eight(self.rest) {
+            Some(word) => self.with(word, (63 - self.count) / 8),
+            None => self,
+        }
     }
 
     /// The same of fewer than eight bytes.

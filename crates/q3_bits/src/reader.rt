@@ -75,6 +75,59 @@ impl<'a> Reader<'a> {
         self.get_each(width)
     }
 
+    /// Reads a field of 8 bits, as `get` does.
+    /// A loop of its own reader, as `copy` makes one, keeps the gathered bits at hand.
+    #[inline]
+    pub fn get_byte(&mut self) -> Result<u8, ReadError>
+        ensures reads { Reads self.old self.new (field_at self.old.words 8 self.old.left) result }
+        ensures err { OnErr result (self.new ≡ self.old) }
+        ensures code { IsCode self.old.words }
+    {
+        if self.ahead.count < 12 {
+            self.gather();
+        }
+        if let Some(byte) = self.byte_gathered() {
+            return Ok(byte);
+        }
+        // a reader apart, so that this one can stay in registers
+        let mut apart = self.copy();
+        let byte = apart.byte_apart()?;
+        *self = apart.copy();
+        Ok(byte)
+    }
+
+    /// Reads a field as `get` does, where the caller names the width: its words are then read with no loop.
+    #[inline(always)]
+    pub fn get_fixed(&mut self, width: u32) -> Result<u32, ReadError>
+        requires some { 1 ≤ width }
+        requires most { width ≤ 32 }
+        ensures reads { Reads self.old self.new (field_at self.old.words width self.old.left) result }
+        ensures fits { IfOk result (λ value. value < 2 ^ width) }
+        ensures err { OnErr result (self.new ≡ self.old) }
+        ensures near { OnOk result (self.new.place ≤ self.old.place + 96) }
+        ensures code { IsCode self.old.words }
+    {
+        if self.ahead.count < width % 8 + 12 * (width / 8) {
+            self.refill();
+        }
+        if let Some(value) = self.spelled_gathered(width % 8, width / 8) {
+            return Ok(value);
+        }
+        self.get_each(width)
+    }
+
+    /// Another reader that stands at the same place.
+    #[inline]
+    pub fn copy(&self) -> Reader<'a>
+        ensures { result ≡ self.now }
+    {
+        Reader {
+            code: self.code,
+            ahead: self.ahead.copy(),
+            total: self.total,
+        }
+    }
+
     /// Passes over marks of 0, at most `limit` (up to 56), and, where there are fewer, over the mark of 1 behind them, as
     /// the marks of a delta's fields stand: how many were 0. `MSG_ReadDeltaEntity` reads them one by one.
     /// `End` comes exactly where the bits end before; the reader then stays as it was.
@@ -110,6 +163,38 @@ impl<'a> Reader<'a> {
         self.ahead.refill();
     }
 
+    /// Gathers more where eight bytes are left.
+    #[inline]
+    fn gather(&mut self)
+        ensures { self.new ≡ self.old }
+    {
+        self.ahead = self.ahead.fuller();
+    }
+
+    /// Reads a field of 8 bits whose word was gathered and is short; where it isn't, nothing.
+    #[inline]
+    fn byte_gathered(&mut self) -> Option<u8>
+        ensures found { MatchOption result (self.new ≡ self.old) (λ byte. Reads self.old self.new (field_at self.old.words 8 self.old.left) (Ok byte)) }
+    {
+        let entry = self.code.entry((self.ahead.bits % (1 << 24)) as u32);
+        let length = u32::from(entry.length);
+        if length == 0 || length > self.ahead.count {
+            return None;
+        }
+        self.ahead = self.ahead.skip(length);
+        Some(entry.byte)
+    }
+
+    /// Reads a field of 8 bits in any case.
+    #[cold]
+    #[inline(never)]
+    fn byte_apart(&mut self) -> Result<u8, ReadError>
+        ensures reads { Reads self.old self.new (field_at self.old.words 8 self.old.left) result }
+        ensures err { OnErr result (self.new ≡ self.old) }
+    {
+        Ok(self.get_each(8)? as u8)
+    }
+
     /// Reads a field whose bits were gathered and whose words are short; where they aren't, nothing.
     fn get_gathered(&mut self, width: u32) -> Option<u32>
         requires some { 1 ≤ width }
@@ -142,6 +227,18 @@ impl<'a> Reader<'a> {
     /// The same of a field that has some.
     #[inline(never)]
     fn words_gathered(&mut self, raw: u32, bytes: u32) -> Option<u32>
+        requires raw { raw < 8 }
+        requires most { raw + 8 * bytes ≤ 32 }
+        ensures found { MatchOption result (self.new ≡ self.old) (λ value. Reads self.old self.new (field_at self.old.words (raw + 8 * bytes) self.old.left) (Ok value)) }
+        ensures fits { IfSome result (λ value. value < 2 ^ (raw + 8 * bytes)) }
+        ensures near { self.new.place ≤ self.old.place + 63 }
+    {
+        self.spelled_gathered(raw, bytes)
+    }
+
+    /// The same, where the widths are known.
+    #[inline]
+    fn spelled_gathered(&mut self, raw: u32, bytes: u32) -> Option<u32>
         requires raw { raw < 8 }
         requires most { raw + 8 * bytes ≤ 32 }
         ensures found { MatchOption result (self.new ≡ self.old) (λ value. Reads self.old self.new (field_at self.old.words (raw + 8 * bytes) self.old.left) (Ok value)) }
@@ -199,6 +296,7 @@ struct Spelled {
 }
 
 /// The field that bits spell, by words of at most 12 bits; nothing where one of the words is longer or there is none.
+#[inline]
 fn field_in(code: &Code, bits: u64, raw: u32, bytes: u32) -> Option<Spelled>
     requires raw { raw < 8 }
     requires most { raw + 8 * bytes ≤ 32 }

@@ -2,7 +2,7 @@
 //! and "spellings that a reader accepts", the engine's `CL_ParsePacketEntities`. The refusals are this project's own.
 
 ghost use Rattle.std.specs.Prelude.{◌≡◌, ◌+◌, ◌^◌, ◌<◌, ◌≤◌, ◌++◌, List, Err, IfOk, IfErr, OnOk, length, take};
-ghost use Rattle.q3_bits.specs.Words.{IsCode};
+ghost use Rattle.q3_bits.specs.Words.{IsCode, field_at};
 ghost use Rattle.q3_bits.specs.Streams.{Reads, holding};
 ghost use Rattle.q3_fields.specs.Kinds.{end_mark};
 ghost use Rattle.q3_entity.specs.Entities.{IsList, Rises, run_of, most_entities};
@@ -17,7 +17,7 @@ use crate::filling::{MOST, count_after, make_place, put_part};
 use crate::reading::read_entity;
 use crate::run::{count_below, take_number};
 use crate::state::{EntityState, List, Run};
-use q3_bits::{Reader, laws};
+use q3_bits::{ReadError, Reader, laws};
 use q3_fields::Table;
 
 /// Where a list stands: the number that comes next, the entities of the base from it on, and how many the list has so
@@ -111,6 +111,7 @@ fn skip_entry(
 
 /// Reads the next number, and lets the base's entities below it stay, behind the first ones of `into`, so many.
 #[tactic(auto, unfolding(crate::specs::Walking::next_at))]
+#[inline(always)]
 fn read_next<'a>(
     r: &mut Reader,
     table: &Table,
@@ -200,21 +201,38 @@ fn read_beyond(
 
 /// Reads the next number of a list, which is at least this one.
 #[tactic(auto, unfolding(crate::specs::Lists::number_at))]
+#[inline(always)]
 fn read_number(r: &mut Reader, table: &Table, least: u16) -> Result<u16, EntityError>
     ensures reads { Reads r.old r.new (number_at r.old.words table.now least r.old.left) result }
     ensures code { IsCode r.old.words }
     ensures least { IfOk result (λ number. least ≤ number) }
     ensures most { IfOk result (λ number. number ≤ end_mark table.now) }
 {
-    let number = r.get(table.number_bits())? as u16;
+    let number = get_number(r, table.number_bits())? as u16;
     if number < least {
         return Err(EntityError::Order(number));
     }
     Ok(number)
 }
 
+/// Reads the bits of a number. Those of the real game, ten, are read with no loop.
+#[inline(always)]
+fn get_number(r: &mut Reader, bits: u32) -> Result<u32, ReadError>
+    requires some { 1 ≤ bits }
+    requires most { bits ≤ 32 }
+    ensures reads { Reads r.old r.new (field_at r.old.words bits r.old.left) result }
+    ensures fits { IfOk result (λ number. number < 2 ^ bits) }
+    ensures code { IsCode r.old.words }
+{
+    if bits == 10 {
+        return r.get_fixed(bits);
+    }
+    r.get(bits)
+}
+
 /// Lets the base's entities below a number stay, behind the first ones of `into`, so many. Lends those from it on, and
 /// answers how many there are then.
+#[inline(always)]
 fn keep_below<'a>(
     base: Run<'a>,
     number: u16,
@@ -236,6 +254,7 @@ fn keep_below<'a>(
 
 /// Lets the first entities stay, as far as they are below a number, and lends those behind. `Many` comes where there
 /// would be more than 256.
+#[inline(always)]
 fn keep_front<'a>(
     part: &'a [EntityState],
     number: u16,

@@ -42,6 +42,7 @@ pub(crate) fn take_number<'a>(run: Run<'a>, number: u16) -> (Option<&'a EntitySt
 }
 
 /// Passes over the entities, the same in both, with which both begin.
+#[inline(always)]
 pub(crate) fn skip_same<'a, 'b>(base: Run<'a>, now: Run<'b>) -> (Run<'a>, Run<'b>)
     ensures { ShareFront (run_of base.entry) (run_of now.entry) (run_of result.0) (run_of result.1) }
 {

@@ -226,7 +226,7 @@ pub fn read_counted(
 ) -> Result<(), DeltaError>
     ensures { Reads r.old r.new (words_after state r.old.words table.now.kinds words.old r.old.left) (holding words.new result) }
 {
-    let count = r.get(8)? as usize;
+    let count = usize::from(r.get_byte()?);
     if count > table.count() {
         return Err(DeltaError::Count(count as u8));
     }

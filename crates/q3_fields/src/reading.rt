@@ -47,29 +47,12 @@ pub fn read_entity_field(r: &mut Reader, kind: Kind) -> Result<u32, ReadError>
 fn read_float(r: &mut Reader) -> Result<u32, ReadError>
     ensures { Reads r.old r.new (float_at r.old.words r.old.left) result }
 {
-    let full = r.get(1)?;
-    let value = r.get(float_width(full))?;
-    Ok(float_of(full, value))
-}
-
-/// In how many bits a float is, by its mark.
-fn float_width(full: u32) -> u32
-    ensures width { result ≡ (if full == 0 then 13 else 32) }
-    ensures some { 1 ≤ result }
-    ensures most { result ≤ 32 }
-{
-    if full == 0 { 13 } else { 32 }
-}
-
-/// The float that these bits spell, by its mark, in normal form.
-fn float_of(full: u32, value: u32) -> u32
-    requires { full ≡ 0 → value < 2 ^ 13 }
-    ensures { result ≡ (if full == 0 then pattern (of_biased value) else norm_of Float value) }
-{
-    if full == 0 {
-        return pattern_of(unbiased(value));
+    if r.get(1)? == 0 {
+        let value = r.get_fixed(13)?;
+        return Ok(pattern_of(unbiased(value)));
     }
-    positive_zero(value)
+    let word = r.get_fixed(32)?;
+    Ok(positive_zero(word))
 }
 
 /// Reads an unsigned integer of so many bits, which is in normal form.
@@ -79,7 +62,11 @@ fn read_unsigned(r: &mut Reader, width: u8) -> Result<u32, ReadError>
     requires most { width ≤ 32 }
     ensures { Reads r.old r.new (integer_at r.old.words (Unsigned width) width r.old.left) result }
 {
-    r.get(u32::from(width))
+    let width = u32::from(width);
+    if width == 32 {
+        return r.get_fixed(width);
+    }
+    r.get(width)
 }
 
 /// Reads a signed integer of so many bits, and extends its sign.

@@ -3,14 +3,14 @@
 //! operations, and what is refused, is this project's own.
 
 ghost use Rattle.std.specs.Prelude.{◌≡◌, ◌<◌, length, IfOk};
-ghost use Rattle.q3_bits.specs.Words.{IsCode};
+ghost use Rattle.q3_bits.specs.Words.{IsCode, field_at};
 ghost use Rattle.q3_bits.specs.Streams.{Reads, holding};
 ghost use Rattle.q3_strings.specs.Operations.{rowed, commands_after, row_after, ending_after};
 
 use crate::error::OperationError;
 use crate::laws;
 use crate::reading::read_command;
-use q3_bits::Reader;
+use q3_bits::{ReadError, Reader};
 use q3_text::Commands;
 
 /// The operation that says nothing.
@@ -33,7 +33,7 @@ pub fn read_row(
     laws::turns_are_taken();
     laws::command_read_is_spelled();
     loop {
-        let operation = r.get(8)?;
+        let operation = read_operation(r)?;
         if operation == NOP {
             continue;
         }
@@ -42,6 +42,15 @@ pub fn read_row(
         }
         read_next_command(r, commands)?;
     }
+}
+
+/// Reads an operation's byte.
+#[inline]
+fn read_operation(r: &mut Reader) -> Result<u32, ReadError>
+    ensures reads { Reads r.old r.new (field_at r.old.words 8 r.old.left) result }
+    ensures fits { IfOk result (λ operation. operation < 256) }
+{
+    Ok(u32::from(r.get_byte()?))
 }
 
 /// Reads one command more behind its operation. A 65th is refused before it is read.
@@ -64,7 +73,7 @@ pub fn read_ending(r: &mut Reader, end: u32) -> Result<(), OperationError>
 {
     laws::turns_are_taken();
     loop {
-        let operation = r.get(8)?;
+        let operation = read_operation(r)?;
         if operation == end {
             return Ok(());
         }

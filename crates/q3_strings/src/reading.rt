@@ -26,9 +26,11 @@ pub fn read_bytes<const N: usize>(
     ensures { Reads r.old r.new (bytes_after r.old.words count r.old.left) (holding into.new.items result) }
 {
     into.clear();
+    let mut own = r.copy();
     for _ in 0..count {
-        into.push(r.get(8)? as u8);
+        into.push(own.get_byte()?);
     }
+    *r = own;
     Ok(())
 }
 
@@ -43,35 +45,42 @@ pub fn read_string<const N: usize>(
     ensures each { All IsTextByte into.new.items }
 {
     into.clear();
+    let mut own = r.copy();
     for _ in 0..N {
-        let byte = r.get(8)?;
+        let byte = own.get_byte()?;
         if byte == 0 {
+            *r = own;
             return Ok(());
         }
-        into.push(translate(byte as u8));
+        into.push(translate(byte));
     }
-    if r.get(8)? != 0 {
+    if own.get_byte()? != 0 {
         return Err(StringError::Long);
     }
+    *r = own;
     Ok(())
 }
 
 /// Reads a string of at most 1,023 bytes into its place. After a refusal `into` may hold any. `Err` comes as in
 /// `read_string`.
+#[inline(never)]
 pub fn read_text(r: &mut Reader, into: &mut Text) -> Result<(), StringError>
     ensures { Reads r.old r.new (string_after r.old.words most_bytes r.old.left) (holding into.new result) }
 {
     into.clear();
+    let mut own = r.copy();
     for _ in 0..MOST_BYTES {
-        let byte = r.get(8)?;
+        let byte = own.get_byte()?;
         if byte == 0 {
+            *r = own;
             return Ok(());
         }
-        into.push(byte as u8);
+        into.push(byte);
     }
-    if r.get(8)? != 0 {
+    if own.get_byte()? != 0 {
         return Err(StringError::Long);
     }
+    *r = own;
     Ok(())
 }
 
@@ -81,6 +90,6 @@ pub fn read_text(r: &mut Reader, into: &mut Text) -> Result<(), StringError>
 pub fn read_command(r: &mut Reader, into: &mut Command) -> Result<(), StringError>
     ensures { Reads r.old r.new (command_after r.old.words r.old.left) (holding into.new result) }
 {
-    into.number = r.get(32)?;
+    into.number = r.get_fixed(32)?;
     read_text(r, &mut into.text)
 }

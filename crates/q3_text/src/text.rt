@@ -1,7 +1,7 @@
 //! Texts: the strings of messages. Keeps the rule "strings and their translation", which is the engine's
 //! `MSG_WriteString` and `MSG_ReadString` (msg.c).
 
-ghost use Rattle.std.specs.Prelude.{◌≡◌, ◌<◌, [], ◌∷◌, ◌++◌, length};
+ghost use Rattle.std.specs.Prelude.{◌≡◌, ◌<◌, ◌==◌, ◌||◌, nat_lt, [], ◌∷◌, ◌++◌, length};
 ghost use Rattle.q3_text.specs.Texts.{IsText, most_bytes, translated, text_of};
 
 use crate::cut::place_of;
@@ -71,15 +71,19 @@ impl Default for Text {
     }
 }
 
+/// Whether a text has a `.` in place of this byte.
+#[inline]
+fn is_hidden(byte: u8) -> bool
+    ensures { result ≡ nat_lt 127 byte || byte == 37 }
+{
+    byte > 127 || byte == b'%'
+}
+
 /// A byte as a text keeps it: `.` for a byte above 127 and for `%`, every other byte as it is.
 pub fn translate(byte: u8) -> u8
     ensures { result ≡ translated byte }
 {
-    if byte > 127 || byte == b'%' {
-        b'.'
-    } else {
-        byte
-    }
+    if is_hidden(byte) { b'.' } else { byte }
 }
 
 impl Text {
@@ -123,7 +127,21 @@ impl Text {
         requires some { 0 < byte }
         ensures { self.new ≡ self.old ++ translated byte ∷ [] }
     {
-        self.bytes.push(translate(byte));
+        if is_hidden(byte) {
+            self.push_dot();
+            return;
+        }
+        self.bytes.push(byte);
+    }
+
+    /// Puts a `.` behind the others, as seldom as it is.
+    #[cold]
+    #[inline(never)]
+    fn push_dot(&mut self)
+        requires { length self.old < most_bytes }
+        ensures { self.new ≡ self.old ++ 46 ∷ [] }
+    {
+        self.bytes.push(b'.');
     }
 
     /// The bytes of the text.

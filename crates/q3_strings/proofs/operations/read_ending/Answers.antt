@@ -20,7 +20,7 @@ pub loop-operation-smaller : goal.loop-operation-smaller
 loop-operation-smaller c =
     let h = c.loop-operation.invariant in
     let read = rw h.words at c.in_ok-operation.ensures.reads.value in
-    c.turns_are_taken.ensures.shorter c.args.r.now.words c.loop-operation.r.left c.get.new.self.left c.in_ok-operation.operation c.requires (sym read)
+    c.turns_are_taken.ensures.shorter c.args.r.now.words c.loop-operation.r.left c.read_operation.new.r.left c.in_ok-operation.operation c.requires (sym read)
 
 pub loop-operation-preserved : goal.loop-operation-preserved
 loop-operation-preserved c =
@@ -28,7 +28,7 @@ loop-operation-preserved c =
     let words = c.args.r.now.words in
     let byte = c.in_ok-operation.operation in
     let read = rw h.words at c.in_ok-operation.ensures.reads.value in
-    let one = c.turns_are_taken.ensures.turn words c.loop-operation.r.left c.get.new.self.left byte h.turns c.requires read h.enough in
+    let one = c.turns_are_taken.ensures.turn words c.loop-operation.r.left c.read_operation.new.r.left byte h.turns c.requires read h.enough in
     let not_end : (byte == c.args.end) ≡ false = grind (arith, nat_tests) in
     let nop : (byte == 1) ≡ true = grind (arith, nat_tests) in
     record {
@@ -36,7 +36,7 @@ loop-operation-preserved c =
       place = c.in_ok-operation.ensures.reads.place ∙ h.place;
       turns = one.left;
       enough = one.enough;
-      reads = sym (ending_nop words c.args.end c.loop-operation.r.left c.get.new.self.left byte h.turns one.left read one.is not_end nop) ∙ h.reads;
+      reads = sym (ending_nop words c.args.end c.loop-operation.r.left c.read_operation.new.r.left byte h.turns one.left read one.is not_end nop) ∙ h.reads;
     }
 
 pub returns-then-operation-end : goal.returns-then-operation-end
@@ -45,10 +45,10 @@ returns-then-operation-end c =
     let words = c.args.r.now.words in
     let byte = c.in_ok-operation.operation in
     let read = rw h.words at c.in_ok-operation.ensures.reads.value in
-    let one = c.turns_are_taken.ensures.turn words c.loop-operation.r.left c.get.new.self.left byte h.turns c.requires read h.enough in
+    let one = c.turns_are_taken.ensures.turn words c.loop-operation.r.left c.read_operation.new.r.left byte h.turns c.requires read h.enough in
     let here : (byte == c.args.end) ≡ true = grind (arith, nat_tests) in
     record {
-      value = sym (ending_done words c.args.end c.loop-operation.r.left c.get.new.self.left byte h.turns one.left read one.is here) ∙ h.reads;
+      value = sym (ending_done words c.args.end c.loop-operation.r.left c.read_operation.new.r.left byte h.turns one.left read one.is here) ∙ h.reads;
       words = c.in_ok-operation.ensures.reads.words ∙ h.words;
       place = c.in_ok-operation.ensures.reads.place ∙ h.place;
     }
@@ -59,11 +59,11 @@ returns-then-operation-ne-NOP c =
     let words = c.args.r.now.words in
     let byte = c.in_ok-operation.operation in
     let read = rw h.words at c.in_ok-operation.ensures.reads.value in
-    let one = c.turns_are_taken.ensures.turn words c.loop-operation.r.left c.get.new.self.left byte h.turns c.requires read h.enough in
+    let one = c.turns_are_taken.ensures.turn words c.loop-operation.r.left c.read_operation.new.r.left byte h.turns c.requires read h.enough in
     let not_end : (byte == c.args.end) ≡ false = grind (arith, nat_tests) in
     let not_nop : (byte == 1) ≡ false = grind (arith, nat_tests) in
     record {
-      value = sym (ending_bad words c.args.end c.loop-operation.r.left c.get.new.self.left byte h.turns one.left read one.is not_end not_nop) ∙ h.reads;
+      value = sym (ending_bad words c.args.end c.loop-operation.r.left c.read_operation.new.r.left byte h.turns one.left read one.is not_end not_nop) ∙ h.reads;
       words = c.in_ok-operation.ensures.reads.words ∙ h.words;
       place = c.in_ok-operation.ensures.reads.place ∙ h.place;
     }

@@ -23,14 +23,14 @@ loop-operation-preserved-then-operation-eq-NOP c =
     let words = c.args.r.now.words in
     let byte = c.in_ok-operation.operation in
     let read = rw h.words at c.in_ok-operation.ensures.reads.value in
-    let one = c.turns_are_taken.ensures.turn words c.loop-operation.r.left c.get.new.self.left byte h.turns c.requires read h.enough in
+    let one = c.turns_are_taken.ensures.turn words c.loop-operation.r.left c.read_operation.new.r.left byte h.turns c.requires read h.enough in
     let nop : (byte == 1) ≡ true = grind (arith, nat_tests) in
     record {
       words = c.in_ok-operation.ensures.reads.words ∙ h.words;
       place = c.in_ok-operation.ensures.reads.place ∙ h.place;
       turns = one.left;
       enough = one.enough;
-      reads = sym (row_nop words c.args.command c.loop-operation.commands c.loop-operation.r.left c.get.new.self.left byte h.turns one.left read one.is nop) ∙ h.reads;
+      reads = sym (row_nop words c.args.command c.loop-operation.commands c.loop-operation.r.left c.read_operation.new.r.left byte h.turns one.left read one.is nop) ∙ h.reads;
     }
 
 pub returns-then-operation-command-clause-reads : goal.returns-then-operation-command-clause-reads
@@ -39,11 +39,11 @@ returns-then-operation-command-clause-reads c =
     let words = c.args.r.now.words in
     let byte = c.in_ok-operation.operation in
     let read = rw h.words at c.in_ok-operation.ensures.reads.value in
-    let one = c.turns_are_taken.ensures.turn words c.loop-operation.r.left c.get.new.self.left byte h.turns c.requires read h.enough in
+    let one = c.turns_are_taken.ensures.turn words c.loop-operation.r.left c.read_operation.new.r.left byte h.turns c.requires read h.enough in
     let not_nop : (byte == 1) ≡ false = grind (arith, nat_tests) in
     let other : (byte == c.args.command) ≡ false = grind (arith, nat_tests) in
     record {
-      value = sym (row_done words c.args.command c.loop-operation.commands c.loop-operation.r.left c.get.new.self.left byte h.turns one.left read one.is not_nop other) ∙ h.reads;
+      value = sym (row_done words c.args.command c.loop-operation.commands c.loop-operation.r.left c.read_operation.new.r.left byte h.turns one.left read one.is not_nop other) ∙ h.reads;
       words = c.in_ok-operation.ensures.reads.words ∙ h.words;
       place = c.in_ok-operation.ensures.reads.place ∙ h.place;
     }
@@ -53,10 +53,10 @@ loop-operation-smaller c =
     let h = c.loop-operation.invariant in
     let words = c.args.r.now.words in
     let read = rw h.words at c.in_ok-operation.ensures.reads.value in
-    let one = c.turns_are_taken.ensures.shorter words c.loop-operation.r.left c.get.new.self.left c.in_ok-operation.operation c.requires (sym read) in
-    let same : c.get.new.self.words ≡ words = c.in_ok-operation.ensures.reads.words ∙ h.words in
+    let one = c.turns_are_taken.ensures.shorter words c.loop-operation.r.left c.read_operation.new.r.left c.in_ok-operation.operation c.requires (sym read) in
+    let same : c.read_operation.new.r.words ≡ words = c.in_ok-operation.ensures.reads.words ∙ h.words in
     let more = rw same at c.in_ok-read_next_command.ensures.value in
-    let behind = more_shorter c.command_read_is_spelled.ensures words c.requires c.loop-operation.commands c.get.new.self.left c.read_next_command.new.commands c.read_next_command.new.r.left more in
+    let behind = more_shorter c.command_read_is_spelled.ensures words c.requires c.loop-operation.commands c.read_operation.new.r.left c.read_next_command.new.commands c.read_next_command.new.r.left more in
     omega (arith, one, behind)
 
 pub loop-operation-preserved : goal.loop-operation-preserved
@@ -65,10 +65,10 @@ loop-operation-preserved c =
     let words = c.args.r.now.words in
     let byte = c.in_ok-operation.operation in
     let read = rw h.words at c.in_ok-operation.ensures.reads.value in
-    let one = c.turns_are_taken.ensures.turn words c.loop-operation.r.left c.get.new.self.left byte h.turns c.requires read h.enough in
-    let same : c.get.new.self.words ≡ words = c.in_ok-operation.ensures.reads.words ∙ h.words in
+    let one = c.turns_are_taken.ensures.turn words c.loop-operation.r.left c.read_operation.new.r.left byte h.turns c.requires read h.enough in
+    let same : c.read_operation.new.r.words ≡ words = c.in_ok-operation.ensures.reads.words ∙ h.words in
     let more = rw same at c.in_ok-read_next_command.ensures.value in
-    let behind = more_shorter c.command_read_is_spelled.ensures words c.requires c.loop-operation.commands c.get.new.self.left c.read_next_command.new.commands c.read_next_command.new.r.left more in
+    let behind = more_shorter c.command_read_is_spelled.ensures words c.requires c.loop-operation.commands c.read_operation.new.r.left c.read_next_command.new.commands c.read_next_command.new.r.left more in
     let not_nop : (byte == 1) ≡ false = grind (arith, nat_tests) in
     let here : (byte == c.args.command) ≡ true = grind (arith, nat_tests) in
     record {
@@ -77,7 +77,7 @@ loop-operation-preserved c =
       turns = one.left;
       enough = omega (arith, one.enough, behind);
       reads =
-          sym (row_command words c.args.command c.loop-operation.commands c.loop-operation.r.left c.get.new.self.left byte h.turns one.left read one.is
+          sym (row_command words c.args.command c.loop-operation.commands c.loop-operation.r.left c.read_operation.new.r.left byte h.turns one.left read one.is
           c.read_next_command.new.commands c.read_next_command.new.r.left not_nop here more) ∙ h.reads;
     }
 
@@ -88,13 +88,13 @@ returns-in_err-read_next_command-clause-reads c =
     let words = c.args.r.now.words in
     let byte = c.in_ok-operation.operation in
     let read = rw h.words at c.in_ok-operation.ensures.reads.value in
-    let one = c.turns_are_taken.ensures.turn words c.loop-operation.r.left c.get.new.self.left byte h.turns c.requires read h.enough in
-    let same : c.get.new.self.words ≡ words = c.in_ok-operation.ensures.reads.words ∙ h.words in
+    let one = c.turns_are_taken.ensures.turn words c.loop-operation.r.left c.read_operation.new.r.left byte h.turns c.requires read h.enough in
+    let same : c.read_operation.new.r.words ≡ words = c.in_ok-operation.ensures.reads.words ∙ h.words in
     let fault = rw same at c.in_err-read_next_command.ensures.value in
     let not_nop : (byte == 1) ≡ false = grind (arith, nat_tests) in
     let here : (byte == c.args.command) ≡ true = grind (arith, nat_tests) in
     rw (p.1, p.2) (record {
-      value = sym (row_command_fault words c.args.command c.loop-operation.commands c.loop-operation.r.left c.get.new.self.left byte h.turns one.left read one.is _ not_nop here fault) ∙ h.reads;
+      value = sym (row_command_fault words c.args.command c.loop-operation.commands c.loop-operation.r.left c.read_operation.new.r.left byte h.turns one.left read one.is _ not_nop here fault) ∙ h.reads;
       words = c.in_err-read_next_command.ensures.words ∙ same;
       place = c.in_err-read_next_command.ensures.place ∙ c.in_ok-operation.ensures.reads.place ∙ h.place;
     })

@@ -7,5 +7,5 @@ use Rattle.q3_strings.proofs.reading.read_bytes.Given as goal
 abbrev pub invariant-loop : goal.invariant-loop
 invariant-loop g l = record {
   count : length l.into.items ≡ l.counter;
-  reads : HasFront l.fn.r l.r l.into.items (bytes_after l.fn.r.words (l.count - l.counter) l.r.left) (bytes_after l.fn.r.words l.count l.fn.r.left);
+  reads : HasFront l.fn.r l.own l.into.items (bytes_after l.fn.r.words (l.count - l.counter) l.own.left) (bytes_after l.fn.r.words l.count l.fn.r.left);
 }

@@ -5,10 +5,11 @@ use Rattle.q3_strings.specs.Reading.{string_after}
 use Rattle.q3_strings.proofs.Fronts.{HasFront}
 use Rattle.q3_strings.proofs.reading.read_string.Given as goal
 
--- so many bytes were read, none of them 0
+-- so many bytes were read, none of them 0, and the reader itself still stands where it stood
 abbrev pub invariant-loop : goal.invariant-loop
 invariant-loop g l = record {
+  same : l.r ≡ l.fn.r;
   count : length l.into.items ≡ l.counter;
   each : All IsTextByte l.into.items;
-  reads : HasFront l.fn.r l.r l.into.items (string_after l.fn.r.words (g.row.N - l.counter) l.r.left) (string_after l.fn.r.words g.row.N l.fn.r.left);
+  reads : HasFront l.fn.r l.own l.into.items (string_after l.fn.r.words (g.row.N - l.counter) l.own.left) (string_after l.fn.r.words g.row.N l.fn.r.left);
 }

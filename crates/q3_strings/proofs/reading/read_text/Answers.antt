@@ -1,6 +1,7 @@
 use Rattle.std.proofs.Common.{◌≡◌, [], ◌∷◌, ◌+◌, ◌-◌, ◌<◌, ◌==◌, length, true, eq-eqb, ◌∙◌, suc, ℕ, ap, arith}
 use Rattle.std.proofs.lemmas.Result.{err_from_is_err_and}
 use Rattle.std.proofs.lemmas.List.{append-nil, length-append}
+use Rattle.q3_bits.specs.Streams.{Reading}
 use Rattle.q3_text.specs.Texts.{most_bytes, translated}
 use Rattle.q3_strings.specs.Reading.{string_after}
 use Rattle.q3_strings.proofs.Fronts.{isnt_zero, front_more, front_stops, front_ends, string_end, string_more, string_fault, string_long}
@@ -11,11 +12,11 @@ returns-in_err-byte c =
     let p = err_from_is_err_and c.from_residual.result c.from_residual.ensures.1 in
     let h = c.loop.invariant.reads in
     let words = c.args.r.now.words in
-    let fault = string_fault words c.loop.r.words (most_bytes - c.loop.counter) c.loop.r.left c.in_err-byte.field-0.0 h.words c.in_err-byte.ensures.reads.value in
+    let fault = string_fault words c.loop.own.words (most_bytes - c.loop.counter) c.loop.own.left c.in_err-byte.field-0.0 h.words c.in_err-byte.ensures.reads.value in
     rw (p.1, p.2) (record {
       value = front_stops _ _ _ _ _ _ h fault;
-      words = c.in_err-byte.ensures.reads.words ∙ h.words;
-      place = c.in_err-byte.ensures.reads.place ∙ h.place;
+      words = ap (λ (reader : Reading). reader.words) c.loop.invariant.same;
+      place = ap (λ (reader : Reading). reader.place + length reader.left) c.loop.invariant.same;
     })
 
 pub returns-then-byte-eq0 : goal.returns-then-byte-eq0
@@ -23,7 +24,7 @@ returns-then-byte-eq0 c =
     let h = c.loop.invariant.reads in
     let words = c.args.r.now.words in
     let none : (c.in_ok-byte.byte == 0) ≡ true = eq-eqb c.in_ok-byte.byte 0 c.if-byte-eq0.true in
-    let end = string_end words c.loop.r.words (most_bytes - c.loop.counter) c.loop.r.left c.in_ok-byte.byte c.get.new.self.left h.words c.in_ok-byte.ensures.reads.value none in
+    let end = string_end words c.loop.own.words (most_bytes - c.loop.counter) c.loop.own.left c.in_ok-byte.byte c.get_byte.new.self.left h.words c.in_ok-byte.ensures.reads.value none in
     record {
       value = rw append-nil at (front_ends _ _ _ _ _ _ h end);
       words = c.in_ok-byte.ensures.reads.words ∙ h.words;
@@ -37,48 +38,49 @@ loop-preserved c =
     let byte = c.in_ok-byte.byte in
     let some : 0 < byte = omega (arith, c.if-byte-eq0.false) in
     let one : most_bytes - c.loop.counter ≡ suc (most_bytes - (c.loop.counter + 1)) = omega arith in
-    let more = ap (λ (n : ℕ). string_after words n c.loop.r.left) one
-    ∙ string_more words c.loop.r.words (most_bytes - (c.loop.counter + 1)) c.loop.r.left byte c.get.new.self.left h.words c.in_ok-byte.ensures.reads.value (isnt_zero byte some) in
+    let more = ap (λ (n : ℕ). string_after words n c.loop.own.left) one
+    ∙ string_more words c.loop.own.words (most_bytes - (c.loop.counter + 1)) c.loop.own.left byte c.get_byte.new.self.left h.words c.in_ok-byte.ensures.reads.value (isnt_zero byte some) in
     record {
+      same = c.loop.invariant.same;
       count = ap length c.push.ensures ∙ length-append c.loop.into (translated byte ∷ []) ∙ ap (λ (n : ℕ). n + 1) c.loop.invariant.count;
       reads = rw c.push.ensures (front_more _ _ _ _ _ _ _ _ h c.in_ok-byte.ensures.reads.words c.in_ok-byte.ensures.reads.place more);
     }
 
-pub returns-in_err-get : goal.returns-in_err-get
-returns-in_err-get c =
-    let p = err_from_is_err_and c.from_residual-in_err-get.result c.from_residual-in_err-get.ensures.1 in
+pub returns-in_err-get_byte : goal.returns-in_err-get_byte
+returns-in_err-get_byte c =
+    let p = err_from_is_err_and c.from_residual-in_err-get_byte.result c.from_residual-in_err-get_byte.ensures.1 in
     let h = c.loop.invariant.reads in
     let words = c.args.r.now.words in
-    let fault = string_fault words c.loop.r.words (most_bytes - c.loop.counter) c.loop.r.left c.in_err-get.field-0.0 h.words c.in_err-get.ensures.reads.value in
+    let fault = string_fault words c.loop.own.words (most_bytes - c.loop.counter) c.loop.own.left c.in_err-get_byte.field-0.0 h.words c.in_err-get_byte.ensures.reads.value in
     rw (p.1, p.2) (record {
       value = front_stops _ _ _ _ _ _ h fault;
-      words = c.in_err-get.ensures.reads.words ∙ h.words;
-      place = c.in_err-get.ensures.reads.place ∙ h.place;
+      words = ap (λ (reader : Reading). reader.words) c.loop.invariant.same;
+      place = ap (λ (reader : Reading). reader.place + length reader.left) c.loop.invariant.same;
     })
 
 pub returns-then-branch-ne0 : goal.returns-then-branch-ne0
 returns-then-branch-ne0 c =
     let h = c.loop.invariant.reads in
     let words = c.args.r.now.words in
-    let byte = c.in_ok-get.field-0 in
+    let byte = c.in_ok-get_byte.field-0 in
     let none : most_bytes - c.loop.counter ≡ 0 = omega arith in
     let some : 0 < byte = omega (arith, c.if-branch-ne0.true) in
-    let long = ap (λ (n : ℕ). string_after words n c.loop.r.left) none ∙ string_long words c.loop.r.words c.loop.r.left byte c.get-2.new.self.left h.words c.in_ok-get.ensures.reads.value (isnt_zero byte some) in
+    let long = ap (λ (n : ℕ). string_after words n c.loop.own.left) none ∙ string_long words c.loop.own.words c.loop.own.left byte c.get_byte-2.new.self.left h.words c.in_ok-get_byte.ensures.reads.value (isnt_zero byte some) in
     record {
       value = front_stops _ _ _ _ _ _ h long;
-      words = c.in_ok-get.ensures.reads.words ∙ h.words;
-      place = c.in_ok-get.ensures.reads.place ∙ h.place;
+      words = ap (λ (reader : Reading). reader.words) c.loop.invariant.same;
+      place = ap (λ (reader : Reading). reader.place + length reader.left) c.loop.invariant.same;
     }
 
 pub returns : goal.returns
 returns c =
     let h = c.loop.invariant.reads in
     let words = c.args.r.now.words in
-    let byte = c.in_ok-get.field-0 in
+    let byte = c.in_ok-get_byte.field-0 in
     let zero : byte ≡ 0 = omega (arith, c.if-branch-ne0.false) in
-    let end = string_end words c.loop.r.words (most_bytes - c.loop.counter) c.loop.r.left byte c.get-2.new.self.left h.words c.in_ok-get.ensures.reads.value (eq-eqb byte 0 zero) in
+    let end = string_end words c.loop.own.words (most_bytes - c.loop.counter) c.loop.own.left byte c.get_byte-2.new.self.left h.words c.in_ok-get_byte.ensures.reads.value (eq-eqb byte 0 zero) in
     record {
       value = rw append-nil at (front_ends _ _ _ _ _ _ h end);
-      words = c.in_ok-get.ensures.reads.words ∙ h.words;
-      place = c.in_ok-get.ensures.reads.place ∙ h.place;
+      words = c.in_ok-get_byte.ensures.reads.words ∙ h.words;
+      place = c.in_ok-get_byte.ensures.reads.place ∙ h.place;
     }

@@ -4,9 +4,10 @@ use Rattle.q3_strings.specs.Reading.{string_after}
 use Rattle.q3_strings.proofs.Fronts.{HasFront}
 use Rattle.q3_strings.proofs.reading.read_text.Given as goal
 
--- so many bytes were read, none of them 0
+-- so many bytes were read, none of them 0, and the reader itself still stands where it stood
 abbrev pub invariant-loop : goal.invariant-loop
 invariant-loop l = record {
+  same : l.r ≡ l.fn.r;
   count : length l.into ≡ l.counter;
-  reads : HasFront l.fn.r l.r l.into (string_after l.fn.r.words (most_bytes - l.counter) l.r.left) (string_after l.fn.r.words most_bytes l.fn.r.left);
+  reads : HasFront l.fn.r l.own l.into (string_after l.fn.r.words (most_bytes - l.counter) l.own.left) (string_after l.fn.r.words most_bytes l.fn.r.left);
 }

@@ -4,7 +4,7 @@ use Rattle.q3_bits.specs.Words.{field_at}
 use Rattle.q3_bits.specs.Unread.{bits_ahead}
 use Rattle.q3_bits.proofs.CodeText.{answer, field_at_some}
 use Rattle.q3_bits.proofs.Gathered.{length-ahead, drop-gathered, passed, field_more}
-use Rattle.q3_bits.proofs.reader.Reader.words_gathered.Goals as goal
+use Rattle.q3_bits.proofs.reader.Reader.spelled_gathered.Goals as goal
 
 pub returns-clause-found : goal.returns-clause-found
 returns-clause-found c =
