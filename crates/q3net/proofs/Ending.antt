@@ -9,56 +9,85 @@ use Rattle.q3net.specs.declared.fault.Fault.{Fault}
 use Rattle.q3net.specs.declared.fault.Fault.TheVariants as faults
 use Rattle.q3net.specs.Command.{Command}
 use Rattle.q3net.specs.Lines.{ending_status, ending_line}
-use Rattle.q3net.specs.Faults.{Gets}
-use Rattle.q3net.specs.Verdict.{Verdict, IsVerdict, settled}
-use Rattle.q3net.specs.Run.{MayStop, MayRead, Executes, PrintsAll, Took, Prints}
+use Rattle.q3net.specs.Faults.{Gets, FileCause}
+use Rattle.q3net.specs.Verdict.{Place, Nowhere, First, Anywhere, Stops, Verdict, IsVerdict, stops_nowhere, settled}
+use Rattle.q3net.specs.Run.{Comes, ComesBehind, Executes, PrintsAll, Took, Prints}
+
+-- ---- where something may stop a command
+
+-- before its text
+comes_first : (place : Place) (text : List ℕ) → Comes place → ComesBehind place [] text
+comes_first Nowhere text comes = comes
+comes_first First text comes = refl
+comes_first Anywhere text comes = (text, refl)
+
+-- and anywhere at all
+pub comes_behind : (place : Place) (printed text : List ℕ) → ComesBehind place printed text → Comes place
+comes_behind Nowhere printed text behind = behind
+comes_behind First printed text behind = tt
+comes_behind Anywhere printed text behind = tt
+
+-- what is settled stops where it is said to
+pub settled_memory : (stops : Stops) (names : List (List ℕ)) (answer : Result (List ℕ) Fault) → Comes stops.memory → Comes (settled stops names answer).stops.memory
+settled_memory stops names (Ok text) comes = comes
+settled_memory stops names (Err e) comes = comes
+
+pub settled_reads : (stops : Stops) (names : List (List ℕ)) (answer : Result (List ℕ) Fault) → Comes stops.reads → Comes (settled stops names answer).stops.reads
+settled_reads stops names (Ok text) comes = comes
+settled_reads stops names (Err e) comes = comes
+
+pub settled_writes : (stops : Stops) (names : List (List ℕ)) (answer : Result (List ℕ) Fault) → Comes (settled stops names answer).stops.writes → Comes stops.writes
+settled_writes stops names (Ok text) comes = comes
+settled_writes stops names (Err e) comes = comes
 
 -- ---- a command that reads nothing
 
 pub none_executes : (follow : TextsFollow) (told : Option Told) (old : Option Written) → Executes None told old old (Err faults.Usage)
-none_executes follow told old = (settled [] (Err faults.Usage), refl, inl ([], inl (refl, refl), follow.none))
+none_executes follow told old = (settled stops_nowhere [] (Err faults.Usage), refl, inl ([], inl (refl, refl), follow.none))
 
 -- a text of one write
-pub text_executes : (command : Option Command) (told : Option Told) (old now : Option Written) (names : List (List ℕ)) (text : List ℕ) (ended : Result (Unit {0}) Fault)
-    → IsVerdict told command (settled names (Ok text)) → PrintsAll text old now ended → Executes command told old now ended
-text_executes command told old now names text ended is prints =
+pub text_executes : (command : Option Command) (told : Option Told) (old now : Option Written) (stops : Stops) (names : List (List ℕ)) (text : List ℕ) (ended : Result (Unit {0}) Fault)
+    → IsVerdict told command (settled stops names (Ok text)) → PrintsAll text old now ended → Executes command told old now ended
+text_executes command told old now stops names text ended is prints =
     elim prints [
-      | inl all ↦ (settled names (Ok text), is, inl (text, inl (all.0, refl), all.1))
-      | inr front ↦ (settled names (Ok text), is, inr front)
+      | inl all ↦ (settled stops names (Ok text), is, inl (text, inl (all.0, refl), all.1))
+      | inr front ↦ (settled stops names (Ok text), is, inr front)
     ]
 
 -- ---- a command that ends before it has printed anything
 
 -- its input ended it
-pub refused : (follow : TextsFollow) (command : Option Command) (told : Option Told) (old : Option Written) (names : List (List ℕ)) (e : Fault)
-    → IsVerdict told command (settled names (Err e)) → Executes command told old old (Err e)
-refused follow command told old names e is = (settled names (Err e), is, inl ([], inl (refl, refl), follow.none))
+pub refused : (follow : TextsFollow) (command : Option Command) (told : Option Told) (old : Option Written) (stops : Stops) (names : List (List ℕ)) (e : Fault)
+    → IsVerdict told command (settled stops names (Err e)) → Executes command told old old (Err e)
+refused follow command told old stops names e is = (settled stops names (Err e), is, inl ([], inl (refl, refl), follow.none))
 
 -- memory ran out
 pub wants_memory : (follow : TextsFollow) (command : Option Command) (told : Option Told) (old : Option Written) (verdict : Verdict)
-    → IsVerdict told command verdict → MayStop command → Executes command told old old (Err faults.NoMemory)
-wants_memory follow command told old verdict is may = (verdict, is, inl ([], inr (may, faults.NoMemory, refl, (verdict.text, refl)), follow.none))
+    → IsVerdict told command verdict → Comes verdict.stops.memory → Executes command told old old (Err faults.NoMemory)
+wants_memory follow command told old verdict is may =
+    (verdict, is, inl ([], inr (faults.NoMemory, refl, comes_first verdict.stops.memory verdict.text may), follow.none))
 
 -- a read failed
 fails_reading : (follow : TextsFollow) (command : Option Command) (told : Option Told) (old : Option Written) (verdict : Verdict)
-    → IsVerdict told command verdict → MayStop command → MayRead command → Executes command told old old (Err faults.Read)
-fails_reading follow command told old verdict is may reads = (verdict, is, inl ([], inr (may, faults.Read, refl, (reads, refl)), follow.none))
+    → IsVerdict told command verdict → Comes verdict.stops.reads → Executes command told old old (Err faults.Read)
+fails_reading follow command told old verdict is may =
+    (verdict, is, inl ([], inr (faults.Read, refl, comes_first verdict.stops.reads verdict.text may), follow.none))
 
 -- a part that reads a file ended it
-pub part_ended : {A : Type 0} (follow : TextsFollow) (command : Option Command) (told : Option Told) (old : Option Written) (names : List (List ℕ)) (answer : Result (List ℕ) Fault)
-    (said : Result A Fault) (e : Fault) → IsVerdict told command (settled names answer) → MayStop command → MayRead command
+pub part_ended : {A : Type 0} (follow : TextsFollow) (command : Option Command) (told : Option Told) (old : Option Written) (stops : Stops) (names : List (List ℕ)) (answer : Result (List ℕ) Fault)
+    (said : Result A Fault) (e : Fault) → IsVerdict told command (settled stops names answer) → Comes stops.memory → Comes stops.reads
     → (said ≡ Err e → answer ≡ Err e) → Gets said (Err e) → Executes command told old old (Err e)
-part_ended follow command told old names answer said e is may reads so gets =
+part_ended follow command told old stops names answer said e is may reads so gets =
     elim gets [
-      | inl by_input ↦ refused follow command told old names e (subst (λ (a : Result (List ℕ) Fault). IsVerdict told command (settled names a)) (so (sym by_input)) is)
+      | inl by_input ↦ refused follow command told old stops names e (subst (λ (a : Result (List ℕ) Fault). IsVerdict told command (settled stops names a)) (so (sym by_input)) is)
       | inr outside ↦ elim outside [
         | inl memory ↦ (
             let so : e ≡ faults.NoMemory = cc in
-            subst (λ (d : Fault). Executes command told old old (Err d)) (sym so) (wants_memory follow command told old (settled names answer) is may)
+            subst (λ (d : Fault). Executes command told old old (Err d)) (sym so) (wants_memory follow command told old (settled stops names answer) is (settled_memory stops names answer may))
             )
         | inr read ↦ (
             let so : e ≡ faults.Read = cc in
-            subst (λ (d : Fault). Executes command told old old (Err d)) (sym so) (fails_reading follow command told old (settled names answer) is may reads)
+            subst (λ (d : Fault). Executes command told old old (Err d)) (sym so) (fails_reading follow command told old (settled stops names answer) is (settled_reads stops names answer reads))
             )
       ]
     ]
@@ -102,33 +131,22 @@ behind follow old mid now printed line ended status added took =
       | inr front ↦ inr (front.0, follow.more added front.1 refl)
     ]
 
-failed : (follow : TextsFollow) (old mid now : Option Written) (text line : List ℕ) (ended : Result (Unit {0}) Fault) (status : ℕ) → ended ≡ Err faults.Write
-    → Wrote old mid text false → Took ended (ending_line ended) mid now status → (status ≡ 4) × Wrote old now (text ++ line) false
-failed follow old mid now text line ended status is front took =
+failed : (old mid now : Option Written) (text : List ℕ) (ended : Result (Unit {0}) Fault) (status : ℕ) → ended ≡ Err faults.Write
+    → Wrote old mid text false → Took ended (ending_line ended) mid now status → (status ≡ 4) × Wrote old now text false
+failed old mid now text ended status is front took =
     let none : ending_line ended ≡ [] = ap ending_line is in
     elim took [
-      | inl all ↦ (
-        all.0 ∙ ap ending_status is,
-        follow.early line (nothing_more old mid now text true front (subst (λ (z : List ℕ). Wrote mid now z true) none all.1.0)) refl,
-      )
-      | inr more ↦ (
-        more.0,
-        follow.early line (nothing_more old mid now text false front (subst (λ (z : List ℕ). Wrote mid now z false) none more.1)) refl,
-      )
+      | inl all ↦ (all.0 ∙ ap ending_status is, nothing_more old mid now text true front (subst (λ (z : List ℕ). Wrote mid now z true) none all.1.0))
+      | inr more ↦ (more.0, nothing_more old mid now text false front (subst (λ (z : List ℕ). Wrote mid now z false) none more.1))
     ]
 
-pub prints : (follow : TextsFollow) (command : Option Command) (told : Option Told) (old mid now : Option Written) (ended : Result (Unit {0}) Fault) (status : ℕ)
-    → Executes command told old mid ended → Took ended (ending_line ended) mid now status → Prints command told old now status
-prints follow command told old mid now ended status executes took =
+pub prints : (follow : TextsFollow) (command : Option Command) (told : Option Told) (before after : ℕ) (old mid now : Option Written) (ended : Result (Unit {0}) Fault) (status : ℕ)
+    → Executes command told old mid ended → FileCause before after ended → Took ended (ending_line ended) mid now status → Prints command told before after old now status
+prints follow command told before after old mid now ended status executes cause took =
     let verdict = executes.0 in
     elim executes.2 [
-      | inl ends ↦ (verdict, executes.1, ended, ends.0, ends.1, behind follow old mid now ends.0 (ending_line ended) ended status ends.2 took)
-      | inr so ↦ (
-        verdict,
-        executes.1,
-        verdict.ending,
-        verdict.text,
-        inl (refl, refl),
-        inr (failed follow old mid now verdict.text (ending_line verdict.ending) ended status so.0 so.1 took),
-      )
+      | inl ends ↦ (verdict, executes.1, ended, cause, inl (ends.0, ends.1, behind follow old mid now ends.0 (ending_line ended) ended status ends.2 took))
+      | inr so ↦
+          let so_failed = failed old mid now verdict.text ended status so.0 so.1 took in
+          (verdict, executes.1, ended, cause, inr (so.0, so_failed.0, so_failed.1))
     ]

@@ -4,5 +4,6 @@ pub mod Looking
 pub mod Stepping
 pub mod Totals
 pub mod Ending
+pub mod Outside
 pub mod Replaying
 pub mod Trying

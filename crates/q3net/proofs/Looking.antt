@@ -8,11 +8,13 @@ use Rattle.q3net.specs.declared.fault.Fault.{Fault}
 use Rattle.q3net.specs.declared.fault.Fault.TheVariants as faults
 use Rattle.q3net.specs.declared.command.Draws.{Draws}
 use Rattle.q3net.specs.Command.{Command, Help, Version, Replay, Make, Trial, files_of}
-use Rattle.q3net.specs.Faults.{Gets, IsEarly}
-use Rattle.q3net.specs.Input.{Holds, looked_up, with_files, Leaves, LeavesTold, AreBegun, LeavesFirst, Touches, LooksUpTold, LooksUpFirst, Gives}
-use Rattle.q3net.specs.Lines.{ending_status}
-use Rattle.q3net.specs.Verdict.{Verdict, IsVerdict, settled, names_by, replayed, tried, profile_in, GetsFrom}
-use Rattle.q3net.specs.Run.{LeavesFiles, HasLeft}
+use Rattle.q3net.specs.Faults.{Gets, IsOutside, IsEarly}
+use Rattle.q3net.specs.Input.{Holds, looked_up, created, with_files, Leaves, LeavesTold, AreBegun, LeavesFirst, Touches, LooksUpTold, LooksUpFirst, Gives}
+use Rattle.q3_make.specs.Printed.{script_text}
+use Rattle.q3_make.specs.Generated.{generated}
+use Rattle.q3net.specs.Lines.{help_text, version_text, fault_status, ending_status}
+use Rattle.q3net.specs.Verdict.{Stops, Verdict, IsVerdict, stops_nowhere, takes_memory, reads_first, settled, names_by, replayed, tried, profile_in, GetsFrom}
+use Rattle.q3net.specs.Run.{LeavesFiles, HasLeft, Touched}
 use Rattle.q3net.proofs.Loading.{held}
 
 -- no name was given
@@ -57,23 +59,12 @@ first_more told now named more made first = (
 
 -- ---- the parts of a replay
 
--- an early end of one part is an early end of the run
-early_as : {A B : Type 0} (e : Fault) → IsEarly {A = A} (Err e) → IsEarly {A = B} (Err e)
-early_as e early =
-    elim early [
-      | inl memory ↦ inl (let is : e ≡ faults.NoMemory = cc in ap Err is)
-      | inr others ↦ elim others [
-        | inl read ↦ inr (inl (let is : e ≡ faults.Read = cc in ap Err is))
-        | inr write ↦ inr (inr (let is : e ≡ faults.Write = cc in ap Err is))
-      ]
-    ]
-
 -- a part that ended well gave its name
 pub gave : {A : Type 0} (x : A) (names : List (List ℕ)) (told now : Option Told) → Gives {A = A} (Ok x) names told now → LooksUpTold told now names
 gave x names told now gives =
     elim gives [
       | inl all ↦ all
-      | inr early ↦ absurd (elim early.0 [ inl e ↦ (cc) | inr others ↦ elim others [ inl e ↦ (cc) | inr e ↦ (cc) ] ])
+      | inr early ↦ absurd early.0
     ]
 
 -- files as far as they are made, where they are whole
@@ -89,10 +80,6 @@ left_first ended named made told now touched =
 gave_first : {A : Type 0} (ended : Result A Fault) (names : List (List ℕ)) (told now : Option Told) → Gives ended names told now → LooksUpFirst told now names
 gave_first ended names told now gives = left_first ended (map looked_up names) [] told now gives
 
--- the answer of a part and that of the run have other types
-gives_as : {A B : Type 0} (e : Fault) (names : List (List ℕ)) (told now : Option Told) → Gives {A = A} (Err e) names told now → Gives {A = B} (Err e) names told now
-gives_as e names told now gives = elim gives [ inl all ↦ inl all | inr early ↦ inr (early_as e early.0, early.1) ]
-
 -- a part that answered well answered what its input says
 pub got_ok : {A : Type 0} (said : Result A Fault) (x : A) → Gets said (Ok x) → said ≡ Ok x
 got_ok said x gets = elim gets [ inl is ↦ sym is | inr outside ↦ absurd (elim outside [ inl e ↦ (cc) | inr e ↦ (cc) ]) ]
@@ -100,46 +87,57 @@ got_ok said x gets = elim gets [ inl is ↦ sym is | inr outside ↦ absurd (eli
 -- ---- what a verdict says of files
 
 -- one that is settled looks its names up, and makes nothing
-settled_touches : {A : Type 0} (ended : Result A Fault) (names : List (List ℕ)) (answer : Result (List ℕ) Fault) (told now : Option Told) → Gives ended names told now
-    → Touches ended (settled names answer).named (settled names answer).made told now
-settled_touches ended names (Ok text) told now gives = gives
-settled_touches ended names (Err cause) told now gives = gives
-
-settled_first : (names : List (List ℕ)) (answer : Result (List ℕ) Fault) (told now : Option Told) → LeavesFirst told now (settled names answer).named (settled names answer).made
-    → LooksUpFirst told now names
-settled_first names (Ok text) told now first = first
-settled_first names (Err cause) told now first = first
+settled_touches : {A : Type 0} (ended : Result A Fault) (stops : Stops) (names : List (List ℕ)) (answer : Result (List ℕ) Fault) (told now : Option Told) → Gives ended names told now
+    → Touches ended (settled stops names answer).named (settled stops names answer).made told now
+settled_touches ended stops names (Ok text) told now gives = gives
+settled_touches ended stops names (Err cause) told now gives = gives
 
 names_more : (says : Result Profile Fault) (profile script : List ℕ) (told now : Option Told) → LooksUpFirst told now (names_by says profile script)
     → LooksUpFirst told now (profile ∷ script ∷ [])
 names_more (Ok by) profile script told now first = first
 names_more (Err cause) profile script told now first = first_more told now (looked_up profile ∷ []) (looked_up script ∷ []) [] first
 
-verdict_first : (told now : Option Told) (command : Option Command) (verdict : Verdict) → IsVerdict told command verdict
-    → LeavesFirst told now verdict.named verdict.made → LooksUpFirst told now (files_of command)
-verdict_first told now None verdict is first = subst (λ (v : Verdict). LeavesFirst told now v.named v.made) is first
-verdict_first told now (Some Help) verdict is first = subst (λ (v : Verdict). LeavesFirst told now v.named v.made) is first
-verdict_first told now (Some Version) verdict is first = subst (λ (v : Verdict). LeavesFirst told now v.named v.made) is first
-verdict_first told now (Some (Replay profile script)) verdict is first =
+-- of a verdict, the names that it gives are the first of those of its command, and of the files that it makes
+abbrev pub IsNamed : Option Told → Option Told → Option Command → Verdict → Type 0
+IsNamed told now command verdict =
+    LeavesFirst told now verdict.named verdict.made → LeavesFirst told now (map looked_up (files_of command) ++ map created verdict.made) verdict.made
+
+settled_named : (told now : Option Told) (command : Option Command) (stops : Stops) (names : List (List ℕ)) (answer : Result (List ℕ) Fault)
+    → (LooksUpFirst told now names → LooksUpFirst told now (files_of command)) → IsNamed told now command (settled stops names answer)
+settled_named told now command stops names (Ok text) so first = subst (λ (z : List Named). LeavesFirst told now z []) (sym (append-nil (map looked_up (files_of command)))) (so first)
+settled_named told now command stops names (Err cause) so first = subst (λ (z : List Named). LeavesFirst told now z []) (sym (append-nil (map looked_up (files_of command)))) (so first)
+
+verdict_named : (told now : Option Told) (command : Option Command) (verdict : Verdict) → IsVerdict told command verdict → IsNamed told now command verdict
+verdict_named told now None verdict is = subst (IsNamed told now None) (sym is) (settled_named told now None stops_nowhere [] (Err faults.Usage) (λ first. first))
+verdict_named told now (Some Help) verdict is = subst (IsNamed told now (Some Help)) (sym is) (settled_named told now (Some Help) stops_nowhere [] (Ok help_text) (λ first. first))
+verdict_named told now (Some Version) verdict is = subst (IsNamed told now (Some Version)) (sym is) (settled_named told now (Some Version) stops_nowhere [] (Ok version_text) (λ first. first))
+verdict_named told now (Some (Replay profile script)) verdict is =
     let names = names_by (profile_in is.0) profile script in
-    names_more (profile_in is.0) profile script told now
-    (settled_first names (replayed is.0 is.1) told now (subst (λ (v : Verdict). LeavesFirst told now v.named v.made) is.4 first))
-verdict_first told now (Some (Make draws)) verdict is first = subst (λ (v : Verdict). LeavesFirst told now v.named v.made) is first
-verdict_first told now (Some (Trial profile draws)) verdict is first =
-    settled_first (profile ∷ []) (tried is.0 draws) told now (subst (λ (v : Verdict). LeavesFirst told now v.named v.made) is.2 first)
+    subst (IsNamed told now (Some (Replay profile script))) (sym is.4)
+    (settled_named told now (Some (Replay profile script)) reads_first names (replayed is.0 is.1) (names_more (profile_in is.0) profile script told now))
+verdict_named told now (Some (Make draws)) verdict is =
+    subst (IsNamed told now (Some (Make draws))) (sym is)
+    (settled_named told now (Some (Make draws)) takes_memory [] (Ok (script_text (generated draws.number draws.seed))) (λ first. first))
+verdict_named told now (Some (Trial profile draws)) verdict is =
+    subst (IsNamed told now (Some (Trial profile draws))) (sym is.2)
+    (settled_named told now (Some (Trial profile draws)) reads_first (profile ∷ []) (tried is.0 draws) (λ first. first))
 
--- the names that are given are the first of those that the command names
-pub touches : (command : Option Command) (told now : Option Told) (ended : Result (Unit {0}) Fault) → LeavesFiles command told now ended → LooksUpFirst told now (files_of command)
+-- the names that are given are the first of those that the command names, and of the files that its verdict makes
+pub touches : (command : Option Command) (told now : Option Told) (ended : Result (Unit {0}) Fault) → LeavesFiles command told now ended → Touched command told now
 touches command told now ended given =
-    verdict_first told now command given.0 given.1 (left_first ended given.0.named given.0.made told now given.2)
+    (given.0, given.1, verdict_named told now command given.0 given.1 (left_first ended given.0.named given.0.made told now given.2))
 
--- the status of an early end
-early_status : (ended : Result (Unit {0}) Fault) → IsEarly ended → (ending_status ended ≡ 1) ⊎ ((ending_status ended ≡ 3) ⊎ (ending_status ended ≡ 4))
-early_status ended early =
-    elim early [
-      | inl memory ↦ inl (ap ending_status memory)
-      | inr others ↦ elim others [ inl read ↦ inr (inl (ap ending_status read)) | inr write ↦ inr (inr (ap ending_status write)) ]
-    ]
+-- the fault of an early end
+early_is : (ended : Result (Unit {0}) Fault) → IsEarly ended → (fault : Fault) × IsOutside fault × (ended ≡ Err fault)
+early_is (Ok x) early = absurd early
+early_is (Err e) early = (e, early, refl)
+
+-- and its status, or 4 where the fault line can't be written
+early_status : (ended : Result (Unit {0}) Fault) (status : ℕ) → IsEarly ended → (status ≡ ending_status ended) ⊎ (status ≡ 4)
+    → (fault : Fault) × IsOutside fault × (status ≡ fault_status fault)
+early_status ended status early is =
+    let so = early_is ended early in
+    elim is [ inl same ↦ (so.0, so.1, same ∙ ap ending_status so.2) | inr four ↦ (faults.Write, tt, four) ]
 
 pub has_left : (command : Option Command) (told now : Option Told) (ended : Result (Unit {0}) Fault) (status : ℕ) → LeavesFiles command told now ended
     → (status ≡ ending_status ended) ⊎ (status ≡ 4) → HasLeft command told now status
@@ -148,39 +146,35 @@ has_left command told now ended status given is = (
   given.1,
   elim given.2 [
     | inl all ↦ inl all
-    | inr early ↦ inr (
-      elim is [
-        | inl same ↦ subst (λ (s : ℕ). (s ≡ 1) ⊎ ((s ≡ 3) ⊎ (s ≡ 4))) (sym same) (early_status ended early.0)
-        | inr write ↦ inr (inr write)
-      ],
-      early.1,
-    )
+    | inr early ↦
+        let so = early_status ended status early.0 is in
+        inr (so.0, so.1, so.2, early.1)
   ],
 )
 
 -- ---- of each command
 
 pub none_given : (told : Option Told) → LeavesFiles None told told (Err faults.Usage)
-none_given told = (settled [] (Err faults.Usage), refl, inl (looks_none told))
+none_given told = (settled stops_nowhere [] (Err faults.Usage), refl, inl (looks_none told))
 
-pub text_given : (command : Option Command) (told : Option Told) (text : List ℕ) (ended : Result (Unit {0}) Fault)
-    → IsVerdict told command (settled [] (Ok text)) → LeavesFiles command told told ended
-text_given command told text ended is = (settled [] (Ok text), is, inl (looks_none told))
+pub text_given : (command : Option Command) (told : Option Told) (stops : Stops) (text : List ℕ) (ended : Result (Unit {0}) Fault)
+    → IsVerdict told command (settled stops [] (Ok text)) → LeavesFiles command told told ended
+text_given command told stops text ended is = (settled stops [] (Ok text), is, inl (looks_none told))
 
 -- a profile was looked up, and nothing else
 pub trial_given : {A : Type 0} (told now : Option Told) (profile : List ℕ) (draws : Draws) (ended : Result (Unit {0}) Fault) (got : Result A Fault)
     → (Gives got (profile ∷ []) told now → Gives ended (profile ∷ []) told now) → Gives got (profile ∷ []) told now → LeavesFiles (Some (Trial profile draws)) told now ended
 trial_given told now profile draws ended got so gives =
     let file = held told profile in (
-      settled (profile ∷ []) (tried file.0 draws),
+      settled reads_first (profile ∷ []) (tried file.0 draws),
       (file.0, file.1, refl),
-      settled_touches ended (profile ∷ []) (tried file.0 draws) told now (so gives),
+      settled_touches ended reads_first (profile ∷ []) (tried file.0 draws) told now (so gives),
     )
 
 -- none passed
-pub trial_gives : {A : Type 0} (told now : Option Told) (profile : List ℕ) (draws : Draws) (e : Fault) → Gives {A = A} (Err e) (profile ∷ []) told now
+pub trial_gives : (told now : Option Told) (profile : List ℕ) (draws : Draws) (e : Fault) → Gives {A = Unit {0}} (Err e) (profile ∷ []) told now
     → LeavesFiles (Some (Trial profile draws)) told now (Err e)
-trial_gives told now profile draws e gives = trial_given told now profile draws (Err e) (Err e) (gives_as e (profile ∷ []) told now) gives
+trial_gives told now profile draws e gives = trial_given {A = Unit {0}} told now profile draws (Err e) (Err e) (λ all. all) gives
 
 -- one did
 pub trial_gave : {A : Type 0} (told now : Option Told) (profile : List ℕ) (draws : Draws) (by : A) (ended : Result (Unit {0}) Fault) → Gives (Ok by) (profile ∷ []) told now
@@ -192,10 +186,18 @@ replay_given : (told now : Option Told) (profile script : List ℕ) (file : Opti
 replay_given told now profile script file ended holds gives =
     let other = held told script in
     let names = names_by (profile_in file) profile script in (
-      settled names (replayed file other.0),
+      settled reads_first names (replayed file other.0),
       (file, other.0, holds, other.1, refl),
-      settled_touches ended names (replayed file other.0) told now gives,
+      settled_touches ended reads_first names (replayed file other.0) told now gives,
     )
+
+-- a part that its input didn't end
+came_outside : {A : Type 0} (e : Fault) (got : Result A Fault) → got ≡ Err e → (got ≡ Err faults.NoMemory) ⊎ (got ≡ Err faults.Read) → IsOutside e
+came_outside e got is outside =
+    elim outside [
+      | inl memory ↦ (let so : e ≡ faults.NoMemory = cc in subst IsOutside (sym so) tt)
+      | inr read ↦ (let so : e ≡ faults.Read = cc in subst IsOutside (sym so) tt)
+    ]
 
 -- no profile was read
 first_names : (says : Result Profile Fault) (profile script : List ℕ) (told now : Option Told) → LooksUpFirst told now (profile ∷ []) → LooksUpFirst told now (names_by says profile script)
@@ -206,10 +208,10 @@ profile_names : (file : Option (List ℕ)) (e : Fault) (profile script : List �
     → Gives {A = Profile} (Err e) (profile ∷ []) told now → Gives {A = Unit {0}} (Err e) (names_by (profile_in file) profile script) told now
 profile_names file e profile script told now gets gives =
     elim gets [
-      | inl said ↦ subst (λ (says : Result Profile Fault). Gives {A = Unit {0}} (Err e) (names_by says profile script) told now) said (gives_as e (profile ∷ []) told now gives)
+      | inl said ↦ subst (λ (says : Result Profile Fault). Gives {A = Unit {0}} (Err e) (names_by says profile script) told now) said gives
       | inr outside ↦ inr (
-        early_as e (elim outside [ inl memory ↦ inl memory | inr read ↦ inr (inl read) ]),
-        first_names (profile_in file) profile script told now (gave_first (Err e) (profile ∷ []) told now gives),
+        came_outside {A = Profile} e (Err e) refl outside,
+        first_names (profile_in file) profile script told now (gave_first {A = Profile} (Err e) (profile ∷ []) told now gives),
       )
     ]
 
@@ -226,12 +228,12 @@ passed_given told now profile script by ended passes gives =
     (subst (λ (says : Result Profile Fault). Gives ended (names_by says profile script) told now) (sym (got_ok (profile_in passes.0) by passes.2)) gives)
 
 -- and no script
-pub script_gives : {B : Type 0} (told mid now : Option Told) (profile script : List ℕ) (by : Profile) (e : Fault) → GetsFrom profile_in told profile (Ok by)
-    → Gives (Ok by) (profile ∷ []) told mid → Gives {A = B} (Err e) (script ∷ []) mid now → LeavesFiles (Some (Replay profile script)) told now (Err e)
+pub script_gives : (told mid now : Option Told) (profile script : List ℕ) (by : Profile) (e : Fault) → GetsFrom profile_in told profile (Ok by)
+    → Gives (Ok by) (profile ∷ []) told mid → Gives {A = Unit {0}} (Err e) (script ∷ []) mid now → LeavesFiles (Some (Replay profile script)) told now (Err e)
 script_gives told mid now profile script by e passes first second =
     passed_given told now profile script by (Err e) passes (elim second [
       | inl all ↦ inl (leaves_then told mid now (looked_up profile) (looked_up script ∷ []) [] (gave by (profile ∷ []) told mid first) all)
-      | inr early ↦ inr (early_as e early.0, first_then told mid now (looked_up profile) (looked_up script ∷ []) [] (gave by (profile ∷ []) told mid first) early.1)
+      | inr early ↦ inr (early.0, first_then told mid now (looked_up profile) (looked_up script ∷ []) [] (gave by (profile ∷ []) told mid first) early.1)
     ])
 
 -- and a script

@@ -18,7 +18,7 @@ use Rattle.q3net.specs.Command.{Replay}
 use Rattle.q3_world.specs.Outcome.{HasStepCause}
 use Rattle.q3net.specs.Faults.{step_fault, ReadCause, WriteCause}
 use Rattle.q3net.specs.Input.{IsFront, Holds, LooksUpTold, Gives}
-use Rattle.q3net.specs.Verdict.{IsVerdict, settled, profile_in, events_in, replayed, names_by, GetsFrom}
+use Rattle.q3net.specs.Verdict.{IsVerdict, reads_first, settled, profile_in, events_in, replayed, names_by, GetsFrom}
 use Rattle.q3net.specs.Run.{AddsLines, Executes}
 use Rattle.q3net.proofs.Loading.{held}
 use Rattle.q3net.proofs.Looking.{got_ok, gave}
@@ -44,7 +44,7 @@ pub profile_ended : (follow : TextsFollow) (told : Option Told) (profile script 
     → Executes (Some (Replay profile script)) told old old (Err e)
 profile_ended follow told profile script old e gets =
     let s = held told script in
-    part_ended follow (Some (Replay profile script)) told old (names_by (profile_in gets.0) profile script) (replayed gets.0 s.0) (profile_in gets.0) e
+    part_ended follow (Some (Replay profile script)) told old reads_first (names_by (profile_in gets.0) profile script) (replayed gets.0 s.0) (profile_in gets.0) e
     (gets.0, s.0, gets.1, s.1, refl) tt tt (no_profile gets.0 s.0 e) gets.2
 
 -- what the files hold isn't changed by a look
@@ -58,7 +58,7 @@ pub events_ended : (follow : TextsFollow) (told mid : Option Told) (profile scri
     → Gives (Ok by) (profile ∷ []) told mid → GetsFrom events_in mid script (Err e) → Executes (Some (Replay profile script)) told old old (Err e)
 events_ended follow told mid profile script by old e passes gives gets =
     let of_script = same_held told mid (profile ∷ []) script gets.0 (gave by (profile ∷ []) told mid gives) gets.1 in
-    part_ended follow (Some (Replay profile script)) told old (names_by (profile_in passes.0) profile script) (replayed passes.0 gets.0) (events_in gets.0) e
+    part_ended follow (Some (Replay profile script)) told old reads_first (names_by (profile_in passes.0) profile script) (replayed passes.0 gets.0) (events_in gets.0) e
     (passes.0, gets.0, passes.1, of_script, refl) tt tt (no_events passes.0 gets.0 by e (got_ok (profile_in passes.0) by passes.2)) gets.2
 
 -- both files were read
@@ -83,20 +83,20 @@ both_read told mid profile script by events passes gives gets = record {
 
 -- the verdict of what was read
 verdict_of : (told : Option Told) (profile script : List ℕ) (by : Profile) (events : List Event) → BothRead told profile script by events
-    → IsVerdict told (Some (Replay profile script)) (settled (profile ∷ script ∷ []) (Ok (report by events)))
+    → IsVerdict told (Some (Replay profile script)) (settled reads_first (profile ∷ script ∷ []) (Ok (report by events)))
 verdict_of told profile script by events read = (
   read.of_profile,
   read.of_script,
   read.holds_profile,
   read.holds_script,
-  ap (λ (names : List (List ℕ)). settled names (Ok (report by events))) (sym read.names)
-      ∙ ap (settled (names_by (profile_in read.of_profile) profile script)) (sym read.says),
+  ap (λ (names : List (List ℕ)). settled reads_first names (Ok (report by events))) (sym read.names)
+      ∙ ap (settled reads_first (names_by (profile_in read.of_profile) profile script)) (sym read.says),
 )
 
 pub memory_ended : (follow : TextsFollow) (told : Option Told) (profile script : List ℕ) (by : Profile) (events : List Event) (old : Option Written) → BothRead told profile script by events
     → Executes (Some (Replay profile script)) told old old (Err faults.NoMemory)
 memory_ended follow told profile script by events old read =
-    wants_memory follow (Some (Replay profile script)) told old (settled (profile ∷ script ∷ []) (Ok (report by events))) (verdict_of told profile script by events read) tt
+    wants_memory follow (Some (Replay profile script)) told old (settled reads_first (profile ∷ script ∷ []) (Ok (report by events))) (verdict_of told profile script by events read) tt
 
 pub steps_ended : (told : Option Told) (profile script : List ℕ) (by : Profile) (events : List Event) (old now : Option Written) (e : StepError)
     → BothRead told profile script by events → AddsLines (answers by (opening by) events) old now (Err e)
@@ -105,16 +105,16 @@ unfolding report
 steps_ended told profile script by events old now step.NoMemory read adds =
     let all = answers by (opening by) events in
     let front : IsFront (lines_of (take adds.0 all)) (lines_of all) = (lines_of (drop adds.0 all), sym (lines-all all adds.0)) in
-    (settled (profile ∷ script ∷ []) (Ok (report by events)), verdict_of told profile script by events read, inl (lines_of (take adds.0 all), inr (tt, faults.NoMemory, refl, front), adds.1))
+    (settled reads_first (profile ∷ script ∷ []) (Ok (report by events)), verdict_of told profile script by events read, inl (lines_of (take adds.0 all), inr (faults.NoMemory, refl, front), adds.1))
 steps_ended told profile script by events old now step.WriteFault read adds =
-    (settled (profile ∷ script ∷ []) (Ok (report by events)), verdict_of told profile script by events read, inr (refl, adds))
+    (settled reads_first (profile ∷ script ∷ []) (Ok (report by events)), verdict_of told profile script by events read, inr (refl, adds))
 
 pub steps_done : (told : Option Told) (profile script : List ℕ) (by : Profile) (events : List Event) (old now : Option Written)
     → BothRead told profile script by events → AddsLines (answers by (opening by) events) old now (Ok tt)
     → Executes (Some (Replay profile script)) told old now (Ok tt)
 unfolding report
 steps_done told profile script by events old now read adds =
-    (settled (profile ∷ script ∷ []) (Ok (report by events)), verdict_of told profile script by events read, inl (report by events, inl (refl, refl), adds))
+    (settled reads_first (profile ∷ script ∷ []) (Ok (report by events)), verdict_of told profile script by events read, inl (report by events, inl (refl, refl), adds))
 
 -- a new world has sent nothing
 pub nothing_sent : (profile : Profile) (kept : Kept) → StandsFor profile kept (opening profile) → length kept.datagrams ≡ 0

@@ -1,5 +1,5 @@
 -- Which fault of a run an error of a part is, and when each comes.
-use Rattle.std.specs.Prelude.{◌≡◌, ◌⊎◌, ℕ, ◌≤◌, Result, Err}
+use Rattle.std.specs.Prelude.{◌≡◌, ◌⊎◌, ℕ, ◌≤◌, Result, Ok, Err}
 use Rattle.std.specs.declared.io.ErrorKind.{ErrorKind}
 use Rattle.std.specs.declared.io.ErrorKind.TheVariants.{OutOfMemory}
 use Rattle.q3_profile.specs.declared.error.ProfileError.{ProfileError}
@@ -10,7 +10,7 @@ use Rattle.q3_world.specs.declared.world.StepError.{StepError}
 use Rattle.q3_world.specs.declared.world.StepError.TheVariants as step
 use Rattle.q3_io.specs.Faults.{Rose}
 use Rattle.q3net.specs.declared.fault.Fault.{Fault}
-use Rattle.q3net.specs.declared.fault.Fault.TheVariants.{NoMemory, Usage, Read, Write, Profile, Script}
+use Rattle.q3net.specs.declared.fault.Fault.TheVariants.{NoMemory, Usage, Read, Write, FileWrite, Profile, Script}
 
 abbrev pub profile_fault : ProfileError → Fault
 profile_fault profile.NoMemory = NoMemory
@@ -37,12 +37,21 @@ IsWordsFault fault = (fault ≡ NoMemory) ⊎ (fault ≡ Usage)
 abbrev pub Gets : {A : Type 0} → Result A Fault → Result A Fault → Type 0
 Gets said got = (got ≡ said) ⊎ ((got ≡ Err NoMemory) ⊎ (got ≡ Err Read))
 
+-- what comes from outside: want of memory, a read that fails, and a write that does
+abbrev pub IsOutside : Fault → Type 0
+IsOutside NoMemory = Unit {0}
+IsOutside Read = Unit {0}
+IsOutside Write = Unit {0}
+IsOutside FileWrite = Unit {0}
+IsOutside other = ⊥
+
 -- something from outside ended a part early
 abbrev pub IsEarly : {A : Type 0} → Result A Fault → Type 0
-IsEarly ended = (ended ≡ Err NoMemory) ⊎ ((ended ≡ Err Read) ⊎ (ended ≡ Err Write))
+IsEarly (Ok x) = ⊥
+IsEarly (Err e) = IsOutside e
 
--- a fault of reading comes only where the files' count rose, one of writing only where the sink's did,
--- and no fault is passed over
+-- a fault of reading comes only where the files' count rose, one of writing only where the sink's did, one of a file's write only where
+-- the files' count of these did, and no fault is passed over
 abbrev pub ReadCause : {T : Type 0} → ℕ → ℕ → Result T Fault → Type 0
 ReadCause before now (Err Read) = (before ≤ now) × Rose before now
 ReadCause before now other = now ≡ before
@@ -50,3 +59,7 @@ ReadCause before now other = now ≡ before
 abbrev pub WriteCause : ℕ → ℕ → Result (Unit {0}) Fault → Type 0
 WriteCause before now (Err Write) = (before ≤ now) × Rose before now
 WriteCause before now other = now ≡ before
+
+abbrev pub FileCause : ℕ → ℕ → Result (Unit {0}) Fault → Type 0
+FileCause before now (Err FileWrite) = (before ≤ now) × Rose before now
+FileCause before now other = now ≡ before

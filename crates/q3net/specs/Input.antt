@@ -1,7 +1,7 @@
 -- The files of a run: what it reads of each, which names it gives, and what it leaves.
 use Rattle.std.specs.Prelude.{◌≡◌, ◌⊎◌, ℕ, ◌≤◌, List, [], ◌∷◌, ◌++◌, length, map, Option, Some, None, Result, Ok, Err}
 use Rattle.std.specs.Global.{Vec}
-use Rattle.q3_io.specs.Told.{Told, File, Named, Lookup, contents_of, contents_at, with_contents}
+use Rattle.q3_io.specs.Told.{Told, File, Named, Lookup, Create, contents_of, contents_at, with_contents}
 use Rattle.q3net.specs.declared.fault.Fault.{Fault}
 use Rattle.q3net.specs.declared.fault.Fault.TheVariants.{NoMemory, Read}
 use Rattle.q3net.specs.Faults.{IsEarly}
@@ -44,6 +44,9 @@ ReadsPieces most file (Some told) now result =
 
 abbrev pub looked_up : List ℕ → Named
 looked_up name = record { name = name; call = Lookup }
+
+abbrev pub created : File → Named
+created file = record { name = file.name; call = Create }
 
 -- the files, with these in the place of those of their names, one after the other
 abbrev pub with_files : List File → List File → List File

@@ -11,7 +11,7 @@ use Rattle.q3_script.specs.declared.cause.LineCause.{LineCause}
 use Rattle.q3_script.specs.declared.cause.LineCause.TheVariants.{Large, Many, Word, Count, Number, Fields, Text, Address}
 use Rattle.std.specs.List.{concat}
 use Rattle.q3net.specs.declared.fault.Fault.{Fault}
-use Rattle.q3net.specs.declared.fault.Fault.TheVariants.{NoMemory, Usage, Read, Write, Profile, Script}
+use Rattle.q3net.specs.declared.fault.Fault.TheVariants.{NoMemory, Usage, Read, Write, FileWrite, Profile, Script}
 
 unfoldable pub help_text : List ℕ
 help_text = codes "q3net replays schedules of Quake III's connected protocol 68\n\nq3net replay PROFILE SCRIPT        replays the schedule of the script by the profile, and prints its report\nq3net make NUMBER SEED             prints a generated script, of which so many events are drawn from the seed\nq3net trial PROFILE NUMBER SEED    replays that script by the profile, and prints what the report counts\nq3net --help                       prints this text\nq3net --version                    prints the version\n"
@@ -61,12 +61,13 @@ profile_line (profile.Fields key) = key_line (codes "fields ") key
 profile_line (profile.Limit File) = codes "profile: large\n"
 profile_line (profile.Limit key) = key_line (codes "limit ") key
 
--- the line that a fault prints; none is asked for where a write failed
+-- the line that a fault prints; none is asked for where the sink failed
 abbrev pub fault_line : Fault → List ℕ
 fault_line NoMemory = no_memory_line
 fault_line Usage = codes "usage\n"
 fault_line Read = codes "read fault\n"
 fault_line Write = []
+fault_line FileWrite = codes "write fault\n"
 fault_line (Profile e) = profile_line e
 fault_line (Script line cause) = concat (codes "script: line " ∷ decimal line ∷ codes ": " ∷ cause_word cause ∷ codes "\n" ∷ [])
 
@@ -75,6 +76,7 @@ fault_status NoMemory = 1
 fault_status Usage = 2
 fault_status Read = 3
 fault_status Write = 4
+fault_status FileWrite = 4
 fault_status (Profile e) = 5
 fault_status (Script line cause) = 6
 

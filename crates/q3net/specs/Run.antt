@@ -1,5 +1,5 @@
 -- How a run goes: as its verdict says, or something from outside ends it early.
-use Rattle.std.specs.Prelude.{◌≡◌, ◌⊎◌, ℕ, true, false, List, [], ◌++◌, take, Option, Some, None, Result, Ok, Err}
+use Rattle.std.specs.Prelude.{◌≡◌, ◌⊎◌, ℕ, ◌≤◌, true, false, List, [], ◌++◌, map, take, Option, Result, Ok, Err}
 use Rattle.std.specs.List.{flat_map}
 use Rattle.q3_io.specs.Faults.{Rose}
 use Rattle.q3_io.specs.Told.{Told}
@@ -8,12 +8,13 @@ use Rattle.q3_world.specs.declared.world.StepError.{StepError}
 use Rattle.q3_world.specs.declared.world.StepError.TheVariants as step
 use Rattle.q3_world.specs.Ends.{Answered}
 use Rattle.q3_world.specs.Report.{answer_text}
-use Rattle.q3net.specs.Command.{Command, Help, Version, Replay, Trial}
-use Rattle.q3net.specs.Input.{IsFront, LeavesTold, LeavesFirst, Touches}
+use Rattle.q3net.specs.Command.{Command, files_of}
+use Rattle.q3net.specs.Faults.{IsOutside, FileCause}
+use Rattle.q3net.specs.Input.{IsFront, looked_up, created, LeavesTold, LeavesFirst, Touches}
 use Rattle.q3net.specs.Lines.{fault_status, ending_line, ending_status}
-use Rattle.q3net.specs.Verdict.{Verdict, IsVerdict}
+use Rattle.q3net.specs.Verdict.{Place, Nowhere, First, Anywhere, Stops, Verdict, IsVerdict}
 use Rattle.q3net.specs.declared.fault.Fault.{Fault}
-use Rattle.q3net.specs.declared.fault.Fault.TheVariants.{NoMemory, Read, Write}
+use Rattle.q3net.specs.declared.fault.Fault.TheVariants.{NoMemory, Read, Write, FileWrite}
 
 -- all that waited in the sink was handed on, and the text behind it
 abbrev pub HandsOn : Option Written → Option Written → List ℕ → Type 0
@@ -21,40 +22,35 @@ HandsOn old now text = Wrote old now text true × NothingWaits now
 
 -- ---- how a command ends
 
--- a command that takes memory, of which it may want more than there is
-abbrev pub MayStop : Option Command → Type 0
-MayStop None = ⊥
-MayStop (Some Help) = ⊥
-MayStop (Some Version) = ⊥
-MayStop command = Unit {0}
+-- something may come at such a place
+abbrev pub Comes : Place → Type 0
+Comes Nowhere = ⊥
+Comes place = Unit {0}
 
--- a command that reads files
-abbrev pub MayRead : Option Command → Type 0
-MayRead (Some (Replay profile script)) = Unit {0}
-MayRead (Some (Trial profile draws)) = Unit {0}
-MayRead command = ⊥
+-- and so much of a text is printed by then
+abbrev pub ComesBehind : Place → List ℕ → List ℕ → Type 0
+ComesBehind Nowhere printed text = ⊥
+ComesBehind First printed text = printed ≡ []
+ComesBehind Anywhere printed text = IsFront printed text
 
--- what a command has printed where a read fails: it reads every file before its first line
-abbrev pub StopsReading : Option Command → List ℕ → Type 0
-StopsReading command printed = MayRead command × (printed ≡ [])
-
--- what stops a command early, and what of its text was printed by then
-abbrev pub Stops : Option Command → Fault → List ℕ → List ℕ → Type 0
-Stops command NoMemory printed text = IsFront printed text
-Stops command Read printed text = StopsReading command printed
-Stops command other printed text = ⊥
+-- where a fault from outside may stop a command; the sink is told of apart
+abbrev pub place_of : Stops → Fault → Place
+place_of stops NoMemory = stops.memory
+place_of stops Read = stops.reads
+place_of stops FileWrite = stops.writes
+place_of stops other = Nowhere
 
 -- how a command ends, and what it printed before any fault line: as its verdict says, or stopped early
-abbrev pub Ends : Option Command → Verdict → Result (Unit {0}) Fault → List ℕ → Type 0
-Ends command verdict ended printed =
+abbrev pub Ends : Verdict → Result (Unit {0}) Fault → List ℕ → Type 0
+Ends verdict ended printed =
     ((ended ≡ verdict.ending) × (printed ≡ verdict.text))
-    ⊎ (MayStop command × (fault : Fault) × (ended ≡ Err fault) × Stops command fault printed verdict.text)
+    ⊎ ((fault : Fault) × (ended ≡ Err fault) × ComesBehind (place_of verdict.stops fault) printed verdict.text)
 
 -- what the sink took of a command by then; where it failed, a front of the verdict's text
 abbrev pub Executes : Option Command → Option Told → Option Written → Option Written → Result (Unit {0}) Fault → Type 0
 Executes command told old now ended =
     (verdict : Verdict) × IsVerdict told command verdict
-    × (((printed : List ℕ) × Ends command verdict ended printed × Wrote old now printed true)
+    × (((printed : List ℕ) × Ends verdict ended printed × Wrote old now printed true)
     ⊎ ((ended ≡ Err Write) × Wrote old now verdict.text false))
 
 -- what a command has done with the files by then: as its verdict says, or the first of it
@@ -71,25 +67,32 @@ PrintsAll text old now ended = ((ended ≡ Ok tt) × Wrote old now text true) �
 abbrev pub Took : Result (Unit {0}) Fault → List ℕ → Option Written → Option Written → ℕ → Type 0
 Took ended text old now status = ((status ≡ ending_status ended) × HandsOn old now text) ⊎ ((status ≡ 4) × Wrote old now text false)
 
--- a run prints what its command prints, and behind that the fault line, if any
-abbrev pub Prints : Option Command → Option Told → Option Written → Option Written → ℕ → Type 0
-Prints command told old now status =
-    (verdict : Verdict) × IsVerdict told command verdict × (ended : Result (Unit {0}) Fault) × (printed : List ℕ)
-    × Ends command verdict ended printed × Took ended (printed ++ ending_line ended) old now status
+-- a run prints what its command prints, and behind that the fault line, if any, which is that of a file's write exactly where the files'
+-- count of these changed; or the sink failed before, and took a front of the text
+abbrev pub Prints : Option Command → Option Told → ℕ → ℕ → Option Written → Option Written → ℕ → Type 0
+Prints command told before after old now status =
+    (verdict : Verdict) × IsVerdict told command verdict × (ended : Result (Unit {0}) Fault) × FileCause before after ended
+    × (((printed : List ℕ) × Ends verdict ended printed × Took ended (printed ++ ending_line ended) old now status)
+    ⊎ ((ended ≡ Err Write) × (status ≡ 4) × Wrote old now verdict.text false))
 
 -- the verdict is that the command is done, and its whole text was printed
 abbrev pub Reports : Option Command → Option Told → Option Written → Option Written → Type 0
 Reports command told old now =
     (verdict : Verdict) × IsVerdict told command verdict × (verdict.ending ≡ Ok tt) × HandsOn old now verdict.text
 
--- the status of a run that something from outside ended early
-abbrev pub IsEarlyStatus : Option Command → ℕ → Type 0
-IsEarlyStatus command status = (status ≡ 4) ⊎ ((MayStop command × (status ≡ 1)) ⊎ (MayRead command × (status ≡ 3)))
+-- a write of the files failed, in a command that makes some
+abbrev pub FilesFail : Option Command → Option Told → ℕ → ℕ → Type 0
+FilesFail command told before after =
+    (verdict : Verdict) × IsVerdict told command verdict × Comes verdict.stops.writes × (before ≤ after) × Rose before after
+
+-- the status of a run that something from outside ended early: that of a fault that may stop its command, or 4 where the sink failed
+abbrev pub IsEarlyStatus : Stops → ℕ → Type 0
+IsEarlyStatus stops status = (status ≡ 4) ⊎ ((fault : Fault) × Comes (place_of stops fault) × (status ≡ fault_status fault))
 
 -- the status is the verdict's, unless something from outside ended the run early
 abbrev pub IsDecided : Option Command → Option Told → ℕ → Type 0
 IsDecided command told status =
-    (verdict : Verdict) × IsVerdict told command verdict × ((status ≡ ending_status verdict.ending) ⊎ IsEarlyStatus command status)
+    (verdict : Verdict) × IsVerdict told command verdict × ((status ≡ ending_status verdict.ending) ⊎ IsEarlyStatus verdict.stops status)
 
 -- the status is the verdict's, unless memory ran out
 abbrev pub IsComplete : Option Command → Option Told → ℕ → Type 0
@@ -105,7 +108,14 @@ Settles (Err fault) before now settled = ((settled ≡ fault_status fault) × (n
 abbrev pub HasLeft : Option Command → Option Told → Option Told → ℕ → Type 0
 HasLeft command told now status =
     (verdict : Verdict) × IsVerdict told command verdict
-    × (LeavesTold told now verdict.named verdict.made ⊎ (((status ≡ 1) ⊎ ((status ≡ 3) ⊎ (status ≡ 4))) × LeavesFirst told now verdict.named verdict.made))
+    × (LeavesTold told now verdict.named verdict.made
+    ⊎ ((fault : Fault) × IsOutside fault × (status ≡ fault_status fault) × LeavesFirst told now verdict.named verdict.made))
+
+-- the names of the command's words are looked up, once each and in this order, and then the files that the verdict makes are created, or
+-- the first of these; of each file that is made there is a front, and every other stays
+abbrev pub Touched : Option Command → Option Told → Option Told → Type 0
+Touched command told now =
+    (verdict : Verdict) × IsVerdict told command verdict × LeavesFirst told now (map looked_up (files_of command) ++ map created verdict.made) verdict.made
 
 -- ---- of the steps
 

@@ -23,22 +23,45 @@ use Rattle.q3net.specs.Summary.{summary_text}
 use Rattle.q3net.specs.declared.fault.Fault.{Fault}
 use Rattle.q3net.specs.declared.fault.Fault.TheVariants.{Usage, Read, Profile, Script}
 
+-- where something from outside may stop a command: nowhere, before its first line alone, or anywhere in its text
+pub data Place : Type 0 where
+  Nowhere : Place
+  First : Place
+  Anywhere : Place
+
+-- where it may want memory, where a read may fail, and where a write of a file that it makes may
+pub record Stops : Type 0 where
+  pub memory : Place
+  pub reads : Place
+  pub writes : Place
+
 -- what a command prints before any fault line; how it ends, done or by the first cause that its input decides; the names that it gives,
--- each with its call; and the files that it makes, with their bytes
+-- each with its call; the files that it makes, with their bytes; and what may stop it early
 pub record Verdict : Type 0 where
   pub text : List ℕ
   pub ending : Result (Unit {0}) Fault
   pub named : List Named
   pub made : List File
+  pub stops : Stops
+
+-- what neither reads nor takes memory; what takes memory; and what also reads files, all of them before its first line
+abbrev pub stops_nowhere : Stops
+stops_nowhere = record { memory = Nowhere; reads = Nowhere; writes = Nowhere }
+
+abbrev pub takes_memory : Stops
+takes_memory = record stops_nowhere { memory = Anywhere }
+
+abbrev pub reads_first : Stops
+reads_first = record takes_memory { reads = First }
 
 -- of a command that makes no file: it looks up these names, and prints a text, and behind it may come a cause
-abbrev pub printing : List (List ℕ) → List ℕ → Result (Unit {0}) Fault → Verdict
-printing names text ending = record { text = text; ending = ending; named = map looked_up names; made = [] }
+abbrev pub printing : Stops → List (List ℕ) → List ℕ → Result (Unit {0}) Fault → Verdict
+printing stops names text ending = record { text = text; ending = ending; named = map looked_up names; made = []; stops = stops }
 
--- of one that reads all its input before its first line: a text and nothing more, or a cause and no text
-abbrev pub settled : List (List ℕ) → Result (List ℕ) Fault → Verdict
-settled names (Ok text) = printing names text (Ok tt)
-settled names (Err cause) = printing names [] (Err cause)
+-- of one that has all its input before its first line: a text and nothing more, or a cause and no text
+abbrev pub settled : Stops → List (List ℕ) → Result (List ℕ) Fault → Verdict
+settled stops names (Ok text) = printing stops names text (Ok tt)
+settled stops names (Err cause) = printing stops names [] (Err cause)
 
 -- the profile that a file spells, or its first broken rule; a file that isn't there doesn't read
 abbrev pub profile_in : Option (List ℕ) → Result ProfileValue Fault
@@ -76,15 +99,15 @@ tried profile draws = do
 
 -- the verdict of a command, by what the files hold that it names
 abbrev pub IsVerdict : Option Told → Option Command → Verdict → Type 0
-IsVerdict told None verdict = verdict ≡ settled [] (Err Usage)
-IsVerdict told (Some Help) verdict = verdict ≡ settled [] (Ok help_text)
-IsVerdict told (Some Version) verdict = verdict ≡ settled [] (Ok version_text)
+IsVerdict told None verdict = verdict ≡ settled stops_nowhere [] (Err Usage)
+IsVerdict told (Some Help) verdict = verdict ≡ settled stops_nowhere [] (Ok help_text)
+IsVerdict told (Some Version) verdict = verdict ≡ settled stops_nowhere [] (Ok version_text)
 IsVerdict told (Some (Replay profile script)) verdict =
     (of_profile : Option (List ℕ)) × (of_script : Option (List ℕ)) × Holds told profile of_profile × Holds told script of_script
-    × (verdict ≡ settled (names_by (profile_in of_profile) profile script) (replayed of_profile of_script))
-IsVerdict told (Some (Make draws)) verdict = verdict ≡ settled [] (Ok (script_text (generated draws.number draws.seed)))
+    × (verdict ≡ settled reads_first (names_by (profile_in of_profile) profile script) (replayed of_profile of_script))
+IsVerdict told (Some (Make draws)) verdict = verdict ≡ settled takes_memory [] (Ok (script_text (generated draws.number draws.seed)))
 IsVerdict told (Some (Trial profile draws)) verdict =
-    (of_profile : Option (List ℕ)) × Holds told profile of_profile × (verdict ≡ settled (profile ∷ []) (tried of_profile draws))
+    (of_profile : Option (List ℕ)) × Holds told profile of_profile × (verdict ≡ settled reads_first (profile ∷ []) (tried of_profile draws))
 
 -- what a part of a run answers by the file of a name
 abbrev pub GetsFrom : {A : Type 0} → (Option (List ℕ) → Result A Fault) → Option Told → List ℕ → Result A Fault → Type 0

@@ -22,6 +22,8 @@ pub enum Fault {
     Read,
     /// The sink's count of faults rose in this run.
     Write,
+    /// The files' count of failed writes rose in this run.
+    FileWrite,
     /// The profile's first rule that fails.
     Profile(ProfileError),
     /// The script's first bad line, counted from 1, 0 for the whole file, and its first cause.
@@ -38,12 +40,13 @@ impl Fault {
             Fault::Usage => 2,
             Fault::Read => 3,
             Fault::Write => 4,
+            Fault::FileWrite => 4,
             Fault::Profile(_) => 5,
             Fault::Script { .. } => 6,
         }
     }
 
-    /// Prints the fault line; none is asked for where a write failed.
+    /// Prints the fault line; none is asked for where the sink failed.
     pub fn print<O: Sink>(self, out: &mut O) -> Result<(), Failed>
         ensures adds { Adds (O.written out.old) (O.written out.new) (fault_line self) result }
         ensures cause { HasCause (O.faults out.old) (O.faults out.new) result }
@@ -53,6 +56,7 @@ impl Fault {
             Fault::Usage => print_all(&[Piece::Text(b"usage\n")], out),
             Fault::Read => print_all(&[Piece::Text(b"read fault\n")], out),
             Fault::Write => Ok(()),
+            Fault::FileWrite => print_all(&[Piece::Text(b"write fault\n")], out),
             Fault::Profile(e) => print_profile(e, out),
             Fault::Script { line, cause } => print_all(
                 &[

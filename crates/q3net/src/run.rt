@@ -4,11 +4,10 @@ ghost use Rattle.std.specs.Prelude.{◌≡◌, ◌⊎◌, ◌≤◌, map, Err, I
 ghost use Rattle.std.specs.String.{string_bytes};
 ghost use Rattle.q3_io.specs.Faults.{HasCause, Rose};
 ghost use Rattle.q3_io.specs.Written.{Adds, NothingWaits};
-ghost use Rattle.q3net.specs.Command.{command_of, files_of};
-ghost use Rattle.q3net.specs.Faults.{ReadCause, WriteCause};
+ghost use Rattle.q3net.specs.Command.{command_of};
+ghost use Rattle.q3net.specs.Faults.{ReadCause, WriteCause, FileCause};
 ghost use Rattle.q3net.specs.Lines.{fault_line, ending_line, ending_status};
-ghost use Rattle.q3net.specs.Input.{LooksUpFirst};
-ghost use Rattle.q3net.specs.Run.{PrintsAll, Executes, Took, Prints, Reports, IsDecided, IsComplete, HasLeft, LeavesFiles, Settles};
+ghost use Rattle.q3net.specs.Run.{PrintsAll, Executes, Took, Prints, Reports, FilesFail, IsDecided, IsComplete, HasLeft, Touched, LeavesFiles, Settles};
 
 use crate::command::{Command, parse};
 use crate::fault::Fault;
@@ -25,20 +24,23 @@ const VERSION: &[u8] = b"q3net 0.1.0\n";
 /// Runs the command that the words after the program's name are, and answers its status:
 /// 0 done, 1 no memory, 2 usage, 3 read fault, 4 write fault, 5 bad profile, 6 bad script.
 /// Want of memory may come at any point after usage, and no clause ties it to anything.
+#[tactic(auto, using(crate::proofs::Outside::four_fails, crate::proofs::Outside::completes))]
 pub fn run<F: Files, O: Sink>(alloc: Global, words: &[String], files: &mut F, out: &mut O) -> u8
     // Where 0 is answered, what was written is the text of the verdict: the report, by the profile that the one
     // file's bytes spell, of the events that the other's spell; the generated script; what the report of its replay
     // counts; or the text that was asked for.
     ensures report { result ≡ 0 → Reports (command_of (map string_bytes words.now)) (F.told files.old) (O.written out.old) (O.written out.new) }
-    // Ended early, it is a front of that, and the fault line; where the sink failed, a front of both.
-    ensures prints { Prints (command_of (map string_bytes words.now)) (F.told files.old) (O.written out.old) (O.written out.new) result }
+    // Ended early, it is a front of that, and the fault line, `write fault` exactly where a write of the files failed;
+    // where the sink failed, a front of both.
+    ensures prints { Prints (command_of (map string_bytes words.now)) (F.told files.old) (F.write_faults files.old) (F.write_faults files.new) (O.written out.old) (O.written out.new) result }
 
-    // The words that name files are given to `lookup`, once each and in the order in which they are read, or the first
-    // of them where the run ends early; nothing is created or appended to, and every file stays. What is done with the files is
-    // what the verdict says, or the first of it.
-    ensures touches { LooksUpFirst (F.told files.old) (F.told files.new) (files_of (command_of (map string_bytes words.now))) }
+    // The words that name files are given to `lookup`, once each and in the order in which they are read, and then the files
+    // that the verdict makes are created, or the first of these where the run ends early; every other file stays. What is
+    // done with the files is what the verdict says, or the first of it. A write of them fails only in a command that makes some.
+    ensures touches { Touched (command_of (map string_bytes words.now)) (F.told files.old) (F.told files.new) }
     ensures leaves { HasLeft (command_of (map string_bytes words.now)) (F.told files.old) (F.told files.new) result }
-    ensures writes { F.write_faults files.new ≡ F.write_faults files.old }
+    ensures writes { (F.write_faults files.new ≡ F.write_faults files.old)
+        ⊎ FilesFail (command_of (map string_bytes words.now)) (F.told files.old) (F.write_faults files.old) (F.write_faults files.new) }
 
     // When each status comes: it is that of the verdict, or 1, 3 or 4 by something from outside.
     ensures statuses { result ≤ 6 }
@@ -46,12 +48,15 @@ pub fn run<F: Files, O: Sink>(alloc: Global, words: &[String], files: &mut F, ou
     ensures usage { result ≡ 2 → IsNone (command_of (map string_bytes words.now)) }
     ensures no_command { IsNone (command_of (map string_bytes words.now)) → (result ≡ 2) ⊎ (result ≡ 4) }
     ensures read_fault { result ≡ 3 → Rose (F.faults files.old) (F.faults files.new) }
-    ensures write_fault { result ≡ 4 → Rose (O.faults out.old) (O.faults out.new) }
-    // No fault is passed over: where the sink's count changed, the status is 4, and where the files' did, 3 or 4.
+    ensures write_fault { result ≡ 4 → Rose (O.faults out.old) (O.faults out.new)
+        ⊎ FilesFail (command_of (map string_bytes words.now)) (F.told files.old) (F.write_faults files.old) (F.write_faults files.new) }
+    // No fault is passed over: where the sink's count changed, or the files' one of failed writes, the status is 4, and where
+    // the files' one of failed reads did, 3 or 4.
     ensures no_read_fault_passed { (F.faults files.new ≡ F.faults files.old) ⊎ ((result ≡ 3) ⊎ (result ≡ 4)) }
-    ensures no_write_fault_passed { (O.faults out.new ≡ O.faults out.old) ⊎ (result ≡ 4) }
+    ensures no_write_fault_passed { ((O.faults out.new ≡ O.faults out.old) × (F.write_faults files.new ≡ F.write_faults files.old)) ⊎ (result ≡ 4) }
     // Where no count rises, the run ends as its verdict says, unless memory runs out.
     ensures complete { ¬ Rose (F.faults files.old) (F.faults files.new) → ¬ Rose (O.faults out.old) (O.faults out.new)
+        → ¬ FilesFail (command_of (map string_bytes words.now)) (F.told files.old) (F.write_faults files.old) (F.write_faults files.new)
         → IsComplete (command_of (map string_bytes words.now)) (F.told files.old) result }
 {
     q3_io::laws::texts_follow();
@@ -69,7 +74,7 @@ fn execute<F: Files, O: Sink>(
 ) -> Result<(), Fault>
     ensures executes { Executes (command_of (map string_bytes words.now)) (F.told files.old) (O.written out.old) (O.written out.new) result }
     ensures gives { LeavesFiles (command_of (map string_bytes words.now)) (F.told files.old) (F.told files.new) result }
-    ensures writes { F.write_faults files.new ≡ F.write_faults files.old }
+    ensures file_cause { FileCause (F.write_faults files.old) (F.write_faults files.new) result }
     ensures read_cause { ReadCause (F.faults files.old) (F.faults files.new) result }
     ensures write_cause { WriteCause (O.faults out.old) (O.faults out.new) result }
 {

@@ -1,4 +1,4 @@
-use Rattle.std.proofs.Common.{inl, inr, refl}
+use Rattle.std.proofs.Common.{inl, inr}
 use Rattle.q3net.specs.Input.{with_items}
 use Rattle.q3net.proofs.Reading.{file_read, file_given, file_missing}
 use Rattle.q3net.proofs.input.read_file.Goals as goal
@@ -15,4 +15,4 @@ returns-clause-gives g c =
 
 pub returns-in_default-clause-gives : goal.returns-in_default-clause-gives
 returns-in_default-clause-gives g c =
-    inr (inr (inl refl), file_missing (g.F.Files.told c.args.files.now) (g.F.Files.told c.lookup.new.self) c.args.name.now c.in_default.field-0 c.in_default.ensures.told)
+    inr (tt, file_missing (g.F.Files.told c.args.files.now) (g.F.Files.told c.lookup.new.self) c.args.name.now c.in_default.field-0 c.in_default.ensures.told)

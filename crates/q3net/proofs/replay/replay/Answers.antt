@@ -1,4 +1,4 @@
-use Rattle.std.proofs.Common.{List, Err, ap, subst, ◌∙◌, arith}
+use Rattle.std.proofs.Common.{List, Ok, Err, ap, subst, ◌∙◌, arith}
 use Rattle.std.proofs.lemmas.Result.{err_from_is_err_and}
 use Rattle.q3_script.specs.declared.event.Event.{Event}
 use Rattle.q3_world.specs.World.{opening, answers}
@@ -70,7 +70,7 @@ returns-in_err-step_all-clause-gives g c =
 pub returns-clause-gives : goal.returns-clause-gives
 returns-clause-gives g c =
     rw c.in_ok-step_all.ensures.files (both_given (g.F.Files.told c.args.files.now) (g.F.Files.told c.load_profile.new.files) (g.F.Files.told c.load_events.new.files) c.args.profile.now c.args.script.now c.in_ok-profile.profile
-    c.in_ok-events.events _ c.in_ok-profile.ensures.gets c.in_ok-profile.ensures.gives c.in_ok-events.ensures.gives)
+    c.in_ok-events.events (Ok tt) c.in_ok-profile.ensures.gets c.in_ok-profile.ensures.gives c.in_ok-events.ensures.gives)
 
 pub returns-in_err-step_all-clause-read_cause : goal.returns-in_err-step_all-clause-read_cause
 returns-in_err-step_all-clause-read_cause g c =

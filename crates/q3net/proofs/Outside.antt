@@ -1,0 +1,273 @@
+-- What comes from outside: it ends a run only where the verdict says that it may come, and where its count rose.
+use Rattle.std.proofs.Common.{◌≡◌, ℕ, ◌<◌, ◌≤◌, List, [], ◌∷◌, Option, Some, None, Result, Ok, Err, refl, sym, ap, subst, ◌∙◌, inl, inr, arith}
+use Rattle.std.specs.Prelude.{◌⊎◌, IsNone}
+use Rattle.std.specs.Result.{result_map_both}
+use Rattle.q3_bits.specs.ResultBind.{◌>>=◌}
+use Rattle.std.proofs.lemmas.Bool.{cases_lt}
+use Rattle.q3_io.specs.Faults.{Rose, last_count}
+use Rattle.q3_io.specs.Told.{Told}
+use Rattle.q3_io.specs.Written.{Written}
+use Rattle.q3_make.specs.Generated.{generated}
+use Rattle.q3_make.specs.Printed.{script_text}
+use Rattle.q3_profile.specs.declared.profile.Profile.{Profile as ProfileValue}
+use Rattle.q3_profile.specs.declared.error.ProfileError.{ProfileError}
+use Rattle.q3_profile.specs.Profile.{checked}
+use Rattle.q3_script.specs.declared.event.Event.{Event}
+use Rattle.q3_script.specs.declared.cause.ScriptKind.TheVariants as kinds
+use Rattle.q3_script.specs.Script.{BadLine, script_at}
+use Rattle.q3_world.specs.Report.{report}
+use Rattle.q3net.specs.declared.command.Draws.{Draws}
+use Rattle.q3net.specs.declared.fault.Fault.{Fault}
+use Rattle.q3net.specs.declared.fault.Fault.TheVariants as faults
+use Rattle.q3net.specs.Command.{Command, Help, Version, Replay, Make, Trial}
+use Rattle.q3net.specs.Faults.{ReadCause, WriteCause, FileCause}
+use Rattle.q3net.specs.Lines.{help_text, version_text, fault_status, ending_status}
+use Rattle.q3net.specs.Verdict.{Stops, Verdict, IsVerdict, stops_nowhere, takes_memory, reads_first, settled, profile_in, events_in, replayed, names_by, summary, tried}
+use Rattle.q3net.specs.Run.{Comes, ComesBehind, place_of, Executes, FilesFail, IsComplete}
+use Rattle.q3net.proofs.Ending.{comes_behind, settled_writes}
+
+-- ---- what an input decides: no want of memory, no failed write, and not that the words are no command line
+
+abbrev pub OfFault : Fault → Type 0
+OfFault faults.NoMemory = ⊥
+OfFault faults.Usage = ⊥
+OfFault faults.Write = ⊥
+OfFault faults.FileWrite = ⊥
+OfFault other = Unit {0}
+
+abbrev pub OfInput : {A : Type 0} → Result A Fault → Type 0
+OfInput (Ok x) = Unit {0}
+OfInput (Err e) = OfFault e
+
+bind_of_input : {A B : Type 0} (first : Result A Fault) (then : A → Result B Fault) → OfInput first → ((x : A) → OfInput (then x)) → OfInput (first >>= then)
+bind_of_input (Ok x) then so goes = goes x
+bind_of_input (Err e) then so goes = so
+
+checked_of_input : (says : Result ProfileValue ProfileError) → OfInput (result_map_both (λ profile. profile) faults.Profile says)
+checked_of_input (Ok by) = tt
+checked_of_input (Err e) = tt
+
+pub profile_of_input : (file : Option (List ℕ)) → OfInput (profile_in file)
+profile_of_input None = tt
+profile_of_input (Some bytes) = checked_of_input (checked bytes)
+
+script_of_input : (says : Result (List Event) BadLine) → OfInput (result_map_both (λ events. events) (λ (bad : BadLine). faults.Script bad.line bad.cause) says)
+script_of_input (Ok events) = tt
+script_of_input (Err bad) = tt
+
+events_of_input : (file : Option (List ℕ)) → OfInput (events_in file)
+events_of_input None = tt
+events_of_input (Some bytes) = script_of_input (script_at kinds.Replay bytes)
+
+replayed_of_input : (profile script : Option (List ℕ)) → OfInput (replayed profile script)
+replayed_of_input profile script =
+    bind_of_input (profile_in profile) (λ by. events_in script >>= (λ events. Ok (report by events))) (profile_of_input profile)
+    (λ by. bind_of_input (events_in script) (λ events. Ok (report by events)) (events_of_input script) (λ events. tt))
+
+tried_of_input : (profile : Option (List ℕ)) (draws : Draws) → OfInput (tried profile draws)
+tried_of_input profile draws =
+    bind_of_input (profile_in profile) (λ by. Ok (summary by (generated draws.number draws.seed))) (profile_of_input profile) (λ by. tt)
+
+settled_of_input : (stops : Stops) (names : List (List ℕ)) (answer : Result (List ℕ) Fault) → OfInput answer → OfInput (settled stops names answer).ending
+settled_of_input stops names (Ok text) so = tt
+settled_of_input stops names (Err e) so = so
+
+ending_of_input : (verdict : Verdict) (stops : Stops) (names : List (List ℕ)) (answer : Result (List ℕ) Fault) → verdict ≡ settled stops names answer → OfInput answer → OfInput verdict.ending
+ending_of_input verdict stops names answer is so = subst (λ (v : Verdict). OfInput v.ending) (sym is) (settled_of_input stops names answer so)
+
+-- the verdict of a command
+pub verdict_of_input : (told : Option Told) (command : Command) (verdict : Verdict) → IsVerdict told (Some command) verdict → OfInput verdict.ending
+verdict_of_input told Help verdict is = ending_of_input verdict stops_nowhere [] (Ok help_text) is tt
+verdict_of_input told Version verdict is = ending_of_input verdict stops_nowhere [] (Ok version_text) is tt
+verdict_of_input told (Replay profile script) verdict is =
+    ending_of_input verdict reads_first (names_by (profile_in is.0) profile script) (replayed is.0 is.1) is.4 (replayed_of_input is.0 is.1)
+verdict_of_input told (Make draws) verdict is = ending_of_input verdict takes_memory [] (Ok (script_text (generated draws.number draws.seed))) is tt
+verdict_of_input told (Trial profile draws) verdict is = ending_of_input verdict reads_first (profile ∷ []) (tried is.0 draws) is.2 (tried_of_input is.0 draws)
+
+-- so a fault that no input decides isn't its ending
+not_decided : (told : Option Told) (command : Command) (verdict : Verdict) (fault : Fault) → IsVerdict told (Some command) verdict → (OfFault fault → ⊥) → verdict.ending ≡ Err fault → ⊥
+not_decided told command verdict fault is other ends = other (subst (λ (e : Result (Unit {0}) Fault). OfInput e) ends (verdict_of_input told command verdict is))
+
+-- ---- what doesn't come
+
+-- a fault that no input decides, and that may come nowhere
+abbrev pub Never : Option Command → Option Told → Fault → Type 0
+Never command told fault = (verdict : Verdict) → IsVerdict told command verdict → (verdict.ending ≡ Err fault → ⊥) × (Comes (place_of verdict.stops fault) → ⊥)
+
+same_fault : (ended : Result (Unit {0}) Fault) (a b : Fault) → ended ≡ Err a → ended ≡ Err b → a ≡ b
+same_fault ended a b first second = cc
+
+-- it didn't end the command
+never_ended : (command : Option Command) (told : Option Told) (old now : Option Written) (ended : Result (Unit {0}) Fault) (fault : Fault)
+    → (fault ≡ faults.Write → ⊥) → Never command told fault → Executes command told old now ended → ended ≡ Err fault → ⊥
+never_ended command told old now ended fault other never executes is =
+    elim executes.2 [
+      | inl ends ↦ elim ends.1 [
+        | inl said ↦ (never executes.0 executes.1).0 (sym said.0 ∙ is)
+        | inr stopped ↦ (never executes.0 executes.1).1
+            (comes_behind (place_of executes.0.stops fault) ends.0 executes.0.text
+            (subst (λ (f : Fault). ComesBehind (place_of executes.0.stops f) ends.0 executes.0.text) (same_fault ended stopped.0 fault stopped.1 is) stopped.2))
+      ]
+      | inr failed ↦ other (same_fault ended fault faults.Write is failed.0)
+    ]
+
+pub no_file_fails : (command : Option Command) (told : Option Told) (old now : Option Written) (ended : Result (Unit {0}) Fault) (before after : ℕ)
+    → Never command told faults.FileWrite → Executes command told old now ended → after ≡ before → FileCause before after ended
+no_file_fails command told old now (Err faults.FileWrite) before after never executes same =
+    absurd (never_ended command told old now (Err faults.FileWrite) faults.FileWrite (λ is. cc) never executes refl)
+no_file_fails command told old now other before after never executes same = same
+
+pub no_read_fails : (command : Option Command) (told : Option Told) (old now : Option Written) (ended : Result (Unit {0}) Fault) (before after : ℕ)
+    → Never command told faults.Read → Executes command told old now ended → after ≡ before → ReadCause before after ended
+no_read_fails command told old now (Err faults.Read) before after never executes same =
+    absurd (never_ended command told old now (Err faults.Read) faults.Read (λ is. cc) never executes refl)
+no_read_fails command told old now other before after never executes same = same
+
+-- ---- of each command
+
+-- what is settled makes no file
+no_writes : (verdict : Verdict) (stops : Stops) (names : List (List ℕ)) (answer : Result (List ℕ) Fault) → verdict ≡ settled stops names answer
+    → (Comes stops.writes → ⊥) → Comes verdict.stops.writes → ⊥
+no_writes verdict stops names answer is none comes = none (settled_writes stops names answer (subst (λ (v : Verdict). Comes v.stops.writes) is comes))
+
+pub replay_makes_nothing : (told : Option Told) (profile script : List ℕ) → Never (Some (Replay profile script)) told faults.FileWrite
+replay_makes_nothing told profile script verdict is = (
+  not_decided told (Replay profile script) verdict faults.FileWrite is (λ none. none),
+  no_writes verdict reads_first (names_by (profile_in is.0) profile script) (replayed is.0 is.1) is.4 (λ none. none),
+)
+
+pub make_makes_nothing : (told : Option Told) (draws : Draws) → Never (Some (Make draws)) told faults.FileWrite
+make_makes_nothing told draws verdict is = (
+  not_decided told (Make draws) verdict faults.FileWrite is (λ none. none),
+  no_writes verdict takes_memory [] (Ok (script_text (generated draws.number draws.seed))) is (λ none. none),
+)
+
+pub trial_makes_nothing : (told : Option Told) (profile : List ℕ) (draws : Draws) → Never (Some (Trial profile draws)) told faults.FileWrite
+trial_makes_nothing told profile draws verdict is = (
+  not_decided told (Trial profile draws) verdict faults.FileWrite is (λ none. none),
+  no_writes verdict reads_first (profile ∷ []) (tried is.0 draws) is.2 (λ none. none),
+)
+
+-- and a script that is made reads none
+not_both : (ending : Result (Unit {0}) Fault) → ending ≡ Ok tt → ending ≡ Err faults.Read → ⊥
+not_both ending done read = cc
+
+pub make_reads_nothing : (told : Option Told) (draws : Draws) → Never (Some (Make draws)) told faults.Read
+make_reads_nothing told draws verdict is = (
+  not_both verdict.ending (ap (λ (v : Verdict). v.ending) is),
+  λ comes. subst (λ (v : Verdict). Comes v.stops.reads) is comes,
+)
+
+-- ---- what a run says of it
+
+usage_alone : (ending : Result (Unit {0}) Fault) → ending ≡ Err faults.Usage → ending ≡ Err faults.FileWrite → ⊥
+usage_alone ending usage ends = cc
+
+no_verdict_fails : (told : Option Told) (command : Option Command) (verdict : Verdict) → IsVerdict told command verdict → verdict.ending ≡ Err faults.FileWrite → ⊥
+no_verdict_fails told None verdict is ends = usage_alone verdict.ending (ap (λ (v : Verdict). v.ending) is) ends
+no_verdict_fails told (Some command) verdict is ends = not_decided told command verdict faults.FileWrite is (λ none. none) ends
+
+-- a write of a file may fail
+files_come : (command : Option Command) (told : Option Told) (old now : Option Written) → Executes command told old now (Err faults.FileWrite)
+    → (verdict : Verdict) × IsVerdict told command verdict × Comes verdict.stops.writes
+files_come command told old now executes = (
+  executes.0,
+  executes.1,
+  elim executes.2 [
+    | inl ends ↦ elim ends.1 [
+      | inl said ↦ absurd (no_verdict_fails told command executes.0 executes.1 (sym said.0))
+      | inr stopped ↦ comes_behind executes.0.stops.writes ends.0 executes.0.text
+          (subst (λ (f : Fault). ComesBehind (place_of executes.0.stops f) ends.0 executes.0.text) (same_fault (Err faults.FileWrite) stopped.0 faults.FileWrite stopped.1 refl) stopped.2)
+    ]
+    | inr failed ↦ absurd (let other : faults.FileWrite ≡ faults.Write = same_fault (Err faults.FileWrite) faults.FileWrite faults.Write refl failed.0 in cc)
+  ],
+)
+
+pub files_failed : (command : Option Command) (told : Option Told) (old now : Option Written) (ended : Result (Unit {0}) Fault) (before after : ℕ)
+    → Executes command told old now ended → FileCause before after ended → (after ≡ before) ⊎ FilesFail command told before after
+files_failed command told old now (Err faults.FileWrite) before after executes cause =
+    let may = files_come command told old now executes in inr (may.0, may.1, may.2, cause.0, cause.1)
+files_failed command told old now other before after executes cause = inl cause
+
+-- the sink's count, as the command and the end left it
+abbrev pub EndsSo : ℕ → ℕ → Result (Unit {0}) Fault → ℕ → Type 0
+EndsSo mid last ended status = ((status ≡ ending_status ended) × (last ≡ mid)) ⊎ ((status ≡ 4) × (mid ≤ last) × Rose mid last)
+
+not_later : (first mid : ℕ) (ended : Result (Unit {0}) Fault) → WriteCause first mid ended → first ≤ mid
+not_later first mid (Err faults.Write) cause = cause.0
+not_later first mid other cause = omega (arith, cause)
+
+rose_last : (first mid last : ℕ) → first ≤ mid → mid ≤ last → last_count ≤ mid → (first < last) ⊎ (last_count ≤ first)
+rose_last first mid last le later full = elim (cases_lt first last) [ inl lt ↦ inl lt | inr ge ↦ inr (omega (arith, le, later, full, ge)) ]
+
+rose_since : (first mid last : ℕ) → first ≤ mid → mid ≤ last → Rose mid last → Rose first last
+rose_since first mid last le later rose = elim rose [ inl lt ↦ inl (omega (arith, le, lt)) | inr full ↦ rose_last first mid last le later full ]
+
+-- a run ended with 4, and the end itself did not fail
+four_ended : (command : Option Command) (told : Option Told) (old now : Option Written) (ended : Result (Unit {0}) Fault) (before after first mid : ℕ)
+    → Executes command told old now ended → FileCause before after ended → WriteCause first mid ended → ending_status ended ≡ 4
+    → Rose first mid ⊎ FilesFail command told before after
+four_ended command told old now (Err faults.Write) before after first mid executes files writes four = inl writes.1
+four_ended command told old now (Err faults.FileWrite) before after first mid executes files writes four =
+    let may = files_come command told old now executes in inr (may.0, may.1, may.2, files.0, files.1)
+four_ended command told old now other before after first mid executes files writes four = absurd (omega (arith, four))
+
+-- 4 comes of the sink or of the files
+pub four_fails : (command : Option Command) (told : Option Told) (old now : Option Written) (ended : Result (Unit {0}) Fault) (status before after first mid last : ℕ)
+    → Executes command told old now ended → FileCause before after ended → WriteCause first mid ended → EndsSo mid last ended status
+    → status ≡ 4 → Rose first last ⊎ FilesFail command told before after
+four_fails command told old now ended status before after first mid last executes files writes ends four =
+    elim ends [
+      | inl same ↦ subst (λ (n : ℕ). Rose first n ⊎ FilesFail command told before after) (sym same.1)
+          (four_ended command told old now ended before after first mid executes files writes (sym same.0 ∙ four))
+      | inr failed ↦ inl (rose_since first mid last (not_later first mid ended writes) failed.1 failed.2)
+    ]
+
+-- where no count rose, only want of memory stops a command
+stopped_by : (stops : Stops) (fault : Fault) (printed text : List ℕ) (reads read before after : ℕ) → ComesBehind (place_of stops fault) printed text
+    → ReadCause {T = Unit {0}} reads read (Err fault) → FileCause before after (Err fault)
+    → (Rose reads read → ⊥) → (Comes stops.writes → before ≤ after → Rose before after → ⊥) → fault_status fault ≡ 1
+stopped_by stops faults.NoMemory printed text reads read before after behind causes files none_read none_made = refl
+stopped_by stops faults.Read printed text reads read before after behind causes files none_read none_made = absurd (none_read causes.1)
+stopped_by stops faults.FileWrite printed text reads read before after behind causes files none_read none_made =
+    absurd (none_made (comes_behind stops.writes printed text behind) files.0 files.1)
+stopped_by stops other printed text reads read before after behind causes files none_read none_made = absurd behind
+
+pub completes : (command : Option Command) (told : Option Told) (old now : Option Written) (ended : Result (Unit {0}) Fault) (status reads read before after first mid last : ℕ)
+    → Executes command told old now ended → ReadCause reads read ended → FileCause before after ended → WriteCause first mid ended → EndsSo mid last ended status
+    → (Rose reads read → ⊥) → (Rose first last → ⊥) → (FilesFail command told before after → ⊥) → IsComplete command told status
+completes command told old now ended status reads read before after first mid last executes causes files writes ends none_read none_written none_made = (
+  executes.0,
+  executes.1,
+  elim ends [
+    | inl same ↦ elim executes.2 [
+      | inl done ↦ elim done.1 [
+        | inl said ↦ inl (same.0 ∙ ap ending_status said.0)
+        | inr stopped ↦ inr (
+            same.0 ∙ (ap ending_status stopped.1
+            ∙ stopped_by executes.0.stops stopped.0 done.0 executes.0.text reads read before after stopped.2
+            (subst (λ (e : Result (Unit {0}) Fault). ReadCause reads read e) stopped.1 causes)
+            (subst (λ (e : Result (Unit {0}) Fault). FileCause before after e) stopped.1 files)
+            none_read (λ may le rose. none_made (executes.0, executes.1, may, le, rose)))
+            )
+      ]
+      | inr failed ↦ absurd (none_written (subst (λ (n : ℕ). Rose first n) (sym same.1) (subst (λ (e : Result (Unit {0}) Fault). WriteCause first mid e) failed.0 writes).1))
+    ]
+    | inr failed ↦ absurd (none_written (rose_since first mid last (not_later first mid ended writes) failed.1 failed.2))
+  ],
+)
+
+-- 2 comes only where the words are no command line
+two_is_usage : (ended : Result (Unit {0}) Fault) → ending_status ended ≡ 2 → ended ≡ Err faults.Usage
+two_is_usage (Err faults.Usage) two = refl
+two_is_usage other two = absurd (omega (arith, two))
+
+pub usage_of_none : (command : Option Command) (told : Option Told) (old now : Option Written) (ended : Result (Unit {0}) Fault) (status mid last : ℕ)
+    → Executes command told old now ended → EndsSo mid last ended status → status ≡ 2 → IsNone command
+usage_of_none None told old now ended status mid last executes ends two = refl
+usage_of_none (Some command) told old now ended status mid last executes ends two =
+    absurd (elim ends [
+      | inl same ↦ never_ended (Some command) told old now ended faults.Usage (λ is. cc)
+          (λ verdict is. (not_decided told command verdict faults.Usage is (λ none. none), λ comes. comes)) executes (two_is_usage ended (sym same.0 ∙ two))
+      | inr failed ↦ omega (arith, failed.0, two)
+    ])
