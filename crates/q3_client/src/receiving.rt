@@ -45,7 +45,15 @@ pub(crate) fn receive_front(
     ensures message { IfOk result (λ applied. take count whole.new.items ≡ message_received [] (receive_by state.old outgoing.old challenge number (take count whole.old.items))) }
     ensures room { length whole.new.items ≡ length whole.old.items }
 {
-    receive(state, outgoing, challenge, number, whole.as_mut_slice(), count, log)
+    receive(
+        state,
+        outgoing,
+        challenge,
+        number,
+        whole.as_mut_slice(),
+        count,
+        log,
+    )
 }
 
 /// Receives the message of a number that stands in the first of these bytes, so many: its acknowledgement is read, they are

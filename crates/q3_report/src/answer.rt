@@ -7,9 +7,7 @@ use q3_client::{Client, ClientTook, MoveError, Sent};
 use q3_clstate::Log;
 use q3_map::{Late, NotLater};
 use q3_rings::SnapView;
-use q3_server::{
-    ConfigRefused, Emitted, Heard, NoClient, SayError, ServerTook, SlotError,
-};
+use q3_server::{ConfigRefused, Emitted, Heard, NoClient, SayError, ServerTook, SlotError};
 
 /// Why a client doesn't issue a command.
 #[derive(Clone, Copy, Debug, PartialEq, Eq)]
@@ -94,17 +92,11 @@ pub enum HandedIn {
 #[derive(Clone, Copy, Debug, PartialEq, Eq)]
 pub enum Front {
     /// The datagram of this number arrived.
-    Deliver {
-        datagram: u32,
-    },
+    Deliver { datagram: u32 },
     /// A line of the script handed them to this client.
-    Toclient {
-        c: u8,
-    },
+    Toclient { c: u8 },
     /// A line of the script handed them to the server, from this client's address.
-    Toserver {
-        c: u8,
-    },
+    Toserver { c: u8 },
 }
 
 /// The end that took bytes, what it made of them, and what is printed under that.

@@ -15,10 +15,9 @@ use crate::answer::{Answer, Front, HandedIn, Shown, Taker};
 use crate::refusals::Refusal;
 use q3_clstate::print_snapshot;
 use q3_io::{Failed, Piece, Sink, laws, print_all, print_hex_word};
-use q3_lines::client;
 use q3_lines::client::print_sent;
-use q3_lines::server;
 use q3_lines::server::print_emitted;
+use q3_lines::{client, server};
 use q3_rings::SnapView;
 use q3_server::NoClient;
 

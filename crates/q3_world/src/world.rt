@@ -160,7 +160,8 @@ impl World {
             event,
             &mut self.log,
             &mut self.heard,
-        ) else {
+        )
+        else {
             return Err(StepError::NoMemory);
         };
         report(&answer, &mut self.counts, out)
