@@ -1,11 +1,9 @@
--- What a line of a client does at its end, what a client makes of bytes, and what it shows.
+-- What a client's issuing of a command or a move does at its end, what a client makes of bytes, and what it shows.
 use Rattle.std.specs.Prelude.{ℕ, List, Option, Some, None, Result, Ok, Err}
 use Rattle.q3_window.specs.declared.outgoing.WindowFull.{WindowFull}
 use Rattle.q3_clmsg.specs.declared.moves.Move.{Move}
 use Rattle.q3_ring.specs.Snapshot.{Snapshot}
 use Rattle.q3_rings.specs.Rings.{view_at}
-use Rattle.q3_script.specs.declared.event.Event.{Event}
-use Rattle.q3_script.specs.declared.event.Event.TheVariants as events
 use Rattle.q3_client.specs.declared.client.MoveError.{MoveError}
 use Rattle.q3_client.specs.Client.{ClientState, Taken, type_at}
 use Rattle.q3_client.specs.Moves.{add_move_at}
@@ -40,17 +38,6 @@ abbrev pub add_move : ClientState → ℕ → Move → ClientStep
 add_move client c one =
     let given = add_move_at client one in
     record { client = given.client; answer = moved c given.answer }
-
--- what a line does at a client, if it is one of a client's
-unfoldable pub client_line : ClientState → Event → Option ClientStep
-client_line client (events.TypeText c text) = Some (type_text client c text)
-client_line client (events.Move c one) = Some (add_move client c one)
-client_line client other = None
-
--- the client behind it
-abbrev pub client_behind : ClientState → Option ClientStep → ClientState
-client_behind client None = client
-client_behind client (Some step) = step.client
 
 -- the answer of a client that took bytes
 abbrev pub taken_by_client : Front → ℕ → Taken → Answered

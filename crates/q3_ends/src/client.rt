@@ -1,35 +1,21 @@
-//! The lines of a script that are a client's, at its end, the bytes that it takes, and what it shows.
+//! What a client issues, the bytes that it takes, and what it shows.
 
-ghost use Rattle.std.specs.Prelude.{◌≡◌, option_map};
+ghost use Rattle.std.specs.Prelude.{◌≡◌};
 ghost use Rattle.std.specs.Borrow.{sem};
 ghost use Rattle.q3_client.specs.Client.{take_at};
 ghost use Rattle.q3_report.specs.Tellings.{answered_of, showing_of};
-ghost use Rattle.q3_ends.specs.AtClient.{client_line, client_behind, type_text, add_move, taken_by_client, showing};
+ghost use Rattle.q3_ends.specs.AtClient.{type_text, add_move, taken_by_client, showing};
 ghost use Rattle.q3_ends.specs.Lending.{ClientEndsAs};
 
 use q3_client::Client;
 use q3_clmsg::Move;
 use q3_clstate::Log;
 use q3_report::{Answer, Front, HandedIn, MoveRefused, Shown, Taker, TypeRefused};
-use q3_script::Event;
 use q3_text::Text;
 use q3_window::WindowFull;
 
-/// Hands in to a client what a line of its says. `None` comes exactly where the line is another one, and nothing changes then.
-#[tactic(auto, unfolding(crate::specs::AtClient::client_line))]
-pub fn client_line(client: &mut Client, event: &Event) -> Option<HandedIn>
-    ensures client { client.new ≡ client_behind client.old (client_line client.old event.now) }
-    ensures answer { result ≡ option_map (λ step. step.answer) (client_line client.old event.now) }
-{
-    match event {
-        Event::TypeText { c, text } => Some(type_text(client, *c, text)),
-        Event::Move { c, one } => Some(add_move(client, *c, one)),
-        _ => None,
-    }
-}
-
 /// A client issues a command.
-fn type_text(client: &mut Client, c: u8, text: &Text) -> HandedIn
+pub fn type_text(client: &mut Client, c: u8, text: &Text) -> HandedIn
     ensures { type_text client.old c text.now ≡ record { client = client.new; answer = result } }
 {
     match client.type_command(text) {
@@ -45,7 +31,7 @@ fn type_text(client: &mut Client, c: u8, text: &Text) -> HandedIn
 }
 
 /// A client issues a move.
-fn add_move(client: &mut Client, c: u8, one: &Move) -> HandedIn
+pub fn add_move(client: &mut Client, c: u8, one: &Move) -> HandedIn
     ensures { add_move client.old c one.now ≡ record { client = client.new; answer = result } }
 {
     match client.add_move(one) {
