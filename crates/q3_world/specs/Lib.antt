@@ -9,7 +9,6 @@ pub mod World
 pub mod Games
 pub mod StandsFor
 pub mod Report
-pub mod ReportLines
 pub mod Outcome
 pub mod Doing
 pub mod Answering

@@ -3,7 +3,6 @@
 ghost use Rattle.q3_world.specs.Apart.{SlotsApart};
 ghost use Rattle.q3_world.specs.ByTags.{BytesFollowTags, StepFollows};
 ghost use Rattle.q3_world.specs.Layers.{Layers};
-ghost use Rattle.q3_world.specs.ReportLines.{CountsAreLines, ReplayIsCounted};
 
 use q3_bits::laws as bits;
 use q3_chan::laws as chan;
@@ -81,10 +80,3 @@ pub fn slots_apart()
 {
     layers();
 }
-
-/// What is counted over answers are the lines of their text, by their kinds, and so are the counts of a replay those of its
-/// report. The text alone tells a line's kind.
-pub fn counts_are_lines()
-    ensures answers { CountsAreLines }
-    ensures replay { ReplayIsCounted }
-{}

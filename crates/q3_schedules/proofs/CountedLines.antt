@@ -8,10 +8,10 @@ use Rattle.q3_world.specs.declared.counts.Counts.{Counts}
 use Rattle.q3_world.specs.Counts.{no_counts, lines_in, more, with_lines, counted, counted_all, counts_of}
 use Rattle.q3_world.specs.World.{opening, answers as answers_of}
 use Rattle.q3_world.specs.Report.{report}
-use Rattle.q3_world.specs.ReportLines.{text_lines, Placed, placed, lines_by_kind, counts_in, CountsAreLines, ReplayIsCounted}
-use Rattle.q3_world.proofs.SpelledLines.{Spelled, nothing, join, lines_of_spelled}
-use Rattle.q3_world.proofs.PlacedLines.{Kind, Event, Datagram, AcceptedSnapshot, SkippedSnapshot, ServerCommand, ClientCommand, MoveLine, test_of, count_of, at, tally, placed_under, placed_first, placed_nothing, same_counts}
-use Rattle.q3_world.proofs.AnswerLines.{answer_is}
+use Rattle.q3_schedules.specs.ReportLines.{text_lines, Placed, placed, lines_by_kind, counts_in, CountsAreLines, ReplayIsCounted}
+use Rattle.q3_schedules.proofs.SpelledLines.{Spelled, nothing, join, lines_of_spelled}
+use Rattle.q3_schedules.proofs.PlacedLines.{Kind, Event, Datagram, AcceptedSnapshot, SkippedSnapshot, ServerCommand, ClientCommand, MoveLine, test_of, count_of, at, tally, placed_under, placed_first, placed_nothing, same_counts}
+use Rattle.q3_schedules.proofs.AnswerLines.{answer_is}
 
 -- how many lines of a kind these answers have
 abbrev total : Kind → List Answered → ℕ

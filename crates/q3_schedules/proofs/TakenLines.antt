@@ -23,12 +23,12 @@ use Rattle.q3_report.specs.AnswerLines.{taking_text}
 use Rattle.q3_script.specs.Words.{words_of}
 use Rattle.q3_world.specs.declared.counts.Counts.{Counts}
 use Rattle.q3_world.specs.Counts.{no_counts, one_event, accepted_in, skipped_in, lines_of_client, lines_of_server, lines_of_taking}
-use Rattle.q3_world.specs.ReportLines.{is_under, taken_by}
-use Rattle.q3_world.proofs.PlainTexts.{lacks, number}
-use Rattle.q3_world.proofs.SpelledLines.{Spelled, in_front, newline, join, last}
-use Rattle.q3_world.proofs.PlacedLines.{Kind, count_of, tally, plus, plus_is, applied_counts, ran_counts}
-use Rattle.q3_world.proofs.LineEnds.{OneLine, behind, whole, closed, client_cause, server_cause}
-use Rattle.q3_world.proofs.LinesUnder.{counts_each, Beneath, none_beneath, both_beneath, commands_beneath, moves_beneath, entered_beneath, owed_beneath, game_beneath, outcome_beneath}
+use Rattle.q3_schedules.specs.ReportLines.{is_under, taken_by}
+use Rattle.q3_schedules.proofs.PlainTexts.{lacks, number}
+use Rattle.q3_schedules.proofs.SpelledLines.{Spelled, in_front, newline, join, last}
+use Rattle.q3_schedules.proofs.PlacedLines.{Kind, count_of, tally, plus, plus_is, applied_counts, ran_counts}
+use Rattle.q3_schedules.proofs.LineEnds.{OneLine, behind, whole, closed, client_cause, server_cause}
+use Rattle.q3_schedules.proofs.LinesUnder.{counts_each, Beneath, none_beneath, both_beneath, commands_beneath, moves_beneath, entered_beneath, owed_beneath, game_beneath, outcome_beneath}
 
 -- the third word of a line whose first two are behind it
 abbrev pub next_is : List ℕ → List ℕ → Bool

@@ -36,8 +36,8 @@ use Rattle.q3_report.specs.declared.answer.MoveRefused.TheVariants as refused
 use Rattle.q3_report.specs.declared.answer.TypeRefused.{TypeRefused}
 use Rattle.q3_report.specs.declared.answer.TypeRefused.TheVariants as untyped
 use Rattle.q3_report.specs.AnswerLines.{handed_in_text, issued_text, type_refused_text, move_refused_text}
-use Rattle.q3_world.proofs.PlainTexts.{lacks, lacks_both, number}
-use Rattle.q3_world.proofs.SpelledLines.{Spelled, nothing, in_front, newline, last}
+use Rattle.q3_schedules.proofs.PlainTexts.{lacks, lacks_both, number}
+use Rattle.q3_schedules.proofs.SpelledLines.{Spelled, nothing, in_front, newline, last}
 
 -- the text is one line
 pub record OneLine (text : List ℕ) : Type 0 where

@@ -27,13 +27,13 @@ use Rattle.q3_report.specs.AnswerLines.{handed_in_text, issued_text, type_refuse
 use Rattle.q3_script.specs.Words.{words_of}
 use Rattle.q3_world.specs.declared.counts.Counts.{Counts}
 use Rattle.q3_world.specs.Counts.{no_counts, one_event, made_served, made_sent, lines_in}
-use Rattle.q3_world.specs.ReportLines.{is_under, has_datagram, taken_by, names_datagram}
-use Rattle.q3_world.proofs.PlainTexts.{lacks, lacks_both, lacks-decimal, number, hexed, indexed}
-use Rattle.q3_world.proofs.SpelledLines.{Spelled, in_front, newline, last}
-use Rattle.q3_world.proofs.PlacedLines.{Kind, count_of, tally, tally-append, tally_first, plus, plus_is, next_word, number_word, other_number, last_word}
-use Rattle.q3_world.proofs.LineEnds.{OneLine, behind, whole, closed, slot_error, no_client, not_later, late, config_refused, say_error, type_refused, move_refused, handed_in, issued}
-use Rattle.q3_world.proofs.LinesUnder.{counts_each, Beneath, none_beneath, both_beneath, each_beneath, other_beneath}
-use Rattle.q3_world.proofs.TakenLines.{next_is, slot_number, taking_lines}
+use Rattle.q3_schedules.specs.ReportLines.{is_under, has_datagram, taken_by, names_datagram}
+use Rattle.q3_schedules.proofs.PlainTexts.{lacks, lacks_both, lacks-decimal, number, hexed, indexed}
+use Rattle.q3_schedules.proofs.SpelledLines.{Spelled, in_front, newline, last}
+use Rattle.q3_schedules.proofs.PlacedLines.{Kind, count_of, tally, tally-append, tally_first, plus, plus_is, next_word, number_word, other_number, last_word}
+use Rattle.q3_schedules.proofs.LineEnds.{OneLine, behind, whole, closed, slot_error, no_client, not_later, late, config_refused, say_error, type_refused, move_refused, handed_in, issued}
+use Rattle.q3_schedules.proofs.LinesUnder.{counts_each, Beneath, none_beneath, both_beneath, each_beneath, other_beneath}
+use Rattle.q3_schedules.proofs.TakenLines.{next_is, slot_number, taking_lines}
 
 -- its first line, those that stand under it, and how many there are of each kind
 pub record AnswerIs (answer : Answered) : Type 0 where

@@ -16,11 +16,11 @@ use Rattle.q3_clstate.specs.Report.{cause_text, outcome_text, game_text}
 use Rattle.q3_lines.specs.ServerLines.{entered_text, owed_text}
 use Rattle.q3_world.specs.declared.counts.Counts.{Counts}
 use Rattle.q3_world.specs.Counts.{no_counts, accepted_in, skipped_in}
-use Rattle.q3_world.specs.ReportLines.{begins, is_under, has_datagram, taken_by}
-use Rattle.q3_world.proofs.PlainTexts.{lacks, lacks_both, number, signed, quote}
-use Rattle.q3_world.proofs.SpelledLines.{Spelled, nothing, join, each}
-use Rattle.q3_world.proofs.PlacedLines.{Kind, Event, Datagram, AcceptedSnapshot, SkippedSnapshot, ServerCommand, ClientCommand, MoveLine, test_of, count_of, at, tally, tally-append, tally-alike, plus, plus_is}
-use Rattle.q3_world.proofs.LineEnds.{behind, whole, base_cause}
+use Rattle.q3_schedules.specs.ReportLines.{begins, is_under, has_datagram, taken_by}
+use Rattle.q3_schedules.proofs.PlainTexts.{lacks, lacks_both, number, signed, quote}
+use Rattle.q3_schedules.proofs.SpelledLines.{Spelled, nothing, join, each}
+use Rattle.q3_schedules.proofs.PlacedLines.{Kind, Event, Datagram, AcceptedSnapshot, SkippedSnapshot, ServerCommand, ClientCommand, MoveLine, test_of, count_of, at, tally, tally-append, tally-alike, plus, plus_is}
+use Rattle.q3_schedules.proofs.LineEnds.{behind, whole, base_cause}
 
 -- what a line under another is: the kinds that these are, and no other
 pub record KindsOf (line : List ℕ) (accepted skipped command move : Bool) : Type 0 where
