@@ -1,7 +1,7 @@
 //! Prints the lines of an answer, those of `lines_of` to the letter, and hands them on behind the last: one write, where a line buffer
 //! has room for them.
 
-ghost use Rattle.std.specs.Prelude.{◌≡◌, [], ◌∷◌, codes, decimal, option_map, OnOk};
+ghost use Rattle.std.specs.Prelude.{[], ◌∷◌, codes, decimal, option_map, OnOk};
 ghost use Rattle.std.specs.List.{concat};
 ghost use Rattle.q3_io.specs.Faults.{HasCause};
 ghost use Rattle.q3_io.specs.Print.{hex_word};

@@ -6,7 +6,6 @@ use Rattle.q3_server.specs.Server.{slot_at}
 use Rattle.q3_server.specs.Apart.{KeepsFrames, taker_of}
 use Rattle.q3_world.specs.declared.made.Direction.{Direction}
 use Rattle.q3_world.specs.declared.made.Direction.TheVariants.{ToClient, ToServer}
-use Rattle.q3_world.specs.declared.places.Place.{Place}
 use Rattle.q3_world.specs.Ends.{Ends, place_at}
 use Rattle.q3_world.specs.Kept.{SentBytes, Kept, kept_step}
 

@@ -6,7 +6,7 @@ ghost use Rattle.q3_profile.specs.Profile.{IsProfile, IsCodec};
 ghost use Rattle.q3_script.specs.Grammar.{IsReplayEvent};
 ghost use Rattle.q3_server.specs.Server.{places, emit_at};
 ghost use Rattle.q3_report.specs.Answers.{Given, Shown};
-ghost use Rattle.q3_report.specs.Tellings.{answered_of, showing_of};
+ghost use Rattle.q3_report.specs.Tellings.{answered_of};
 ghost use Rattle.q3_ends.specs.AtServer.{server_line};
 
 use crate::made::{Direction, Made, keep};
