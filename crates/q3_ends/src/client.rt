@@ -16,7 +16,8 @@ use q3_window::WindowFull;
 
 /// A client issues a command.
 pub fn type_text(client: &mut Client, c: u8, text: &Text) -> HandedIn
-    ensures { type_text client.old c text.now ≡ record { client = client.new; answer = result } }
+    ensures client { client.new ≡ (type_text client.old c text.now).client }
+    ensures answer { result ≡ (type_text client.old c text.now).answer }
 {
     match client.type_command(text) {
         Ok(number) => HandedIn::TypeText {
@@ -32,7 +33,8 @@ pub fn type_text(client: &mut Client, c: u8, text: &Text) -> HandedIn
 
 /// A client issues a move.
 pub fn add_move(client: &mut Client, c: u8, one: &Move) -> HandedIn
-    ensures { add_move client.old c one.now ≡ record { client = client.new; answer = result } }
+    ensures client { client.new ≡ (add_move client.old c one.now).client }
+    ensures answer { result ≡ (add_move client.old c one.now).answer }
 {
     match client.add_move(one) {
         Ok(()) => HandedIn::Move { c, outcome: Ok(()) },

@@ -16,7 +16,7 @@ use q3_chan::{DATAGRAM_ROOM, Datagram};
 use q3_client::Client;
 use q3_clmsg::Move;
 use q3_clstate::Log;
-use q3_ends::client::{add_move, client_takes, show, type_text};
+use q3_ends::client::{client_takes, show};
 use q3_ends::server::{server_line, server_takes};
 use q3_io::Address;
 use q3_profile::Profile;
@@ -164,7 +164,7 @@ impl Ends {
                 outcome: Err(TypeRefused::NoClient),
             };
         };
-        type_text(&mut place.client, c, text)
+        place.type_text(c, text)
     }
 
     /// A client issues a move.
@@ -178,7 +178,7 @@ impl Ends {
                 outcome: Err(MoveRefused::NoClient),
             };
         };
-        add_move(&mut place.client, c, one)
+        place.add_move(c, one)
     }
 
     /// What a client shows.

@@ -1,6 +1,6 @@
 //! Datagrams that were made, and the end that each goes to.
 
-ghost use Rattle.std.specs.Prelude.{◌≡◌, ◌<◌, ◌≤◌, ◌+◌, [], length, vec_capacity, OnOk, IfOk};
+ghost use Rattle.std.specs.Prelude.{◌≡◌, ◌<◌, ◌≤◌, ◌+◌, [], length, vec_capacity, Option, OnOk, IfOk};
 ghost use Rattle.q3_chan.specs.Sending.{Piece, HandsOut};
 ghost use Rattle.q3_server.specs.Server.{places};
 ghost use Rattle.q3_world.specs.Kept.{datagrams_after};

@@ -8,8 +8,12 @@ ghost use Rattle.q3_server.specs.Server.{places};
 use q3_bits::NoMemory;
 use q3_chan::Datagram;
 use q3_client::{Client, Sent};
+use q3_clmsg::Move;
+use q3_ends::client::{add_move, type_text};
 use q3_io::Address;
+use q3_report::HandedIn;
 use q3_server::MOST_SLOTS;
+use q3_text::Text;
 use std::alloc::Global;
 
 /// A client, and the address that its datagrams come from.
@@ -20,6 +24,24 @@ pub struct Place {
 }
 
 impl Place {
+    ghost use Rattle.q3_ends.specs.AtClient.{type_text, add_move};
+
+    /// The client issues a command.
+    pub(crate) fn type_text(&mut self, c: u8, text: &Text) -> HandedIn
+        ensures place { self.new ≡ record self.old { client = (type_text self.old.client c text.now).client } }
+        ensures answer { result ≡ (type_text self.old.client c text.now).answer }
+    {
+        type_text(&mut self.client, c, text)
+    }
+
+    /// The client issues a move.
+    pub(crate) fn add_move(&mut self, c: u8, one: &Move) -> HandedIn
+        ensures place { self.new ≡ record self.old { client = (add_move self.old.client c one.now).client } }
+        ensures answer { result ≡ (add_move self.old.client c one.now).answer }
+    {
+        add_move(&mut self.client, c, one)
+    }
+
     /// The client makes a datagram, which it sends from this address.
     pub(crate) fn send(&mut self, out: &mut Datagram) -> (Sent, Address)
         ensures place { self.new ≡ record self.old { client = (emit_at self.old.client).client } }
