@@ -1,3 +1,2 @@
 pub mod AtServer
 pub mod AtClient
-pub mod Lending

@@ -1,16 +1,12 @@
-//! What a client issues, the bytes that it takes, and what it shows.
+//! What a client issues, and what it shows.
 
 ghost use Rattle.std.specs.Prelude.{◌≡◌};
-ghost use Rattle.std.specs.Borrow.{sem};
-ghost use Rattle.q3_client.specs.Client.{take_at};
-ghost use Rattle.q3_report.specs.Tellings.{answered_of, showing_of};
-ghost use Rattle.q3_ends.specs.AtClient.{type_text, add_move, taken_by_client, showing};
-ghost use Rattle.q3_ends.specs.Lending.{ClientEndsAs};
+ghost use Rattle.q3_report.specs.Tellings.{showing_of};
+ghost use Rattle.q3_ends.specs.AtClient.{type_text, add_move, showing};
 
 use q3_client::Client;
 use q3_clmsg::Move;
-use q3_clstate::Log;
-use q3_report::{Answer, Front, HandedIn, MoveRefused, Shown, Taker, TypeRefused};
+use q3_report::{HandedIn, MoveRefused, Shown, TypeRefused};
 use q3_text::Text;
 use q3_window::WindowFull;
 
@@ -41,29 +37,6 @@ pub fn add_move(client: &mut Client, c: u8, one: &Move) -> HandedIn
         Err(error) => HandedIn::Move {
             c,
             outcome: Err(MoveRefused::Error(error)),
-        },
-    }
-}
-
-/// A client takes bytes. The client and the commands that it executed are in the answer; these stay in `log` until the next take.
-pub fn client_takes<'a>(
-    client: &'a mut Client,
-    front: Front,
-    c: u8,
-    bytes: &[u8],
-    log: &'a mut Log,
-) -> Answer<'a>
-    ensures* client { sem 𝓛 (ClientEndsAs client.entry (take_at client.old bytes.now).client) }
-    ensures answer { answered_of result ≡ taken_by_client front c (take_at client.old bytes.now) }
-{
-    let took = client.take(bytes, log);
-    Answer::Took {
-        front,
-        taker: Taker::Client {
-            c,
-            took,
-            client,
-            log,
         },
     }
 }

@@ -1,7 +1,6 @@
 pub mod Layers
 pub mod Apart
 pub mod Ends
-pub mod EndsLent
 pub mod Counts
 pub mod Kept
 pub mod Moves

@@ -1,7 +1,6 @@
 //! Both ends of every client, and what a line of a script does at them.
 
-ghost use Rattle.std.specs.Prelude.{◌≡◌, ◌<◌, ◌≤◌, ◌+◌, [], length, vec_capacity, IfOk, IfSome, IsSome, OnErr, OnOk};
-ghost use Rattle.std.specs.Borrow.{sem};
+ghost use Rattle.std.specs.Prelude.{◌≡◌, ◌<◌, ◌≤◌, ◌+◌, [], length, vec_capacity, IfOk, IfSome, IsSome, IsErrOf, OnErr, OnOk};
 ghost use Rattle.q3_profile.specs.Profile.{IsProfile, IsCodec};
 ghost use Rattle.q3_script.specs.Grammar.{IsReplayEvent};
 ghost use Rattle.q3_server.specs.Server.{places, emit_at};
@@ -9,16 +8,18 @@ ghost use Rattle.q3_report.specs.Answers.{Given, Shown};
 ghost use Rattle.q3_report.specs.Tellings.{answered_of};
 ghost use Rattle.q3_ends.specs.AtServer.{server_line};
 
+use crate::counts::Counts;
 use crate::made::{Direction, Made, keep};
 use crate::places::{Place, no_places};
+use crate::told::{StepError, tell};
 use q3_bits::NoMemory;
 use q3_chan::{DATAGRAM_ROOM, Datagram};
 use q3_client::Client;
 use q3_clmsg::Move;
 use q3_clstate::Log;
-use q3_ends::client::{client_takes, show};
+use q3_ends::client::show;
 use q3_ends::server::{server_line, server_takes};
-use q3_io::Address;
+use q3_io::{Address, Sink};
 use q3_profile::Profile;
 use q3_report::{Answer, Front, HandedIn, MoveRefused, Shown, TypeRefused};
 use q3_script::Event;
@@ -47,9 +48,10 @@ impl Model for Ends {
 }
 
 impl Ends {
-    ghost use Rattle.q3_world.specs.Ends.{place_at, new_ends, join, set_port, to_server, type_text, add_move, show, hand_client, hand_server, step_in, line_of};
+    ghost use Rattle.q3_world.specs.Ends.{place_at, new_ends, join, set_port, to_server, type_text, add_move, show, client_takes, server_takes, step_in, line_of};
     ghost use Rattle.q3_world.specs.Kept.{Kept, arrive_at, kept_serve, kept_send};
-    ghost use Rattle.q3_world.specs.EndsLent.{EndsEndAs, StepsOrStays};
+    ghost use Rattle.q3_world.specs.Doing.{Tells, EndsDo};
+    ghost use Rattle.q3_world.specs.Outcome.{TakesMemory};
 
     /// A server by this profile, and no client. `Err` is want of memory.
     pub fn new(alloc: Global, profile: &Profile) -> Result<Ends, NoMemory>
@@ -63,43 +65,70 @@ impl Ends {
         })
     }
 
-    /// What a line does that hands something in, hands bytes to an end, or shows a client. Where a datagram is taken, the list of the end
-    /// that takes it tells what was executed and run; both lists may hold anything before. `Err` is want of memory, at `client` alone,
-    /// and changes nothing.
+    /// What a line does that hands something in, hands bytes to an end, or shows a client; and its answer is told. Where bytes are taken,
+    /// the list of the end that takes them says what was executed and run; both lists may hold anything before. `NoMemory` comes at
+    /// `client` alone, and changes nothing.
     #[tactic(auto, unfolding(crate::specs::Ends::line_of))]
-    pub fn line<'a>(
-        &'a mut self,
+    pub fn line<O: Sink>(
+        &mut self,
         alloc: Global,
         profile: &Profile,
         event: &Event,
-        log: &'a mut Log,
-        heard: &'a mut Heard,
-    ) -> Result<Answer<'a>, NoMemory>
+        log: &mut Log,
+        heard: &mut Heard,
+        counts: &mut Counts,
+        out: &mut O,
+    ) -> Result<(), StepError>
         requires profile { IsProfile profile.now }
         requires event { IsReplayEvent event.now }
         requires line { IsSome (step_in (line_of profile.now self.old event.now)) }
-        ensures* ends { sem 𝓛 (StepsOrStays self.entry result (step_in (line_of profile.now self.old event.now))) }
-        ensures answer { IfOk result (λ answer. IfSome (step_in (line_of profile.now self.old event.now)) (λ step. answered_of answer ≡ step.answer)) }
+        ensures does { IfSome (step_in (line_of profile.now self.old event.now))
+            (λ step. EndsDo self.old self.new counts.old counts.new (O.written out.old) (O.written out.new) (O.faults out.old) (O.faults out.new) step result) }
+        ensures memory { IsErrOf result StepError.NoMemory → TakesMemory event.now }
     {
-        match event {
+        let answer = match event {
             Event::Client {
                 c,
                 challenge,
                 qport,
                 dup,
                 address,
-            } => match self.join(alloc, profile, *c, *challenge, *qport, *dup, *address) {
-                Ok(handed) => Ok(Answer::HandedIn(handed)),
-                Err(error) => Err(error),
-            },
-            Event::Port { c, port } => Ok(Answer::HandedIn(self.set_port(*c, *port))),
-            Event::TypeText { c, text } => Ok(Answer::HandedIn(self.type_text(*c, text))),
-            Event::Move { c, one } => Ok(Answer::HandedIn(self.add_move(*c, one))),
-            Event::Show { c } => Ok(self.show(*c)),
-            Event::Toclient { c, bytes } => Ok(self.hand_client(*c, bytes.bytes(), log)),
-            Event::Toserver { c, bytes } => Ok(self.hand_server(*c, bytes.bytes(), heard)),
-            _ => Ok(Answer::HandedIn(self.game_line(event))),
-        }
+            } => {
+                let Ok(handed) = self.join(alloc, profile, *c, *challenge, *qport, *dup, *address)
+                else {
+                    return Err(StepError::NoMemory);
+                };
+                Answer::HandedIn(handed)
+            }
+            Event::Port { c, port } => Answer::HandedIn(self.set_port(*c, *port)),
+            Event::TypeText { c, text } => Answer::HandedIn(self.type_text(*c, text)),
+            Event::Move { c, one } => Answer::HandedIn(self.add_move(*c, one)),
+            Event::Map { .. }
+            | Event::Baseline { .. }
+            | Event::Config { .. }
+            | Event::Entity { .. }
+            | Event::Remove { .. }
+            | Event::Player { .. }
+            | Event::Area { .. }
+            | Event::Time { .. }
+            | Event::Say { .. } => Answer::HandedIn(self.game_line(event)),
+            Event::Show { c } => return tell(&self.show(*c), counts, out),
+            Event::Toclient { c, bytes } => {
+                let front = Front::Toclient { c: *c };
+                return self.client_takes(front, *c, bytes.bytes(), log, counts, out);
+            }
+            Event::Toserver { c, bytes } => {
+                let front = Front::Toserver { c: *c };
+                let Some(place) = &self.clients[*c as usize] else {
+                    return tell(&Answer::Untaken { front }, counts, out);
+                };
+                let from = place.address;
+                return self.server_takes(front, from, bytes.bytes(), heard, counts, out);
+            }
+            // an end is asked for a datagram, or one is delivered or printed
+            _ => unreachable!(),
+        };
+        tell(&answer, counts, out)
     }
 
     /// A client joins, at both ends. The memory of its own end is taken first.
@@ -193,50 +222,70 @@ impl Ends {
         Answer::Show { c, shown }
     }
 
-    /// Bytes are handed to a client.
-    fn hand_client<'a>(&'a mut self, c: u8, bytes: &[u8], log: &'a mut Log) -> Answer<'a>
+    /// The client at a place takes bytes, if it is there.
+    fn client_takes<O: Sink>(
+        &mut self,
+        front: Front,
+        c: u8,
+        bytes: &[u8],
+        log: &mut Log,
+        counts: &mut Counts,
+        out: &mut O,
+    ) -> Result<(), StepError>
         requires { c < places }
-        ensures* ends { sem 𝓛 (EndsEndAs self.entry (hand_client self.old c bytes.now).ends) }
-        ensures answer { answered_of result ≡ (hand_client self.old c bytes.now).answer }
+        ensures ends { self.new ≡ (client_takes self.old c front bytes.now (place_at self.old c)).ends }
+        ensures told { Tells counts.old counts.new (O.written out.old) (O.written out.new) (O.faults out.old) (O.faults out.new)
+            (client_takes self.old c front bytes.now (place_at self.old c)).answer result }
     {
-        let front = Front::Toclient { c };
         match &mut self.clients[c as usize] {
-            None => Answer::Untaken { front },
-            Some(place) => client_takes(&mut place.client, front, c, bytes, log),
+            None => tell(&Answer::Untaken { front }, counts, out),
+            Some(place) => place.take(front, c, bytes, log, counts, out),
         }
     }
 
-    /// Bytes are handed to the server, from a client's address.
-    fn hand_server<'a>(&mut self, c: u8, bytes: &[u8], heard: &'a mut Heard) -> Answer<'a>
-        requires { c < places }
-        ensures { hand_server self.old c bytes.now ≡ record { ends = self.new; answer = answered_of result } }
+    /// The server takes bytes from an address.
+    fn server_takes<O: Sink>(
+        &mut self,
+        front: Front,
+        from: Address,
+        bytes: &[u8],
+        heard: &mut Heard,
+        counts: &mut Counts,
+        out: &mut O,
+    ) -> Result<(), StepError>
+        ensures ends { self.new ≡ (server_takes self.old front from bytes.now).ends }
+        ensures told { Tells counts.old counts.new (O.written out.old) (O.written out.new) (O.faults out.old) (O.faults out.new)
+            (server_takes self.old front from bytes.now).answer result }
     {
-        let front = Front::Toserver { c };
-        let Some(place) = &self.clients[c as usize] else {
-            return Answer::Untaken { front };
-        };
-        let from = place.address;
-        server_takes(&mut self.server, front, from, bytes, heard)
+        tell(
+            &server_takes(&mut self.server, front, from, bytes, heard),
+            counts,
+            out,
+        )
     }
 
     /// A datagram arrives: the end that it goes to takes it.
-    pub fn arrive<'a>(
-        &'a mut self,
+    pub fn arrive<O: Sink>(
+        &mut self,
         number: u32,
         sent: &Made,
-        log: &'a mut Log,
-        heard: &'a mut Heard,
-    ) -> Answer<'a>
-        ensures* ends { sem 𝓛 (EndsEndAs self.entry (arrive_at self.old number sent.now sent.now.direction).ends) }
-        ensures answer { answered_of result ≡ (arrive_at self.old number sent.now sent.now.direction).answer }
+        log: &mut Log,
+        heard: &mut Heard,
+        counts: &mut Counts,
+        out: &mut O,
+    ) -> Result<(), StepError>
+        ensures ends { self.new ≡ (arrive_at self.old number sent.now sent.now.direction).ends }
+        ensures told { Tells counts.old counts.new (O.written out.old) (O.written out.new) (O.faults out.old) (O.faults out.new)
+            (arrive_at self.old number sent.now sent.now.direction).answer result }
     {
         let front = Front::Deliver { datagram: number };
-        if let Direction::ToServer { from } = sent.direction {
-            return server_takes(&mut self.server, front, from, &sent.bytes, heard);
-        }
-        match &mut self.clients[sent.client as usize] {
-            None => Answer::Untaken { front },
-            Some(place) => client_takes(&mut place.client, front, sent.client, &sent.bytes, log),
+        match sent.direction {
+            Direction::ToServer { from } => {
+                self.server_takes(front, from, &sent.bytes, heard, counts, out)
+            }
+            Direction::ToClient => {
+                self.client_takes(front, sent.client, &sent.bytes, log, counts, out)
+            }
         }
     }
 

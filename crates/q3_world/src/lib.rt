@@ -6,7 +6,9 @@ mod ends;
 pub mod laws;
 mod made;
 mod places;
+pub mod told;
 pub mod world;
 
 pub use counts::Counts;
-pub use world::{StepError, World};
+pub use told::StepError;
+pub use world::World;

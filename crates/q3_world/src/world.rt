@@ -16,29 +16,21 @@ ghost use Rattle.q3_world.specs.World.{Whole, opening, step as step_of};
 ghost use Rattle.q3_world.specs.StandsFor.{StandsFor};
 ghost use Rattle.q3_world.specs.Outcome.{TakesMemory, Prints, HasStepCause};
 
-use crate::counts::{Counts, lines_in};
+use crate::counts::Counts;
 use crate::ends::Ends;
 use crate::laws;
 use crate::made::{Made, room_for_one};
+use crate::told::{StepError, tell};
 use q3_bits::NoMemory;
 use q3_clstate::Log;
-use q3_io::{Failed, Files, Sink};
+use q3_io::{Files, Sink};
 use q3_profile::Profile;
-use q3_report::{Answer, Front, print_answer};
+use q3_report::{Answer, Front};
 use q3_script::Event;
 use q3_server::Heard;
 use q3_text::Commands;
 use std::alloc::Global;
 use std::marker::Model;
-
-/// Why a step failed.
-#[derive(Clone, Copy, Debug, PartialEq, Eq)]
-pub enum StepError {
-    /// Want of memory, at an event that makes a client or a datagram; the world is as it was.
-    NoMemory,
-    /// The sink failed, and took a front of the event's lines.
-    WriteFault,
-}
 
 /// A replay of a schedule: a copy of the profile, a server and each client that was added, every datagram that was made, and
 /// what a client, and the server, executed and ran last, in boxes, and counts of the lines that were printed.
@@ -154,17 +146,15 @@ impl World {
             (λ step. Does self.old self.new (O.written out.old) (O.written out.new) (O.faults out.old) (O.faults out.new) (kept_ends self.old.kept step) result) }
         ensures memory { IsErrOf result StepError.NoMemory → TakesMemory event.now }
     {
-        let Ok(answer) = self.ends.line(
+        self.ends.line(
             self.alloc,
             &self.profile,
             event,
             &mut self.log,
             &mut self.heard,
+            &mut self.counts,
+            out,
         )
-        else {
-            return Err(StepError::NoMemory);
-        };
-        report(&answer, &mut self.counts, out)
     }
 
     /// The server makes a datagram for a client, whose memory is taken first.
@@ -180,7 +170,7 @@ impl World {
         };
         let datagram = self.datagrams.len() as u32 + 1;
         let answer = self.ends.serve(c, &mut self.datagrams, bytes, datagram);
-        report(&answer, &mut self.counts, out)
+        tell(&answer, &mut self.counts, out)
     }
 
     /// A client makes a datagram, whose memory is taken first.
@@ -196,7 +186,7 @@ impl World {
         };
         let datagram = self.datagrams.len() as u32 + 1;
         let answer = self.ends.send(c, &mut self.datagrams, bytes, datagram);
-        report(&answer, &mut self.counts, out)
+        tell(&answer, &mut self.counts, out)
     }
 
     /// A datagram arrives: the end that it goes to takes the stored bytes.
@@ -208,12 +198,16 @@ impl World {
     {
         let Some(sent) = self.datagrams.get(number as usize - 1) else {
             let front = Front::Deliver { datagram: number };
-            return report(&Answer::Untaken { front }, &mut self.counts, out);
+            return tell(&Answer::Untaken { front }, &mut self.counts, out);
         };
-        let answer = self
-            .ends
-            .arrive(number, sent, &mut self.log, &mut self.heard);
-        report(&answer, &mut self.counts, out)
+        let World {
+            ends,
+            log,
+            heard,
+            counts,
+            ..
+        } = self;
+        ends.arrive(number, sent, log, heard, counts, out)
     }
 
     /// The bytes of the datagram of a number are printed, if it was made.
@@ -228,7 +222,7 @@ impl World {
             datagram: number,
             bytes,
         };
-        report(&answer, &mut self.counts, out)
+        tell(&answer, &mut self.counts, out)
     }
 
     /// What was counted of the lines of all events so far.
@@ -246,19 +240,4 @@ fn bytes_of(datagrams: &[Made], number: u32) -> Option<&[u8]>
 {
     let sent = datagrams.get(number as usize - 1)?;
     Some(&sent.bytes)
-}
-
-/// Counts the lines of an answer, and prints them.
-fn report<O: Sink>(answer: &Answer, counts: &mut Counts, out: &mut O) -> Result<(), StepError>
-    ensures counts { counts.new ≡ counted counts.old (answered_of answer.now) }
-    ensures printed { Prints (O.written out.old) (O.written out.new) (lines_of (answered_of answer.now)) result }
-    ensures flushed { OnOk result (NothingWaits (O.written out.new)) }
-    ensures cause { HasStepCause (O.faults out.old) (O.faults out.new) result }
-    ensures memory { IsErrOf result StepError.NoMemory → ⊥ }
-{
-    *counts = counts.with(lines_in(answer));
-    match print_answer(answer, out) {
-        Ok(()) => Ok(()),
-        Err(Failed) => Err(StepError::WriteFault),
-    }
 }

@@ -9,8 +9,8 @@ use Rattle.q3_profile.specs.declared.profile.Profile.{Profile}
 use Rattle.q3_script.specs.declared.event.Event.{Event}
 use Rattle.q3_report.specs.Answers.{Answered}
 use Rattle.q3_report.specs.AnswerLines.{lines_of}
-use Rattle.q3_world.specs.declared.world.StepError.{StepError}
-use Rattle.q3_world.specs.declared.world.StepError.TheVariants as errors
+use Rattle.q3_world.specs.declared.told.StepError.{StepError}
+use Rattle.q3_world.specs.declared.told.StepError.TheVariants as errors
 use Rattle.q3_io.specs.Laws.{TextsFollow}
 use Rattle.q3_io.specs.Written.{Written, Wrote}
 use Rattle.q3_world.specs.Outcome.{Prints}

@@ -6,8 +6,8 @@ use Rattle.q3_io.specs.Told.{Told}
 use Rattle.q3_io.specs.Written.{Written, Wrote, NothingWaits}
 use Rattle.q3_report.specs.Answers.{Answered}
 use Rattle.q3_report.specs.AnswerLines.{lines_of}
-use Rattle.q3_world.specs.declared.world.StepError.{StepError}
-use Rattle.q3_world.specs.declared.world.StepError.TheVariants as step
+use Rattle.q3_world.specs.declared.told.StepError.{StepError}
+use Rattle.q3_world.specs.declared.told.StepError.TheVariants as step
 use Rattle.q3net.specs.Command.{Command, files_of}
 use Rattle.q3net.specs.Faults.{IsOutside, FileCause}
 use Rattle.q3net.specs.Input.{IsFront, looked_up, created, LeavesTold, LeavesFirst, Touches}
