@@ -2,6 +2,7 @@ pub mod Layers
 pub mod Apart
 pub mod Ends
 pub mod Counts
+pub mod Executed
 pub mod Kept
 pub mod Moves
 pub mod World
@@ -9,6 +10,5 @@ pub mod Games
 pub mod StandsFor
 pub mod Report
 pub mod Outcome
-pub mod Doing
 pub mod Answering
 pub mod ByTags

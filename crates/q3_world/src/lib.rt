@@ -2,13 +2,11 @@
 #![tactic(auto)]
 
 pub mod counts;
-mod ends;
 pub mod laws;
 mod made;
 mod places;
-pub mod told;
+mod replay;
 pub mod world;
 
 pub use counts::Counts;
-pub use told::StepError;
-pub use world::World;
+pub use world::{StepError, World};

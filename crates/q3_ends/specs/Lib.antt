@@ -1,2 +1,0 @@
-pub mod AtServer
-pub mod AtClient
