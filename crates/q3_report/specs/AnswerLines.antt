@@ -1,27 +1,19 @@
--- The lines of an event's answer, and what is lent to be printed with it.
+-- The lines of an event's answer.
 use Rattle.std.specs.Prelude.{ℕ, List, [], ◌∷◌, codes, decimal, Option, Some, None, Result, Ok, Err}
 use Rattle.std.specs.List.{concat}
-use Rattle.q3_ring.specs.Snapshot.{Snapshot}
-use Rattle.q3_text.specs.declared.text.Command.{Command}
-use Rattle.q3_clstate.specs.State.{AppliedState}
+use Rattle.q3_io.specs.Print.{hex_word}
 use Rattle.q3_clstate.specs.Report.{snapshot_text}
-use Rattle.q3_clstate.specs.declared.applied.Log.{Log}
-use Rattle.q3_slot.specs.declared.answer.NoClient.{NoClient}
-use Rattle.q3_slot.specs.declared.taking.Heard.{Heard}
-use Rattle.q3_slot.specs.declared.taking.ServerTook.{ServerTook}
-use Rattle.q3_client.specs.declared.client.ClientTook.{ClientTook}
-use Rattle.q3_lines.specs.ServerLines.{Run, ran_nothing, run_of, slot_error_text, not_later_text, late_text, no_client_text, config_refused_text, say_error_text, serve_text, server_text}
+use Rattle.q3_lines.specs.ServerLines.{slot_error_text, not_later_text, late_text, no_client_text, config_refused_text, say_error_text, serve_text, server_text}
 use Rattle.q3_lines.specs.ClientLines.{client_text, window_full_text, move_error_text, send_text}
 use Rattle.q3_report.specs.declared.answer.MoveRefused.{MoveRefused}
 use Rattle.q3_report.specs.declared.answer.MoveRefused.TheVariants as refused
 use Rattle.q3_report.specs.declared.answer.TypeRefused.{TypeRefused}
 use Rattle.q3_report.specs.declared.answer.TypeRefused.TheVariants as untyped
-use Rattle.q3_report.specs.declared.answer.Shown.{Shown}
-use Rattle.q3_report.specs.declared.answer.Shown.TheVariants as shown
-use Rattle.q3_report.specs.declared.answer.Answer.{Answer}
-use Rattle.q3_report.specs.declared.answer.Answer.TheVariants as answers
-use Rattle.q3_report.specs.declared.answer.Answer.TheVariants.{Client, Port, Map, Entity, Remove, Baseline, Config, Time, Player, Area, Serve, Send, Unknown, Deliver, ToServer, Show, Toclient, Toserver}
-use Rattle.q3_io.specs.Print.{hex_word}
+use Rattle.q3_report.specs.declared.answer.HandedIn.{HandedIn}
+use Rattle.q3_report.specs.declared.answer.HandedIn.TheVariants as handed
+use Rattle.q3_report.specs.declared.answer.Front.{Front}
+use Rattle.q3_report.specs.declared.answer.Front.TheVariants as fronts
+use Rattle.q3_report.specs.Answers.{Taking, ByClient, ByServer, Showing, ShowsNobody, ShowsNothing, ShowsNewest, Answered, Given, Served, SentOut, Took, Untaken, Shown, Bytes}
 
 -- what stands behind that which the game handed in, with the text of each error
 abbrev pub handed_in_text : {E : Type 0} → (E → List ℕ) → Result (Unit {0}) E → List ℕ
@@ -43,62 +35,61 @@ abbrev pub move_refused_text : MoveRefused → List ℕ
 move_refused_text refused.NoClient = codes "noclient"
 move_refused_text (refused.Error e) = move_error_text e
 
--- what stands behind `show C`: where a snapshot is shown, it is lent
-abbrev pub shown_text : Shown → Option Snapshot → List ℕ
-shown_text shown.NoClient lent = codes " noclient\n"
-shown_text shown.Newest (Some snapshot) = snapshot_text snapshot
-shown_text other lent = codes " none\n"
+-- the lines of what was handed in
+abbrev pub handed_lines : HandedIn → List ℕ
+handed_lines (handed.Client c outcome) = concat (codes "client " ∷ decimal c ∷ handed_in_text slot_error_text outcome ∷ [])
+handed_lines (handed.Port c outcome) = concat (codes "port " ∷ decimal c ∷ handed_in_text no_client_text outcome ∷ [])
+handed_lines (handed.Map id outcome) = concat (codes "map " ∷ decimal id ∷ handed_in_text not_later_text outcome ∷ [])
+handed_lines (handed.Entity number) = concat (codes "entity " ∷ decimal number ∷ codes " ok\n" ∷ [])
+handed_lines (handed.Remove number) = concat (codes "remove " ∷ decimal number ∷ codes " ok\n" ∷ [])
+handed_lines (handed.Baseline number outcome) = concat (codes "baseline " ∷ decimal number ∷ handed_in_text late_text outcome ∷ [])
+handed_lines (handed.Config index outcome) = concat (codes "config " ∷ decimal index ∷ handed_in_text config_refused_text outcome ∷ [])
+handed_lines (handed.Player c outcome) = concat (codes "player " ∷ decimal c ∷ handed_in_text no_client_text outcome ∷ [])
+handed_lines (handed.Area c outcome) = concat (codes "area " ∷ decimal c ∷ handed_in_text no_client_text outcome ∷ [])
+handed_lines handed.Time = codes "time ok\n"
+handed_lines (handed.Say c outcome) = concat (codes "say " ∷ decimal c ∷ issued_text say_error_text outcome ∷ [])
+handed_lines (handed.TypeText c outcome) = concat (codes "type " ∷ decimal c ∷ issued_text type_refused_text outcome ∷ [])
+handed_lines (handed.Move c outcome) = concat (codes "move " ∷ decimal c ∷ handed_in_text move_refused_text outcome ∷ [])
 
--- what stands behind `deliver D`, or `toclient C`, where a client took a datagram: what it has then is lent
-abbrev pub client_lines : Option AppliedState → ℕ → ClientTook → List Command → List ℕ
-client_lines None c took commands = []
-client_lines (Some state) c took commands = client_text state c took commands
+-- the word and the number in front of what an end made of bytes, and what stands behind both where nobody took them
+abbrev pub front_word : Front → List ℕ
+front_word (fronts.Deliver datagram) = codes "deliver "
+front_word (fronts.Toclient c) = codes "toclient "
+front_word (fronts.Toserver c) = codes "toserver "
 
--- what is printed where bytes are handed to a client, and to the server from a client's address
-abbrev pub handed_text : ℕ → Result ClientTook NoClient → Option AppliedState → List Command → List ℕ
-handed_text c (Ok took) state commands = concat (codes "toclient " ∷ decimal c ∷ client_lines state c took commands ∷ [])
-handed_text c (Err e) state commands = concat (codes "toclient " ∷ decimal c ∷ codes " noclient\n" ∷ [])
+abbrev pub front_number : Front → ℕ
+front_number (fronts.Deliver datagram) = datagram
+front_number (fronts.Toclient c) = c
+front_number (fronts.Toserver c) = c
 
-abbrev pub given_text : ℕ → Result ServerTook NoClient → Run → List ℕ
-given_text c (Ok took) ran = concat (codes "toserver " ∷ decimal c ∷ server_text took ran ∷ [])
-given_text c (Err e) ran = concat (codes "toserver " ∷ decimal c ∷ codes " noclient\n" ∷ [])
+abbrev pub untaken_text : Front → List ℕ
+untaken_text (fronts.Deliver datagram) = codes " unknown\n"
+untaken_text (fronts.Toclient c) = codes " noclient\n"
+untaken_text (fronts.Toserver c) = codes " noclient\n"
 
--- what stands behind `bytes D`: where there is such a datagram, its bytes are lent
+-- what an end made of bytes, to the end of that line and with the lines under it
+abbrev pub taking_text : Taking → List ℕ
+taking_text (ByClient c took state commands) = client_text state c took commands
+taking_text (ByServer took run) = server_text took run
+
+-- what stands behind `show C`
+abbrev pub showing_text : Showing → List ℕ
+showing_text ShowsNobody = codes " noclient\n"
+showing_text ShowsNothing = codes " none\n"
+showing_text (ShowsNewest snapshot) = snapshot_text snapshot
+
+-- what stands behind `bytes D`
 abbrev pub bytes_text : Option (List ℕ) → List ℕ
 bytes_text None = codes " unknown\n"
 bytes_text (Some bytes) = concat (codes " " ∷ hex_word bytes ∷ codes "\n" ∷ [])
 
--- the lines of an answer, with what is lent to be printed: a snapshot, the state of the client that took a datagram, what was
--- executed and run, and the bytes of a datagram
-unfoldable pub lines_of : Answer → Option Snapshot → Option AppliedState → Run → Option (List ℕ) → List ℕ
-lines_of (Client c outcome) lent state ran bytes = concat (codes "client " ∷ decimal c ∷ handed_in_text slot_error_text outcome ∷ [])
-lines_of (Port c outcome) lent state ran bytes = concat (codes "port " ∷ decimal c ∷ handed_in_text no_client_text outcome ∷ [])
-lines_of (Map id outcome) lent state ran bytes = concat (codes "map " ∷ decimal id ∷ handed_in_text not_later_text outcome ∷ [])
-lines_of (Entity number) lent state ran bytes = concat (codes "entity " ∷ decimal number ∷ codes " ok\n" ∷ [])
-lines_of (Remove number) lent state ran bytes = concat (codes "remove " ∷ decimal number ∷ codes " ok\n" ∷ [])
-lines_of (Baseline number outcome) lent state ran bytes = concat (codes "baseline " ∷ decimal number ∷ handed_in_text late_text outcome ∷ [])
-lines_of Time lent state ran bytes = codes "time ok\n"
-lines_of (Player c outcome) lent state ran bytes = concat (codes "player " ∷ decimal c ∷ handed_in_text no_client_text outcome ∷ [])
-lines_of (Area c outcome) lent state ran bytes = concat (codes "area " ∷ decimal c ∷ handed_in_text no_client_text outcome ∷ [])
-lines_of (Config index outcome) lent state ran bytes = concat (codes "config " ∷ decimal index ∷ handed_in_text config_refused_text outcome ∷ [])
-lines_of (answers.Say c outcome) lent state ran bytes = concat (codes "say " ∷ decimal c ∷ issued_text say_error_text outcome ∷ [])
-lines_of (answers.TypeText c outcome) lent state ran bytes = concat (codes "type " ∷ decimal c ∷ issued_text type_refused_text outcome ∷ [])
-lines_of (answers.Move c outcome) lent state ran bytes = concat (codes "move " ∷ decimal c ∷ handed_in_text move_refused_text outcome ∷ [])
-lines_of (Serve c emission datagram) lent state ran bytes = serve_text c emission datagram
-lines_of (Send c (Ok sent) datagram) lent state ran bytes = send_text c sent datagram
-lines_of (Send c (Err e) datagram) lent state ran bytes = concat (codes "send " ∷ decimal c ∷ codes " noclient\n" ∷ [])
-lines_of (Unknown datagram) lent state ran bytes = concat (codes "deliver " ∷ decimal datagram ∷ codes " unknown\n" ∷ [])
-lines_of (Deliver datagram c took) lent state ran bytes = concat (codes "deliver " ∷ decimal datagram ∷ client_lines state c took ran.commands ∷ [])
-lines_of (ToServer datagram took) lent state ran bytes = concat (codes "deliver " ∷ decimal datagram ∷ server_text took ran ∷ [])
-lines_of (Show c what) lent state ran bytes = concat (codes "show " ∷ decimal c ∷ shown_text what lent ∷ [])
-lines_of (answers.Bytes datagram) lent state ran bytes = concat (codes "bytes " ∷ decimal datagram ∷ bytes_text bytes ∷ [])
-lines_of (Toclient c outcome) lent state ran bytes = handed_text c outcome state ran.commands
-lines_of (Toserver c outcome) lent state ran bytes = given_text c outcome ran
-
--- what an answer is printed with: the commands of the client that took a datagram, or all that the server ran
-abbrev pub ran_with : Answer → Log → Heard → Run
-ran_with (Deliver datagram c took) log heard = record ran_nothing { commands = log.commands }
-ran_with (Toclient c (Ok took)) log heard = record ran_nothing { commands = log.commands }
-ran_with (ToServer datagram took) log heard = run_of heard
-ran_with (Toserver c (Ok took)) log heard = run_of heard
-ran_with other log heard = ran_nothing
+-- the lines of an answer
+unfoldable pub lines_of : Answered → List ℕ
+lines_of (Given handed) = handed_lines handed
+lines_of (Served c emission datagram) = serve_text c emission datagram
+lines_of (SentOut c (Ok sent) datagram) = send_text c sent datagram
+lines_of (SentOut c (Err e) datagram) = concat (codes "send " ∷ decimal c ∷ codes " noclient\n" ∷ [])
+lines_of (Took front taking) = concat (front_word front ∷ decimal (front_number front) ∷ taking_text taking ∷ [])
+lines_of (Untaken front) = concat (front_word front ∷ decimal (front_number front) ∷ untaken_text front ∷ [])
+lines_of (Shown c showing) = concat (codes "show " ∷ decimal c ∷ showing_text showing ∷ [])
+lines_of (Bytes datagram bytes) = concat (codes "bytes " ∷ decimal datagram ∷ bytes_text bytes ∷ [])

@@ -1,81 +1,45 @@
 //! Prints the lines of an answer, those of `lines_of` to the letter, and hands them on behind the last: one write, where a line buffer
 //! has room for them.
 
-ghost use Rattle.std.specs.Prelude.{◌≡◌, [], ◌∷◌, codes, decimal, option_map, OnOk};
+ghost use Rattle.std.specs.Prelude.{[], ◌∷◌, codes, decimal, option_map, OnOk};
 ghost use Rattle.std.specs.List.{concat};
 ghost use Rattle.q3_io.specs.Faults.{HasCause};
-ghost use Rattle.q3_io.specs.Written.{Adds, NothingWaits};
-ghost use Rattle.q3_lines.specs.ServerLines.{run_of as what_ran, server_text};
-ghost use Rattle.q3_lines.specs.ClientLines.{client_text};
-ghost use Rattle.q3_report.specs.AnswerLines.{lines_of, ran_with, client_lines, handed_text, given_text, handed_in_text, issued_text, bytes_text, shown_text};
 ghost use Rattle.q3_io.specs.Print.{hex_word};
+ghost use Rattle.q3_io.specs.Written.{Adds, NothingWaits};
 ghost use Rattle.q3_clstate.specs.Report.{snapshot_text};
 ghost use Rattle.q3_rings.specs.Loans.{snapshot_of};
+ghost use Rattle.q3_report.specs.AnswerLines.{lines_of, handed_lines, front_word, front_number, taking_text, handed_in_text, issued_text, bytes_text, showing_text};
+ghost use Rattle.q3_report.specs.Tellings.{answered_of, taking_of, showing_of};
 
-use crate::answer::{Answer, Shown};
+use crate::answer::{Answer, Front, HandedIn, Shown, Taker};
 use crate::refusals::Refusal;
-use q3_client::{Client, ClientTook};
-use q3_clstate::{Log, print_snapshot};
+use q3_clstate::print_snapshot;
 use q3_io::{Failed, Piece, Sink, laws, print_all, print_hex_word};
-use q3_lines::client::{print_sent, print_took};
-use q3_lines::server;
+use q3_lines::client::print_sent;
 use q3_lines::server::print_emitted;
+use q3_lines::{client, server};
 use q3_rings::SnapView;
-use q3_server::{Heard, NoClient, ServerTook};
+use q3_server::NoClient;
 
-/// Prints the lines of an answer, with what is lent for it: a snapshot, the client that took a datagram, the bytes of one, and what
-/// the client, or the server, executed and ran. It hands them on, or a front of them and answers `Failed`.
-pub fn print_answer<O: Sink>(
-    answer: &Answer,
-    lent: Option<SnapView>,
-    taker: Option<&Client>,
-    bytes: Option<&[u8]>,
-    log: &Log,
-    heard: &Heard,
-    out: &mut O,
-) -> Result<(), Failed>
-    ensures adds { Adds (O.written out.old) (O.written out.new)
-        (lines_of answer.now (option_map snapshot_of lent.entry) (option_map (λ client. client.now.state) taker.entry) (ran_with answer.now log.now heard.now) (option_map (λ bytes. bytes.now) bytes.entry)) result }
+/// Prints the lines of an answer, with what it lends. It hands them on, or a front of them and answers `Failed`.
+pub fn print_answer<O: Sink>(answer: &Answer, out: &mut O) -> Result<(), Failed>
+    ensures adds { Adds (O.written out.old) (O.written out.new) (lines_of (answered_of answer.now)) result }
     ensures flushed { OnOk result (NothingWaits (O.written out.new)) }
     ensures cause { HasCause (O.faults out.old) (O.faults out.new) result }
 {
     laws::texts_follow();
-    print_lines(answer, lent, taker, bytes, log, heard, out)?;
+    print_lines(answer, out)?;
     out.flush()
 }
 
 /// Prints the lines of an answer.
 #[tactic(auto, unfolding(crate::specs::AnswerLines::lines_of))]
-fn print_lines<O: Sink>(
-    answer: &Answer,
-    lent: Option<SnapView>,
-    taker: Option<&Client>,
-    bytes: Option<&[u8]>,
-    log: &Log,
-    heard: &Heard,
-    out: &mut O,
-) -> Result<(), Failed>
-    ensures adds { Adds (O.written out.old) (O.written out.new)
-        (lines_of answer.now (option_map snapshot_of lent.entry) (option_map (λ client. client.now.state) taker.entry) (ran_with answer.now log.now heard.now) (option_map (λ bytes. bytes.now) bytes.entry)) result }
+fn print_lines<O: Sink>(answer: &Answer, out: &mut O) -> Result<(), Failed>
+    ensures adds { Adds (O.written out.old) (O.written out.new) (lines_of (answered_of answer.now)) result }
     ensures cause { HasCause (O.faults out.old) (O.faults out.new) result }
 {
     match answer {
-        Answer::Client { c, outcome } => print_outcome(b"client ", u32::from(*c), outcome, out),
-        Answer::Port { c, outcome } => print_outcome(b"port ", u32::from(*c), outcome, out),
-        Answer::Map { id, outcome } => print_outcome(b"map ", *id, outcome, out),
-        Answer::Entity { number } => print_line(b"entity ", u32::from(*number), b" ok\n", out),
-        Answer::Remove { number } => print_line(b"remove ", u32::from(*number), b" ok\n", out),
-        Answer::Baseline { number, outcome } => {
-            print_outcome(b"baseline ", u32::from(*number), outcome, out)
-        }
-        Answer::Config { index, outcome } => print_outcome(b"config ", *index, outcome, out),
-        Answer::Player { c, outcome } => print_outcome(b"player ", u32::from(*c), outcome, out),
-        Answer::Area { c, outcome } => print_outcome(b"area ", u32::from(*c), outcome, out),
-        Answer::Time => print_all(&[Piece::Text(b"time ok\n")], out),
-        Answer::Say { c, outcome } => print_issued(b"say ", *c, outcome, out),
-        Answer::TypeText { c, outcome } => print_issued(b"type ", *c, outcome, out),
-        Answer::Move { c, outcome } => print_outcome(b"move ", u32::from(*c), outcome, out),
-        Answer::Unknown { datagram } => print_line(b"deliver ", *datagram, b" unknown\n", out),
+        Answer::HandedIn(handed) => print_handed_in(handed, out),
         Answer::Serve {
             c,
             emitted,
@@ -91,16 +55,36 @@ fn print_lines<O: Sink>(
             sent: Err(NoClient),
             ..
         } => print_line(b"send ", u32::from(*c), b" noclient\n", out),
-        Answer::Deliver { datagram, c, took } => {
-            print_arrived(b"deliver ", *datagram, *c, took, taker, log, out)
+        Answer::Took { front, taker } => print_taken(front, taker, out),
+        Answer::Untaken { front } => {
+            print_line(front.word(), front.number(), front.untaken(), out)
         }
-        Answer::ToServer { datagram, took } => {
-            print_heard(b"deliver ", *datagram, took, heard, out)
+        Answer::Show { c, shown } => print_shown(*c, *shown, out),
+        Answer::Bytes { datagram, bytes } => print_bytes(*datagram, *bytes, out),
+    }
+}
+
+/// Prints the line of what was handed in.
+fn print_handed_in<O: Sink>(handed: &HandedIn, out: &mut O) -> Result<(), Failed>
+    ensures adds { Adds (O.written out.old) (O.written out.new) (handed_lines handed.now) result }
+    ensures cause { HasCause (O.faults out.old) (O.faults out.new) result }
+{
+    match handed {
+        HandedIn::Client { c, outcome } => print_outcome(b"client ", u32::from(*c), outcome, out),
+        HandedIn::Port { c, outcome } => print_outcome(b"port ", u32::from(*c), outcome, out),
+        HandedIn::Map { id, outcome } => print_outcome(b"map ", *id, outcome, out),
+        HandedIn::Entity { number } => print_line(b"entity ", u32::from(*number), b" ok\n", out),
+        HandedIn::Remove { number } => print_line(b"remove ", u32::from(*number), b" ok\n", out),
+        HandedIn::Baseline { number, outcome } => {
+            print_outcome(b"baseline ", u32::from(*number), outcome, out)
         }
-        Answer::Show { c, shown } => print_shown(*c, *shown, lent, out),
-        Answer::Bytes { datagram } => print_bytes(*datagram, bytes, out),
-        Answer::Toclient { c, outcome } => print_handed(*c, outcome, taker, log, out),
-        Answer::Toserver { c, outcome } => print_given(*c, outcome, heard, out),
+        HandedIn::Config { index, outcome } => print_outcome(b"config ", *index, outcome, out),
+        HandedIn::Player { c, outcome } => print_outcome(b"player ", u32::from(*c), outcome, out),
+        HandedIn::Area { c, outcome } => print_outcome(b"area ", u32::from(*c), outcome, out),
+        HandedIn::Time => print_all(&[Piece::Text(b"time ok\n")], out),
+        HandedIn::Say { c, outcome } => print_issued(b"say ", *c, outcome, out),
+        HandedIn::TypeText { c, outcome } => print_issued(b"type ", *c, outcome, out),
+        HandedIn::Move { c, outcome } => print_outcome(b"move ", u32::from(*c), outcome, out),
     }
 }
 
@@ -191,93 +175,31 @@ fn print_refused<E: Refusal, O: Sink>(
     out.write_all(b"\n")
 }
 
-/// Prints the lines of bytes that were handed to a client, if it is there.
-fn print_handed<O: Sink>(
-    c: u8,
-    outcome: &Result<ClientTook, NoClient>,
-    taker: Option<&Client>,
-    log: &Log,
-    out: &mut O,
-) -> Result<(), Failed>
+/// Prints the lines of bytes that an end took.
+fn print_taken<O: Sink>(front: &Front, taker: &Taker, out: &mut O) -> Result<(), Failed>
     ensures adds { Adds (O.written out.old) (O.written out.new)
-        (handed_text c outcome.now (option_map (λ client. client.now.state) taker.entry) log.now.commands) result }
-    ensures cause { HasCause (O.faults out.old) (O.faults out.new) result }
-{
-    match outcome {
-        Ok(took) => print_arrived(b"toclient ", u32::from(c), c, took, taker, log, out),
-        Err(NoClient) => print_line(b"toclient ", u32::from(c), b" noclient\n", out),
-    }
-}
-
-/// Prints the lines of bytes that were handed to the server from a client's address, if the client is there.
-fn print_given<O: Sink>(
-    c: u8,
-    outcome: &Result<ServerTook, NoClient>,
-    heard: &Heard,
-    out: &mut O,
-) -> Result<(), Failed>
-    ensures adds { Adds (O.written out.old) (O.written out.new) (given_text c outcome.now (what_ran heard.now)) result }
-    ensures cause { HasCause (O.faults out.old) (O.faults out.new) result }
-{
-    match outcome {
-        Ok(took) => print_heard(b"toserver ", u32::from(c), took, heard, out),
-        Err(NoClient) => print_line(b"toserver ", u32::from(c), b" noclient\n", out),
-    }
-}
-
-/// Prints the lines of a datagram that the server took, behind a word and the number of what it is about.
-fn print_heard<O: Sink>(
-    word: &[u8],
-    number: u32,
-    took: &ServerTook,
-    heard: &Heard,
-    out: &mut O,
-) -> Result<(), Failed>
-    ensures adds { Adds (O.written out.old) (O.written out.new) (concat (word.now ∷ decimal number ∷ server_text took.now (what_ran heard.now) ∷ [])) result }
+        (concat (front_word front.now ∷ decimal (front_number front.now) ∷ taking_text (taking_of taker.now) ∷ [])) result }
     ensures cause { HasCause (O.faults out.old) (O.faults out.new) result }
 {
     laws::texts_follow();
-    print_front(word, number, out)?;
-    server::print_took(took, heard, out)
+    print_front(front.word(), front.number(), out)?;
+    print_taking(taker, out)
 }
 
-/// Prints the lines of a datagram that a client took, which is lent.
-fn print_arrived<O: Sink>(
-    word: &[u8],
-    number: u32,
-    c: u8,
-    took: &ClientTook,
-    taker: Option<&Client>,
-    log: &Log,
-    out: &mut O,
-) -> Result<(), Failed>
-    ensures adds { Adds (O.written out.old) (O.written out.new)
-        (concat (word.now ∷ decimal number ∷ client_lines (option_map (λ client. client.now.state) taker.entry) c took.now log.now.commands ∷ [])) result }
+/// Prints what an end made of bytes: the rest of that line, and the lines under it.
+fn print_taking<O: Sink>(taker: &Taker, out: &mut O) -> Result<(), Failed>
+    ensures adds { Adds (O.written out.old) (O.written out.new) (taking_text (taking_of taker.now)) result }
     ensures cause { HasCause (O.faults out.old) (O.faults out.new) result }
 {
     match taker {
-        Some(client) => print_delivered(word, number, client, c, took, log, out),
-        None => print_front(word, number, out),
+        Taker::Client {
+            c,
+            took,
+            client,
+            log,
+        } => client::print_took(client, *c, took, log, out),
+        Taker::Server { took, heard } => server::print_took(took, heard, out),
     }
-}
-
-/// Prints the lines of a datagram that a client took, where it is there.
-fn print_delivered<O: Sink>(
-    word: &[u8],
-    number: u32,
-    client: &Client,
-    c: u8,
-    took: &ClientTook,
-    log: &Log,
-    out: &mut O,
-) -> Result<(), Failed>
-    ensures adds { Adds (O.written out.old) (O.written out.new)
-        (concat (word.now ∷ decimal number ∷ client_text client.now.state c took.now log.now.commands ∷ [])) result }
-    ensures cause { HasCause (O.faults out.old) (O.faults out.new) result }
-{
-    laws::texts_follow();
-    print_front(word, number, out)?;
-    print_took(client, c, took, log, out)
 }
 
 /// Prints a word, and the number of what the line is about.
@@ -313,21 +235,15 @@ fn print_all_bytes<O: Sink>(datagram: u32, bytes: &[u8], out: &mut O) -> Result<
 }
 
 /// Prints the lines of a `show`.
-fn print_shown<O: Sink>(
-    c: u8,
-    shown: Shown,
-    lent: Option<SnapView>,
-    out: &mut O,
-) -> Result<(), Failed>
-    ensures adds { Adds (O.written out.old) (O.written out.new) (concat (codes "show " ∷ decimal c ∷ shown_text shown (option_map snapshot_of lent.entry) ∷ [])) result }
+fn print_shown<O: Sink>(c: u8, shown: Shown, out: &mut O) -> Result<(), Failed>
+    ensures adds { Adds (O.written out.old) (O.written out.new) (concat (codes "show " ∷ decimal c ∷ showing_text (showing_of shown.entry) ∷ [])) result }
     ensures cause { HasCause (O.faults out.old) (O.faults out.new) result }
 {
-    let word: &[u8] = match (shown, lent) {
-        (Shown::Newest, Some(snapshot)) => return print_newest(c, snapshot, out),
-        (Shown::NoClient, _) => b" noclient\n",
-        _ => b" none\n",
-    };
-    print_line(b"show ", u32::from(c), word, out)
+    match shown {
+        Shown::NoClient => print_line(b"show ", u32::from(c), b" noclient\n", out),
+        Shown::Nothing => print_line(b"show ", u32::from(c), b" none\n", out),
+        Shown::Newest(snapshot) => print_newest(c, snapshot, out),
+    }
 }
 
 /// Prints the lines of a `show` that shows a snapshot.

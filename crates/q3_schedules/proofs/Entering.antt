@@ -1,9 +1,9 @@
 -- A move with which a client enters a map isn't run: all that were run before it are earlier, and all that are run later are later.
-use Rattle.std.proofs.Common.{Bool, List, None, Ok, Option, Some, [], ap, arith, false, get_or, inl, inr, length, refl, set, subst, sym, ℕ, ◌++◌, ◌+◌, ◌-◌, ◌<◌, ◌∙◌, ◌∷◌, ◌≡◌, ◌≤◌}
+use Rattle.std.proofs.Common.{Bool, List, None, Ok, Option, Some, [], ap, arith, false, get_or, length, refl, subst, sym, ℕ, ◌++◌, ◌+◌, ◌-◌, ◌<◌, ◌∙◌, ◌∷◌, ◌≡◌, ◌≤◌}
 use Rattle.std.specs.List.{AllByRecursion}
 use Rattle.std.specs.Prelude.{All, Contains, Err, Result, if◌then◌else◌, map, nat_le, nat_lt, option_map, position, slice_get, slice_set, ◌==◌, ◌||◌}
-use Rattle.std.proofs.lemmas.Bool.{cases_eq, cond_both}
-use Rattle.std.proofs.lemmas.List.{append-nil, append_assoc, get_or-set_other}
+use Rattle.std.proofs.lemmas.Bool.{cond_both}
+use Rattle.std.proofs.lemmas.List.{append-nil, append_assoc}
 use Rattle.std.proofs.lemmas.List.Elements.{All-append, All-nil, All-weaker, Contains-get_or}
 use Rattle.std.proofs.lemmas.List.FromFn.{get_or-map-range_with_len}
 use Rattle.q3_bits.specs.Bits.{message_length}
@@ -12,7 +12,7 @@ use Rattle.q3_chan.specs.Sending.{UnderWay}
 use Rattle.q3_chan.specs.Tags.{tagged}
 use Rattle.q3_chan.specs.declared.gatherer.Gathered.{Gathered}
 use Rattle.q3_chan.specs.declared.gatherer.Gathered.TheVariants as gathered
-use Rattle.q3_client.specs.Client.{ClientState, new_client, receive_message, take_gathered, type_at}
+use Rattle.q3_client.specs.Client.{receive_message, take_gathered, type_at}
 use Rattle.q3_client.specs.Moves.{add_move_at}
 use Rattle.q3_client.specs.Sending as speaks
 use Rattle.q3_client.specs.Sending.{Said, said_bytes}
@@ -34,7 +34,7 @@ use Rattle.q3_world.specs.ByTags.{IsOwn}
 use Rattle.q3_schedules.specs.Schedules.{IsScheduled}
 use Rattle.q3_script.specs.declared.event.Event.{Event}
 use Rattle.q3_script.specs.declared.event.Event.TheVariants as events
-use Rattle.q3_server.specs.Server.{Handed, add_apart, add_to, change_or, change_unless, emit_at, emit_from, give, is_same, on_map, own_string, places, say_to, slot_at}
+use Rattle.q3_server.specs.Server.{Handed, Saying, add_apart, add_client_at, add_to, change_or, change_unless, emit_at, emit_from, give, is_same, new_map_at, on_map, own_string, places, say_at, say_to, set_config_at, slot_at}
 use Rattle.q3_server.specs.Taking.{taken_at, unmoved}
 use Rattle.q3_server.specs.declared.server.ConfigRefused.{ConfigRefused}
 use Rattle.q3_server.specs.declared.server.ConfigRefused.TheVariants.{Own}
@@ -57,31 +57,39 @@ use Rattle.q3_text.specs.declared.text.Command.{Command}
 use Rattle.q3_window.specs.Incoming.{gap_in}
 use Rattle.q3_window.specs.Outgoing.{with_texts}
 use Rattle.q3_window.specs.declared.outgoing.WindowFull.{WindowFull}
-use Rattle.q3_world.specs.Ends.{add_move_to, client_at, join, joined, moved, new_map, ran_of, say_command, set_config, type_to, typed}
-use Rattle.q3_world.specs.Kept.{Kept, KeptStep, kept_step}
+use Rattle.q3_lines.specs.ServerLines.{Run}
+use Rattle.q3_clstate.specs.State.{AppliedState}
+use Rattle.q3_client.specs.declared.client.ClientTook.{ClientTook}
+use Rattle.q3_report.specs.declared.answer.HandedIn.TheVariants as handed
+use Rattle.q3_report.specs.declared.answer.MoveRefused.TheVariants as unmoving
+use Rattle.q3_report.specs.declared.answer.TypeRefused.TheVariants as untyped
+use Rattle.q3_report.specs.declared.answer.Front.TheVariants as fronts
+use Rattle.q3_report.specs.Answers.{ByClient, ByServer, Given, Took, Untaken}
+use Rattle.q3_ends.specs.AtServer.{ran_of, server_line}
+use Rattle.q3_ends.specs.AtClient.{add_move, moved, type_text, typed}
+use Rattle.q3_world.specs.declared.places.Place.{Place}
+use Rattle.q3_world.specs.Ends.{line_of, place_at, set_port_of, to_client as line_to_client}
+use Rattle.q3_world.specs.Kept.{KeptStep}
 use Rattle.q3_world.specs.Layers.{Layers}
 use Rattle.q3_world.specs.ByTags.{BytesFollowTags, kept_then, whole_then}
-use Rattle.q3_schedules.specs.Schedules.{EnteringIsNotRun}
+use Rattle.q3_schedules.specs.Schedules.{EnteringIsNotRun, ServerTookSo}
 use Rattle.q3_world.specs.StandsFor.{IsChecked, IsSent}
-use Rattle.q3_world.specs.World.{History, Step, Tag, Whole, arrive, deliver, game_in, history_at, named, no_history, no_said, opening, said_under, send, serve, step, to_client, to_server, with_all, with_built, with_ends, with_game, with_heard, with_history, with_issued, with_joined, with_noted, with_run, with_said, with_spoken, with_taken, with_texts_told, with_told, with_typed, texts_told, deliver_as}
-use Rattle.q3_report.specs.declared.answer.Answer.TheVariants as variants
+use Rattle.q3_world.specs.World.{History, Step, Tag, Whole, arrive, deliver, game_in, history_at, named, no_history, no_said, opening, said_under, send, serve, step, to_client, to_server, with_built, with_game, with_heard, with_history, with_issued, with_run, with_said, with_spoken, with_taken, with_texts_told, with_told, with_typed, texts_told, deliver_as}
 use Rattle.q3_world.specs.declared.made.Direction.{Direction}
 use Rattle.q3_world.specs.declared.made.Direction.TheVariants.{ToClient, ToServer}
-use Rattle.q3_world.proofs.Agree.{seen}
-use Rattle.q3_schedules.proofs.Stood.{kept_is}
-use Rattle.q3_world.proofs.Arriving.{delivers_agree, is_of_client, is_sent}
+use Rattle.q3_world.proofs.Arriving.{is_of_client, is_sent}
 use Rattle.q3_world.proofs.Holding.{Holds, has_slot}
 use Rattle.q3_world.proofs.ByTags.{cited_of}
 use Rattle.q3_world.proofs.EverySlot.{slot_changed}
-use Rattle.q3_schedules.proofs.Following.{after_both, after_one, all_at, all_first}
-use Rattle.q3_schedules.proofs.FollowsGiven.{history_changed}
+use Rattle.q3_schedules.proofs.Following.{all_at, all_first}
+use Rattle.q3_schedules.proofs.FollowsGiven.{both_changed, history_changed, joining, noting, one_changed}
 use Rattle.q3_world.proofs.GamesMoves.{last_least, rise_most}
 use Rattle.q3_world.proofs.GamesParts.{none_some, some_same}
 use Rattle.q3_world.proofs.Growth.{noted_same}
 use Rattle.q3_world.proofs.Mapped.{enters_late}
 use Rattle.q3_world.proofs.MoveLists.{later, runs_rise}
 use Rattle.q3_world.proofs.OnePlace.{set_there}
-use Rattle.q3_schedules.proofs.Stood.{Stood, step_own, stood}
+use Rattle.q3_schedules.proofs.Stood.{Stood, after_both, after_one, delivers_same, holds_of, step_own, stood}
 
 -- ---- the moves of a message
 
@@ -198,7 +206,7 @@ takes_tag profile whole tag from slot sent way at holds =
     let had = has_slot profile whole tag.client slot sent.client at holds in
     let gathering = tagged slot.gathering tag.number (said_bytes profile said) tag.index in
     takes_answer of_server (record slot { address = from; gathering = gathering.gathering }) tag.client said.message
-    (λ same. enters_late of_server slot had.0 history said there same had.1.joined.mapped) gathering.answer
+    (λ same. enters_late of_server slot had.0.client history said there same had.1.joined.mapped) gathering.answer
 
 -- ---- what was run since
 
@@ -247,32 +255,6 @@ past_takes old time c slot taken run takes is =
       is = ap (λ (moves : List Move). moves ++ taken.moves) is.is ∙ append_assoc old is.behind taken.moves;
       each = All-append (λ (one : Move). time < one.time) is.behind taken.moves is.each kept.each;
     }
-
--- ---- places
-
--- a slot changes, and what is noted of its client
-place_changed : (P : Option SlotState → History → Type 0) (slots : List (Option SlotState)) (histories : List History) (c k : ℕ) (slot : Option SlotState) (next : History)
-    → length slots ≡ places → length histories ≡ places → c < places → (P (get_or slots k None) (history_at histories k) → P slot next)
-    → P (get_or slots c None) (history_at histories c) → P (get_or (slice_set slots k slot) c None) (history_at (with_history histories k next) c)
-place_changed P slots histories c k slot next many count lt own is =
-    elim (cases_eq c k) [
-      | inl same ↦
-          subst (λ (j : ℕ). P (get_or (set slots k slot) j None) (history_at (with_history histories k next) j)) (sym same)
-          (rw (set_there slots k None slot many (omega (arith, same, lt)), set_there histories k no_history next count (omega (arith, same, lt)))
-          (own (subst (λ (j : ℕ). P (get_or slots j None) (history_at histories j)) same is)))
-      | inr other ↦ rw (get_or-set_other slots k c slot None other, get_or-set_other histories k c next no_history other) is
-    ]
-
--- or the slot alone
-slot_given : (P : Option SlotState → Type 0) (slots : List (Option SlotState)) (c k : ℕ) (slot : Option SlotState) → length slots ≡ places → c < places
-    → (P (get_or slots k None) → P slot) → P (get_or slots c None) → P (get_or (slice_set slots k slot) c None)
-slot_given P slots c k slot many lt own is =
-    elim (cases_eq c k) [
-      | inl same ↦
-          subst (λ (j : ℕ). P (get_or (set slots k slot) j None)) (sym same)
-          (rw (set_there slots k None slot many (omega (arith, same, lt))) (own (subst (λ (j : ℕ). P (get_or slots j None)) same is)))
-      | inr other ↦ rw (get_or-set_other slots k c slot None other) is
-    ]
 
 -- ---- where nothing is run
 
@@ -332,15 +314,15 @@ said_run : (history : History) (began : Option Said) → (with_said history bega
 said_run history None = refl
 said_run history (Some said) = refl
 
-spoken_run : (history : History) (text : List ℕ) (k : ℕ) (answer : Result ℕ SayError) → (with_spoken history text (variants.Say k answer)).run ≡ history.run
+spoken_run : (history : History) (text : List ℕ) (k : ℕ) (answer : Result ℕ SayError) → (with_spoken history text (Given (handed.Say k answer))).run ≡ history.run
 spoken_run history text k (Ok number) = refl
 spoken_run history text k (Err e) = refl
 
-typed_run : (history : History) (text : List ℕ) (k : ℕ) (answer : Result ℕ WindowFull) → (with_typed history text (typed k answer)).run ≡ history.run
+typed_run : (history : History) (text : List ℕ) (k : ℕ) (answer : Result ℕ WindowFull) → (with_typed history text (Given (typed k answer))).run ≡ history.run
 typed_run history text k (Ok number) = refl
 typed_run history text k (Err e) = refl
 
-moved_run : (history : History) (one : Move) (k : ℕ) (answer : Result (Unit {0}) MoveError) → (with_issued history one (moved k answer)).run ≡ history.run
+moved_run : (history : History) (one : Move) (k : ℕ) (answer : Result (Unit {0}) MoveError) → (with_issued history one (Given (moved k answer))).run ≡ history.run
 moved_run history one k (Ok x) = refl
 moved_run history one k (Err e) = refl
 
@@ -355,14 +337,17 @@ taken_run history (Some snapshot) commands number time (Some game) = refl
 
 -- a client that asks to join
 abbrev JoinsSo : Profile → List Move → ℕ → ℕ → Whole → ℕ → ℕ → ℕ → ℕ → Address → Handed SlotError → Type 0
-JoinsSo profile old time c whole k challenge qport dup address added =
-    At old time c (with_noted whole k (joined (record whole.ends { server = added.server }) k (new_client profile challenge qport dup) address added.answer)
-    (with_joined (history_at whole.histories k) qport address)).whole
+JoinsSo profile old time c whole k challenge qport dup address added = At old time c (joining profile whole k challenge qport dup address added)
 
 -- a config string that is handed in
 abbrev ConfigSo : List Move → ℕ → ℕ → Whole → ℕ → List ℕ → Handed ConfigRefused → Type 0
-ConfigSo old time c whole index text given =
-    Past old time (slot_at given.server c) (history_at (with_told whole.ends.server index text (variants.Config index given.answer) whole.histories) c).run
+ConfigSo old time c whole index text change =
+    Past old time (slot_at change.server c) (history_at (with_told whole.ends.server index text (Given (handed.Config index change.answer)) whole.histories) c).run
+
+-- a command of the server
+abbrev SpeaksSo : List Move → ℕ → ℕ → Whole → ℕ → List ℕ → Saying → Type 0
+SpeaksSo old time c whole k text said =
+    Past old time (slot_at said.server c) (history_at (with_history whole.histories k (with_spoken (history_at whole.histories k) text (Given (handed.Say k said.answer)))) c).run
 
 module _ (profile : Profile) (whole : Whole) (old : List Move) (time c : ℕ) (lt : c < places) (holds : Holds profile whole) (is : At old time c whole) where
   -- nothing new is noted of a client
@@ -379,7 +364,7 @@ module _ (profile : Profile) (whole : Whole) (old : List Move) (time c : ℕ) (l
   put : (k : ℕ) (slot slot' : SlotState) (next : History) → slot_at whole.ends.server k ≡ Some slot → slot'.last_run ≡ slot.last_run → next.run ≡ (history_at whole.histories k).run
       → Past old time (get_or (slice_set whole.ends.server.slots k (Some slot')) c None) (history_at (with_history whole.histories k next) c).run
   put k slot slot' next at last same =
-      place_changed (λ (s : Option SlotState) (h : History). Past old time s h.run) whole.ends.server.slots whole.histories c k (Some slot') next holds.facts.slots holds.facts.histories lt
+      both_changed (λ (s : Option SlotState) (h : History). Past old time s h.run) whole.ends.server.slots whole.histories c k (Some slot') next holds.facts.slots holds.facts.histories lt
       (λ was. past_same old time slot slot' (history_at whole.histories k).run next.run last same
       (subst (λ (s : Option SlotState). Past old time s (history_at whole.histories k).run) at was)) is
 
@@ -389,7 +374,7 @@ module _ (profile : Profile) (whole : Whole) (old : List Move) (time c : ℕ) (l
   gives k change stays None at = is
   gives k change stays (Some slot) at =
       let run = (history_at whole.histories c).run in
-      slot_given (λ (s : Option SlotState). Past old time s run) whole.ends.server.slots c k (Some (change slot)) holds.facts.slots lt
+      one_changed (λ (s : Option SlotState). Past old time s run) whole.ends.server.slots c k (Some (change slot)) holds.facts.slots lt
       (λ was. past_same old time slot (change slot) run run (stays slot) refl (subst (λ (s : Option SlotState). Past old time s run) at was)) is
 
   joins_apart : (k challenge qport dup : ℕ) (address : Address) → slot_at whole.ends.server k ≡ None → (twin : Option ℕ)
@@ -397,7 +382,7 @@ module _ (profile : Profile) (whole : Whole) (old : List Move) (time c : ℕ) (l
   joins_apart k challenge qport dup address none (Some twin) = unnoted k
   joins_apart k challenge qport dup address none None =
       let history = history_at whole.histories k in
-      place_changed (λ (s : Option SlotState) (h : History). Past old time s h.run) whole.ends.server.slots whole.histories c k (Some (new_slot challenge qport address))
+      both_changed (λ (s : Option SlotState) (h : History). Past old time s h.run) whole.ends.server.slots whole.histories c k (Some (new_slot challenge qport address))
       (record history { qport = qport; host = address.host }) holds.facts.slots holds.facts.histories lt
       (λ was. absurd (subst (λ (s : Option SlotState). Past old time s history.run) none was)) is
 
@@ -408,20 +393,25 @@ module _ (profile : Profile) (whole : Whole) (old : List Move) (time c : ℕ) (l
 
   -- a client asks to join
   joins : (k challenge qport dup : ℕ) (address : Address)
-      → At old time c (with_noted whole k (join profile whole.ends k challenge qport dup address) (with_joined (history_at whole.histories k) qport address)).whole
+      → At old time c (joining profile whole k challenge qport dup address (add_client_at whole.ends.server k challenge qport address))
   joins k challenge qport dup address =
       cond_both (nat_le (length whole.ends.server.slots) k) (record { server = whole.ends.server; answer = Err Range })
       (add_to whole.ends.server k (new_slot challenge qport address) (slot_at whole.ends.server k))
       (JoinsSo profile old time c whole k challenge qport dup address) (λ e. unnoted k)
       (λ e. joins_to k challenge qport dup address (slot_at whole.ends.server k) refl)
 
+  -- its datagrams come from another port
+  ports : (k port : ℕ) (found : Option Place) → Past old time (slot_at (set_port_of whole.ends k port found).ends.server c) (history_at whole.histories c).run
+  ports k port None = is
+  ports k port (Some place) = is
+
   -- a new map
-  maps : (id feed : ℕ) → At old time c (with_ends whole (new_map whole.ends id feed)).whole
+  maps : (id feed : ℕ) → Past old time (slot_at (new_map_at whole.ends.server id feed).server c) (history_at whole.histories c).run
   maps id feed =
       let server = whole.ends.server in
       let run = (history_at whole.histories c).run in
       cond_both (nat_le id server.map.id) (record { map = server.map; answer = Err (record { last = server.map.id }) }) (record { map = after_new_map server.map id feed; answer = Ok tt })
-      (λ (handed : of_map.Handed NotLater). Past old time (get_or (on_map server.slots handed.answer) c None) run) (λ e. is)
+      (λ (h : of_map.Handed NotLater). Past old time (get_or (on_map server.slots h.answer) c None) run) (λ e. is)
       (λ e. subst (λ (s : Option SlotState). Past old time s run) (sym (slot_changed on_new_map server.slots c))
       (past_mapped old time on_new_map (slot_at server c) run (λ slot. refl) is))
 
@@ -449,43 +439,44 @@ module _ (profile : Profile) (whole : Whole) (old : List Move) (time c : ℕ) (l
       (λ e. subst (λ (b : Bool). Past old time (slot_at server c) (history_at (if b then whole.histories else with_texts_told server (piece_texts index text) whole.histories) c).run) (sym e) is)
       (λ e. config_changes index text e (position (lacks_room (piece_texts index text)) server.slots))
 
-  configs : (index : ℕ) (text : List ℕ) → At old time c (with_all whole (set_config whole.ends index text) (with_told whole.ends.server index text)).whole
+  configs : (index : ℕ) (text : List ℕ) → ConfigSo old time c whole index text (set_config_at whole.ends.server index text)
   configs index text =
       let server = whole.ends.server in
       cond_both (index == own_string) (record { server = server; answer = Err Own }) (change_or server index text (admit_fault server.map.strings index text))
       (ConfigSo old time c whole index text) (λ e. is) (λ e. config_or index text (admit_fault server.map.strings index text))
 
   says_to : (k : ℕ) (text : List ℕ) (found : Option SlotState) → slot_at whole.ends.server k ≡ found
-      → Past old time (slot_at (say_to whole.ends.server k text found).server c)
-      (history_at (with_history whole.histories k (with_spoken (history_at whole.histories k) text (variants.Say k (say_to whole.ends.server k text found).answer))) c).run
+      → SpeaksSo old time c whole k text (say_to whole.ends.server k text found)
   says_to k text None at = unnoted k
   says_to k text (Some slot) at =
       let saying = say_slot slot text in
-      put k slot saying.slot (with_spoken (history_at whole.histories k) text (variants.Say k saying.answer)) at (said_last slot text) (spoken_run (history_at whole.histories k) text k saying.answer)
+      put k slot saying.slot (with_spoken (history_at whole.histories k) text (Given (handed.Say k saying.answer))) at (said_last slot text) (spoken_run (history_at whole.histories k) text k saying.answer)
 
   -- a command of the server
-  says : (k : ℕ) (text : List ℕ) → At old time c (with_noted whole k (say_command whole.ends k text) (with_spoken (history_at whole.histories k) text)).whole
+  says : (k : ℕ) (text : List ℕ) → SpeaksSo old time c whole k text (say_at whole.ends.server k text)
   says k text = says_to k text (slot_at whole.ends.server k) refl
 
   -- one of a client
-  types : (k : ℕ) (text : List ℕ) (found : Option ClientState) → At old time c (with_noted whole k (type_to whole.ends k text found) (with_typed (history_at whole.histories k) text)).whole
+  types : (k : ℕ) (text : List ℕ) (found : Option Place)
+      → At old time c (noting whole k (line_to_client whole.ends k (handed.TypeText k (Err untyped.NoClient)) (λ client. type_text client k text) found) (with_typed (history_at whole.histories k) text))
   types k text None = unnoted k
-  types k text (Some client) =
-      let answer = typed k (type_at client text).answer in
-      noted k (with_typed (history_at whole.histories k) text answer) (typed_run (history_at whole.histories k) text k (type_at client text).answer)
+  types k text (Some place) =
+      let answer = (type_at place.client text).answer in
+      noted k (with_typed (history_at whole.histories k) text (Given (typed k answer))) (typed_run (history_at whole.histories k) text k answer)
 
   -- a move that is issued
-  moves : (k : ℕ) (one : Move) (found : Option ClientState) → At old time c (with_noted whole k (add_move_to whole.ends k one found) (with_issued (history_at whole.histories k) one)).whole
+  moves : (k : ℕ) (one : Move) (found : Option Place)
+      → At old time c (noting whole k (line_to_client whole.ends k (handed.Move k (Err unmoving.NoClient)) (λ client. add_move client k one) found) (with_issued (history_at whole.histories k) one))
   moves k one None = unnoted k
-  moves k one (Some client) =
-      let answer = moved k (add_move_at client one).answer in
-      noted k (with_issued (history_at whole.histories k) one answer) (moved_run (history_at whole.histories k) one k (add_move_at client one).answer)
+  moves k one (Some place) =
+      let answer = (add_move_at place.client one).answer in
+      noted k (with_issued (history_at whole.histories k) one (Given (moved k answer))) (moved_run (history_at whole.histories k) one k answer)
 
   -- a client's datagram is made
-  sends : (k : ℕ) (found : Option ClientState) → At old time c (send whole k found).whole
+  sends : (k : ℕ) (found : Option Place) → At old time c (send whole k found).whole
   sends k None = is
-  sends k (Some client) =
-      let began = (speaks.emit_at client).began in
+  sends k (Some place) =
+      let began = (speaks.emit_at place.client).began in
       noted k (with_said (history_at whole.histories k) began) (said_run (history_at whole.histories k) began)
 
   -- or the server's
@@ -498,9 +489,10 @@ module _ (profile : Profile) (whole : Whole) (old : List Move) (time c : ℕ) (l
       (built_run (history_at whole.histories k) emission.began)
 
   -- a datagram comes to a client
-  comes_to_client : (datagram : ℕ) (tag : Tag) (found : Option ClientState) → At old time c (to_client profile whole datagram tag found).whole
+  comes_to_client : (datagram : ℕ) (tag : Tag) (found : Option Place) → At old time c (to_client profile whole datagram tag found).whole
   comes_to_client datagram tag None = is
-  comes_to_client datagram tag (Some client) =
+  comes_to_client datagram tag (Some place) =
+      let client = place.client in
       let k = tag.client in
       let history = history_at whole.histories k in
       let built = named whole.histories tag in
@@ -519,12 +511,12 @@ module _ (profile : Profile) (whole : Whole) (old : List Move) (time c : ℕ) (l
       let history = history_at whole.histories tag.client in
       let taken = taken_by profile whole tag from slot in
       let takes = takes_tag profile whole tag from slot sent way at holds in
-      place_changed (λ (s : Option SlotState) (h : History). Past old time s h.run) server.slots whole.histories c tag.client (Some taken.slot)
+      both_changed (λ (s : Option SlotState) (h : History). Past old time s h.run) server.slots whole.histories c tag.client (Some taken.slot)
       (with_run history (ran_of (taken_at server tag.client taken))) holds.facts.slots holds.facts.histories lt
       (λ was. past_takes old time tag.client slot taken history.run takes (subst (λ (s : Option SlotState). Past old time s history.run) at was)) is
 
   comes_to : (datagram : ℕ) (tag : Tag) → IsSent profile whole.histories tag → (direction : Direction) → tag.direction ≡ direction → At old time c (arrive profile whole datagram tag direction).whole
-  comes_to datagram tag sent ToClient way = comes_to_client datagram tag (client_at whole.ends tag.client)
+  comes_to datagram tag sent ToClient way = comes_to_client datagram tag (place_at whole.ends tag.client)
   comes_to datagram tag sent (ToServer from) way = comes_to_server datagram tag from sent way (slot_at whole.ends.server tag.client) refl
 
   delivers : (number : ℕ) (found : Option Tag) → slice_get whole.sent (number - 1) ≡ found → At old time c (deliver profile whole number found).whole
@@ -533,28 +525,23 @@ module _ (profile : Profile) (whole : Whole) (old : List Move) (time c : ℕ) (l
 
   -- every event
   past_on : (event : Event) → IsOwn event → At old time c (step profile whole event).whole
-  unfolding step emit_at
+  unfolding step line_of server_line emit_at
   past_on (events.Client k challenge qport dup address) own = joins k challenge qport dup address
-  past_on (events.Port k port) own = is
+  past_on (events.Port k port) own = ports k port (place_at whole.ends k)
   past_on (events.Map id feed) own = maps id feed
-  past_on (events.Baseline state) own = is
   past_on (events.Config index text) own = configs index text
-  past_on (events.Entity state) own = is
-  past_on (events.Remove number) own = is
   past_on (events.Player k player) own = gives k (λ slot. with_player whole.ends.server.profile slot player) (λ slot. refl) (slot_at whole.ends.server k) refl
   past_on (events.Area k area) own = gives k (λ slot. with_area slot area.items) (λ slot. refl) (slot_at whole.ends.server k) refl
-  past_on (events.Time now) own = is
   past_on (events.Say k text) own = says k text
-  past_on (events.TypeText k text) own = types k text (client_at whole.ends k)
-  past_on (events.Move k one) own = moves k one (client_at whole.ends k)
+  past_on (events.TypeText k text) own = types k text (place_at whole.ends k)
+  past_on (events.Move k one) own = moves k one (place_at whole.ends k)
   past_on (events.Serve k) own = serves k (slot_at whole.ends.server k) refl
-  past_on (events.Send k) own = sends k (client_at whole.ends k)
+  past_on (events.Send k) own = sends k (place_at whole.ends k)
   past_on (events.Deliver number) own =
       subst (λ (b : Bool). At old time c (deliver_as b profile whole number (slice_get whole.sent (number - 1))).whole) (sym holds.own) (delivers number (slice_get whole.sent (number - 1)) refl)
-  past_on (events.Show k) own = is
-  past_on (events.Bytes number) own = is
   past_on (events.Toclient k bytes) own = absurd own
   past_on (events.Toserver k bytes) own = absurd own
+  past_on event own = is
 
 -- ---- the delivery with which a client enters the map
 
@@ -564,35 +551,41 @@ record EntersAt (whole : Whole) (c time : ℕ) (now : Whole) : Type 0 where
   past : At (history_at whole.histories c).run time c now
 
 abbrev EntersWith : Whole → ℕ → ℕ → ℕ → ℕ → Step → Type 0
-EntersWith whole number c n time next = next.answer.answer ≡ variants.ToServer number (took.Ran c n) → next.answer.ran.entered ≡ Some time → EntersAt whole c time next.whole
+EntersWith whole number c n time next = (run : Run) → ServerTookSo next.answer number (took.Ran c n) run → run.entered ≡ Some time → EntersAt whole c time next.whole
 
 -- two answers of a server that ran a message
-same_ran : (number c k n m : ℕ) (answer : ServerTook) → answer ≡ took.Ran k m → variants.ToServer number answer ≡ variants.ToServer number (took.Ran c n) → k ≡ c
-same_ran number c k n m answer is e = one_client (sym is ∙ one_answer answer (took.Ran c n) e)
-  where
-    one_answer : (x y : ServerTook) → variants.ToServer number x ≡ variants.ToServer number y → x ≡ y
-    one_answer x y same = cc
+same_ran : (number c n : ℕ) (answer : ServerTook) (ran run : Run) → ServerTookSo (Took (fronts.Deliver number) (ByServer answer ran)) number (took.Ran c n) run → (answer ≡ took.Ran c n) × (ran ≡ run)
+same_ran number c n answer ran run e = (cc, cc)
 
+same_client : (answer : ServerTook) (c k n m : ℕ) → answer ≡ took.Ran k m → answer ≡ took.Ran c n → k ≡ c
+same_client answer c k n m is so = one_client (sym is ∙ so)
+  where
     one_client : took.Ran k m ≡ took.Ran c n → k ≡ c
     one_client same = cc
 
+stranger_not_ran : (c n : ℕ) → took.Stranger ≡ took.Ran c n → ⊥
+stranger_not_ran c n e = absurd cc
+
 enters_to : (profile : Profile) (whole : Whole) (number c n time : ℕ) (tag : Tag) (from : Address) → Holds profile whole → IsSent profile whole.histories tag → tag.direction ≡ ToServer from
     → (found : Option SlotState) → slot_at whole.ends.server tag.client ≡ found → EntersWith whole number c n time (to_server profile whole number tag from found)
-enters_to profile whole number c n time tag from holds sent way None at answered entered = absurd (none_some time entered)
-enters_to profile whole number c n time tag from holds sent way (Some slot) at answered entered =
+enters_to profile whole number c n time tag from holds sent way None at run answered entered =
+    absurd (stranger_not_ran c n (same_ran number c n took.Stranger (ran_of (unmoved whole.ends.server took.Stranger)) run answered).0)
+enters_to profile whole number c n time tag from holds sent way (Some slot) at run answered entered =
     let server = whole.ends.server in
     let k = tag.client in
     let history = history_at whole.histories k in
     let taken = taken_by profile whole tag from slot in
     let next = with_run history (ran_of (taken_at server k taken)) in
     let takes = takes_tag profile whole tag from slot sent way at holds in
-    let ran = takes.ran time entered in
-    let above = takes.goes.above time entered in
-    let behind = takes.goes.enters time entered in
+    let same = same_ran number c n taken.answer (ran_of (taken_at server k taken)) run answered in
+    let enters : taken.entered ≡ Some time = ap (λ (r : Run). r.entered) same.1 ∙ entered in
+    let ran = takes.ran time enters in
+    let above = takes.goes.above time enters in
+    let behind = takes.goes.enters time enters in
     let keeps = (has_slot profile whole k slot sent.client at holds).1.keeps.of_slot in
     let last = keeps.last in
     let past : IsPast history.run time taken.slot next.run = record { last = behind.last; behind = taken.moves; is = refl; each = behind.each } in
-    subst (λ (j : ℕ). EntersAt whole j time (to_server profile whole number tag from (Some slot)).whole) (same_ran number c k n ran.0 taken.answer ran.1 answered)
+    subst (λ (j : ℕ). EntersAt whole j time (to_server profile whole number tag from (Some slot)).whole) (same_client taken.answer c k n ran.0 ran.1 same.0)
     (record {
       before = All-weaker (λ (one : Move). one.time ≤ last_time 0 history.run) (λ (one : Move). one.time < time) (λ one most. omega (arith, most, last, above)) history.run
           (rise_most 0 history.run keeps.rise);
@@ -600,23 +593,29 @@ enters_to profile whole number c n time tag from holds sent way (Some slot) at a
           (subst (λ (h : History). Past history.run time (Some taken.slot) h.run) (sym (set_there whole.histories k no_history next holds.facts.histories sent.client)) past);
     })
 
-enters_client : (profile : Profile) (whole : Whole) (number c n time : ℕ) (tag : Tag) (found : Option ClientState) → EntersWith whole number c n time (to_client profile whole number tag found)
-enters_client profile whole number c n time tag None answered entered = absurd (none_some time entered)
-enters_client profile whole number c n time tag (Some client) answered entered = absurd (none_some time entered)
+not_by_client : (number : ℕ) (c : ℕ) (client : ClientTook) (state : AppliedState) (commands : List Command) (answer : ServerTook) (run : Run)
+    → ServerTookSo (Took (fronts.Deliver number) (ByClient c client state commands)) number answer run → ⊥
+not_by_client number c client state commands answer run e = absurd cc
+
+not_untaken : (number : ℕ) (answer : ServerTook) (run : Run) → ServerTookSo (Untaken (fronts.Deliver number)) number answer run → ⊥
+not_untaken number answer run e = absurd cc
+
+enters_client : (profile : Profile) (whole : Whole) (number c n time : ℕ) (tag : Tag) (found : Option Place) → EntersWith whole number c n time (to_client profile whole number tag found)
+enters_client profile whole number c n time tag None run answered entered = absurd (not_untaken number (took.Ran c n) run answered)
+enters_client profile whole number c n time tag (Some place) run answered entered = absurd (not_by_client number tag.client _ _ _ (took.Ran c n) run answered)
 
 enters_arrive : (profile : Profile) (whole : Whole) (number c n time : ℕ) (tag : Tag) → Holds profile whole → IsSent profile whole.histories tag → (direction : Direction) → tag.direction ≡ direction
     → EntersWith whole number c n time (arrive profile whole number tag direction)
-enters_arrive profile whole number c n time tag holds sent ToClient way = enters_client profile whole number c n time tag (client_at whole.ends tag.client)
+enters_arrive profile whole number c n time tag holds sent ToClient way = enters_client profile whole number c n time tag (place_at whole.ends tag.client)
 enters_arrive profile whole number c n time tag holds sent (ToServer from) way = enters_to profile whole number c n time tag from holds sent way (slot_at whole.ends.server tag.client) refl
 
 enters_deliver : (profile : Profile) (whole : Whole) (number c n time : ℕ) → Holds profile whole → (found : Option Tag) → slice_get whole.sent (number - 1) ≡ found
     → EntersWith whole number c n time (deliver profile whole number found)
-enters_deliver profile whole number c n time holds None at = λ answered entered. absurd (none_some time entered)
+enters_deliver profile whole number c n time holds None at = λ run answered entered. absurd (not_untaken number (took.Ran c n) run answered)
 enters_deliver profile whole number c n time holds (Some tag) at =
     enters_arrive profile whole number c n time tag holds (is_sent profile whole (number - 1) tag at holds) tag.direction refl
 
 enters_at : (profile : Profile) (whole : Whole) (number c n time : ℕ) → Holds profile whole → EntersWith whole number c n time (step profile whole (events.Deliver number))
-unfolding step
 enters_at profile whole number c n time holds =
     subst (EntersWith whole number c n time) (sym (step_own profile whole number holds.own)) (enters_deliver profile whole number c n time holds (slice_get whole.sent (number - 1)) refl)
 
@@ -630,14 +629,14 @@ past_along law profile checked old time c lt some (event ∷ rest) are at =
     let next = some ++ event ∷ [] in
     let same : next ++ rest ≡ some ++ event ∷ rest = append_assoc some (event ∷ []) rest in
     let stands : Stood profile (kept_then profile some) whole = stood law profile some checked (all_first IsScheduled some (event ∷ rest) are) in
-    let holds : Holds profile whole = record { facts = stands.facts; joined = stands.joined; own = stands.own } in
+    let holds = holds_of profile (kept_then profile some) whole stands in
     let is : whole_then profile next ≡ (step profile whole event).whole = after_both profile (opening profile) some (event ∷ []) ∙ after_one profile whole event in
     let on : At old time c (step profile whole event).whole = past_on profile whole old time c lt holds at event (all_at IsScheduled some event rest are).1 in
     subst (λ (all : List Event). At old time c (whole_then profile all)) same
     (past_along law profile checked old time c lt next rest (subst (AllByRecursion IsScheduled) (sym same) are) (subst (At old time c) (sym is) on))
 
 pub entering_is_not_run : BytesFollowTags → Layers → EnteringIsNotRun
-entering_is_not_run law below profile before rest c number n time checked are lt answered entered =
+entering_is_not_run law below profile before rest c number n time run checked are lt answered entered =
     let event : Event = events.Deliver number in
     let served = before ++ event ∷ [] in
     let all = before ++ event ∷ rest in
@@ -646,11 +645,9 @@ entering_is_not_run law below profile before rest c number n time checked are lt
     let whole = whole_then profile before in
     let old = (history_at whole.histories c).run in
     let stands : Stood profile kept whole = stood law profile before checked (all_first IsScheduled before (event ∷ rest) are) in
-    let holds : Holds profile whole = record { facts = stands.facts; joined = stands.joined; own = stands.own } in
-    let by_bytes : kept_step kept event ≡ seen profile (step profile whole event) =
-    ap (λ (k : Kept). kept_step k event) (kept_is profile kept whole stands) ∙ (delivers_agree profile whole number (cited_of below profile checked) holds).same in
-    let enters = enters_at profile whole number c n time holds (sym (ap (λ (s : KeptStep). s.answer.answer) by_bytes) ∙ answered)
-    (sym (ap (λ (s : KeptStep). s.answer.ran.entered) by_bytes) ∙ entered) in
+    let holds = holds_of profile kept whole stands in
+    let by_bytes = delivers_same profile kept whole number (cited_of below profile checked) stands in
+    let enters = enters_at profile whole number c n time holds run (sym (ap (λ (s : KeptStep). s.answer) by_bytes) ∙ answered) entered in
     let is : whole_then profile served ≡ (step profile whole event).whole = after_both profile (opening profile) before (event ∷ []) ∙ after_one profile whole event in
     let past : At old time c (whole_then profile all) =
     subst (λ (l : List Event). At old time c (whole_then profile l)) same

@@ -1,13 +1,12 @@
 -- Every list of events: what holds after it, and what it answers.
-use Rattle.std.proofs.Common.{◌≡◌, ◌+◌, ◌-◌, ◌<◌, List, length, get_or, false, Option, Some, None, Result, Ok, refl, sym, ap, subst, ◌∙◌, inl, inr, arith, Bool, ℕ}
-use Rattle.std.specs.Prelude.{slice_get, All, Contains, IfSome, MatchOption}
+use Rattle.std.proofs.Common.{◌≡◌, ◌+◌, ◌-◌, ◌<◌, List, length, get_or, true, false, Option, Some, None, Result, Ok, refl, sym, ap, subst, ◌∙◌, inl, inr, arith, Bool, ℕ}
+use Rattle.std.specs.Prelude.{slice_get, All, Contains, IfSome, MatchOption, ◌↔◌}
 use Rattle.std.specs.List.{last_or}
 use Rattle.std.specs.Option.{option_map}
 use Rattle.std.specs.Result.{result_ok}
 use Rattle.std.proofs.lemmas.Option.{slice_get-map}
 use Rattle.std.proofs.lemmas.List.Elements.{All-nil, All-get_or, All-contains}
 use Rattle.q3_profile.specs.declared.profile.Profile.{Profile}
-use Rattle.q3_script.specs.declared.event.Event.{Event}
 use Rattle.q3_script.specs.declared.event.Event.TheVariants as events
 use Rattle.q3_ring.specs.Snapshot.{Snapshot}
 use Rattle.q3_rings.specs.Rings.{held_snapshot, view_at}
@@ -19,7 +18,7 @@ use Rattle.q3_clstate.specs.declared.applied.Applied.{Applied as AppliedSo}
 use Rattle.q3_chan.specs.declared.gatherer.Gathered.{Gathered}
 use Rattle.q3_chan.specs.declared.gatherer.Gathered.TheVariants as gathered
 use Rattle.q3_chan.specs.declared.gatherer.Gathered.TheVariants.{Whole as CameWhole}
-use Rattle.q3_chan.specs.Gathering.{Took, gathered as gathered_of}
+use Rattle.q3_chan.specs.Gathering.{Took as GatheredSo, gathered as gathered_of}
 use Rattle.q3_chan.specs.Tags.{tagged, IsQuiet}
 use Rattle.q3_chan.specs.Laws.{TaggedDoes}
 use Rattle.q3_clstate.specs.declared.applied.SnapOutcome.{SnapOutcome}
@@ -30,61 +29,49 @@ use Rattle.q3_client.specs.declared.client.ClientTook.{ClientTook}
 use Rattle.q3_slot.specs.declared.taking.ServerTook.{ServerTook}
 use Rattle.q3_slot.specs.declared.taking.ServerTook.TheVariants.{Stranger}
 use Rattle.q3_io.specs.declared.address.Address.{Address}
-use Rattle.q3_report.specs.declared.answer.Answer.TheVariants as variants
-use Rattle.q3_report.specs.declared.answer.Answer.TheVariants.{Unknown, Deliver}
+use Rattle.q3_text.specs.declared.text.Command.{Command}
+use Rattle.q3_report.specs.declared.answer.Front.TheVariants as fronts
+use Rattle.q3_report.specs.Answers.{Answered, ByClient, ByServer, Shown, Took, Untaken, snapshot_in}
+use Rattle.q3_ends.specs.AtClient.{newest_of, showing_newest, taken_by_client}
 use Rattle.q3_world.specs.declared.made.Direction.{Direction}
 use Rattle.q3_world.specs.declared.made.Direction.TheVariants.{ToClient, ToServer}
-use Rattle.q3_world.specs.Layers.{Layers, RingLaws}
+use Rattle.q3_world.specs.Layers.{Layers}
 use Rattle.q3_built.specs.Built.{Built, number_of, IsNear, IsBuilt, built_bytes, plain_bytes}
 use Rattle.q3_slot.specs.Slot.{SlotState}
 use Rattle.q3_server.specs.Server.{places, slot_at}
 use Rattle.q3_client.specs.Client.{ClientState, Taken, Reception, receive_message, take_answer, take_gathered}
-use Rattle.q3_lines.specs.ServerLines.{ran_nothing}
-use Rattle.q3_world.specs.Ends.{Ends, Answered, delivered, client_at, address_at, with_client, newest}
+use Rattle.q3_lines.specs.ServerLines.{Run}
+use Rattle.q3_world.specs.declared.places.Place.{Place}
+use Rattle.q3_world.specs.Ends.{Ends, client_at, client_of, line_of, newest, place_at, showing_at, with_client}
 use Rattle.q3_world.specs.Kept.{SentBytes, Kept, KeptStep, kept_step}
-use Rattle.q3_world.specs.World.{Tag, Step, Whole, History, history_at, built_at, step, after, deliver, arrive, to_client, to_server, named, Played}
-use Rattle.q3_world.specs.StandsFor.{IsSent, IsClient, WasBuilt, Rise, IsJoined, bytes_of}
+use Rattle.q3_world.specs.World.{Tag, Step, Whole, History, history_at, built_at, step, after, deliver, arrive, to_client, to_server, named, Played, bytes_of}
+use Rattle.q3_world.specs.StandsFor.{IsSent, WasBuilt, WasAccepted, Rise}
 use Rattle.q3_world.specs.ByTags.{kept_then, whole_then, BytesFollowTags}
 use Rattle.q3_world.specs.Answering.{outcome_of, applied_of, is_game, outcome_in}
-use Rattle.q3_schedules.specs.Schedules.{AcceptedWereBuilt, ShownWasBuilt, ShownIsNewest, AsksForAccepted, heard_of, Shows, AppliedWasBuilt, NewerIsAccepted, BasesWereAccepted, HeldIsAccepted, ViewsWereBuilt, AnswersSo, StateIsOfGame}
+use Rattle.q3_schedules.specs.Schedules.{AcceptedWereBuilt, ShownWasBuilt, ShownIsNewest, AsksForAccepted, heard_of, Shows, AppliedWasBuilt, NewerIsAccepted, BasesWereAccepted, HeldIsAccepted, ViewsWereBuilt, ClientTookSo, StateIsOfGame}
 use Rattle.q3_world.proofs.Holding.{Holds, Has, has_client}
-use Rattle.q3_world.proofs.Agree.{Cited, seen}
+use Rattle.q3_world.proofs.Agree.{Cited}
 use Rattle.q3_world.proofs.ByTags.{cited_of}
-use Rattle.q3_world.proofs.Arriving.{IsFor, Named, names, is_sent, is_for, tag_is, delivers_agree}
-use Rattle.q3_schedules.proofs.Stood.{kept_is, Stood, step_own, stood}
+use Rattle.q3_world.proofs.Arriving.{IsFor, Named, names, is_sent, is_for, tag_is}
+use Rattle.q3_schedules.proofs.Stood.{Then, delivers_same, holds_of, of_each, of_there, place_of, step_own, stood}
 use Rattle.q3_messages.proofs.Options.{if_some_then, three_some}
 use Rattle.q3_world.proofs.Knowing.{KnownBase, view_was_built}
 use Rattle.q3_world.proofs.Applying.{applies_message, applies_game_message}
 use Rattle.q3_world.proofs.OnePlace.{set_there}
 use Rattle.q3_world.specs.Games.{Carries, HasGames, IsFresh, IsOf, WasApplied, accepted_since, last_played}
-use Rattle.q3_map.specs.Map.{MapState}
 use Rattle.q3_svmsg.specs.Values.{Told}
 use Rattle.q3_world.proofs.GamesParts.{newest as games_newest}
 use Rattle.q3_world.proofs.GamesMoves.{since_were}
-
--- what stands after the events
-abbrev Then : Profile → List Event → Type 0
-Then profile all = Stood profile (kept_then profile all) (whole_then profile all)
 
 -- ---- what was accepted
 
 abbrev WereAccepted : History → Type 0
 WereAccepted history = All (WasBuilt history.built) history.accepted × Rise history.accepted
 
--- what a client accepted, wherever it is
-accepted_by : (profile : Profile) (map : MapState) (slot : Option SlotState) (client : Option ClientState) (address : Address) (history : History)
-    → IsClient profile slot client address history → IsJoined profile map slot client history → WereAccepted history
-accepted_by profile map None None address history is joined = rw is (All-nil _, (λ j k d lt within. absurd (omega (arith, within))))
-accepted_by profile map None (Some client) address history is joined = absurd is
-accepted_by profile map (Some slot) None address history is joined = absurd is
-accepted_by profile map (Some slot) (Some client) address history is joined = (joined.of_client.accepted, joined.of_client.rise)
-
 pub accepted_were_built : BytesFollowTags → AcceptedWereBuilt
 accepted_were_built law profile all c is are within =
-    let stands : Then profile all = stood law profile all is are in
-    let whole = whole_then profile all in
-    accepted_by profile whole.ends.server.map (slot_at whole.ends.server c) (client_at whole.ends c) (address_at whole.ends c) (history_at whole.histories c)
-    (stands.facts.each c within) (stands.joined c within)
+    of_each profile (kept_then profile all) (whole_then profile all) c (λ slot found history. WereAccepted history) within (stood law profile all is are)
+    (All-nil _, (λ j k d lt within. absurd (omega (arith, within)))) (λ slot place had. (had.joined.of_client.accepted, had.joined.of_client.rise))
 
 -- what a client accepted since the last gamestate that it applied, and that it was built
 abbrev since_of : History → List Snapshot
@@ -93,52 +80,52 @@ since_of history = accepted_since history.games history.accepted
 since_built : (history : History) → All (WasBuilt history.built) history.accepted → All (WasBuilt history.built) (since_of history)
 since_built history were = since_were history.games history.accepted (WasBuilt history.built) were
 
--- what a client that is there shows was built
-newest_was : RingLaws → (profile : Profile) (map : MapState) (slot : Option SlotState) (client : Option ClientState) (address : Address) (history : History) (snapshot : Snapshot)
-    → newest client ≡ Some snapshot → IsClient profile slot client address history → IsJoined profile map slot client history → WasBuilt history.built snapshot
-newest_was laws profile map slot None address history snapshot shown is joined = absurd cc
-newest_was laws profile map None (Some client) address history snapshot shown is joined = absurd is
-newest_was laws profile map (Some slot) (Some client) address history snapshot shown is joined =
-    let takes = joined.of_client in
-    (view_was_built laws client.state.held history.built (since_of history) client.state.held.newest snapshot takes.stands (since_built history takes.accepted) shown).1
-
 -- what a show by bytes prints
-pub shows : (kept : Kept) (c : ℕ) → (kept_step kept (events.Show c)).answer.snapshot ≡ newest (client_at kept.ends c)
-unfolding kept_step
-shows kept c = refl
+shown_newest : (c : ℕ) (found : Option Snapshot) → snapshot_in (Shown c (showing_newest found)) ≡ found
+shown_newest c None = refl
+shown_newest c (Some snapshot) = refl
 
+shown_at : (c : ℕ) (found : Option Place) → snapshot_in (Shown c (showing_at found)) ≡ newest (option_map client_of found)
+shown_at c None = refl
+shown_at c (Some place) = shown_newest c (newest_of place.client)
+
+pub shows : (kept : Kept) (c : ℕ) → snapshot_in (kept_step kept (events.Show c)).answer ≡ newest (client_at kept.ends c)
+unfolding kept_step line_of
+shows kept c = shown_at c (place_at kept.ends c)
+
+-- what a client that is there shows was built
 pub shown_was_built : BytesFollowTags → Layers → ShownWasBuilt
 shown_was_built law below profile all c snapshot is are within shown =
     let stands : Then profile all = stood law profile all is are in
-    let whole = whole_then profile all in
-    newest_was below.rings profile whole.ends.server.map (slot_at whole.ends.server c) (client_at whole.ends c) (address_at whole.ends c) (history_at whole.histories c) snapshot
+    of_each profile (kept_then profile all) (whole_then profile all) c
+    (λ slot found history. newest (option_map client_of found) ≡ Some snapshot → WasBuilt history.built snapshot) within stands
+    (λ shown. absurd (none_some shown))
+    (λ slot place had shown.
+    let state = place.client.state in
+    let history = history_at (whole_then profile all).histories c in
+    let takes = had.joined.of_client in
+    (view_was_built below.rings state.held history.built (since_of history) state.held.newest snapshot takes.stands (since_built history takes.accepted) shown).1)
     (ap (λ (e : Ends). newest (client_at e c)) (sym stands.ends) ∙ (sym (shows (kept_then profile all) c) ∙ shown))
-    (stands.facts.each c within) (stands.joined c within)
+  where
+    none_some : newest None ≡ Some snapshot → ⊥
+    none_some e = absurd cc
 
 -- and it is the newest that the client accepted since
-newest_by : (profile : Profile) (map : MapState) (slot : Option SlotState) (client : Option ClientState) (address : Address) (history : History)
-    → IsClient profile slot client address history → IsJoined profile map slot client history → newest client ≡ last_or None (since_of history)
-newest_by profile map None None address history is joined = rw is refl
-newest_by profile map None (Some client) address history is joined = absurd is
-newest_by profile map (Some slot) None address history is joined = absurd is
-newest_by profile map (Some slot) (Some client) address history is joined = joined.of_client.shows
-
 pub shown_is_newest : BytesFollowTags → ShownIsNewest
 shown_is_newest law profile all c is are within =
     let stands : Then profile all = stood law profile all is are in
-    let whole = whole_then profile all in
     shows (kept_then profile all) c
     ∙ (ap (λ (e : Ends). newest (client_at e c)) stands.ends
-    ∙ newest_by profile whole.ends.server.map (slot_at whole.ends.server c) (client_at whole.ends c) (address_at whole.ends c) (history_at whole.histories c)
-    (stands.facts.each c within) (stands.joined c within))
+    ∙ of_each profile (kept_then profile all) (whole_then profile all) c (λ slot found history. newest (option_map client_of found) ≡ last_or None (since_of history)) within stands
+    refl (λ slot place had. had.joined.of_client.shows))
 
 pub asks_for_accepted : BytesFollowTags → AsksForAccepted
 asks_for_accepted law profile all c client is are within found =
     let stands : Then profile all = stood law profile all is are in
     let whole = whole_then profile all in
-    let holds : Holds profile whole = record { facts = stands.facts; joined = stands.joined; own = stands.own } in
-    let had = has_client profile whole c client within (ap (λ (e : Ends). client_at e c) (sym stands.ends) ∙ found) holds in
-    had.1.joined.of_client.asks
+    let since = since_of (history_at whole.histories c) in
+    of_there profile (kept_then profile all) whole c client (λ (client : ClientState). (client.delta ≡ true) ↔ WasAccepted since client.gathering.taken) within found stands
+    (λ slot place had. had.joined.of_client.asks)
 
 -- ---- what a client holds
 
@@ -150,45 +137,41 @@ near_of profile challenge n built is =
       | inr made ↦ subst (λ (base : Option Snapshot). IfSome base (IsNear n)) (sym (ap (λ (b : Built). b.base) made.is)) tt
     ]
 
-bases_by : (profile : Profile) (map : MapState) (slot : Option SlotState) (client : Option ClientState) (address : Address) (history : History) (k : ℕ) (d : Built)
-    → IsClient profile slot client address history → IsJoined profile map slot client history → k < length history.built
-    → IfSome (get_or history.built k d).base (KnownBase (k + 1) history.built history.accepted)
-bases_by profile map None None address history k d is joined lt =
-    let none : length history.built ≡ 0 = ap (λ (h : History). length h.built) is in absurd (omega (arith, lt, none))
-bases_by profile map None (Some client) address history k d is joined lt = absurd is
-bases_by profile map (Some slot) None address history k d is joined lt = absurd is
-bases_by profile map (Some slot) (Some client) address history k d is joined lt =
-    three_some (get_or history.built k d).base (IsNear (k + 1)) (WasBuilt history.built) (Contains history.accepted)
-    (near_of profile slot.challenge (k + 1) (get_or history.built k d) (is.of_slot.built k d lt))
-    (All-get_or (λ (b : Built). IfSome b.base (WasBuilt history.built)) history.built k d lt is.of_slot.bases)
-    (All-get_or (λ (b : Built). IfSome b.base (Contains history.accepted)) history.built k d lt joined.asked.bases)
-
 pub bases_were_accepted : BytesFollowTags → BasesWereAccepted
 bases_were_accepted law profile all c k d is are within lt =
-    let stands : Then profile all = stood law profile all is are in
-    let whole = whole_then profile all in
-    bases_by profile whole.ends.server.map (slot_at whole.ends.server c) (client_at whole.ends c) (address_at whole.ends c) (history_at whole.histories c) k d
-    (stands.facts.each c within) (stands.joined c within) lt
+    let history = history_at (whole_then profile all).histories c in
+    of_each profile (kept_then profile all) (whole_then profile all) c
+    (λ slot found history. k < length history.built → IfSome (get_or history.built k d).base (KnownBase (k + 1) history.built history.accepted)) within (stood law profile all is are)
+    (λ lt. absurd (omega (arith, lt)))
+    (λ slot place had lt.
+    let keeps = had.keeps.of_slot in
+    three_some (get_or history.built k d).base (IsNear (k + 1)) (WasBuilt history.built) (Contains history.accepted)
+    (near_of profile slot.challenge (k + 1) (get_or history.built k d) (keeps.built k d lt))
+    (All-get_or (λ (b : Built). IfSome b.base (WasBuilt history.built)) history.built k d lt keeps.bases)
+    (All-get_or (λ (b : Built). IfSome b.base (Contains history.accepted)) history.built k d lt had.joined.asked.bases))
+    lt
 
 pub views_were_built : BytesFollowTags → Layers → ViewsWereBuilt
 views_were_built law below profile all c number client snapshot is are within found viewed =
     let stands : Then profile all = stood law profile all is are in
     let whole = whole_then profile all in
-    let holds : Holds profile whole = record { facts = stands.facts; joined = stands.joined; own = stands.own } in
-    let had = has_client profile whole c client within (ap (λ (e : Ends). client_at e c) (sym stands.ends) ∙ found) holds in
-    let takes = had.1.joined.of_client in
     let history = history_at whole.histories c in
-    view_was_built below.rings client.state.held history.built (since_of history) number snapshot takes.stands (since_built history takes.accepted) viewed
+    of_there profile (kept_then profile all) whole c client
+    (λ (client : ClientState). view_at client.state.held number ≡ Some snapshot → (snapshot.head.number ≡ number) × WasBuilt history.built snapshot) within found stands
+    (λ slot place had viewed.
+    let takes = had.joined.of_client in
+    view_was_built below.rings place.client.state.held history.built (since_of history) number snapshot takes.stands (since_built history takes.accepted) viewed)
+    viewed
 
 pub held_is_accepted : BytesFollowTags → Layers → HeldIsAccepted
 held_is_accepted law below profile all c number client is are within found =
     let stands : Then profile all = stood law profile all is are in
     let whole = whole_then profile all in
-    let holds : Holds profile whole = record { facts = stands.facts; joined = stands.joined; own = stands.own } in
-    let had = has_client profile whole c client within (ap (λ (e : Ends). client_at e c) (sym stands.ends) ∙ found) holds in
     let since = since_of (history_at whole.histories c) in
-    subst (λ (ring : ℕ). held_snapshot client.state.held number ≡ held_among ring since number) had.1.keeps.of_client.ring
-    (below.rings.of_list since client.state.held number had.1.joined.of_client.stands)
+    of_there profile (kept_then profile all) whole c client (λ (client : ClientState). held_snapshot client.state.held number ≡ held_among profile.parse_ring since number) within found stands
+    (λ slot place had.
+    subst (λ (ring : ℕ). held_snapshot place.client.state.held number ≡ held_among ring since number) had.keeps.of_client.ring
+    (below.rings.of_list since place.client.state.held number had.joined.of_client.stands))
 
 -- ---- newer messages
 
@@ -213,15 +196,15 @@ came_whole does_so profile whole tag client n count e =
 
 -- what a client's delivery answers
 abbrev pub delivered_so : ℕ → ℕ → Taken → Answered
-delivered_so number c taken = delivered number c taken.client.state taken.answer taken.heard
+delivered_so number c taken = taken_by_client (fronts.Deliver number) c taken
 
-pub answers_tag : (profile : Profile) (whole : Whole) (number : ℕ) (tag : Tag) (client : ClientState) → whole.foreign ≡ false → slice_get whole.sent (number - 1) ≡ Some tag
-    → tag.direction ≡ ToClient → client_at whole.ends tag.client ≡ Some client
+pub answers_tag : (profile : Profile) (whole : Whole) (number : ℕ) (tag : Tag) (place : Place) → whole.foreign ≡ false → slice_get whole.sent (number - 1) ≡ Some tag
+    → tag.direction ≡ ToClient → place_at whole.ends tag.client ≡ Some place
     → (step profile whole (events.Deliver number)).answer
-    ≡ delivered_so number tag.client (take_gathered client (tagged client.gathering tag.number (built_bytes profile (named whole.histories tag)) tag.index)
-    (λ n. Ok (receive_message client n (named whole.histories tag).message (plain_bytes profile (named whole.histories tag)))))
-unfolding step
-answers_tag profile whole number tag client own at way found = rw (own, at, way, found) refl
+    ≡ delivered_so number tag.client (take_gathered place.client (tagged place.client.gathering tag.number (built_bytes profile (named whole.histories tag)) tag.index)
+    (λ n. Ok (receive_message place.client n (named whole.histories tag).message (plain_bytes profile (named whole.histories tag)))))
+unfolding step line_of
+answers_tag profile whole number tag place own at way found = rw (own, at, way, found) refl
 
 -- what is answered of a message that was built, by what its client accepted since the last gamestate that it applied
 abbrev pub applied_now : Profile → History → ℕ → Built → AppliedSo
@@ -236,9 +219,10 @@ pub record Outcome (profile : Profile) (whole : Whole) (c n : ℕ) (client : Cli
       → (snapshot : Snapshot) × (view_at (apply_message client.state n built.message).state.held (apply_message client.state n built.message).state.held.newest ≡ Some snapshot)
       × (snapshot.head.number ≡ n) × WasBuilt (history_at whole.histories c).built snapshot
 
-pub outcome : (profile : Profile) (whole : Whole) (c n : ℕ) (slot : SlotState) (client : ClientState) (built : Built) → Cited profile → Has profile whole c slot client
-    → client.gathering.taken < n → Named profile whole c n slot client built → Outcome profile whole c n client built
-outcome profile whole c n slot client built cited had newer named_is =
+pub outcome : (profile : Profile) (whole : Whole) (c n : ℕ) (slot : SlotState) (place : Place) (built : Built) → Cited profile → Has profile whole c slot place
+    → place.client.gathering.taken < n → Named profile whole c n slot place.client built → Outcome profile whole c n place.client built
+outcome profile whole c n slot place built cited had newer named_is =
+    let client = place.client in
     let history = history_at whole.histories c in
     let since = since_of history in
     let state = client.state in
@@ -304,13 +288,15 @@ outcome profile whole c n slot client built cited had newer named_is =
 -- what is answered of a message that came whole, and what is executed of it
 pub whole_answer : (profile : Profile) (whole : Whole) (number c n : ℕ) (client now : ClientState) → Outcome profile whole c n client (built_at (history_at whole.histories c).built n)
     → (count : ℕ)
-    → AnswersSo (delivered_so number c (take_answer now (CameWhole n count) (λ k. Ok (receive_message client k (built_at (history_at whole.histories c).built n).message (plain_bytes profile (built_at (history_at whole.histories c).built n))))))
-    (Deliver number c (Applied (applied_now profile (history_at whole.histories c) n (built_at (history_at whole.histories c).built n))))
-    (record ran_nothing { commands = heard_of (history_at whole.histories c) n })
+    → ClientTookSo (delivered_so number c (take_answer now (CameWhole n count) (λ k. Ok (receive_message client k (built_at (history_at whole.histories c).built n).message (plain_bytes profile (built_at (history_at whole.histories c).built n))))))
+    number c (Applied (applied_now profile (history_at whole.histories c) n (built_at (history_at whole.histories c).built n))) (heard_of (history_at whole.histories c) n)
 whole_answer profile whole number c n client now out count =
-    let commands = (built_at (history_at whole.histories c).built n).message.commands in (
-      ap (λ (a : AppliedSo). Deliver number c (Applied a)) out.answer,
-      ap (λ (k : ℕ). record ran_nothing { commands = fresh_of k commands }) out.executed,
+    let history = history_at whole.histories c in
+    let built = built_at history.built n in
+    let applied = apply_message client.state n built.message in (
+      applied.state,
+      ap (λ (a : AppliedSo). Took (fronts.Deliver number) (ByClient c (Applied a) applied.state applied.heard)) out.answer
+          ∙ ap (λ (k : ℕ). Took (fronts.Deliver number) (ByClient c (Applied (applied_now profile history n built)) applied.state (fresh_of k built.message.commands))) out.executed,
     )
 
 pub newer_is_accepted : BytesFollowTags → Layers → NewerIsAccepted
@@ -319,49 +305,51 @@ newer_is_accepted law below profile all number n count sent client is are at way
     let kept = kept_then profile all in
     let whole = whole_then profile all in
     let cited = cited_of below profile is in
-    let holds : Holds profile whole = record { facts = stands.facts; joined = stands.joined; own = stands.own } in
+    let holds = holds_of profile kept whole stands in
     let tag = tag_of (slice_get whole.sent (number - 1)) sent
     (sym (slice_get-map bytes_of whole.sent (number - 1)) ∙ (ap (λ (d : List SentBytes). slice_get d (number - 1)) (sym stands.datagrams) ∙ at)) in
     let goes : tag.0.direction ≡ ToClient = ap (λ (s : SentBytes). s.direction) tag.2 ∙ way in
     let sent_is = is_for profile whole tag.0 goes (is_sent profile whole (number - 1) tag.0 tag.1 holds) in
     let client_is : client_at whole.ends tag.0.client ≡ Some client =
     ap (λ (e : Ends). client_at e tag.0.client) (sym stands.ends) ∙ (ap (λ (s : SentBytes). client_at kept.ends s.client) tag.2 ∙ found) in
-    let had = has_client profile whole tag.0.client client sent_is.0 client_is holds in
+    let there = place_of (place_at whole.ends tag.0.client) client client_is in
+    let place = there.0 in
+    let had = has_client profile whole tag.0.client place sent_is.0 there.1 holds in
     let built = named whole.histories tag.0 in
-    let took = tagged client.gathering tag.0.number (built_bytes profile built) tag.0.index in
-    let now = record client { gathering = took.gathering } in
+    let took = tagged place.client.gathering tag.0.number (built_bytes profile built) tag.0.index in
+    let now = record place.client { gathering = took.gathering } in
     let answer : took.answer ≡ CameWhole n count =
-    ap (λ (t : Took). t.answer) (sym (tag_is profile whole tag.0 client cited sent_is client_is holds))
-    ∙ (ap (λ (s : SentBytes). (gathered_of client.gathering s.bytes).answer) tag.2 ∙ came) in
-    let whole_is = came_whole below.does profile whole tag.0 client n count answer in
-    let out = outcome profile whole tag.0.client tag.0.number had.0 client built cited had.1 whole_is.1 (names profile whole tag.0 had.0 client cited sent_is had.1) in
-    let by_bytes = ap (λ (k : Kept). (kept_step k (events.Deliver number)).answer) (kept_is profile kept whole stands)
-    ∙ ap (λ (s : KeptStep). s.answer) (delivers_agree profile whole number cited holds).same in
+    ap (λ (t : GatheredSo). t.answer) (sym (tag_is profile whole tag.0 place cited sent_is there.1 holds))
+    ∙ (ap (λ (s : SentBytes). (gathered_of place.client.gathering s.bytes).answer) tag.2
+    ∙ (ap (λ (e : ClientState). (gathered_of e.gathering sent.bytes).answer) there.2 ∙ came)) in
+    let whole_is = came_whole below.does profile whole tag.0 place.client n count answer in
+    let out = outcome profile whole tag.0.client tag.0.number had.0 place built cited had.1 whole_is.1 (names profile whole tag.0 had.0 place cited sent_is had.1) in
     let so : ℕ → ℕ → Type 0 = λ c k.
-    AnswersSo (kept_step kept (events.Deliver number)).answer
-    (Deliver number c (Applied (applied_now profile (history_at whole.histories c) k (built_at (history_at whole.histories c).built k))))
-    (record ran_nothing { commands = heard_of (history_at whole.histories c) k }) in
+    ClientTookSo (kept_step kept (events.Deliver number)).answer number c (Applied (applied_now profile (history_at whole.histories c) k (built_at (history_at whole.histories c).built k)))
+    (heard_of (history_at whole.histories c) k) in
     let given : (kept_step kept (events.Deliver number)).answer
-    ≡ delivered_so number tag.0.client (take_answer now (CameWhole tag.0.number count) (λ j. Ok (receive_message client j built.message (plain_bytes profile built)))) =
-    by_bytes
-    ∙ (answers_tag profile whole number tag.0 client stands.own tag.1 goes client_is
-    ∙ (ap (λ (a : Gathered). delivered_so number tag.0.client (take_answer now a (λ k. Ok (receive_message client k built.message (plain_bytes profile built))))) answer
-    ∙ ap (λ (k : ℕ). delivered_so number tag.0.client (take_answer now (CameWhole k count) (λ j. Ok (receive_message client j built.message (plain_bytes profile built))))) whole_is.0)) in
-    let by_tag = whole_answer profile whole number tag.0.client tag.0.number client now out count in
-    let here : so tag.0.client tag.0.number = (ap (λ (a : Answered). a.answer) given ∙ by_tag.0, ap (λ (a : Answered). a.ran) given ∙ by_tag.1) in
+    ≡ delivered_so number tag.0.client (take_answer now (CameWhole tag.0.number count) (λ j. Ok (receive_message place.client j built.message (plain_bytes profile built)))) =
+    ap (λ (s : KeptStep). s.answer) (delivers_same profile kept whole number cited stands)
+    ∙ (answers_tag profile whole number tag.0 place stands.own tag.1 goes there.1
+    ∙ (ap (λ (a : Gathered). delivered_so number tag.0.client (take_answer now a (λ k. Ok (receive_message place.client k built.message (plain_bytes profile built))))) answer
+    ∙ ap (λ (k : ℕ). delivered_so number tag.0.client (take_answer now (CameWhole k count) (λ j. Ok (receive_message place.client j built.message (plain_bytes profile built))))) whole_is.0)) in
+    let by_tag = whole_answer profile whole number tag.0.client tag.0.number place.client now out count in
+    let here : so tag.0.client tag.0.number = (by_tag.0, given ∙ by_tag.1) in
     subst (λ (s : SentBytes). so s.client n) tag.2 (subst (λ (k : ℕ). so tag.0.client k) (sym whole_is.0) here)
 
 -- ---- what is applied
 
 -- two answers of a delivery
-same_delivered : (number c c' : ℕ) (took took' : ClientTook) → Deliver number c took ≡ Deliver number c' took' → (c ≡ c') × (took ≡ took')
-same_delivered number c c' took took' e = (cc, cc)
+same_delivered : (number c c' : ℕ) (took took' : ClientTook) (state state' : AppliedState) (commands commands' : List Command)
+    → Took (fronts.Deliver number) (ByClient c took state commands) ≡ Took (fronts.Deliver number) (ByClient c' took' state' commands') → (c ≡ c') × (took ≡ took')
+same_delivered number c c' took took' state state' commands commands' e = (cc, cc)
 
-not_to_server : (datagram : ℕ) (took : ServerTook) (number c : ℕ) (took' : ClientTook) → variants.ToServer datagram took ≡ Deliver number c took' → ⊥
-not_to_server datagram took number c took' e = absurd cc
+not_by_server : (number : ℕ) (took : ServerTook) (ran : Run) (c : ℕ) (took' : ClientTook) (commands : List Command)
+    → ClientTookSo (Took (fronts.Deliver number) (ByServer took ran)) number c took' commands → ⊥
+not_by_server number took ran c took' commands so = let e = so.1 in absurd cc
 
-not_delivered : (number c : ℕ) (took : ClientTook) → Unknown number ≡ Deliver number c took → ⊥
-not_delivered number c took e = absurd cc
+not_untaken : (number c : ℕ) (took : ClientTook) (commands : List Command) → ClientTookSo (Untaken (fronts.Deliver number)) number c took commands → ⊥
+not_untaken number c took commands so = let e = so.1 in absurd cc
 
 -- what a delivery answers as applied
 abbrev Applies : Profile → List Tag → ℕ → Ends → Ends → ℕ → AppliedSo → History → Type 0
@@ -384,24 +372,23 @@ quiet_applies client gathered.Runt apply applied is e = is
 quiet_applies client gathered.Connectionless apply applied is e = is
 
 -- of a message that came whole
-applied_whole : (profile : Profile) (whole : Whole) (number c : ℕ) (applied : AppliedSo) (tag : Tag) (client next : ClientState) → length whole.ends.clients ≡ places → tag.client < places
+applied_whole : (profile : Profile) (whole : Whole) (number c : ℕ) (applied : AppliedSo) (tag : Tag) (place : Place) (next : ClientState) → length whole.ends.clients ≡ places → tag.client < places
     → slice_get whole.sent (number - 1) ≡ Some tag → tag.direction ≡ ToClient
-    → client_at whole.ends tag.client ≡ Some client → client.gathering.taken < tag.number
-    → next.state ≡ (apply_message client.state tag.number (named whole.histories tag).message).state
-    → Outcome profile whole tag.client tag.number client (named whole.histories tag)
-    → Deliver number tag.client (Applied (apply_message client.state tag.number (named whole.histories tag).message).answer) ≡ Deliver number c (Applied applied)
-    → Applies profile whole.sent number whole.ends (with_client whole.ends tag.client next) c applied (history_at whole.histories c)
-applied_whole profile whole number c applied tag client next count lt at way found newer state_is out e =
+    → place_at whole.ends tag.client ≡ Some place → place.client.gathering.taken < tag.number
+    → next.state ≡ (apply_message place.client.state tag.number (named whole.histories tag).message).state
+    → Outcome profile whole tag.client tag.number place.client (named whole.histories tag)
+    → (tag.client ≡ c) × (Applied (apply_message place.client.state tag.number (named whole.histories tag).message).answer ≡ Applied applied)
+    → Applies profile whole.sent number whole.ends (with_client whole.ends tag.client place next) c applied (history_at whole.histories c)
+applied_whole profile whole number c applied tag place next count lt at way found newer state_is out alike =
     let history = history_at whole.histories tag.client in
-    let answer = (apply_message client.state tag.number (named whole.histories tag).message).answer in
-    let alike = same_delivered number tag.client c (Applied answer) (Applied applied) e in
-    let took = alike.1 in
-    let same : answer ≡ applied = one_applied answer applied took in
+    let answer = (apply_message place.client.state tag.number (named whole.histories tag).message).answer in
+    let same : answer ≡ applied = one_applied answer applied alike.1 in
     let is : applied_now profile history tag.number (named whole.histories tag) ≡ applied = sym out.answer ∙ same in
     let numbered : tag.number ≡ applied.number = ap (λ (a : AppliedSo). a.number) is in
-    let there = set_there whole.ends.clients tag.client None (Some next) count lt in
-    subst (λ (k : ℕ). Applies profile whole.sent number whole.ends (with_client whole.ends tag.client next) k applied (history_at whole.histories k)) alike.0 (
-      (client, found, omega (arith, numbered, newer)),
+    let there : client_at (with_client whole.ends tag.client place next) tag.client ≡ Some next =
+    ap (λ (o : Option Place). option_map client_of o) (set_there whole.ends.clients tag.client None (Some (record place { client = next })) count lt) in
+    subst (λ (k : ℕ). Applies profile whole.sent number whole.ends (with_client whole.ends tag.client place next) k applied (history_at whole.histories k)) alike.0 (
+      (place.client, ap (λ (o : Option Place). option_map client_of o) found, omega (arith, numbered, newer)),
       sym is ∙ ap (λ (k : ℕ). applied_now profile history k (built_at history.built k)) numbered,
       (tag, at, way, refl, numbered),
       λ base so.
@@ -419,69 +406,71 @@ applied_whole profile whole number c applied tag client next count lt at way fou
 
 abbrev AppliesSo : Profile → Whole → ℕ → ℕ → AppliedSo → Step → Type 0
 AppliesSo profile whole number c applied next =
-    next.answer.answer ≡ Deliver number c (Applied applied) → Applies profile whole.sent number whole.ends next.whole.ends c applied (history_at whole.histories c)
+    (commands : List Command) → ClientTookSo next.answer number c (Applied applied) commands
+    → Applies profile whole.sent number whole.ends next.whole.ends c applied (history_at whole.histories c)
 
-applied_arrive : (profile : Profile) (whole : Whole) (number c : ℕ) (applied : AppliedSo) (tag : Tag) (found : Option ClientState) → Cited profile → slice_get whole.sent (number - 1) ≡ Some tag → tag.direction ≡ ToClient
-    → client_at whole.ends tag.client ≡ found → IsFor profile whole tag → Holds profile whole → AppliesSo profile whole number c applied (to_client profile whole number tag found)
-applied_arrive profile whole number c applied tag None cited sent_at way at is holds = λ e. absurd (not_delivered number c (Applied applied) e)
-applied_arrive profile whole number c applied tag (Some client) cited sent_at way at is holds =
+applied_arrive : (profile : Profile) (whole : Whole) (number c : ℕ) (applied : AppliedSo) (tag : Tag) (found : Option Place) → Cited profile → slice_get whole.sent (number - 1) ≡ Some tag → tag.direction ≡ ToClient
+    → place_at whole.ends tag.client ≡ found → IsFor profile whole tag → Holds profile whole → AppliesSo profile whole number c applied (to_client profile whole number tag found)
+applied_arrive profile whole number c applied tag None cited sent_at way at is holds = λ commands so. absurd (not_untaken number c (Applied applied) commands so)
+applied_arrive profile whole number c applied tag (Some place) cited sent_at way at is holds =
+    let client = place.client in
     let built = named whole.histories tag in
     let took = tagged client.gathering tag.number (built_bytes profile built) tag.index in
     let does = cited.does client.gathering tag.number (built_bytes profile built) tag.index in
     let now = record client { gathering = took.gathering } in
     let apply : ℕ → Result Reception Illegible = λ k. Ok (receive_message client k built.message (plain_bytes profile built)) in
-    let had = has_client profile whole tag.client client is.0 at holds in
+    let given = take_answer now took.answer apply in
+    let had = has_client profile whole tag.client place is.0 at holds in
     elim does.either [
-      | inl waits ↦ λ e. absurd (quiet_applies now took.answer apply applied waits.quiet
-          (same_delivered number tag.client c (take_answer now took.answer apply).answer (Applied applied) e).1)
+      | inl waits ↦ λ commands so. absurd (quiet_applies now took.answer apply applied waits.quiet
+          (same_delivered number tag.client c given.answer (Applied applied) given.client.state so.0 given.heard commands so.1).1)
       | inr came ↦
-          let out = outcome profile whole tag.client tag.number had.0 client built cited had.1 came.newer (names profile whole tag had.0 client cited is had.1) in
+          let out = outcome profile whole tag.client tag.number had.0 place built cited had.1 came.newer (names profile whole tag had.0 place cited is had.1) in
           let taken = take_answer now (CameWhole tag.number (length (built_bytes profile built))) apply in
-          let does_so : take_answer now took.answer apply ≡ taken = ap (λ (a : Gathered). take_answer now a apply) came.answer in
-          λ e. subst (λ (t : Taken). Applies profile whole.sent number whole.ends (with_client whole.ends tag.client t.client) c applied (history_at whole.histories c)) (sym does_so)
-          (applied_whole profile whole number c applied tag client taken.client holds.facts.clients is.0 sent_at way at came.newer refl out
-          (ap (λ (t : Taken). Deliver number tag.client t.answer) (sym does_so) ∙ e))
+          let does_so : given ≡ taken = ap (λ (a : Gathered). take_answer now a apply) came.answer in
+          λ commands so.
+          let alike = same_delivered number tag.client c given.answer (Applied applied) given.client.state so.0 given.heard commands so.1 in
+          subst (λ (t : Taken). Applies profile whole.sent number whole.ends (with_client whole.ends tag.client place t.client) c applied (history_at whole.histories c)) (sym does_so)
+          (applied_whole profile whole number c applied tag place taken.client holds.facts.clients is.0 sent_at way at came.newer refl out
+          (alike.0, ap (λ (t : Taken). t.answer) (sym does_so) ∙ alike.1))
     ]
 
 -- where the server takes a datagram, nothing is answered as applied
 not_applied : (profile : Profile) (whole : Whole) (number c : ℕ) (applied : AppliedSo) (tag : Tag) (from : Address) (found : Option SlotState)
     → AppliesSo profile whole number c applied (to_server profile whole number tag from found)
-not_applied profile whole number c applied tag from None e = absurd (not_to_server number Stranger number c (Applied applied) e)
-not_applied profile whole number c applied tag from (Some slot) e = absurd (not_to_server number _ number c (Applied applied) e)
+not_applied profile whole number c applied tag from None commands so = absurd (not_by_server number Stranger _ c (Applied applied) commands so)
+not_applied profile whole number c applied tag from (Some slot) commands so = absurd (not_by_server number _ _ c (Applied applied) commands so)
 
 applied_go : (profile : Profile) (whole : Whole) (number c : ℕ) (applied : AppliedSo) (tag : Tag) (direction : Direction) → Cited profile → slice_get whole.sent (number - 1) ≡ Some tag → tag.direction ≡ direction
     → IsSent profile whole.histories tag → Holds profile whole → AppliesSo profile whole number c applied (arrive profile whole number tag direction)
 applied_go profile whole number c applied tag ToClient cited at way is holds =
-    applied_arrive profile whole number c applied tag (client_at whole.ends tag.client) cited at way refl (is_for profile whole tag way is) holds
+    applied_arrive profile whole number c applied tag (place_at whole.ends tag.client) cited at way refl (is_for profile whole tag way is) holds
 applied_go profile whole number c applied tag (ToServer from) cited at way is holds = not_applied profile whole number c applied tag from (slot_at whole.ends.server tag.client)
 
 applied_deliver : (profile : Profile) (whole : Whole) (number c : ℕ) (applied : AppliedSo) (found : Option Tag) → Cited profile → slice_get whole.sent (number - 1) ≡ found → Holds profile whole
     → AppliesSo profile whole number c applied (deliver profile whole number found)
-applied_deliver profile whole number c applied None cited at holds = λ e. absurd (not_delivered number c (Applied applied) e)
+applied_deliver profile whole number c applied None cited at holds = λ commands so. absurd (not_untaken number c (Applied applied) commands so)
 applied_deliver profile whole number c applied (Some tag) cited at holds =
     applied_go profile whole number c applied tag tag.direction cited at refl (is_sent profile whole (number - 1) tag at holds) holds
 
 -- by tags
 applied_step : (profile : Profile) (whole : Whole) (number c : ℕ) (applied : AppliedSo) → Cited profile → Holds profile whole
     → AppliesSo profile whole number c applied (step profile whole (events.Deliver number))
-unfolding step
 applied_step profile whole number c applied cited holds =
     subst (AppliesSo profile whole number c applied) (sym (step_own profile whole number holds.own)) (applied_deliver profile whole number c applied (slice_get whole.sent (number - 1)) cited refl holds)
 
 -- and by bytes
 pub applied_was_built : BytesFollowTags → Layers → AppliedWasBuilt
-applied_was_built law below profile all number c applied is are e =
+applied_was_built law below profile all number c applied commands is are so =
     let stands : Then profile all = stood law profile all is are in
     let kept = kept_then profile all in
     let whole = whole_then profile all in
     let history = history_at whole.histories c in
     let cited = cited_of below profile is in
-    let holds : Holds profile whole = record { facts = stands.facts; joined = stands.joined; own = stands.own } in
-    let same : kept_step kept (events.Deliver number) ≡ seen profile (step profile whole (events.Deliver number)) =
-    ap (λ (k : Kept). kept_step k (events.Deliver number)) (kept_is profile kept whole stands) ∙ (delivers_agree profile whole number cited holds).same in
+    let same = delivers_same profile kept whole number cited stands in
     subst (λ (before : Ends). Applies profile whole.sent number before (kept_step kept (events.Deliver number)).kept.ends c applied history) (sym stands.ends)
     (subst (λ (s : KeptStep). Applies profile whole.sent number whole.ends s.kept.ends c applied history) (sym same)
-    (applied_step profile whole number c applied cited holds (sym (ap (λ (s : KeptStep). s.answer.answer) same) ∙ e)))
+    (applied_step profile whole number c applied cited (holds_of profile kept whole stands) commands (so.0, sym (ap (λ (s : KeptStep). s.answer) same) ∙ so.1)))
 
 -- ---- a client's state
 
@@ -502,6 +491,8 @@ pub state_is_of_game : BytesFollowTags → StateIsOfGame
 state_is_of_game law profile all c client is are within found =
     let stands : Then profile all = stood law profile all is are in
     let whole = whole_then profile all in
-    let holds : Holds profile whole = record { facts = stands.facts; joined = stands.joined; own = stands.own } in
-    let had = has_client profile whole c client within (ap (λ (e : Ends). client_at e c) (sym stands.ends) ∙ found) holds in
-    state_by client (history_at whole.histories c) had.1.joined.mapped.has
+    let history = history_at whole.histories c in
+    of_there profile (kept_then profile all) whole c client
+    (λ (client : ClientState).
+    MatchOption (last_played history.games) (IsFresh client.state) (λ played. Carries history.built played.number played.game × IsOf client.state played history.client_executed))
+    within found stands (λ slot place had. state_by place.client history had.joined.mapped.has)

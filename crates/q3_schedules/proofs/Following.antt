@@ -20,14 +20,15 @@ use Rattle.q3_slot.specs.Emitting.{emit_slot}
 use Rattle.q3_slot.specs.Slot.{SlotState}
 use Rattle.q3_window.specs.Flow.{Flow, FlowLaws}
 use Rattle.q3_window.specs.Outgoing.{issued_of}
-use Rattle.q3_world.specs.Ends.{Ends, client_at}
+use Rattle.q3_world.specs.declared.places.Place.{Place}
+use Rattle.q3_world.specs.Ends.{Ends, line_of, place_at}
 use Rattle.q3_world.specs.Games.{Carries, HasGames, IsFresh, IsOf, Tells, WasApplied}
 use Rattle.q3_world.specs.Layers.{Layers}
 use Rattle.q3_world.specs.ByTags.{BytesFollowTags, kept_then, whole_then}
 use Rattle.q3_schedules.specs.Schedules.{SaysNoChange, StringsFollow}
 use Rattle.q3_world.specs.StandsFor.{IsChecked, acks_said, carried_built}
 use Rattle.q3_world.specs.World.{History, Played, Whole, after, built_at, history_at, no_history, opening, serve, step, with_built, with_history}
-use Rattle.q3_world.proofs.Holding.{Holds, has_client}
+use Rattle.q3_world.proofs.Holding.{Holds}
 use Rattle.q3_schedules.proofs.Follows.{Grew, Grew-none, HasHeard, IsFollowed, IsHeard, follows_nothing}
 use Rattle.q3_schedules.proofs.FollowsEvents.{follows_on, issued_count}
 use Rattle.q3_schedules.proofs.FollowsGiven.{At, state_in}
@@ -35,7 +36,7 @@ use Rattle.q3_schedules.proofs.FollowsHeard.{BeginsSo, TellsOf, emits_so}
 use Rattle.q3_world.proofs.GamesParts.{built_end, built_front, carries_front, has_played, newest}
 use Rattle.q3_world.proofs.Growth.{noted_same}
 use Rattle.q3_world.proofs.OnePlace.{set_there}
-use Rattle.q3_schedules.proofs.Stood.{Stood, stood}
+use Rattle.q3_schedules.proofs.Stood.{Stood, after_both, after_one, holds_of, of_there, stood}
 
 -- ---- every list of events
 
@@ -43,17 +44,7 @@ use Rattle.q3_schedules.proofs.Stood.{Stood, stood}
 follows_first : (profile : Profile) (c : ℕ) → c < places → At no_history c (whole_then profile [])
 unfolding after opening
 follows_first profile c lt =
-    rw (get_or-replicate {A = Option ClientState} places c None None lt, get_or-replicate places c no_history no_history lt) (follows_nothing 0 no_strings)
-
--- events behind others
-pub after_both : (profile : Profile) (whole : Whole) (some others : List Event) → after profile whole (some ++ others) ≡ after profile (after profile whole some) others
-unfolding after
-after_both profile whole [] others = refl
-after_both profile whole (event ∷ some) others = after_both profile (step profile whole event).whole some others
-
-pub after_one : (profile : Profile) (whole : Whole) (event : Event) → after profile whole (event ∷ []) ≡ (step profile whole event).whole
-unfolding after
-after_one profile whole event = refl
+    rw (get_or-replicate {A = Option Place} places c None None lt, get_or-replicate places c no_history no_history lt) (follows_nothing 0 no_strings)
 
 -- what holds of all events holds of the first, and of each
 pub all_first : (P : Event → Type 0) (some others : List Event) → AllByRecursion P (some ++ others) → AllByRecursion P some
@@ -73,7 +64,7 @@ follows_along law below profile checked old c lt some (event ∷ rest) are says 
     let next = some ++ event ∷ [] in
     let same : next ++ rest ≡ some ++ event ∷ rest = append_assoc some (event ∷ []) rest in
     let stands : Stood profile (kept_then profile some) whole = stood law profile some checked (all_first IsScheduled some (event ∷ rest) are) in
-    let holds : Holds profile whole = record { facts = stands.facts; joined = stands.joined; own = stands.own } in
+    let holds = holds_of profile (kept_then profile some) whole stands in
     let is : whole_then profile next ≡ (step profile whole event).whole = after_both profile (opening profile) some (event ∷ []) ∙ after_one profile whole event in
     let on : At old c (step profile whole event).whole =
     follows_on profile whole old c lt holds at below.windows.flow below.does below.configs.make event (all_at IsScheduled some event rest are) (all_at SaysNoChange some event rest says) in
@@ -125,7 +116,7 @@ begun_by flow profile whole c lt holds (Some slot) at more =
 begun_at : FlowLaws → (profile : Profile) (whole : Whole) (c : ℕ) → c < places → Holds profile whole
     → length (history_at (step profile whole (events.Serve c)).whole.histories c).built ≡ length (history_at whole.histories c).built + 1
     → BegunAt whole (step profile whole (events.Serve c)).whole c
-unfolding step emit_at
+unfolding step line_of emit_at
 begun_at flow profile whole c lt holds more = begun_by flow profile whole c lt holds (slot_at whole.ends.server c) refl more
 
 -- ---- the client's strings
@@ -162,10 +153,10 @@ strings_then slot client old history id strings follows built_on issued_on heard
     ∙ (ap (λ (k : ℕ). after_commands played.game.strings (drop k executed)) was.up_to
     ∙ (ap (λ (texts : List (List ℕ)). after_commands played.game.strings (drop played.game.command texts)) all ∙ followed.same))
 
-heard_of : (found : Option ClientState) (client : ClientState) (built : List Built) (games : List Played) → found ≡ Some client → IfSome (state_in found) (λ s. HasHeard s built games)
-    → HasHeard client.state built games
-heard_of found client built games is heard =
-    let at : IfSome (state_in (Some client)) (λ s. HasHeard s built games) = subst (λ (o : Option ClientState). IfSome (state_in o) (λ s. HasHeard s built games)) is heard in at
+heard_of : (found : Option Place) (place : Place) (built : List Built) (games : List Played) → found ≡ Some place → IfSome (state_in found) (λ s. HasHeard s built games)
+    → HasHeard place.client.state built games
+heard_of found place built games is heard =
+    let at : IfSome (state_in (Some place)) (λ s. HasHeard s built games) = subst (λ (o : Option Place). IfSome (state_in o) (λ s. HasHeard s built games)) is heard in at
 
 pub strings_follow : BytesFollowTags → Layers → StringsFollow
 strings_follow law below profile before rest c client checked are says lt more found has number id =
@@ -180,7 +171,7 @@ strings_follow law below profile before rest c client checked are says lt more f
     let now = whole_then profile all in
     let old = history_at then.histories c in
     let stands : Stood profile (kept_then profile before) first = stood law profile before checked (all_first IsScheduled before (event ∷ rest) are) in
-    let holds : Holds profile first = record { facts = stands.facts; joined = stands.joined; own = stands.own } in
+    let holds = holds_of profile (kept_then profile before) first stands in
     let is : then ≡ (step profile first event).whole = after_both profile (opening profile) before (event ∷ []) ∙ after_one profile first event in
     let begun : BegunAt first then c =
     subst (λ (w : Whole). BegunAt first w c) (sym is)
@@ -190,13 +181,18 @@ strings_follow law below profile before rest c client checked are says lt more f
     let since : At old c now =
     subst (λ (l : List Event). At old c (whole_then profile l)) same (follows_along law below profile checked old c lt served rest are_so says_so (follows_since no_history c then at)) in
     let stands_now : Stood profile (kept_then profile all) now = stood law profile all checked are in
-    let found_now : client_at now.ends c ≡ Some client = ap (λ (e : Ends). client_at e c) (sym stands_now.ends) ∙ found in
-    let had = has_client profile now c client lt found_now (record { facts = stands_now.facts; joined = stands_now.joined; own = stands_now.own }) in
     let history = history_at now.histories c in
     let map_is = ap (λ (e : Ends). e.server.map) stands.ends in
-    let id_is : client.state.id ≡ then.ends.server.map.id = id ∙ (ap (λ (m : MapState). m.id) map_is ∙ sym begun.id) in
-    let last : (built_at old.built client.state.number).last ≡ length old.server_commands = ap (λ (k : ℕ). (built_at old.built k).last) number ∙ begun.last in
-    strings_then had.0 client old history then.ends.server.map.id then.ends.server.map.strings at.each since.built_on since.issued_on
-    (heard_of (client_at now.ends c) client history.built history.games found_now since.heard) had.1.joined.mapped.has had.1.joined.commanded.to_client has
+    let says : ClientState → Type 0 = λ client.
+    client.state.has_game ≡ true → client.state.number ≡ length (history_at first.histories c).built + 1 → client.state.id ≡ (kept_then profile before).ends.server.map.id
+    → client.state.strings ≡ (kept_then profile before).ends.server.map.strings in
+    of_there profile (kept_then profile all) now c client says lt found stands_now
+    (λ slot place had has number id.
+    let state = place.client.state in
+    let id_is : state.id ≡ then.ends.server.map.id = id ∙ (ap (λ (m : MapState). m.id) map_is ∙ sym begun.id) in
+    let last : (built_at old.built state.number).last ≡ length old.server_commands = ap (λ (k : ℕ). (built_at old.built k).last) number ∙ begun.last in
+    strings_then slot place.client old history then.ends.server.map.id then.ends.server.map.strings at.each since.built_on since.issued_on
+    (heard_of (place_at now.ends c) place history.built history.games had.place_is since.heard) had.joined.mapped.has had.joined.commanded.to_client has
     (omega (arith, number)) (number ∙ sym more) last id_is
-    ∙ (begun.strings ∙ ap (λ (m : MapState). m.strings) (sym map_is))
+    ∙ (begun.strings ∙ ap (λ (m : MapState). m.strings) (sym map_is)))
+    has number id

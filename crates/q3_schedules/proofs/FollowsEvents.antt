@@ -34,15 +34,22 @@ use Rattle.q3_svmsg.specs.declared.error.Illegible.{Illegible}
 use Rattle.q3_window.specs.Flow.{FlowLaws}
 use Rattle.q3_window.specs.Outgoing.{issued_of}
 use Rattle.q3_window.specs.declared.outgoing.WindowFull.{WindowFull}
-use Rattle.q3_world.specs.Ends.{add_move_to, client_at, moved, ran_of, type_to, typed}
+use Rattle.q3_report.specs.declared.answer.HandedIn.TheVariants as answers
+use Rattle.q3_report.specs.declared.answer.MoveRefused.TheVariants as refused
+use Rattle.q3_report.specs.declared.answer.TypeRefused.TheVariants as untyped
+use Rattle.q3_report.specs.Answers.{Given}
+use Rattle.q3_ends.specs.AtServer.{ran_of, server_line}
+use Rattle.q3_ends.specs.AtClient.{add_move, moved, type_text, typed}
+use Rattle.q3_world.specs.declared.places.Place.{Place}
+use Rattle.q3_world.specs.Ends.{line_of, place_at, to_client as line_to_client}
 use Rattle.q3_schedules.specs.Schedules.{SaysNoChange}
 use Rattle.q3_world.specs.StandsFor.{IsSent, IsWay, acks_said, carried_built}
-use Rattle.q3_world.specs.World.{History, Tag, Whole, arrive, deliver, deliver_as, history_at, named, no_message, said_under, send, serve, step, to_client, to_server, with_built, with_history, with_issued, with_noted, with_run, with_said, with_taken, with_typed}
+use Rattle.q3_world.specs.World.{History, Tag, Whole, arrive, deliver, deliver_as, history_at, named, no_message, said_under, send, serve, step, to_client, to_server, with_built, with_history, with_issued, with_run, with_said, with_taken, with_typed}
 use Rattle.q3_world.specs.declared.made.Direction.{Direction}
 use Rattle.q3_world.specs.declared.made.Direction.TheVariants.{ToClient, ToServer}
 use Rattle.q3_world.proofs.Holding.{Holds, has_client, has_slot}
 use Rattle.q3_schedules.proofs.Follows.{follows_built}
-use Rattle.q3_schedules.proofs.FollowsGiven.{At, Of, client_changed, configs, gives, history_changed, joins, lines, maps, same_map, same_state, says, state_in, unnoted}
+use Rattle.q3_schedules.proofs.FollowsGiven.{At, Of, both_changed, configs, gives, history_changed, joins, lines, maps, noting, ports, same_map, same_state, says, state_in, unnoted}
 use Rattle.q3_schedules.proofs.FollowsHeard.{BeginsSo, TellsOf, emits_so, hears_it, take_follows}
 
 -- ---- where a state stays
@@ -95,72 +102,75 @@ pub issued_count : (profile : Profile) (whole : Whole) (k : ℕ) (slot : SlotSta
 issued_count profile whole k slot flow within at holds =
     let history = history_at whole.histories k in
     let had = has_slot profile whole k slot within at holds in
-    let client = had.0 in
+    let client = had.0.client in
     (flow.issues slot.issued client.state.executed history.server_commands history.client_executed (carried_built history.built) (acks_said history.said) slot.gathering.taken client.gathering.taken []
     had.1.joined.commanded.to_client).1
 
 module _ (profile : Profile) (whole : Whole) (old : History) (c : ℕ) (lt : c < places) (holds : Holds profile whole) (is : At old c whole) where
   -- ---- a client's own end
 
-  typed_stays : (client after : ClientState) (history : History) (text : List ℕ) (k : ℕ) (answer : Result ℕ WindowFull) → after.state ≡ client.state → Of old whole.ends.server.map (Some client) history
-      → Of old whole.ends.server.map (Some after) (with_typed history text (typed k answer))
-  typed_stays client after history text k (Ok number) same was = same_state old whole.ends.server.map client after history same was
-  typed_stays client after history text k (Err e) same was = same_state old whole.ends.server.map client after history same was
+  typed_stays : (place after : Place) (history : History) (text : List ℕ) (k : ℕ) (answer : Result ℕ WindowFull) → after.client.state ≡ place.client.state → Of old whole.ends.server.map (Some place) history
+      → Of old whole.ends.server.map (Some after) (with_typed history text (Given (typed k answer)))
+  typed_stays place after history text k (Ok number) same was = same_state old whole.ends.server.map place after history same was
+  typed_stays place after history text k (Err e) same was = same_state old whole.ends.server.map place after history same was
 
-  moved_stays : (client after : ClientState) (history : History) (one : Move) (k : ℕ) (answer : Result (Unit {0}) MoveError) → after.state ≡ client.state → Of old whole.ends.server.map (Some client) history
-      → Of old whole.ends.server.map (Some after) (with_issued history one (moved k answer))
-  moved_stays client after history one k (Ok x) same was = same_state old whole.ends.server.map client after history same was
-  moved_stays client after history one k (Err e) same was = same_state old whole.ends.server.map client after history same was
+  moved_stays : (place after : Place) (history : History) (one : Move) (k : ℕ) (answer : Result (Unit {0}) MoveError) → after.client.state ≡ place.client.state → Of old whole.ends.server.map (Some place) history
+      → Of old whole.ends.server.map (Some after) (with_issued history one (Given (moved k answer)))
+  moved_stays place after history one k (Ok x) same was = same_state old whole.ends.server.map place after history same was
+  moved_stays place after history one k (Err e) same was = same_state old whole.ends.server.map place after history same was
 
-  said_stays : (client after : ClientState) (history : History) (began : Option Said) → after.state ≡ client.state → Of old whole.ends.server.map (Some client) history
+  said_stays : (place after : Place) (history : History) (began : Option Said) → after.client.state ≡ place.client.state → Of old whole.ends.server.map (Some place) history
       → Of old whole.ends.server.map (Some after) (with_said history began)
-  said_stays client after history None same was = same_state old whole.ends.server.map client after history same was
-  said_stays client after history (Some said) same was = same_state old whole.ends.server.map client after history same was
+  said_stays place after history None same was = same_state old whole.ends.server.map place after history same was
+  said_stays place after history (Some said) same was = same_state old whole.ends.server.map place after history same was
 
   -- a client that is there changes, and what is noted of it
-  ends_changed : (k : ℕ) (client after : ClientState) (next : History) → client_at whole.ends k ≡ Some client
-      → (Of old whole.ends.server.map (Some client) (history_at whole.histories k) → Of old whole.ends.server.map (Some after) next)
+  ends_changed : (k : ℕ) (place after : Place) (next : History) → place_at whole.ends k ≡ Some place
+      → (Of old whole.ends.server.map (Some place) (history_at whole.histories k) → Of old whole.ends.server.map (Some after) next)
       → Of old whole.ends.server.map (get_or (slice_set whole.ends.clients k (Some after)) c None) (history_at (with_history whole.histories k next) c)
-  ends_changed k client after next at own =
-      client_changed (λ (e : Option ClientState) (h : History). Of old whole.ends.server.map e h) whole.ends.clients whole.histories c k (Some after) next holds.facts.clients holds.facts.histories lt
-      (λ was. own (subst (λ (e : Option ClientState). Of old whole.ends.server.map e (history_at whole.histories k)) at was)) is
+  ends_changed k place after next at own =
+      both_changed (λ (e : Option Place) (h : History). Of old whole.ends.server.map e h) whole.ends.clients whole.histories c k (Some after) next holds.facts.clients holds.facts.histories lt
+      (λ was. own (subst (λ (e : Option Place). Of old whole.ends.server.map e (history_at whole.histories k)) at was)) is
 
   -- it issues a command
-  types : (k : ℕ) (text : List ℕ) (found : Option ClientState) → client_at whole.ends k ≡ found
-      → At old c (with_noted whole k (type_to whole.ends k text found) (with_typed (history_at whole.histories k) text)).whole
+  types : (k : ℕ) (text : List ℕ) (found : Option Place) → place_at whole.ends k ≡ found
+      → At old c (noting whole k (line_to_client whole.ends k (answers.TypeText k (Err untyped.NoClient)) (λ client. type_text client k text) found) (with_typed (history_at whole.histories k) text))
   types k text None at = unnoted profile whole old c lt holds is k
-  types k text (Some client) at =
-      let issuing = type_at client text in
-      ends_changed k client issuing.client (with_typed (history_at whole.histories k) text (typed k issuing.answer)) at
-      (typed_stays client issuing.client (history_at whole.histories k) text k issuing.answer refl)
+  types k text (Some place) at =
+      let issuing = type_at place.client text in
+      let after : Place = record place { client = issuing.client } in
+      ends_changed k place after (with_typed (history_at whole.histories k) text (Given (typed k issuing.answer))) at
+      (typed_stays place after (history_at whole.histories k) text k issuing.answer refl)
 
   -- or a move
-  moves : (k : ℕ) (one : Move) (found : Option ClientState) → client_at whole.ends k ≡ found
-      → At old c (with_noted whole k (add_move_to whole.ends k one found) (with_issued (history_at whole.histories k) one)).whole
+  moves : (k : ℕ) (one : Move) (found : Option Place) → place_at whole.ends k ≡ found
+      → At old c (noting whole k (line_to_client whole.ends k (answers.Move k (Err refused.NoClient)) (λ client. add_move client k one) found) (with_issued (history_at whole.histories k) one))
   moves k one None at = unnoted profile whole old c lt holds is k
-  moves k one (Some client) at =
-      let given = add_move_at client one in
-      ends_changed k client given.client (with_issued (history_at whole.histories k) one (moved k given.answer)) at
-      (moved_stays client given.client (history_at whole.histories k) one k given.answer (move_stays client one))
+  moves k one (Some place) at =
+      let given = add_move_at place.client one in
+      let after : Place = record place { client = given.client } in
+      ends_changed k place after (with_issued (history_at whole.histories k) one (Given (moved k given.answer))) at
+      (moved_stays place after (history_at whole.histories k) one k given.answer (move_stays place.client one))
 
   -- or makes a datagram
-  sends : (k : ℕ) (found : Option ClientState) → client_at whole.ends k ≡ found → At old c (send whole k found).whole
+  sends : (k : ℕ) (found : Option Place) → place_at whole.ends k ≡ found → At old c (send whole k found).whole
   sends k None at = is
-  sends k (Some client) at =
-      let emission = speaks.emit_at client in
-      ends_changed k client emission.client (with_said (history_at whole.histories k) emission.began) at
-      (said_stays client emission.client (history_at whole.histories k) emission.began (send_stays client))
+  sends k (Some place) at =
+      let emission = speaks.emit_at place.client in
+      let after : Place = record place { client = emission.client } in
+      ends_changed k place after (with_said (history_at whole.histories k) emission.began) at
+      (said_stays place after (history_at whole.histories k) emission.began (send_stays place.client))
 
   -- ---- the server makes a datagram
 
   begun_follows : FlowLaws → (k : ℕ) (slot : SlotState) → k < places → slot_at whole.ends.server k ≡ Some slot → (began : Option Built) → IfSome began (TellsOf whole.ends.server.map (issued_of slot.issued))
-      → Of old whole.ends.server.map (client_at whole.ends c) (history_at whole.histories k) → Of old whole.ends.server.map (client_at whole.ends c) (with_built (history_at whole.histories k) began)
+      → Of old whole.ends.server.map (place_at whole.ends c) (history_at whole.histories k) → Of old whole.ends.server.map (place_at whole.ends c) (with_built (history_at whole.histories k) began)
   begun_follows flow k slot within at None tells was = was
   begun_follows flow k slot within at (Some next) tells was =
       let map = whole.ends.server.map in
       let history = history_at whole.histories k in
       let count = issued_count profile whole k slot flow within at holds in
-      follows_built map.id map.strings old.built old.server_commands (state_in (client_at whole.ends c)) history.built history.games history.server_commands next
+      follows_built map.id map.strings old.built old.server_commands (state_in (place_at whole.ends c)) history.built history.games history.server_commands next
       (λ game e. let so = tells.game game e in (so.0, so.1 ∙ count)) was
 
   serves : FlowLaws → (k : ℕ) → k < places → (found : Option SlotState) → slot_at whole.ends.server k ≡ found → At old c (serve whole k (emit_from whole.ends.server k found)).whole
@@ -170,16 +180,17 @@ module _ (profile : Profile) (whole : Whole) (old : History) (c : ℕ) (lt : c <
       let emission = emit_slot server.profile server.map server.frames k slot slot.sending.under_way in
       let so : BeginsSo server.map (issued_of slot.issued) emission.map emission.began = emits_so server.profile server.map server.frames k slot slot.sending.under_way in
       let noted = history_at (with_history whole.histories k (with_built (history_at whole.histories k) emission.began)) c in
-      same_map old server.map emission.map (client_at whole.ends c) noted so.id so.strings
-      (history_changed (λ (h : History). Of old server.map (client_at whole.ends c) h) whole.histories c k (with_built (history_at whole.histories k) emission.began) holds.facts.histories lt
+      same_map old server.map emission.map (place_at whole.ends c) noted so.id so.strings
+      (history_changed (λ (h : History). Of old server.map (place_at whole.ends c) h) whole.histories c k (with_built (history_at whole.histories k) emission.began) holds.facts.histories lt
       (begun_follows flow k slot within at emission.began so.tells) is)
 
   -- ---- a datagram arrives
 
-  comes_to_client : FlowLaws → TaggedDoes → (datagram : ℕ) (tag : Tag) → IsSent profile whole.histories tag → tag.direction ≡ ToClient → (found : Option ClientState)
-      → client_at whole.ends tag.client ≡ found → At old c (to_client profile whole datagram tag found).whole
+  comes_to_client : FlowLaws → TaggedDoes → (datagram : ℕ) (tag : Tag) → IsSent profile whole.histories tag → tag.direction ≡ ToClient → (found : Option Place)
+      → place_at whole.ends tag.client ≡ found → At old c (to_client profile whole datagram tag found).whole
   comes_to_client flow does_so datagram tag sent way None at = is
-  comes_to_client flow does_so datagram tag sent way (Some client) at =
+  comes_to_client flow does_so datagram tag sent way (Some place) at =
+      let client = place.client in
       let k = tag.client in
       let map = whole.ends.server.map in
       let history = history_at whole.histories k in
@@ -187,31 +198,31 @@ module _ (profile : Profile) (whole : Whole) (old : History) (c : ℕ) (lt : c <
       let bytes = built_bytes profile built in
       let took = tagged client.gathering tag.number bytes tag.index in
       let taken = take_gathered client took (λ n. Ok (receive_message client n built.message (plain_bytes profile built))) in
-      let had = has_client profile whole k client sent.client at holds in
+      let had = has_client profile whole k place sent.client at holds in
       let slot = had.0 in
       let of = had.1.joined in
       let piece : IsWay profile history tag ToClient = subst (λ (d : Direction). IsWay profile history tag d) way sent.way in
       let some = piece.some in
       let begun = piece.begun in
-      let place : tag.number - 1 + 1 ≡ tag.number = omega (arith, some) in
+      let there : tag.number - 1 + 1 ≡ tag.number = omega (arith, some) in
       let is_built : IsBuilt profile slot.challenge tag.number built =
-      subst (λ (n : ℕ). IsBuilt profile slot.challenge n built) place (had.1.keeps.of_slot.built (tag.number - 1) no_message (omega (arith, some, begun))) in
-      ends_changed k client taken.client (with_taken history tag.number built.message.section taken) at
+      subst (λ (n : ℕ). IsBuilt profile slot.challenge n built) there (had.1.keeps.of_slot.built (tag.number - 1) no_message (omega (arith, some, begun))) in
+      ends_changed k place (record place { client = taken.client }) (with_taken history tag.number built.message.section taken) at
       (λ was. take_follows map.id map.strings old.built old.server_commands history client took tag.number bytes built (plain_bytes profile built) (does_so client.gathering tag.number bytes tag.index)
       (λ newer. hears_it flow profile slot client history tag.number newer begun is_built of.commanded of.mapped.has was.heard) was)
 
   comes_to_server : (datagram : ℕ) (tag : Tag) (from : Address) (found : Option SlotState) → At old c (to_server profile whole datagram tag from found).whole
-  comes_to_server datagram tag from None = history_changed (λ (h : History). Of old whole.ends.server.map (client_at whole.ends c) h) whole.histories c tag.client
+  comes_to_server datagram tag from None = history_changed (λ (h : History). Of old whole.ends.server.map (place_at whole.ends c) h) whole.histories c tag.client
       (with_run (history_at whole.histories tag.client) (ran_of (unmoved whole.ends.server Stranger))) holds.facts.histories lt (λ was. was) is
   comes_to_server datagram tag from (Some slot) =
       let taken = by_slot.take_gathered whole.ends.server.map (record slot { address = from }) tag.client
       (tagged slot.gathering tag.number (said_bytes profile (said_under whole.histories tag)) tag.index) (λ n. Ok (by_slot.came_as whole.ends.server.map (said_under whole.histories tag).message)) in
-      history_changed (λ (h : History). Of old whole.ends.server.map (client_at whole.ends c) h) whole.histories c tag.client
+      history_changed (λ (h : History). Of old whole.ends.server.map (place_at whole.ends c) h) whole.histories c tag.client
       (with_run (history_at whole.histories tag.client) (ran_of (taken_at whole.ends.server tag.client taken))) holds.facts.histories lt (λ was. was) is
 
   comes_to : FlowLaws → TaggedDoes → (datagram : ℕ) (tag : Tag) → IsSent profile whole.histories tag → (direction : Direction) → tag.direction ≡ direction
       → At old c (arrive profile whole datagram tag direction).whole
-  comes_to flow does_so datagram tag sent ToClient way = comes_to_client flow does_so datagram tag sent way (client_at whole.ends tag.client) refl
+  comes_to flow does_so datagram tag sent ToClient way = comes_to_client flow does_so datagram tag sent way (place_at whole.ends tag.client) refl
   comes_to flow does_so datagram tag sent (ToServer from) way = comes_to_server datagram tag from (slot_at whole.ends.server tag.client)
 
   delivers : FlowLaws → TaggedDoes → (number : ℕ) (found : Option Tag) → slice_get whole.sent (number - 1) ≡ found → At old c (deliver profile whole number found).whole
@@ -224,25 +235,21 @@ module _ (profile : Profile) (whole : Whole) (old : History) (c : ℕ) (lt : c <
   -- ---- every event
 
   pub follows_on : FlowLaws → TaggedDoes → PiecesMakeChange → (event : Event) → IsScheduled event → SaysNoChange event → At old c (step profile whole event).whole
-  unfolding step emit_at
+  unfolding step line_of server_line emit_at
   follows_on flow does_so make (events.Client k challenge qport dup address) replay none = joins profile whole old c lt holds is k challenge qport dup address (omega (arith, replay.0.0))
-  follows_on flow does_so make (events.Port k port) replay none = is
+  follows_on flow does_so make (events.Port k port) replay none = ports profile whole old c lt holds is k port (place_at whole.ends k) refl
   follows_on flow does_so make (events.Map id feed) replay none = maps profile whole old c lt holds is id feed
   follows_on flow does_so make (events.Baseline state) replay none = lines profile whole old c lt holds is state
   follows_on flow does_so make (events.Config index text) replay none = configs profile whole old c lt holds is make index text
-  follows_on flow does_so make (events.Entity state) replay none = is
-  follows_on flow does_so make (events.Remove number) replay none = is
   follows_on flow does_so make (events.Player k player) replay none = gives profile whole old c lt holds is k (λ slot. with_player whole.ends.server.profile slot player) (slot_at whole.ends.server k)
   follows_on flow does_so make (events.Area k area) replay none = gives profile whole old c lt holds is k (λ slot. with_area slot area.items) (slot_at whole.ends.server k)
-  follows_on flow does_so make (events.Time time) replay none = is
   follows_on flow does_so make (events.Say k text) replay none = says profile whole old c lt holds is k text none
-  follows_on flow does_so make (events.TypeText k text) replay none = types k text (client_at whole.ends k) refl
-  follows_on flow does_so make (events.Move k one) replay none = moves k one (client_at whole.ends k) refl
+  follows_on flow does_so make (events.TypeText k text) replay none = types k text (place_at whole.ends k) refl
+  follows_on flow does_so make (events.Move k one) replay none = moves k one (place_at whole.ends k) refl
   follows_on flow does_so make (events.Serve k) replay none = serves flow k (omega (arith, replay.0)) (slot_at whole.ends.server k) refl
-  follows_on flow does_so make (events.Send k) replay none = sends k (client_at whole.ends k) refl
+  follows_on flow does_so make (events.Send k) replay none = sends k (place_at whole.ends k) refl
   follows_on flow does_so make (events.Deliver number) replay none =
       subst (λ (b : Bool). At old c (deliver_as b profile whole number (slice_get whole.sent (number - 1))).whole) (sym holds.own) (delivers flow does_so number (slice_get whole.sent (number - 1)) refl)
-  follows_on flow does_so make (events.Show k) replay none = is
-  follows_on flow does_so make (events.Bytes number) replay none = is
   follows_on flow does_so make (events.Toclient k bytes) replay none = absurd replay.1
   follows_on flow does_so make (events.Toserver k bytes) replay none = absurd replay.1
+  follows_on flow does_so make event replay none = is

@@ -7,25 +7,23 @@ use Rattle.std.proofs.lemmas.List.Elements.{All-contains, All-from_get_or, All-n
 use Rattle.q3_client.specs.Client.{ClientState}
 use Rattle.q3_client.specs.Sending.{Said}
 use Rattle.q3_gamestate.specs.Values.{Gamestate}
-use Rattle.q3_io.specs.declared.address.Address.{Address}
 use Rattle.q3_map.specs.Map.{MapState}
 use Rattle.q3_profile.specs.declared.profile.Profile.{Profile}
 use Rattle.q3_ring.specs.Snapshot.{Snapshot}
 use Rattle.q3_server.specs.Server.{slot_at}
 use Rattle.q3_built.specs.Built.{Built, IsBuilt, IsNear}
 use Rattle.q3_slot.specs.Slot.{SlotState}
-use Rattle.q3_world.specs.Ends.{Ends, client_at, address_at}
+use Rattle.q3_world.specs.Ends.{Ends}
 use Rattle.q3_world.specs.Games.{AcceptedUnder, BuiltUnder, HasGames, HasLast, IsSaidUnder, MapsRise, Tells, WasApplied}
 use Rattle.q3_world.specs.ByTags.{BytesFollowTags, kept_then, whole_then}
 use Rattle.q3_schedules.specs.Schedules.{AskedUnderGame, BuiltUnderItsGame, OneGamePerMap, SaidUnderItsMap, SlotUnderMap, AcceptedUnderMap}
-use Rattle.q3_world.specs.StandsFor.{IsClient, IsJoined, WasBuilt}
+use Rattle.q3_world.specs.StandsFor.{WasBuilt}
 use Rattle.q3_world.specs.World.{History, Played, built_at, history_at, no_message}
-use Rattle.q3_script.specs.declared.event.Event.{Event}
 use Rattle.q3_world.proofs.Arriving.{waits_none}
 use Rattle.q3_schedules.proofs.EverySchedule.{bases_were_accepted}
 use Rattle.q3_world.proofs.GamesParts.{carries_one, cases_option}
 use Rattle.q3_world.proofs.Mapped.{Mapped}
-use Rattle.q3_schedules.proofs.Stood.{Stood, stood}
+use Rattle.q3_schedules.proofs.Stood.{Then, of_each, stood}
 
 -- ---- what is asked for
 
@@ -125,34 +123,22 @@ built_under_game profile map slot client history mapped are bases =
               (subst (λ (b : Built). IfSome b.base (IsKnownBase (k + 1) history.built history.accepted)) is (bases k no_message lt))
         ]
 
--- of a client, wherever it is
 abbrev AreAskedUnder : MapState → Option SlotState → History → Type 0
 AreAskedUnder map slot history = SaidUnderItsMap history × IfSome slot (SlotUnderMap map history) × BuiltUnderItsGame history
-
-asked_by : (profile : Profile) (map : MapState) (slot : Option SlotState) (client : Option ClientState) (address : Address) (history : History)
-    → IsClient profile slot client address history → IsJoined profile map slot client history
-    → ((k : ℕ) (d : Built) → k < length history.built → IfSome (get_or history.built k d).base (IsKnownBase (k + 1) history.built history.accepted)) → AreAskedUnder map slot history
-asked_by profile map None None address history is joined bases = rw is (All-nil _, tt, All-nil _)
-asked_by profile map None (Some client) address history is joined bases = absurd is
-asked_by profile map (Some slot) None address history is joined bases = absurd is
-asked_by profile map (Some slot) (Some client) address history is joined bases = (
-  said_under_map map slot client history joined.mapped,
-  slot_under_map map slot client history joined.mapped,
-  built_under_game profile map slot client history joined.mapped is.of_slot.built bases,
-)
-
--- what stands after the events
-abbrev Then : Profile → List Event → Type 0
-Then profile all = Stood profile (kept_then profile all) (whole_then profile all)
 
 pub asked_under_game : BytesFollowTags → AskedUnderGame
 asked_under_game law profile all c is are within =
     let stands : Then profile all = stood law profile all is are in
     let whole = whole_then profile all in
+    let map = whole.ends.server.map in
     let history = history_at whole.histories c in
     subst (λ (ends : Ends). AreAskedUnder ends.server.map (slot_at ends.server c) history) (sym stands.ends)
-    (asked_by profile whole.ends.server.map (slot_at whole.ends.server c) (client_at whole.ends c) (address_at whole.ends c) history (stands.facts.each c within) (stands.joined c within)
-    (λ k d lt. bases_were_accepted law profile all c k d is are within lt))
+    (of_each profile (kept_then profile all) whole c (λ slot found history. AreAskedUnder map slot history) within stands (All-nil _, tt, All-nil _)
+    (λ slot place had. (
+      said_under_map map slot place.client history had.joined.mapped,
+      slot_under_map map slot place.client history had.joined.mapped,
+      built_under_game profile map slot place.client history had.joined.mapped had.keeps.of_slot.built (λ k d lt. bases_were_accepted law profile all c k d is are within lt),
+    )))
 
 -- ---- one gamestate of a map
 
@@ -188,17 +174,8 @@ games_of_maps client history has = (
   one_of history.games has.maps,
 )
 
-games_by : (profile : Profile) (map : MapState) (slot : Option SlotState) (client : Option ClientState) (address : Address) (history : History)
-    → IsClient profile slot client address history → IsJoined profile map slot client history → AreOfMaps history.games
-games_by profile map None None address history is joined =
-    rw is (All-nil _, (λ j k x y d lt within told same. absurd (omega (arith, within))), (λ j k id d first second told same. absurd (omega (arith, first))))
-games_by profile map None (Some client) address history is joined = absurd is
-games_by profile map (Some slot) None address history is joined = absurd is
-games_by profile map (Some slot) (Some client) address history is joined = games_of_maps client history joined.mapped.has
-
 pub one_game_per_map : BytesFollowTags → OneGamePerMap
 one_game_per_map law profile all c is are within =
-    let stands : Then profile all = stood law profile all is are in
-    let whole = whole_then profile all in
-    games_by profile whole.ends.server.map (slot_at whole.ends.server c) (client_at whole.ends c) (address_at whole.ends c) (history_at whole.histories c)
-    (stands.facts.each c within) (stands.joined c within)
+    of_each profile (kept_then profile all) (whole_then profile all) c (λ slot found history. AreOfMaps history.games) within (stood law profile all is are)
+    (All-nil _, (λ j k x y d lt within told same. absurd (omega (arith, within))), (λ j k id d first second told same. absurd (omega (arith, first))))
+    (λ slot place had. games_of_maps place.client (history_at (whole_then profile all).histories c) had.joined.mapped.has)

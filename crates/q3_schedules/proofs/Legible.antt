@@ -10,9 +10,7 @@ use Rattle.q3_script.specs.declared.event.Event.{Event}
 use Rattle.q3_script.specs.declared.event.Event.TheVariants as events
 use Rattle.q3_schedules.specs.Schedules.{IsScheduled}
 use Rattle.q3_schedules.proofs.Stood.{foreign_is, own_at_first}
-use Rattle.q3_window.specs.declared.outgoing.WindowFull.{WindowFull}
 use Rattle.q3_window.specs.Incoming.{gap_in}
-use Rattle.q3_clmsg.specs.declared.moves.Move.{Move}
 use Rattle.q3_clmsg.specs.Values.{Message}
 use Rattle.q3_svmsg.specs.declared.error.Illegible.{Illegible}
 use Rattle.q3_clstate.specs.State.{apply_message}
@@ -32,22 +30,24 @@ use Rattle.q3_rings.specs.Rings.{is_young}
 use Rattle.q3_rings.specs.Accepted.{age_of}
 use Rattle.q3_slot.specs.Taking as by_slot
 use Rattle.q3_svmsg.specs.Values as told
-use Rattle.q3_client.specs.declared.client.MoveError.{MoveError}
-use Rattle.q3_client.specs.Client.{ClientState, new_client, type_at, receive_message, take_answer}
-use Rattle.q3_client.specs.Moves.{add_move_at}
+use Rattle.q3_client.specs.Client.{ClientState, new_client, receive_message, take_answer}
 use Rattle.q3_client.specs.Sending as speaks
 use Rattle.q3_client.specs.Sending.{said_bits, said_bytes, next_message, next_said, is_unclear}
+use Rattle.q3_ends.specs.AtServer.{server_line}
 use Rattle.q3_world.specs.declared.made.Direction.{Direction}
 use Rattle.q3_world.specs.declared.made.Direction.TheVariants.{ToClient, ToServer}
-use Rattle.q3_report.specs.declared.answer.Answer.TheVariants as answers
-use Rattle.q3_world.specs.Ends.{Ends, Answered, sent, joined, typed, type_to, moved, add_move_to, client_at}
+use Rattle.q3_report.specs.declared.answer.HandedIn.{HandedIn}
+use Rattle.q3_report.specs.Answers.{Answered, SentOut}
+use Rattle.q3_ends.specs.AtClient.{ClientStep}
+use Rattle.q3_world.specs.declared.places.Place.{Place}
+use Rattle.q3_world.specs.Ends.{Ends, joined, line_of, place_at, set_port_of, to_client as line_to_client}
 use Rattle.q3_world.specs.Kept.{Kept, opening_kept, kept_step, kept_answers}
 use Rattle.q3_world.specs.World.{Tag, Whole, history_at, opening, step, send, named, to_client, said_under, to_server, arrive, deliver, deliver_as}
 use Rattle.q3_world.specs.StandsFor.{IsSent, StandsFor}
 use Rattle.q3_world.specs.Layers.{Layers}
 use Rattle.q3_world.specs.ByTags.{StepFollows}
 use Rattle.q3_world.specs.Answering.{outcome_of, outcome_in}
-use Rattle.q3_schedules.specs.Schedules.{MayBecome, IsLegible, AlwaysLegible}
+use Rattle.q3_schedules.specs.Schedules.{MayBecome, IsLegible, IsReadByClient, IsReadByServer, AlwaysLegible}
 use Rattle.q3_world.proofs.Holding.{Holds, has_slot, has_client}
 use Rattle.q3_world.proofs.Agree.{Cited}
 use Rattle.q3_world.proofs.Arriving.{IsFor, IsOf, names, is_sent, is_for, is_of_client, slot_of_tag, said_hears}
@@ -61,29 +61,21 @@ use Rattle.q3_schedules.proofs.RunIssued.{slot_does}
 
 -- ---- what the game hands in
 
-legible_joined : (ends : Ends) (c : ℕ) (client : ClientState) (address : Address) (added : Result (Unit {0}) SlotError) → IsLegible (joined ends c client address added).answer
-legible_joined ends c client address (Ok x) = tt
-legible_joined ends c client address (Err e) = tt
+legible_joined : (ends : Ends) (c : ℕ) (place : Place) (added : Result (Unit {0}) SlotError) → IsLegible (joined ends c place added).answer
+legible_joined ends c place (Ok x) = tt
+legible_joined ends c place (Err e) = tt
 
-legible_moved : (c : ℕ) (given : Result (Unit {0}) MoveError) → IsLegible (moved c given)
-legible_moved c (Ok x) = tt
-legible_moved c (Err e) = tt
+legible_port : (ends : Ends) (c port : ℕ) (found : Option Place) → IsLegible (set_port_of ends c port found).answer
+legible_port ends c port None = tt
+legible_port ends c port (Some place) = tt
 
-legible_move : (ends : Ends) (c : ℕ) (one : Move) (found : Option ClientState) → IsLegible (add_move_to ends c one found).answer
-legible_move ends c one None = tt
-legible_move ends c one (Some client) = legible_moved c (add_move_at client one).answer
-
-legible_typed : (c : ℕ) (given : Result ℕ WindowFull) → IsLegible (typed c given)
-legible_typed c (Ok number) = tt
-legible_typed c (Err e) = tt
-
-legible_type : (ends : Ends) (c : ℕ) (text : List ℕ) (found : Option ClientState) → IsLegible (type_to ends c text found).answer
-legible_type ends c text None = tt
-legible_type ends c text (Some client) = legible_typed c (type_at client text).answer
+legible_line : (ends : Ends) (c : ℕ) (nobody : HandedIn) (line : ClientState → ClientStep) (found : Option Place) → IsLegible (line_to_client ends c nobody line found).answer
+legible_line ends c nobody line None = tt
+legible_line ends c nobody line (Some place) = tt
 
 -- ---- what a client sends
 
-legible_left : (c n : ℕ) (client : ClientState) (left : Option UnderWay) → IsLegible (sent c (Ok (speaks.emit_left client left).answer) n).answer
+legible_left : (c n : ℕ) (client : ClientState) (left : Option UnderWay) → IsLegible (SentOut c (Ok (speaks.emit_left client left).answer) n)
 legible_left c n client (Some left) = tt
 legible_left c n client None =
     let next = next_said client in
@@ -99,13 +91,12 @@ legible_left c n client None =
       ]
     ]
 
-legible_send : (profile : Profile) (whole : Whole) (c : ℕ) (found : Option ClientState) → ((client : ClientState) → found ≡ Some client → client.dropped ≡ None)
-    → IsLegible (send whole c found).answer.answer
+legible_send : (whole : Whole) (c : ℕ) (found : Option Place) → ((place : Place) → found ≡ Some place → place.client.dropped ≡ None) → IsLegible (send whole c found).answer
 unfolding speaks.emit_at
-legible_send profile whole c None legible = tt
-legible_send profile whole c (Some client) legible =
-    subst (λ (dropped : Option Illegible). IsLegible (sent c (Ok (speaks.emit_unless client dropped).answer) (length whole.sent + 1)).answer) (sym (legible client refl))
-    (legible_left c (length whole.sent + 1) client client.sending.under_way)
+legible_send whole c None legible = tt
+legible_send whole c (Some place) legible =
+    subst (λ (dropped : Option Illegible). IsLegible (SentOut c (Ok (speaks.emit_unless place.client dropped).answer) (length whole.sent + 1))) (sym (legible place refl))
+    (legible_left c (length whole.sent + 1) place.client place.client.sending.under_way)
 
 -- ---- what a client takes
 
@@ -126,12 +117,12 @@ may_become_in ring accepted base (told.Snap number head entities) = may_become r
 may_become_in ring accepted base (told.Skipped number) = tt
 
 -- what a client makes of a piece: nothing came whole, or its message did, and was applied
-legible_took : (profile : Profile) (datagram c n : ℕ) (client now : ClientState) (answer : Gathered) (built : Built)
+legible_took : (profile : Profile) (n : ℕ) (client now : ClientState) (answer : Gathered) (built : Built)
     → IsQuiet answer ⊎ ((count : ℕ) × (answer ≡ CameWhole n count) × MayBecome (apply_message client.state n built.message).answer.snap)
-    → IsLegible (answers.Deliver datagram c (take_answer now answer (λ k. Ok (receive_message client k built.message (plain_bytes profile built)))).answer)
-legible_took profile datagram c n client now answer built (inl quiet) = waits answer quiet
+    → IsReadByClient (take_answer now answer (λ k. Ok (receive_message client k built.message (plain_bytes profile built)))).answer
+legible_took profile n client now answer built (inl quiet) = waits answer quiet
   where
-    waits : (answer : Gathered) → IsQuiet answer → IsLegible (answers.Deliver datagram c (take_answer now answer (λ k. Ok (receive_message client k built.message (plain_bytes profile built)))).answer)
+    waits : (answer : Gathered) → IsQuiet answer → IsReadByClient (take_answer now answer (λ k. Ok (receive_message client k built.message (plain_bytes profile built)))).answer
     waits (CameWhole number count) is = absurd is
     waits gathered.Partial is = tt
     waits gathered.Old is = tt
@@ -139,21 +130,22 @@ legible_took profile datagram c n client now answer built (inl quiet) = waits an
     waits gathered.BadFragment is = absurd is
     waits gathered.Runt is = absurd is
     waits gathered.Connectionless is = absurd is
-legible_took profile datagram c n client now answer built (inr came) = rw came.1 came.2
+legible_took profile n client now answer built (inr came) = rw came.1 came.2
 
-legible_to_client : (profile : Profile) (whole : Whole) (number : ℕ) (tag : Tag) (found : Option ClientState) → Cited profile → IsFor profile whole tag
-    → client_at whole.ends tag.client ≡ found → Holds profile whole → IsLegible (to_client profile whole number tag found).answer.answer
+legible_to_client : (profile : Profile) (whole : Whole) (number : ℕ) (tag : Tag) (found : Option Place) → Cited profile → IsFor profile whole tag
+    → place_at whole.ends tag.client ≡ found → Holds profile whole → IsLegible (to_client profile whole number tag found).answer
 legible_to_client profile whole number tag None cited is at holds = tt
-legible_to_client profile whole number tag (Some client) cited is at holds =
+legible_to_client profile whole number tag (Some place) cited is at holds =
+    let client = place.client in
     let built = named whole.histories tag in
     let took = tagged client.gathering tag.number (built_bytes profile built) tag.index in
     let does = cited.does client.gathering tag.number (built_bytes profile built) tag.index in
-    let had = has_client profile whole tag.client client is.0 at holds in
-    legible_took profile number tag.client tag.number client (record client { gathering = took.gathering }) took.answer built
+    let had = has_client profile whole tag.client place is.0 at holds in
+    legible_took profile tag.number client (record client { gathering = took.gathering }) took.answer built
     (elim does.either [
       | inl waits ↦ inl waits.quiet
       | inr came ↦
-          let out = outcome profile whole tag.client tag.number had.0 client built cited had.1 came.newer (names profile whole tag had.0 client cited is had.1) in
+          let out = outcome profile whole tag.client tag.number had.0 place built cited had.1 came.newer (names profile whole tag had.0 place cited is had.1) in
           inr (
             length (built_bytes profile built),
             came.answer,
@@ -165,12 +157,12 @@ legible_to_client profile whole number tag (Some client) cited is at holds =
 -- ---- what the server takes
 
 -- what a slot makes of a piece: nothing came whole, or its message did, and was run, or is of another map
-legible_heard : (map : MapState) (datagram c n : ℕ) (slot : SlotState) (answer : Gathered) (message : Message)
+legible_heard : (map : MapState) (c n : ℕ) (slot : SlotState) (answer : Gathered) (message : Message)
     → IsQuiet answer ⊎ ((count : ℕ) × (answer ≡ CameWhole n count) × (gap_in slot.executed.executed message.commands ≡ None))
-    → IsLegible (answers.ToServer datagram (by_slot.take_answer map slot c answer (λ k. Ok (came_as map message))).answer)
-legible_heard map datagram c n slot answer message (inl quiet) = waits answer quiet
+    → IsReadByServer (by_slot.take_answer map slot c answer (λ k. Ok (came_as map message))).answer
+legible_heard map c n slot answer message (inl quiet) = waits answer quiet
   where
-    waits : (answer : Gathered) → IsQuiet answer → IsLegible (answers.ToServer datagram (by_slot.take_answer map slot c answer (λ k. Ok (came_as map message))).answer)
+    waits : (answer : Gathered) → IsQuiet answer → IsReadByServer (by_slot.take_answer map slot c answer (λ k. Ok (came_as map message))).answer
     waits (CameWhole number count) is = absurd is
     waits gathered.Partial is = tt
     waits gathered.Old is = tt
@@ -178,15 +170,15 @@ legible_heard map datagram c n slot answer message (inl quiet) = waits answer qu
     waits gathered.BadFragment is = absurd is
     waits gathered.Runt is = absurd is
     waits gathered.Connectionless is = absurd is
-legible_heard map datagram c n slot answer message (inr came) =
+legible_heard map c n slot answer message (inr came) =
     let doing = slot_does map slot c n came.0 message answer came.1 came.2 in
     elim (cases_Bool (is_other map message.id)) [
-      | inl other ↦ subst (λ (t : by_slot.SlotTaken). IsLegible (answers.ToServer datagram t.answer)) (sym (doing.of_other other)) tt
-      | inr same ↦ subst (λ (t : by_slot.SlotTaken). IsLegible (answers.ToServer datagram t.answer)) (sym (doing.of_map same)) tt
+      | inl other ↦ subst (λ (t : by_slot.SlotTaken). IsReadByServer t.answer) (sym (doing.of_other other)) tt
+      | inr same ↦ subst (λ (t : by_slot.SlotTaken). IsReadByServer t.answer) (sym (doing.of_map same)) tt
     ]
 
 legible_to_server : (profile : Profile) (whole : Whole) (number : ℕ) (tag : Tag) (from : Address) → Cited profile → IsOf profile whole tag from → Holds profile whole
-    → IsLegible (to_server profile whole number tag from (slot_at whole.ends.server tag.client)).answer.answer
+    → IsLegible (to_server profile whole number tag from (slot_at whole.ends.server tag.client)).answer
 legible_to_server profile whole number tag from cited is holds =
     let found = slot_of_tag profile whole tag from is holds in
     let slot = found.0 in
@@ -196,7 +188,7 @@ legible_to_server profile whole number tag from cited is holds =
     let took = tagged slot.gathering tag.number bytes tag.index in
     let does = cited.does slot.gathering tag.number bytes tag.index in
     let next = record slot { address = from; gathering = took.gathering } in
-    rw found.1 (legible_heard whole.ends.server.map number tag.client tag.number next took.answer said.message
+    rw found.1 (legible_heard whole.ends.server.map tag.client tag.number next took.answer said.message
     (elim does.either [
       | inl waits ↦ inl waits.quiet
       | inr came ↦ inr (length bytes, came.answer, (said_hears profile whole tag from slot had.0 cited is had.1 came.newer).gap)
@@ -205,48 +197,37 @@ legible_to_server profile whole number tag from cited is holds =
 -- ---- every event
 
 legible_arrive : (profile : Profile) (whole : Whole) (number : ℕ) (tag : Tag) (direction : Direction) → Cited profile → tag.direction ≡ direction → IsSent profile whole.histories tag
-    → Holds profile whole → IsLegible (arrive profile whole number tag direction).answer.answer
+    → Holds profile whole → IsLegible (arrive profile whole number tag direction).answer
 legible_arrive profile whole number tag ToClient cited way is holds =
-    legible_to_client profile whole number tag (client_at whole.ends tag.client) cited (is_for profile whole tag way is) refl holds
+    legible_to_client profile whole number tag (place_at whole.ends tag.client) cited (is_for profile whole tag way is) refl holds
 legible_arrive profile whole number tag (ToServer from) cited way is holds =
     legible_to_server profile whole number tag from cited (is_of_client profile whole tag from way is) holds
 
 legible_deliver : (profile : Profile) (whole : Whole) (number : ℕ) (found : Option Tag) → Cited profile → slice_get whole.sent (number - 1) ≡ found → Holds profile whole
-    → IsLegible (deliver profile whole number found).answer.answer
+    → IsLegible (deliver profile whole number found).answer
 legible_deliver profile whole number None cited at holds = tt
 legible_deliver profile whole number (Some tag) cited at holds =
     legible_arrive profile whole number tag tag.direction cited refl (is_sent profile whole (number - 1) tag at holds) holds
 
 -- each step by tags answers legibly
-legible_step : (profile : Profile) (whole : Whole) (event : Event) → Cited profile → IsScheduled event → Holds profile whole → IsLegible (step profile whole event).answer.answer
-unfolding step
+legible_step : (profile : Profile) (whole : Whole) (event : Event) → Cited profile → IsScheduled event → Holds profile whole → IsLegible (step profile whole event).answer
+unfolding step line_of server_line
 legible_step profile whole (events.Client c challenge qport dup address) cited is holds =
     let added = add_client_at whole.ends.server c challenge qport address in
-    legible_joined (record whole.ends { server = added.server }) c (new_client profile challenge qport dup) address added.answer
-legible_step profile whole (events.Port c port) cited is holds = tt
-legible_step profile whole (events.Map id feed) cited is holds = tt
-legible_step profile whole (events.Baseline state) cited is holds = tt
-legible_step profile whole (events.Config index text) cited is holds = tt
-legible_step profile whole (events.Entity state) cited is holds = tt
-legible_step profile whole (events.Remove number) cited is holds = tt
-legible_step profile whole (events.Player c player) cited is holds = tt
-legible_step profile whole (events.Area c area) cited is holds = tt
-legible_step profile whole (events.Time time) cited is holds = tt
-legible_step profile whole (events.Say c text) cited is holds = tt
-legible_step profile whole (events.TypeText c text) cited is holds = legible_type whole.ends c text (client_at whole.ends c)
-legible_step profile whole (events.Move c one) cited is holds = legible_move whole.ends c one (client_at whole.ends c)
-legible_step profile whole (events.Serve c) cited is holds = tt
+    legible_joined (record whole.ends { server = added.server }) c (record { client = new_client profile challenge qport dup; address = address }) added.answer
+legible_step profile whole (events.Port c port) cited is holds = legible_port whole.ends c port (place_at whole.ends c)
+legible_step profile whole (events.TypeText c text) cited is holds = legible_line whole.ends c _ _ (place_at whole.ends c)
+legible_step profile whole (events.Move c one) cited is holds = legible_line whole.ends c _ _ (place_at whole.ends c)
 legible_step profile whole (events.Send c) cited is holds =
-    legible_send profile whole c (client_at whole.ends c) (λ client found. (has_client profile whole c client (omega (arith, is.0)) found holds).1.joined.of_client.legible)
+    legible_send whole c (place_at whole.ends c) (λ place found. (has_client profile whole c place (omega (arith, is.0)) found holds).1.joined.of_client.legible)
 legible_step profile whole (events.Deliver number) cited is holds =
-    subst (λ (b : Bool). IsLegible (deliver_as b profile whole number (slice_get whole.sent (number - 1))).answer.answer) (sym holds.own) (legible_deliver profile whole number (slice_get whole.sent (number - 1)) cited refl holds)
-legible_step profile whole (events.Show c) cited is holds = tt
-legible_step profile whole (events.Bytes number) cited is holds = tt
+    subst (λ (b : Bool). IsLegible (deliver_as b profile whole number (slice_get whole.sent (number - 1))).answer) (sym holds.own) (legible_deliver profile whole number (slice_get whole.sent (number - 1)) cited refl holds)
 legible_step profile whole (events.Toclient c bytes) cited is holds = absurd is.1
 legible_step profile whole (events.Toserver c bytes) cited is holds = absurd is.1
+legible_step profile whole event cited is holds = tt
 
 abbrev AreLegible : List Answered → Type 0
-AreLegible all = AllByRecursion (λ (given : Answered). IsLegible given.answer) all
+AreLegible all = AllByRecursion IsLegible all
 
 -- and so does what is kept, on every list of events
 legible_answers : StepFollows → (profile : Profile) (all : List Event) (kept : Kept) (whole : Whole) → Cited profile → whole.foreign ≡ false → AllByRecursion IsScheduled all → StandsFor profile kept whole
@@ -256,7 +237,7 @@ legible_answers law profile [] kept whole cited own are stands = tt
 legible_answers law profile (event ∷ events) kept whole cited own are stands =
     let next = law profile kept whole event are.0.0 stands in
     let here = legible_step profile whole event cited are.0 (record { facts = stands.facts own; joined = stands.joined own; own = own }) in (
-      subst (λ (a : Answered). IsLegible a.answer) (sym next.1) here,
+      subst IsLegible (sym next.1) here,
       legible_answers law profile events (kept_step kept event).kept (step profile whole event).whole cited (foreign_is profile whole event are.0.1 ∙ own) are.1 next.0,
     )
 

@@ -15,3 +15,11 @@ pub mod FollowsGiven
 pub mod FollowsEvents
 pub mod Following
 pub mod Entering
+pub mod PlainTexts
+pub mod SpelledLines
+pub mod PlacedLines
+pub mod LineEnds
+pub mod LinesUnder
+pub mod TakenLines
+pub mod AnswerLines
+pub mod CountedLines

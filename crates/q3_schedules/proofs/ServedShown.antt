@@ -2,6 +2,7 @@
 use Rattle.std.proofs.Common.{◌≡◌, ℕ, zero, suc, ◌+◌, ◌-◌, ◌<◌, true, false, List, [], ◌∷◌, ◌++◌, length, Option, Some, None, refl, sym, ap, subst, ◌∙◌, arith}
 use Rattle.std.specs.Prelude.{replicate, slice_get, slice_index_or, nat_lt, nat_le}
 use Rattle.std.specs.List.{AllByRecursion, range_with_len}
+use Rattle.std.specs.Option.{option_map}
 use Rattle.std.proofs.Math.ListN.{length-set}
 use Rattle.std.proofs.lemmas.List.{append-nil, length-append, length_push, map-append, append_assoc, get_or_append_left, get_or_push}
 use Rattle.std.proofs.lemmas.List.FromFn.{length-range_with_len}
@@ -27,23 +28,25 @@ use Rattle.q3_slot.specs.Slot.{SlotState}
 use Rattle.q3_slot.specs.Emitting.{SlotEmission, next_snapshot, next_frames, most_placed, hand_out, emit_slot}
 use Rattle.q3_server.specs.Server.{ServerState, places, slot_at, emission_at, emit_at}
 use Rattle.q3_client.specs.Client.{ClientState}
-use Rattle.q3_world.specs.Ends.{client_at}
+use Rattle.q3_report.specs.Answers.{snapshot_in as shown_in}
+use Rattle.q3_world.specs.declared.places.Place.{Place}
+use Rattle.q3_world.specs.Ends.{client_at, client_of, line_of, place_at}
 use Rattle.q3_world.specs.Kept.{Kept, opening_kept, kept_step, kept_after}
 use Rattle.q3_world.specs.World.{Tag, Whole, History, no_history, no_message, history_at, with_built, built_at, serve, step, after, opening, Played}
 use Rattle.q3_world.specs.StandsFor.{IsChecked, snapshot_in}
 use Rattle.q3_world.specs.ByTags.{kept_then, whole_then, BytesFollowTags}
 use Rattle.q3_world.specs.Answering.{outcome_of, outcome_in}
-use Rattle.q3_schedules.specs.Schedules.{history_then, ArePieces, deliveries, serve_and_deliver, built_next, datagrams_of, MayBegin, InOrderIsAccepted, AppliedWasBuilt, ServedIsShown, since_then, applied_then}
+use Rattle.q3_schedules.specs.Schedules.{heard_of, history_then, ArePieces, deliveries, serve_and_deliver, built_next, datagrams_of, MayBegin, InOrderIsAccepted, AppliedWasBuilt, ServedIsShown, since_then, applied_then}
 use Rattle.q3_world.proofs.Growth.{noted_same}
 use Rattle.q3_world.proofs.Clients.{slot_begun}
 use Rattle.q3_world.proofs.Holding.{Holds, with_server_of, has_client}
 use Rattle.q3_world.proofs.Begun.{slot_handed, handed_tag}
 use Rattle.q3_schedules.proofs.EverySchedule.{shows}
-use Rattle.q3_schedules.proofs.InOrder.{reached_none, reached_all, after_both, both_are}
+use Rattle.q3_schedules.proofs.InOrder.{reached_none, reached_all, both_are}
 use Rattle.q3_world.proofs.OnePlace.{set_there}
 use Rattle.q3_world.specs.Games.{accepted_since}
 use Rattle.q3_clstate.specs.declared.applied.SnapOutcome.{SnapOutcome}
-use Rattle.q3_schedules.proofs.Stood.{Stood, stood}
+use Rattle.q3_schedules.proofs.Stood.{Stood, after_both, holds_of, place_of, stood}
 
 -- ---- one datagram more
 
@@ -96,7 +99,7 @@ handed_out whole c slot left frames began lt slots way =
 -- a serve where a piece is left
 serves_left : (profile : Profile) (whole : Whole) (c : ℕ) (slot : SlotState) (left : UnderWay) → slot_at whole.ends.server c ≡ Some slot
     → slot.sending.under_way ≡ Some left → (step profile whole (events.Serve c)).whole ≡ with_handed whole c slot left whole.ends.server.frames None
-unfolding step emit_at
+unfolding step line_of emit_at
 serves_left profile whole c slot left found way = rw (found, way) refl
 
 -- ---- all that are left
@@ -166,7 +169,7 @@ serves_first : (profile : Profile) (whole : Whole) (c : ℕ) (slot : SlotState) 
     → (step profile whole (events.Serve c)).whole
     ≡ with_handed whole c (slot_begun profile slot (built_next whole.ends.server c slot)) (record { message = built_bytes profile (built_next whole.ends.server c slot); next = 0 })
     (next_frames whole.ends.server.map whole.ends.server.frames c slot) (Some (built_next whole.ends.server c slot))
-unfolding step emit_at
+unfolding step line_of emit_at
 serves_first profile whole c slot bytes by found may =
     let server = whole.ends.server in
     rw found
@@ -253,12 +256,12 @@ shown : BytesFollowTags → InOrderIsAccepted → AppliedWasBuilt → BytesAreMa
     → outcome_of profile.parse_ring (since_then profile all c) (built_next (whole_then profile all).ends.server c slot).base
     ≡ Accepted (number_of (built_next (whole_then profile all).ends.server c slot).base)
     → 1 + t ≡ piece_count (length (built_bytes profile (built_next (whole_then profile all).ends.server c slot)))
-    → (kept_step (kept_then profile (all ++ serve_and_deliver c (length (whole_then profile all).sent + 1) (suc t))) (events.Show c)).answer.snapshot
+    → shown_in (kept_step (kept_then profile (all ++ serve_and_deliver c (length (whole_then profile all).sent + 1) (suc t))) (events.Show c)).answer
     ≡ Some (next_snapshot (whole_then profile all).ends.server.map slot)
 shown law accepted applied bytes does profile all c t slot client is are made_so found there may there_base count =
     let start = whole_then profile all in
     let before : Stood profile (kept_then profile all) start = stood law profile all is are in
-    let holds : Holds profile start = record { facts = before.facts; joined = before.joined; own = before.own } in
+    let holds = holds_of profile (kept_then profile all) start before in
     let map = start.ends.server.map in
     let next = built_next start.ends.server c slot in
     let n = slot.sending.number + 1 in
@@ -272,7 +275,9 @@ shown law accepted applied bytes does profile all c t slot client is are made_so
     let parts = are_both serves (deliveries (range_with_len first (suc t))) made_so in
     let numbers_are = are_both (deliveries numbers) (events.Deliver last ∷ []) (subst (λ (l : List Event). AllByRecursion IsScheduled l) deliver_all parts.1) in
     let lt : c < places = let few = parts.0.0.0 in omega (arith, few) in
-    let had = has_client profile start c client lt there holds in
+    let at_start = place_of (place_at start.ends c) client there in
+    let place = at_start.0 in
+    let had = has_client profile start c place lt at_start.1 holds in
     let slot_is : had.0 ≡ slot = some_one (sym had.1.slot_is ∙ found) in
     let begun : length (history_at start.histories c).built ≡ slot.sending.number = sym had.1.keeps.of_slot.sending.begun ∙ ap (λ (s : SlotState). s.sending.number) slot_is in
     let taken = had.1.joined.of_client.gathers.taken in
@@ -282,17 +287,17 @@ shown law accepted applied bytes does profile all c t slot client is are made_so
     let mid_is : mid ≡ after profile start serves = after_both profile (opening profile) all serves in
     let makes : Made c n (suc t) first next start mid = subst (λ (w : Whole). Made c n (suc t) first next start w) (sym mid_is)
     (made profile start c t slot bytes lt holds found begun may count) in
-    let mid_found : client_at mid.ends c ≡ Some client = ap (λ (clients : List (Option ClientState)). slice_index_or clients c None) makes.clients ∙ there in
+    let mid_found : place_at mid.ends c ≡ Some place = ap (λ (clients : List (Option Place)). slice_index_or clients c None) makes.clients ∙ at_start.1 in
     let pieces : ArePieces mid.sent c n 0 (numbers ++ last ∷ []) = subst (λ (k : List ℕ). ArePieces mid.sent c n 0 k) is_range makes.pieces in
     let many = length-range_with_len first t in
     let index : length numbers ≡ last_index (built_bytes profile (built_at (history_then profile served c).built n)) =
     subst (λ (b : Built). length numbers ≡ last_index (built_bytes profile b)) (sym makes.built) (omega (arith, many, count)) in
-    let answer = accepted profile served c n last numbers client is served_are numbers_are.0 mid_found (omega (arith, taken, begun)) pieces index in
+    let answer = accepted profile served c n last numbers place.client is served_are numbers_are.0 (ap (λ (o : Option Place). option_map client_of o) mid_found) (omega (arith, taken, begun)) pieces index in
     let arrived = served ++ deliveries numbers in
     let arrived_are = both_are served (deliveries numbers) served_are numbers_are.0 in
     let mid_stands : Stood profile (kept_then profile served) mid = stood law profile served is served_are in
-    let g = client.gathering in
-    let at_mid = reached_none profile mid c n client (record { facts = mid_stands.facts; joined = mid_stands.joined; own = mid_stands.own }) mid_found in
+    let g = place.client.gathering in
+    let at_mid = reached_none profile mid c n place (holds_of profile (kept_then profile served) mid mid_stands) mid_found in
     let reached = (reached_all does profile mid mid c n 0 g numbers last lt pieces at_mid).0 in
     let then_is : whole_then profile arrived ≡ after profile mid (deliveries numbers) = after_both profile (opening profile) served (deliveries numbers) in
     let built_is : built_at (history_then profile arrived c).built n ≡ next =
@@ -304,7 +309,7 @@ shown law accepted applied bytes does profile all c t slot client is are made_so
     let outcome : List Snapshot → Built → SnapOutcome = λ since b. outcome_in profile.parse_ring since b.base b.message.section in
     let accepts : applied_so.snap ≡ Accepted (number_of next.base) =
     ap (λ (a : List Snapshot). outcome a (built_at (history_then profile served c).built n)) since_is ∙ (ap (λ (b : Built). outcome (since_then profile all c) b) makes.built ∙ there_base) in
-    let shows_so = (applied profile arrived last c applied_so is arrived_are answer.0).3 (number_of next.base) accepts in
+    let shows_so = (applied profile arrived last c applied_so (heard_of (history_then profile served c) n) is arrived_are answer).3 (number_of next.base) accepts in
     let snapshot = shows_so.0 in
     let same : snapshot ≡ next_snapshot map slot =
     one_snapshot snapshot (next_snapshot map slot) (sym shows_so.3.2
@@ -318,7 +323,7 @@ shown law accepted applied bytes does profile all c t slot client is are made_so
     ∙ (kept_both (kept_then profile served) (deliveries numbers) (events.Deliver last ∷ [])
     ∙ (ap (λ (k : Kept). kept_after k (events.Deliver last ∷ [])) (sym (kept_both (opening_kept profile) served (deliveries numbers)))
     ∙ kept_one (kept_then profile arrived) (events.Deliver last)))))) in
-    ap (λ (k : Kept). (kept_step k (events.Show c)).answer.snapshot) kept_is
+    ap (λ (k : Kept). shown_in (kept_step k (events.Show c)).answer) kept_is
     ∙ (shows (kept_step (kept_then profile arrived) (events.Deliver last)).kept c ∙ (shows_so.1 ∙ ap some_snapshot same))
   where
     some_one : {some other : SlotState} → Some some ≡ Some other → some ≡ other
@@ -332,6 +337,6 @@ served_is_shown law accepted applied bytes front does profile all c slot client 
     let t = last_index (built_bytes profile (built_next server c slot)) in
     let one : suc t ≡ count = omega arith in
     let more : 1 + t ≡ count = omega arith in
-    subst (λ (k : ℕ). (kept_step (kept_then profile (all ++ serve_and_deliver c first k)) (events.Show c)).answer.snapshot ≡ Some (next_snapshot server.map slot)) one
+    subst (λ (k : ℕ). shown_in (kept_step (kept_then profile (all ++ serve_and_deliver c first k)) (events.Show c)).answer ≡ Some (next_snapshot server.map slot)) one
     (shown law accepted applied (λ p b. (front Server b.key (message_bytes (built_bits p b))).0 ∙ (bytes (built_bits p b)).0) does profile all c t slot client is are (subst (λ (k : ℕ). AllByRecursion IsScheduled (serve_and_deliver c first k)) (sym one) made_so)
     found there may there_base more)

@@ -1,5 +1,5 @@
 -- Which deliveries are unknown.
-use Rattle.std.proofs.Common.{◌≡◌, ℕ, ◌-◌, List, Option, Some, None, refl, sym, ap, ◌∙◌, Bool, subst}
+use Rattle.std.proofs.Common.{◌≡◌, ℕ, ◌-◌, List, Option, Some, None, refl, sym, ap, ◌∙◌, subst}
 use Rattle.std.specs.Prelude.{◌↔◌, slice_get}
 use Rattle.std.specs.Option.{option_map}
 use Rattle.std.proofs.lemmas.Option.{slice_get-map}
@@ -8,37 +8,32 @@ use Rattle.q3_script.specs.declared.event.Event.TheVariants as events
 use Rattle.q3_text.specs.declared.text.Command.{Command}
 use Rattle.q3_slot.specs.declared.taking.ServerTook.{ServerTook}
 use Rattle.q3_client.specs.declared.client.ClientTook.{ClientTook}
-use Rattle.q3_report.specs.declared.answer.Answer.TheVariants as answer
+use Rattle.q3_report.specs.declared.answer.Front.TheVariants as fronts
+use Rattle.q3_report.specs.Answers.{ByClient, ByServer, Took, Untaken}
 use Rattle.q3_world.specs.declared.made.Direction.{Direction}
 use Rattle.q3_world.specs.declared.made.Direction.TheVariants.{ToClient, ToServer}
-use Rattle.q3_world.specs.Ends.{Answered, unknown, delivered, ran}
-use Rattle.q3_world.specs.Kept.{SentBytes, Kept, KeptStep, kept_step}
-use Rattle.q3_world.specs.World.{Tag, Whole, arrive, deliver, step, deliver_as}
-use Rattle.q3_world.specs.StandsFor.{IsSent, bytes_of}
+use Rattle.q3_world.specs.Kept.{SentBytes, KeptStep, kept_step}
+use Rattle.q3_world.specs.World.{Step, Tag, Whole, arrive, deliver, step, bytes_of}
+use Rattle.q3_world.specs.StandsFor.{IsSent}
 use Rattle.q3_world.specs.Layers.{Layers}
 use Rattle.q3_world.specs.ByTags.{kept_then, whole_then, BytesFollowTags}
 use Rattle.q3_schedules.specs.Schedules.{UnknownWasNotMade}
 use Rattle.q3_world.proofs.Holding.{Holds}
-use Rattle.q3_world.proofs.Arriving.{is_sent, is_for, is_of_client, client_of_tag, slot_of_tag, delivers_agree}
-use Rattle.q3_schedules.proofs.Stood.{kept_is}
+use Rattle.q3_world.proofs.Arriving.{is_sent, is_for, is_of_client, client_of_tag, slot_of_tag}
 use Rattle.q3_world.proofs.ByTags.{cited_of}
 use Rattle.q3_clstate.specs.State.{AppliedState}
 use Rattle.q3_lines.specs.ServerLines.{Run}
-use Rattle.q3_schedules.proofs.Stood.{Stood, stood}
+use Rattle.q3_schedules.proofs.Stood.{Stood, delivers_same, holds_of, step_own, stood}
 
-not_delivered : (number c : ℕ) (state : AppliedState) (took : ClientTook) (commands : List Command) → delivered number c state took commands ≡ unknown number → ⊥
-not_delivered number c state took commands e =
-    let same : answer.Deliver number c took ≡ answer.Unknown number = ap (λ (a : Answered). a.answer) e in
-    absurd cc
+not_delivered : (number c : ℕ) (state : AppliedState) (took : ClientTook) (commands : List Command) → Took (fronts.Deliver number) (ByClient c took state commands) ≡ Untaken (fronts.Deliver number) → ⊥
+not_delivered number c state took commands e = absurd cc
 
-not_ran : (number : ℕ) (took : ServerTook) (what : Run) → ran number took what ≡ unknown number → ⊥
-not_ran number took what e =
-    let same : answer.ToServer number took ≡ answer.Unknown number = ap (λ (a : Answered). a.answer) e in
-    absurd cc
+not_ran : (number : ℕ) (took : ServerTook) (ran : Run) → Took (fronts.Deliver number) (ByServer took ran) ≡ Untaken (fronts.Deliver number) → ⊥
+not_ran number took ran e = absurd cc
 
 -- a datagram that was made is known
 known : (profile : Profile) (whole : Whole) (number : ℕ) (tag : Tag) (direction : Direction) → tag.direction ≡ direction → IsSent profile whole.histories tag → Holds profile whole
-    → (arrive profile whole number tag direction).answer ≡ unknown number → ⊥
+    → (arrive profile whole number tag direction).answer ≡ Untaken (fronts.Deliver number) → ⊥
 known profile whole number tag ToClient way is holds =
     let found = client_of_tag profile whole tag (is_for profile whole tag way is) holds in
     rw found.1 (λ e. not_delivered number tag.client _ _ _ e)
@@ -48,17 +43,16 @@ known profile whole number tag (ToServer from) way is holds =
 
 -- by tags
 unknown_tag : (profile : Profile) (whole : Whole) (number : ℕ) (found : Option Tag) → slice_get whole.sent (number - 1) ≡ found → Holds profile whole
-    → ((deliver profile whole number found).answer ≡ unknown number) ↔ (option_map bytes_of found ≡ None)
+    → ((deliver profile whole number found).answer ≡ Untaken (fronts.Deliver number)) ↔ (option_map bytes_of found ≡ None)
 unknown_tag profile whole number None at holds = (λ e. refl, λ e. refl)
 unknown_tag profile whole number (Some tag) at holds =
     (λ e. absurd (known profile whole number tag tag.direction refl (is_sent profile whole (number - 1) tag at holds) holds e), λ e. absurd cc)
 
 unknown_step : (profile : Profile) (whole : Whole) (number : ℕ) → Holds profile whole
-    → ((step profile whole (events.Deliver number)).answer ≡ unknown number) ↔ (option_map bytes_of (slice_get whole.sent (number - 1)) ≡ None)
-unfolding step
+    → ((step profile whole (events.Deliver number)).answer ≡ Untaken (fronts.Deliver number)) ↔ (option_map bytes_of (slice_get whole.sent (number - 1)) ≡ None)
 unknown_step profile whole number holds =
-    subst (λ (b : Bool). ((deliver_as b profile whole number (slice_get whole.sent (number - 1))).answer ≡ unknown number) ↔ (option_map bytes_of (slice_get whole.sent (number - 1)) ≡ None))
-    (sym holds.own) (unknown_tag profile whole number (slice_get whole.sent (number - 1)) refl holds)
+    subst (λ (s : Step). (s.answer ≡ Untaken (fronts.Deliver number)) ↔ (option_map bytes_of (slice_get whole.sent (number - 1)) ≡ None)) (sym (step_own profile whole number holds.own))
+    (unknown_tag profile whole number (slice_get whole.sent (number - 1)) refl holds)
 
 -- and by bytes
 pub unknown_was_not_made : BytesFollowTags → Layers → UnknownWasNotMade
@@ -66,11 +60,9 @@ unknown_was_not_made law below profile all number is are =
     let stands : Stood profile (kept_then profile all) (whole_then profile all) = stood law profile all is are in
     let kept = kept_then profile all in
     let whole = whole_then profile all in
-    let holds : Holds profile whole = record { facts = stands.facts; joined = stands.joined; own = stands.own } in
-    let by_tags = unknown_step profile whole number holds in
+    let by_tags = unknown_step profile whole number (holds_of profile kept whole stands) in
     let answers : (kept_step kept (events.Deliver number)).answer ≡ (step profile whole (events.Deliver number)).answer =
-    ap (λ (k : Kept). (kept_step k (events.Deliver number)).answer) (kept_is profile kept whole stands)
-    ∙ ap (λ (s : KeptStep). s.answer) (delivers_agree profile whole number (cited_of below profile is) holds).same in
+    ap (λ (s : KeptStep). s.answer) (delivers_same profile kept whole number (cited_of below profile is) stands) in
     let made : slice_get kept.datagrams (number - 1) ≡ option_map bytes_of (slice_get whole.sent (number - 1)) =
     ap (λ (d : List SentBytes). slice_get d (number - 1)) stands.datagrams ∙ slice_get-map bytes_of whole.sent (number - 1) in
     (λ e. made ∙ by_tags.0 (sym answers ∙ e), λ e. answers ∙ by_tags.1 (sym made ∙ e))

@@ -15,7 +15,8 @@ use Rattle.q3_svmsg.specs.Values as told
 use Rattle.q3_svmsg.specs.Values.{Told}
 use Rattle.q3_server.specs.Server.{places}
 use Rattle.q3_client.specs.Client.{ClientState}
-use Rattle.q3_world.specs.Ends.{Ends, client_at}
+use Rattle.q3_world.specs.declared.places.Place.{Place}
+use Rattle.q3_world.specs.Ends.{Ends, client_at, place_at}
 use Rattle.q3_world.specs.World.{no_message, history_at, built_at}
 use Rattle.q3_world.specs.Layers.{Layers, RingLaws}
 use Rattle.q3_world.specs.ByTags.{kept_then, whole_then, BytesFollowTags}
@@ -24,10 +25,10 @@ use Rattle.q3_schedules.specs.Schedules.{AppliedWasBuilt, UsualNeverSkips}
 use Rattle.q3_world.proofs.Arriving.{waits_none}
 use Rattle.q3_messages.proofs.Options.{if_some_then}
 use Rattle.q3_world.proofs.Knowing.{KnownBase, known_base}
-use Rattle.q3_world.proofs.Holding.{Holds, has_client}
+use Rattle.q3_world.proofs.Holding.{has_client}
 use Rattle.q3_world.specs.Games.{accepted_since}
 use Rattle.q3_world.proofs.Mapped.{mapped_base}
-use Rattle.q3_schedules.proofs.Stood.{Stood, stood}
+use Rattle.q3_schedules.proofs.Stood.{Stood, holds_of, place_of, stood}
 
 abbrev held_so : Snapshot → Result Snapshot NoBase
 held_so snapshot = Ok snapshot
@@ -59,25 +60,26 @@ usual_in ring accepted base (told.Snap number head entities) is = inr is
 usual_in ring accepted base (told.Skipped number) is = inl refl
 
 -- a client that is there has a place
-has_place : (clients : List (Option ClientState)) (c : ℕ) (client : ClientState) → get_or clients c None ≡ Some client → c < length clients
-has_place [] c client e = absurd cc
-has_place (x ∷ clients) zero client e = omega arith
-has_place (x ∷ clients) (suc c) client e = let behind = has_place clients c client e in omega (arith, behind)
+has_place : (clients : List (Option Place)) (c : ℕ) (place : Place) → get_or clients c None ≡ Some place → c < length clients
+has_place [] c place e = absurd cc
+has_place (x ∷ clients) zero place e = omega arith
+has_place (x ∷ clients) (suc c) place e = let behind = has_place clients c place e in omega (arith, behind)
 
 pub usual_never_skips : BytesFollowTags → Layers → AppliedWasBuilt → UsualNeverSkips
-usual_never_skips law below applied_so profile all number c applied is are room e =
+usual_never_skips law below applied_so profile all number c applied commands is are room e =
     let stands : Stood profile (kept_then profile all) (whole_then profile all) = stood law profile all is are in
     let whole = whole_then profile all in
-    let holds : Holds profile whole = record { facts = stands.facts; joined = stands.joined; own = stands.own } in
+    let holds = holds_of profile (kept_then profile all) whole stands in
     let history = history_at whole.histories c in
-    let was = applied_so profile all number c applied is are e in
+    let was = applied_so profile all number c applied commands is are e in
     let n = applied.number in
-    let client = was.0.0 in
-    let found : client_at whole.ends c ≡ Some client = ap (λ (ends : Ends). client_at ends c) (sym stands.ends) ∙ was.0.1 in
-    let lt : c < places = let within = has_place whole.ends.clients c client found in omega (arith, within, holds.facts.clients) in
-    let had = has_client profile whole c client lt found holds in
+    let there = place_of (place_at whole.ends c) was.0.0 (ap (λ (ends : Ends). client_at ends c) (sym stands.ends) ∙ was.0.1) in
+    let place = there.0 in
+    let client = place.client in
+    let lt : c < places = let within = has_place whole.ends.clients c place there.1 in omega (arith, within, holds.facts.clients) in
+    let had = has_client profile whole c place lt there.1 holds in
     let takes = had.1.joined.of_client in
-    let newer = was.0.2 in
+    let newer : client.gathering.taken < n = subst (λ (e : ClientState). e.gathering.taken < n) (sym there.2) was.0.2 in
     let newest = takes.stands.newest in
     let below_taken = takes.below in
     let built = built_at history.built n in
@@ -85,9 +87,9 @@ usual_never_skips law below applied_so profile all number c applied is are room 
     let known : IfSome built.base (λ b. IsNear n b × Contains since b) =
     elim (cases_lt (n - 1) (length history.built)) [
       | inl within ↦
-          let place : n - 1 + 1 ≡ n = omega (arith, newer) in
+          let at : n - 1 + 1 ≡ n = omega (arith, newer) in
           let begun : n ≤ length history.built = omega (arith, newer, within) in
-          let is_built : IsBuilt profile had.0.challenge n built = subst (λ (k : ℕ). IsBuilt profile had.0.challenge k built) place (had.1.keeps.of_slot.built (n - 1) no_message within) in
+          let is_built : IsBuilt profile had.0.challenge n built = subst (λ (k : ℕ). IsBuilt profile had.0.challenge k built) at (had.1.keeps.of_slot.built (n - 1) no_message within) in
           if_some_then built.base (KnownBase n history.built since) (λ b. IsNear n b × Contains since b) (λ b one. (one.0, one.2))
           (mapped_base whole.ends.server.map had.0 client history n newer begun had.1.joined.mapped (waits_none profile had.0.challenge n built is_built)
           (known_base profile had.0 client history n (omega (arith, newer)) begun is_built had.1.keeps.of_slot had.1.joined.asked))

@@ -10,19 +10,22 @@ use Rattle.q3_ring.specs.Snapshot.{Snapshot}
 use Rattle.q3_rings.specs.declared.rings.NoBase.TheVariants.{NeverHeld, Overwritten}
 use Rattle.q3_rings.specs.Rings.{held_snapshot, view_at}
 use Rattle.q3_rings.specs.Accepted.{held_among}
+use Rattle.q3_clstate.specs.State.{AppliedState}
 use Rattle.q3_clstate.specs.declared.applied.Applied.{Applied as AppliedSo}
 use Rattle.q3_clstate.specs.declared.applied.SnapOutcome.{SnapOutcome}
 use Rattle.q3_clstate.specs.declared.applied.SnapOutcome.TheVariants.{NoSnap, Accepted, Skipped, Stale}
+use Rattle.q3_client.specs.declared.client.ClientTook.{ClientTook}
 use Rattle.q3_client.specs.declared.client.ClientTook.TheVariants.{Runt, Connectionless, BadFragment, Illegible, Dropped, Applied}
 use Rattle.q3_client.specs.declared.client.Sent.TheVariants as sent
+use Rattle.q3_slot.specs.declared.taking.ServerTook.{ServerTook}
 use Rattle.q3_slot.specs.declared.taking.ServerTook.TheVariants as took
 use Rattle.q3_io.specs.declared.address.Address.{Address}
 use Rattle.q3_chan.specs.declared.gatherer.Gathered.TheVariants.{Whole as CameWhole}
 use Rattle.q3_chan.specs.Datagrams.{sequence_end, longest_message, piece_count, last_index}
 use Rattle.q3_chan.specs.Sending.{IsIdle}
 use Rattle.q3_chan.specs.Gathering.{gathered}
-use Rattle.q3_report.specs.declared.answer.Answer.{Answer}
-use Rattle.q3_report.specs.declared.answer.Answer.TheVariants.{Send, Deliver, ToServer}
+use Rattle.q3_report.specs.declared.answer.Front.TheVariants as fronts
+use Rattle.q3_report.specs.Answers.{Answered, ByClient, ByServer, SentOut, Took, Untaken, ran_in, snapshot_in}
 use Rattle.q3_world.specs.declared.made.Direction.TheVariants as direction
 use Rattle.q3_built.specs.Built.{Built, number_of, IsNear, is_unclear, built_bytes}
 use Rattle.q3_slot.specs.Slot.{SlotState}
@@ -34,7 +37,7 @@ use Rattle.q3_slot.specs.Taking.{Playing, asks_game, goes_on, heads_of}
 use Rattle.q3_server.specs.Server.{ServerState, places, slot_at}
 use Rattle.q3_client.specs.Client.{ClientState}
 use Rattle.q3_world.specs.Moves.{TimesRise, StandAmong}
-use Rattle.q3_world.specs.Ends.{Ends, Answered, client_at, newest, unknown}
+use Rattle.q3_world.specs.Ends.{Ends, client_at, newest}
 use Rattle.q3_world.specs.Kept.{SentBytes, opening_kept, kept_step, kept_answers}
 use Rattle.q3_world.specs.declared.made.Direction.{Direction}
 use Rattle.q3_text.specs.declared.text.Command.{Command}
@@ -57,9 +60,13 @@ history_then profile all c = history_at (whole_then profile all).histories c
 abbrev pub since_then : Profile → List Event → ℕ → List Snapshot
 since_then profile all c = accepted_since (history_then profile all c).games (history_then profile all c).accepted
 
--- an answer, and what is printed as executed and run with it
-abbrev pub AnswersSo : Answered → Answer → Run → Type 0
-AnswersSo given answer ran = (given.answer ≡ answer) × (given.ran ≡ ran)
+-- a client made this of the datagram of a number, and executed these commands
+abbrev pub ClientTookSo : Answered → ℕ → ℕ → ClientTook → List Command → Type 0
+ClientTookSo answer number c made commands = (state : AppliedState) × (answer ≡ Took (fronts.Deliver number) (ByClient c made state commands))
+
+-- the server made this of it, and ran this
+abbrev pub ServerTookSo : Answered → ℕ → ServerTook → Run → Type 0
+ServerTookSo answer number made run = answer ≡ Took (fronts.Deliver number) (ByServer made run)
 
 -- an event of a schedule in which each end gets only what the other made; the laws below are said of such schedules
 abbrev pub IsScheduled : Event → Type 0
@@ -72,21 +79,30 @@ MayBecome (Skipped base NeverHeld) = ⊥
 MayBecome (Skipped base (Overwritten other)) = ⊥
 MayBecome other = Unit {0}
 
+-- what a client, or the server, made of something that it could read; the client wasn't dropped
+abbrev pub IsReadByClient : ClientTook → Type 0
+IsReadByClient Runt = ⊥
+IsReadByClient Connectionless = ⊥
+IsReadByClient BadFragment = ⊥
+IsReadByClient (Illegible cause) = ⊥
+IsReadByClient (Dropped cause) = ⊥
+IsReadByClient (Applied applied) = MayBecome applied.snap
+IsReadByClient other = Unit {0}
+
+abbrev pub IsReadByServer : ServerTook → Type 0
+IsReadByServer took.Runt = ⊥
+IsReadByServer took.Connectionless = ⊥
+IsReadByServer took.Stranger = ⊥
+IsReadByServer (took.BadFragment slot) = ⊥
+IsReadByServer (took.Illegible slot cause) = ⊥
+IsReadByServer (took.Gap slot number) = ⊥
+IsReadByServer other = Unit {0}
+
 -- the answer of an end that could make something of what arrived, and of a client that wasn't dropped
-abbrev pub IsLegible : Answer → Type 0
-IsLegible (Deliver datagram c Runt) = ⊥
-IsLegible (Deliver datagram c Connectionless) = ⊥
-IsLegible (Deliver datagram c BadFragment) = ⊥
-IsLegible (Deliver datagram c (Illegible cause)) = ⊥
-IsLegible (Deliver datagram c (Dropped cause)) = ⊥
-IsLegible (Deliver datagram c (Applied applied)) = MayBecome applied.snap
-IsLegible (Send c (Ok (sent.Dropped cause)) datagram) = ⊥
-IsLegible (ToServer datagram took.Runt) = ⊥
-IsLegible (ToServer datagram took.Connectionless) = ⊥
-IsLegible (ToServer datagram took.Stranger) = ⊥
-IsLegible (ToServer datagram (took.BadFragment slot)) = ⊥
-IsLegible (ToServer datagram (took.Illegible slot cause)) = ⊥
-IsLegible (ToServer datagram (took.Gap slot number)) = ⊥
+abbrev pub IsLegible : Answered → Type 0
+IsLegible (Took front (ByClient c made state commands)) = IsReadByClient made
+IsLegible (Took front (ByServer made run)) = IsReadByServer made
+IsLegible (SentOut c (Ok (sent.Dropped cause)) datagram) = ⊥
 IsLegible other = Unit {0}
 
 -- commands that were executed, by which end, and what is noted of it before and after
@@ -102,12 +118,12 @@ GoesOn commands before after (direction.ToServer from) =
 -- datagram's client, no client is dropped, no snapshot is stale, and none is skipped but for the entities of its base
 abbrev pub AlwaysLegible : Type 0
 AlwaysLegible = (profile : Profile) (all : List Event) → IsChecked profile → AllByRecursion IsScheduled all
-    → AllByRecursion (λ given. IsLegible given.answer) (kept_answers (opening_kept profile) all)
+    → AllByRecursion IsLegible (kept_answers (opening_kept profile) all)
 
 -- a delivery is unknown where no datagram of its number was made, and there alone
 abbrev pub UnknownWasNotMade : Type 0
 UnknownWasNotMade = (profile : Profile) (all : List Event) (number : ℕ) → IsChecked profile → AllByRecursion IsScheduled all
-    → ((kept_step (kept_then profile all) (events.Deliver number)).answer ≡ unknown number)
+    → ((kept_step (kept_then profile all) (events.Deliver number)).answer ≡ Untaken (fronts.Deliver number))
     ↔ (slice_get (kept_then profile all).datagrams (number - 1) ≡ None)
 
 -- each end has executed a front of the commands that the other issued, each once and in order; and its window counts them
@@ -137,7 +153,7 @@ KeysAgree = (profile : Profile) (all : List Event) (c : ℕ) (slot : SlotState) 
 abbrev pub ExecutedGoesOn : Type 0
 ExecutedGoesOn = (profile : Profile) (all : List Event) (number : ℕ) (tag : Tag) → IsChecked profile → AllByRecursion IsScheduled all
     → IsScheduled (events.Deliver number) → slice_get (whole_then profile all).sent (number - 1) ≡ Some tag
-    → GoesOn (kept_step (kept_then profile all) (events.Deliver number)).answer.ran.commands
+    → GoesOn (ran_in (kept_step (kept_then profile all) (events.Deliver number)).answer).commands
     (history_then profile all tag.client) (history_then profile (all ++ events.Deliver number ∷ []) tag.client) tag.direction
 
 -- each snapshot that a client accepted is the one that the server built for it under that number, and the numbers rise
@@ -150,13 +166,13 @@ AcceptedWereBuilt = (profile : Profile) (all : List Event) (c : ℕ) → IsCheck
 abbrev pub ShownWasBuilt : Type 0
 ShownWasBuilt = (profile : Profile) (all : List Event) (c : ℕ) (snapshot : Snapshot) → IsChecked profile
     → AllByRecursion IsScheduled all → c < places
-    → (kept_step (kept_then profile all) (events.Show c)).answer.snapshot ≡ Some snapshot
+    → snapshot_in (kept_step (kept_then profile all) (events.Show c)).answer ≡ Some snapshot
     → WasBuilt (history_then profile all c).built snapshot
 
 -- what a show prints is the newest snapshot that the client accepted since the last gamestate that it applied, if it accepted one
 abbrev pub ShownIsNewest : Type 0
 ShownIsNewest = (profile : Profile) (all : List Event) (c : ℕ) → IsChecked profile → AllByRecursion IsScheduled all → c < places
-    → (kept_step (kept_then profile all) (events.Show c)).answer.snapshot ≡ last_or None (since_then profile all c)
+    → snapshot_in (kept_step (kept_then profile all) (events.Show c)).answer ≡ last_or None (since_then profile all c)
 
 -- a client asks for deltas exactly where the snapshot of the newest message that it took was accepted, and no gamestate was applied since
 abbrev pub AsksForAccepted : Type 0
@@ -239,8 +255,9 @@ Shows ends c n built = (snapshot : Snapshot) × (newest (client_at ends c) ≡ S
 -- where it accepts the snapshot, its newest is the one that the server built for it under that number; and behind the delivery the
 -- client there has that number
 abbrev pub AppliedWasBuilt : Type 0
-AppliedWasBuilt = (profile : Profile) (all : List Event) (number c : ℕ) (applied : AppliedSo) → IsChecked profile → AllByRecursion IsScheduled all
-    → (kept_step (kept_then profile all) (events.Deliver number)).answer.answer ≡ Deliver number c (Applied applied)
+AppliedWasBuilt = (profile : Profile) (all : List Event) (number c : ℕ) (applied : AppliedSo) (commands : List Command) → IsChecked profile
+    → AllByRecursion IsScheduled all
+    → ClientTookSo (kept_step (kept_then profile all) (events.Deliver number)).answer number c (Applied applied) commands
     → ((client : ClientState) × (client_at (kept_then profile all).ends c ≡ Some client) × (client.gathering.taken < applied.number))
     × (applied ≡ applied_then profile all c applied.number)
     × ((tag : Tag) × (slice_get (whole_then profile all).sent (number - 1) ≡ Some tag) × (tag.direction ≡ direction.ToClient) × (tag.client ≡ c) × (tag.number ≡ applied.number))
@@ -256,14 +273,14 @@ NewerIsAccepted = (profile : Profile) (all : List Event) (number n count : ℕ) 
     → slice_get (kept_then profile all).datagrams (number - 1) ≡ Some sent → sent.direction ≡ direction.ToClient
     → client_at (kept_then profile all).ends sent.client ≡ Some client
     → (gathered client.gathering sent.bytes).answer ≡ CameWhole n count
-    → AnswersSo (kept_step (kept_then profile all) (events.Deliver number)).answer
-    (Deliver number sent.client (Applied (applied_then profile all sent.client n)))
-    (record ran_nothing { commands = heard_of (history_then profile all sent.client) n })
+    → ClientTookSo (kept_step (kept_then profile all) (events.Deliver number)).answer number sent.client (Applied (applied_then profile all sent.client n))
+    (heard_of (history_then profile all sent.client) n)
 
 -- with a ring that has the usual room for 8,192 entities, or more, no snapshot is skipped
 abbrev pub UsualNeverSkips : Type 0
-UsualNeverSkips = (profile : Profile) (all : List Event) (number c : ℕ) (applied : AppliedSo) → IsChecked profile → AllByRecursion IsScheduled all
-    → 8192 ≤ profile.parse_ring → (kept_step (kept_then profile all) (events.Deliver number)).answer.answer ≡ Deliver number c (Applied applied)
+UsualNeverSkips = (profile : Profile) (all : List Event) (number c : ℕ) (applied : AppliedSo) (commands : List Command) → IsChecked profile
+    → AllByRecursion IsScheduled all → 8192 ≤ profile.parse_ring
+    → ClientTookSo (kept_step (kept_then profile all) (events.Deliver number)).answer number c (Applied applied) commands
     → (applied.snap ≡ NoSnap) ⊎ ((base : ℕ) × (applied.snap ≡ Accepted base))
 
 -- what the moves do of the message that a client began under a number
@@ -283,7 +300,7 @@ NewerIsRun = (profile : Profile) (all : List Event) (number n count : ℕ) (sent
     → slot_at (kept_then profile all).ends.server sent.client ≡ Some slot
     → (gathered slot.gathering sent.bytes).answer ≡ CameWhole n count
     → (is_other (kept_then profile all).ends.server.map (said_at (history_then profile all sent.client).said n).message.id ≡ false
-    → AnswersSo (kept_step (kept_then profile all) (events.Deliver number)).answer (ToServer number (took.Ran sent.client n))
+    → ServerTookSo (kept_step (kept_then profile all) (events.Deliver number)).answer number (took.Ran sent.client n)
     (record {
       commands = run_of (history_then profile all sent.client) n;
       entered = (playing_of slot (history_then profile all sent.client) n).entered;
@@ -293,8 +310,8 @@ NewerIsRun = (profile : Profile) (all : List Event) (number n count : ℕ) (sent
     × GoesOnPlaying (slot_at (kept_step (kept_then profile all) (events.Deliver number)).kept.ends.server sent.client)
     (playing_of slot (history_then profile all sent.client) n))
     × (is_other (kept_then profile all).ends.server.map (said_at (history_then profile all sent.client).said n).message.id ≡ true
-    → AnswersSo (kept_step (kept_then profile all) (events.Deliver number)).answer
-    (ToServer number (took.Ignored sent.client (said_at (history_then profile all sent.client).said n).message.id))
+    → ServerTookSo (kept_step (kept_then profile all) (events.Deliver number)).answer number
+    (took.Ignored sent.client (said_at (history_then profile all sent.client).said n).message.id)
     (record ran_nothing {
       owed = slot.owed || asks_game (kept_then profile all).ends.server.map slot (heads_of (said_at (history_then profile all sent.client).said n).message);
     }))
@@ -308,10 +325,9 @@ MovesWereIssued = (profile : Profile) (all : List Event) (c : ℕ) → IsChecked
 -- a move with which a client enters a map isn't among those that are run: all that were run before it are earlier, and all that
 -- are run later are later
 abbrev pub EnteringIsNotRun : Type 0
-EnteringIsNotRun = (profile : Profile) (before rest : List Event) (c number n time : ℕ) → IsChecked profile
+EnteringIsNotRun = (profile : Profile) (before rest : List Event) (c number n time : ℕ) (run : Run) → IsChecked profile
     → AllByRecursion IsScheduled (before ++ events.Deliver number ∷ rest) → c < places
-    → (kept_step (kept_then profile before) (events.Deliver number)).answer.answer ≡ ToServer number (took.Ran c n)
-    → (kept_step (kept_then profile before) (events.Deliver number)).answer.ran.entered ≡ Some time
+    → ServerTookSo (kept_step (kept_then profile before) (events.Deliver number)).answer number (took.Ran c n) run → run.entered ≡ Some time
     → All (λ (one : Move). one.time < time) (history_then profile before c).run
     × ((later : List Move)
     × ((history_then profile (before ++ events.Deliver number ∷ rest) c).run ≡ (history_then profile before c).run ++ later)
@@ -336,8 +352,8 @@ InOrderIsAccepted = (profile : Profile) (all : List Event) (c n last : ℕ) (num
     → client_at (whole_then profile all).ends c ≡ Some client → client.gathering.taken < n
     → ArePieces (whole_then profile all).sent c n 0 (numbers ++ last ∷ [])
     → length numbers ≡ last_index (built_bytes profile (built_at (history_then profile all c).built n))
-    → AnswersSo (kept_step (kept_then profile (all ++ deliveries numbers)) (events.Deliver last)).answer
-    (Deliver last c (Applied (applied_then profile all c n))) (record ran_nothing { commands = heard_of (history_then profile all c) n })
+    → ClientTookSo (kept_step (kept_then profile (all ++ deliveries numbers)) (events.Deliver last)).answer last c (Applied (applied_then profile all c n))
+    (heard_of (history_then profile all c) n)
 
 -- so many datagrams of a message are made for a client, and delivered in the order in which they are made, from a number on
 abbrev pub serve_and_deliver : ℕ → ℕ → ℕ → List Event
@@ -371,8 +387,8 @@ ServedIsShown = (profile : Profile) (all : List Event) (c : ℕ) (slot : SlotSta
     → MayBegin profile (whole_then profile all).ends.server c slot
     → outcome_of profile.parse_ring (since_then profile all c) (built_next (whole_then profile all).ends.server c slot).base
     ≡ Accepted (number_of (built_next (whole_then profile all).ends.server c slot).base)
-    → (kept_step (kept_then profile (all ++ serve_and_deliver c (length (whole_then profile all).sent + 1)
-    (datagrams_of profile (whole_then profile all).ends.server c slot))) (events.Show c)).answer.snapshot
+    → snapshot_in (kept_step (kept_then profile (all ++ serve_and_deliver c (length (whole_then profile all).sent + 1)
+    (datagrams_of profile (whole_then profile all).ends.server c slot))) (events.Show c)).answer
     ≡ Some (next_snapshot (whole_then profile all).ends.server.map slot)
 
 -- ---- config strings follow the server

@@ -1,5 +1,6 @@
 //! Laws of every schedule, each the contract of a call that does nothing but cite the laws below it.
 
+ghost use Rattle.q3_schedules.specs.ReportLines.{CountsAreLines, ReplayIsCounted};
 ghost use Rattle.q3_schedules.specs.Schedules.{AlwaysLegible, UnknownWasNotMade, CommandsArePrefixes, KeysAgree, ExecutedGoesOn, AcceptedWereBuilt, ShownWasBuilt, ShownIsNewest, AsksForAccepted, AskedUnderGame, OneGamePerMap, BasesWereAccepted, HeldIsAccepted, ViewsWereBuilt, AppliedWasBuilt, NewerIsAccepted, UsualNeverSkips, NewerIsRun, MovesWereIssued, EnteringIsNotRun, InOrderIsAccepted, ServedIsShown, StateIsOfGame, StringsFollow};
 
 use q3_bits::laws as bits;
@@ -210,3 +211,10 @@ pub fn strings_follow()
     world::bytes_follow_tags();
     world::layers();
 }
+
+/// What is counted over answers are the lines of their text, by their kinds, and so are the counts of a replay those of its
+/// report. The text alone tells a line's kind.
+pub fn counts_are_lines()
+    ensures answers { CountsAreLines }
+    ensures replay { ReplayIsCounted }
+{}

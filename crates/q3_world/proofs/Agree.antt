@@ -25,10 +25,10 @@ use Rattle.q3_built.specs.Built.{Built, IsHeld, IsSnapshot, IsBuilt, built_bytes
 use Rattle.q3_slot.specs.Taking.{came_as, said_by}
 use Rattle.q3_messages.specs.MessageLaws.{HoldsThis}
 use Rattle.q3_world.specs.Layers.{ServerLaws, RingLaws, WindowLaws, ScramblingLaws, ConfigLaws}
-use Rattle.q3_world.specs.Ends.{client_at}
+use Rattle.q3_world.specs.declared.places.Place.{Place}
+use Rattle.q3_world.specs.Ends.{place_at}
 use Rattle.q3_world.specs.Kept.{Kept, KeptStep}
-use Rattle.q3_world.specs.World.{Tag, Step, Whole, History, history_at, with_history}
-use Rattle.q3_world.specs.StandsFor.{bytes_of}
+use Rattle.q3_world.specs.World.{Tag, Step, Whole, History, history_at, with_history, bytes_of}
 use Rattle.q3_world.proofs.Growth.{noted_same}
 use Rattle.q3_world.proofs.Holding.{Holds, with_client_of, same_clients}
 
@@ -104,13 +104,13 @@ pub unnoted : (profile : Profile) (whole : Whole) (c : ℕ) → Holds profile wh
 unnoted profile whole c holds = subst (λ (histories : List History). Holds profile (record whole { histories = histories })) (sym (noted_same whole.histories c)) holds
 
 -- a client left as it was, of which nothing new is noted
-pub left_alone : (profile : Profile) (whole : Whole) (c : ℕ) (client : ClientState) (sent : List Tag) → client_at whole.ends c ≡ Some client → sent ≡ whole.sent → Holds profile whole
-    → Holds profile (with_client_of whole c client (history_at whole.histories c) sent)
-left_alone profile whole c client sent found same holds =
-    subst (λ (clients : List (Option ClientState)). Holds profile (record {
+pub left_alone : (profile : Profile) (whole : Whole) (c : ℕ) (place : Place) (sent : List Tag) → place_at whole.ends c ≡ Some place → sent ≡ whole.sent → Holds profile whole
+    → Holds profile (with_client_of whole c place place.client (history_at whole.histories c) sent)
+left_alone profile whole c place sent found same holds =
+    subst (λ (clients : List (Option Place)). Holds profile (record {
       ends = record whole.ends { clients = clients };
       histories = with_history whole.histories c (history_at whole.histories c);
       sent = sent;
       foreign = whole.foreign;
-    })) (sym (same_clients whole.ends c client found))
+    })) (sym (same_clients whole.ends c place found))
     (subst (λ (tags : List Tag). Holds profile (record whole { histories = with_history whole.histories c (history_at whole.histories c); sent = tags })) (sym same) (unnoted profile whole c holds))

@@ -1,10 +1,12 @@
 -- A step by bytes is a step by tags.
-use Rattle.std.proofs.Common.{None, Option, Some, ◌≡◌, List, false, true, refl, sym, ap, subst, ◌∙◌, arith, inl, inr}
+use Rattle.std.proofs.Common.{None, Option, Some, ◌≡◌, ℕ, List, false, true, refl, sym, ap, subst, ◌∙◌, arith, inl, inr}
 use Rattle.std.specs.Prelude.{map}
 use Rattle.std.proofs.lemmas.Bool.{both_ways, cases_Bool}
-use Rattle.q3_client.specs.Client.{ClientState}
+use Rattle.q3_report.specs.Answers.{Answered}
+use Rattle.q3_ends.specs.AtServer as at_server
+use Rattle.q3_ends.specs.AtServer.{server_line}
 use Rattle.q3_world.specs.ByTags.{IsOwn}
-use Rattle.q3_world.proofs.Foreign.{bytes_seen, handed_seen, steps_seen}
+use Rattle.q3_world.proofs.Foreign.{bytes_seen, handed_seen, line_seen}
 use Rattle.q3_world.proofs.Ported.{holds_port}
 use Rattle.q3_world.proofs.StaysForeign.{stays_foreign}
 use Rattle.q3_profile.specs.declared.profile.Profile.{Profile}
@@ -12,42 +14,56 @@ use Rattle.q3_script.specs.declared.event.Event.{Event}
 use Rattle.q3_script.specs.declared.event.Event.TheVariants as events
 use Rattle.q3_script.specs.Grammar.{IsReplayEvent}
 use Rattle.q3_server.specs.Server.{emit_at}
-use Rattle.q3_world.specs.Ends.{Ends, EndsTook, client_at, hand_client, hand_server, set_port, new_map, set_baseline, set_time, set_entity, remove_entity, set_player, set_area}
-use Rattle.q3_world.specs.Kept.{SentBytes, Kept, KeptStep, kept_step}
-use Rattle.q3_world.specs.World.{Whole, step, with_handed}
-use Rattle.q3_world.specs.StandsFor.{StandsFor, bytes_of}
+use Rattle.q3_world.specs.declared.places.Place.{Place}
+use Rattle.q3_world.specs.Ends.{Ends, EndsStep, place_at, hand_client, hand_server, join, set_port, to_server, type_text, add_move, line_of}
+use Rattle.q3_world.specs.Kept.{SentBytes, Kept, KeptStep, kept_ends, kept_step}
+use Rattle.q3_world.specs.World.{Whole, History, history_at, with_history, with_joined, with_spoken, with_typed, with_issued, noted, with_noted, step, whole_line, with_handed, bytes_of}
+use Rattle.q3_world.specs.StandsFor.{StandsFor}
 use Rattle.q3_world.proofs.Holding.{Holds}
 use Rattle.q3_world.proofs.Agree.{Cited, kept_of, seen, Agree}
-use Rattle.q3_world.proofs.HandedIn.{handed, holds_join, holds_new_map, holds_baseline, holds_config, holds_time, holds_entity, holds_removed, holds_player, holds_area, holds_say, holds_type, holds_move}
+use Rattle.q3_world.proofs.HandedIn.{handed, noting, holds_join, holds_new_map, holds_baseline, holds_config, holds_time, holds_entity, holds_removed, holds_player, holds_area, holds_say, holds_type, holds_move}
 use Rattle.q3_world.proofs.Making.{served, sends_agree}
 use Rattle.q3_world.proofs.Arriving.{delivers_agree}
 
 -- ---- every event
 
+-- what is handed in, and is noted of a client
+noted_so : (profile : Profile) (whole : Whole) (c : ℕ) (step : EndsStep) (note : Answered → History) → Holds profile (noting whole c step note)
+    → Agree profile (kept_ends (kept_of profile whole) step) (with_noted whole (with_history whole.histories c (note step.answer)) step)
+noted_so profile whole c step note holds = record { same = refl; holds = holds }
+
 pub steps_agree : (profile : Profile) (whole : Whole) (event : Event) → Cited profile
     → IsReplayEvent event → IsOwn event → Holds profile whole → Agree profile (kept_step (kept_of profile whole) event) (step profile whole event)
-unfolding kept_step step emit_at
+unfolding kept_step step line_of server_line emit_at
 steps_agree profile whole (events.Client c challenge qport dup address) cited is own holds =
-    record { same = refl; holds = holds_join profile whole c challenge qport dup address cited (omega (arith, is.0)) is.2 holds }
+    noted_so profile whole c (join profile whole.ends c challenge qport dup address) (with_joined (history_at whole.histories c) qport address)
+    (holds_join profile whole c challenge qport dup address cited (omega (arith, is.0)) is.2 holds)
 steps_agree profile whole (events.Port c port) cited is own holds =
     handed profile whole (set_port whole.ends c port) (holds_port profile whole c port (omega (arith, is.0)) holds)
 steps_agree profile whole (events.Map id feed) cited is own holds =
-    handed profile whole (new_map whole.ends id feed) (holds_new_map profile whole id feed cited is.1 is.2 holds)
+    handed profile whole (to_server whole.ends (at_server.new_map whole.ends.server id feed)) (holds_new_map profile whole id feed cited is.1 is.2 holds)
 steps_agree profile whole (events.Baseline state) cited is own holds =
-    handed profile whole (set_baseline whole.ends state) (holds_baseline profile whole state cited is.1 is.2 holds)
+    handed profile whole (to_server whole.ends (at_server.set_baseline whole.ends.server state)) (holds_baseline profile whole state cited is.1 is.2 holds)
 steps_agree profile whole (events.Config index text) cited is own holds = record { same = refl; holds = holds_config profile whole index text cited is.2 holds }
 steps_agree profile whole (events.Entity state) cited is own holds =
-    handed profile whole (set_entity whole.ends state) (holds_entity profile whole state cited is.0 is.1 holds)
+    handed profile whole (to_server whole.ends (at_server.set_entity whole.ends.server state)) (holds_entity profile whole state cited is.0 is.1 holds)
 steps_agree profile whole (events.Remove number) cited is own holds =
-    handed profile whole (remove_entity whole.ends number) (holds_removed profile whole number cited holds)
+    handed profile whole (to_server whole.ends (at_server.remove_entity whole.ends.server number)) (holds_removed profile whole number cited holds)
 steps_agree profile whole (events.Area c area) cited is own holds =
-    handed profile whole (set_area whole.ends c area) (holds_area profile whole c area (record { bytes = is.2; short = is.1 }) (omega (arith, is.0)) holds)
+    handed profile whole (to_server whole.ends (at_server.set_area whole.ends.server c area))
+    (holds_area profile whole c area (record { bytes = is.2; short = is.1 }) (omega (arith, is.0)) holds)
 steps_agree profile whole (events.Player c player) cited is own holds =
-    handed profile whole (set_player whole.ends c player) (holds_player profile whole c player (cited.normal player is.1) (omega (arith, is.0)) holds)
-steps_agree profile whole (events.Time time) cited is own holds = handed profile whole (set_time whole.ends time) (holds_time profile whole time cited is holds)
-steps_agree profile whole (events.Say c text) cited is own holds = record { same = refl; holds = holds_say profile whole c text cited is.1 (omega (arith, is.0)) holds }
-steps_agree profile whole (events.TypeText c text) cited is own holds = record { same = refl; holds = holds_type profile whole c text cited is.1 (omega (arith, is.0)) holds }
-steps_agree profile whole (events.Move c one) cited is own holds = record { same = refl; holds = holds_move profile whole c one is.1 (omega (arith, is.0)) holds }
+    handed profile whole (to_server whole.ends (at_server.set_player whole.ends.server c player))
+    (holds_player profile whole c player (cited.normal player is.1) (omega (arith, is.0)) holds)
+steps_agree profile whole (events.Time time) cited is own holds =
+    handed profile whole (to_server whole.ends (at_server.set_time whole.ends.server time)) (holds_time profile whole time cited is holds)
+steps_agree profile whole (events.Say c text) cited is own holds =
+    noted_so profile whole c (to_server whole.ends (at_server.say_command whole.ends.server c text)) (with_spoken (history_at whole.histories c) text)
+    (holds_say profile whole c text cited is.1 (omega (arith, is.0)) holds)
+steps_agree profile whole (events.TypeText c text) cited is own holds =
+    noted_so profile whole c (type_text whole.ends c text) (with_typed (history_at whole.histories c) text) (holds_type profile whole c text cited is.1 (omega (arith, is.0)) holds)
+steps_agree profile whole (events.Move c one) cited is own holds =
+    noted_so profile whole c (add_move whole.ends c one) (with_issued (history_at whole.histories c) one) (holds_move profile whole c one is.1 (omega (arith, is.0)) holds)
 steps_agree profile whole (events.Serve c) cited is own holds = served profile whole c cited (omega (arith, is)) holds
 steps_agree profile whole (events.Send c) cited is own holds = sends_agree profile whole c cited (omega (arith, is)) holds
 steps_agree profile whole (events.Deliver number) cited is own holds = delivers_agree profile whole number cited holds
@@ -74,48 +90,35 @@ record Steps (profile : Profile) (whole : Whole) (event : Event) : Type 0 where
   holds : (step profile whole event).whole.foreign ≡ false → Holds profile (step profile whole event).whole
 
 -- bytes are handed to an end
-handed_steps : (profile : Profile) (whole : Whole) (found : Option ClientState) (took : EndsTook) → Holds profile whole → (found ≡ None → took.ends ≡ whole.ends)
-    → (with_handed whole found took).whole.foreign ≡ false → Holds profile (with_handed whole found took).whole
-handed_steps profile whole None took holds same own = subst (λ (e : Ends). Holds profile (record whole { ends = e })) (sym (same refl)) holds
-handed_steps profile whole (Some client) took holds same own = absurd cc
+handed_steps : (profile : Profile) (whole : Whole) (found : Option Place) (step : EndsStep) → Holds profile whole → (found ≡ None → step.ends ≡ whole.ends)
+    → (with_handed whole found step).whole.foreign ≡ false → Holds profile (with_handed whole found step).whole
+handed_steps profile whole None step holds same own = subst (λ (e : Ends). Holds profile (record whole { ends = e })) (sym (same refl)) holds
+handed_steps profile whole (Some place) step holds same own = absurd cc
 
 steps_of : (profile : Profile) (whole : Whole) (event : Event) → Agree profile (kept_step (kept_of profile whole) event) (step profile whole event) → Steps profile whole event
 steps_of profile whole event agree = record { same = agree.same; holds = λ own. agree.holds }
 
 own_steps : (profile : Profile) (whole : Whole) (event : Event) → Cited profile → IsReplayEvent event → Holds profile whole → Steps profile whole event
-unfolding kept_step step
+unfolding kept_step step line_of
 own_steps profile whole (events.Toclient c bytes) cited is holds = record {
-  same = handed_seen profile whole (client_at whole.ends c) (hand_client whole.ends c bytes);
-  holds = handed_steps profile whole (client_at whole.ends c) (hand_client whole.ends c bytes) holds (λ none. rw none refl);
+  same = handed_seen profile whole (place_at whole.ends c) (hand_client whole.ends c bytes);
+  holds = handed_steps profile whole (place_at whole.ends c) (hand_client whole.ends c bytes) holds (λ none. rw none refl);
 }
 own_steps profile whole (events.Toserver c bytes) cited is holds = record {
-  same = handed_seen profile whole (client_at whole.ends c) (hand_server whole.ends c bytes);
-  holds = handed_steps profile whole (client_at whole.ends c) (hand_server whole.ends c bytes) holds (λ none. rw none refl);
+  same = handed_seen profile whole (place_at whole.ends c) (hand_server whole.ends c bytes);
+  holds = handed_steps profile whole (place_at whole.ends c) (hand_server whole.ends c bytes) holds (λ none. rw none refl);
 }
-own_steps profile whole (events.Client c challenge qport dup address) cited is holds = steps_of profile whole (events.Client c challenge qport dup address) (steps_agree profile whole (events.Client c challenge qport dup address) cited is tt holds)
-own_steps profile whole (events.Port c port) cited is holds = steps_of profile whole (events.Port c port) (steps_agree profile whole (events.Port c port) cited is tt holds)
-own_steps profile whole (events.Map id feed) cited is holds = steps_of profile whole (events.Map id feed) (steps_agree profile whole (events.Map id feed) cited is tt holds)
-own_steps profile whole (events.Baseline state) cited is holds = steps_of profile whole (events.Baseline state) (steps_agree profile whole (events.Baseline state) cited is tt holds)
-own_steps profile whole (events.Config index text) cited is holds = steps_of profile whole (events.Config index text) (steps_agree profile whole (events.Config index text) cited is tt holds)
-own_steps profile whole (events.Entity state) cited is holds = steps_of profile whole (events.Entity state) (steps_agree profile whole (events.Entity state) cited is tt holds)
-own_steps profile whole (events.Remove number) cited is holds = steps_of profile whole (events.Remove number) (steps_agree profile whole (events.Remove number) cited is tt holds)
-own_steps profile whole (events.Player c player) cited is holds = steps_of profile whole (events.Player c player) (steps_agree profile whole (events.Player c player) cited is tt holds)
-own_steps profile whole (events.Area c area) cited is holds = steps_of profile whole (events.Area c area) (steps_agree profile whole (events.Area c area) cited is tt holds)
-own_steps profile whole (events.Time time) cited is holds = steps_of profile whole (events.Time time) (steps_agree profile whole (events.Time time) cited is tt holds)
-own_steps profile whole (events.Say c text) cited is holds = steps_of profile whole (events.Say c text) (steps_agree profile whole (events.Say c text) cited is tt holds)
-own_steps profile whole (events.TypeText c text) cited is holds = steps_of profile whole (events.TypeText c text) (steps_agree profile whole (events.TypeText c text) cited is tt holds)
-own_steps profile whole (events.Move c one) cited is holds = steps_of profile whole (events.Move c one) (steps_agree profile whole (events.Move c one) cited is tt holds)
-own_steps profile whole (events.Serve c) cited is holds = steps_of profile whole (events.Serve c) (steps_agree profile whole (events.Serve c) cited is tt holds)
-own_steps profile whole (events.Send c) cited is holds = steps_of profile whole (events.Send c) (steps_agree profile whole (events.Send c) cited is tt holds)
-own_steps profile whole (events.Deliver number) cited is holds = steps_of profile whole (events.Deliver number) (steps_agree profile whole (events.Deliver number) cited is tt holds)
-own_steps profile whole (events.Show c) cited is holds = steps_of profile whole (events.Show c) (steps_agree profile whole (events.Show c) cited is tt holds)
-own_steps profile whole (events.Bytes number) cited is holds = steps_of profile whole (events.Bytes number) (steps_agree profile whole (events.Bytes number) cited is tt holds)
+own_steps profile whole event cited is holds = steps_of profile whole event (steps_agree profile whole event cited is tt holds)
 
 foreign_steps : (profile : Profile) (whole : Whole) (event : Event) → whole.foreign ≡ true → Steps profile whole event
-foreign_steps profile whole event foreign = record {
-  same = steps_seen profile whole event foreign;
-  holds = λ own. absurd (both_ways (step profile whole event).whole.foreign own (stays_foreign profile whole event foreign));
-}
+unfolding kept_step step
+foreign_steps profile whole event foreign =
+    let note : Answered → List History = λ answer. noted whole.ends.server whole.histories event answer in
+    let line = line_of profile whole.ends event in
+    record {
+      same = line_seen profile whole note line foreign;
+      holds = λ own. absurd (both_ways (whole_line profile whole note line).whole.foreign own (stays_foreign profile whole note line foreign));
+    }
 
 -- a step by bytes of what stands for a whole
 pub stands_next : (profile : Profile) (kept : Kept) (whole : Whole) (event : Event) → (whole.foreign ≡ false → Cited profile) → IsReplayEvent event → StandsFor profile kept whole

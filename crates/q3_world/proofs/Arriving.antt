@@ -8,7 +8,6 @@ use Rattle.std.proofs.lemmas.List.Elements.{All-nil, All-get_or, Contains-get_or
 use Rattle.std.proofs.lemmas.Option.{slice_get-map, slice_get_within, get_or_from_slice_get}
 use Rattle.q3_profile.specs.declared.profile.Profile.{Profile}
 use Rattle.q3_io.specs.declared.address.Address.{Address}
-use Rattle.q3_script.specs.declared.event.Event.TheVariants as events
 use Rattle.q3_clmsg.specs.declared.moves.Move.{Move}
 use Rattle.q3_clmsg.specs.declared.error.ClientIllegible.{ClientIllegible}
 use Rattle.q3_clmsg.specs.Values as client_told
@@ -41,10 +40,13 @@ use Rattle.q3_server.specs.Taking as hears
 use Rattle.q3_world.specs.declared.made.Direction.{Direction}
 use Rattle.q3_world.specs.declared.made.Direction.TheVariants.{ToClient, ToServer}
 use Rattle.q3_messages.specs.MessageLaws.{HoldsThis}
-use Rattle.q3_world.specs.Ends.{client_at, address_at}
-use Rattle.q3_world.specs.Kept.{kept_client_took, kept_to_client, kept_server_took, kept_arrive, kept_deliver, kept_step}
-use Rattle.q3_world.specs.World.{Tag, Whole, History, no_said, history_at, named, client_took, to_client, said_under, server_took, to_server, arrive, deliver, step, Played, game_in, texts_of, with_game, with_taken, with_heard, deliver_as}
-use Rattle.q3_world.specs.StandsFor.{BeginsMessages, KeepsSlot, IsPiece, IsSent, IsClient, IsWay, WasBuilt, WasAccepted, carried_built, acks_built, carried_said, acks_said, AreCommanded, messages_of, messages_said, bytes_of, KeepsClient, TakesBuilt}
+use Rattle.q3_report.specs.declared.answer.Front.TheVariants as fronts
+use Rattle.q3_world.specs.declared.places.Place.{Place}
+use Rattle.q3_world.specs.Ends as by_ends
+use Rattle.q3_world.specs.Ends.{place_at, client_takes, server_takes}
+use Rattle.q3_world.specs.Kept.{kept_ends, arrive_at, deliver_at}
+use Rattle.q3_world.specs.World.{Tag, Whole, History, no_said, history_at, named, client_took, to_client, said_under, server_took, to_server, arrive, deliver, Played, game_in, texts_of, with_game, with_taken, with_heard, deliver_as, bytes_of}
+use Rattle.q3_world.specs.StandsFor.{BeginsMessages, KeepsSlot, IsPiece, IsSent, IsClient, IsWay, WasBuilt, WasAccepted, carried_built, acks_built, carried_said, acks_said, AreCommanded, messages_of, messages_said, KeepsClient, TakesBuilt}
 use Rattle.q3_world.proofs.MoveLists.{consecutive_issued}
 use Rattle.q3_world.proofs.Clients.{no_client, no_end, at_number, said_number, KeepsSlot-ran, KeepsSlot-acknowledged}
 use Rattle.q3_world.proofs.Joined.{TakesBuilt-gathered, TakesBuilt-passed, TakesBuilt-accepted, TakesBuilt-started, AreAsked-accepted}
@@ -139,14 +141,14 @@ IsFor profile whole tag =
 
 -- its client is there
 pub client_of_tag : (profile : Profile) (whole : Whole) (tag : Tag) → IsFor profile whole tag → Holds profile whole
-    → (client : ClientState) × (client_at whole.ends tag.client ≡ Some client)
+    → (place : Place) × (place_at whole.ends tag.client ≡ Some place)
 client_of_tag profile whole tag is holds =
     let c = tag.client in
     let history = history_at whole.histories c in
-    elim (found_or (client_at whole.ends c)) [
+    elim (found_or (place_at whole.ends c)) [
       | inl at ↦
-          let none = no_end profile (slot_at whole.ends.server c) (address_at whole.ends c) history
-          (subst (λ (e : Option ClientState). IsClient profile (slot_at whole.ends.server c) e (address_at whole.ends c) history) at (holds.facts.each c is.0)) in
+          let none = no_end profile (slot_at whole.ends.server c) history
+          (subst (λ (e : Option Place). IsClient profile (slot_at whole.ends.server c) e history) at (holds.facts.each c is.0)) in
           let some = is.1.some in
           let begun = is.1.begun in
           let nothing : length history.built ≡ 0 = ap (λ (h : History). length h.built) none in
@@ -155,28 +157,28 @@ client_of_tag profile whole tag is holds =
     ]
 
 -- what a datagram that was made does by its bytes it does by its tag
-pub tag_is : (profile : Profile) (whole : Whole) (tag : Tag) (client : ClientState) → Cited profile → IsFor profile whole tag
-    → client_at whole.ends tag.client ≡ Some client → Holds profile whole
-    → gathered_of client.gathering tag.bytes ≡ tagged client.gathering tag.number (built_bytes profile (named whole.histories tag)) tag.index
-tag_is profile whole tag client cited is found holds =
+pub tag_is : (profile : Profile) (whole : Whole) (tag : Tag) (place : Place) → Cited profile → IsFor profile whole tag
+    → place_at whole.ends tag.client ≡ Some place → Holds profile whole
+    → gathered_of place.client.gathering tag.bytes ≡ tagged place.client.gathering tag.number (built_bytes profile (named whole.histories tag)) tag.index
+tag_is profile whole tag place cited is found holds =
     let built = (history_at whole.histories tag.client).built in
     let messages = messages_of profile built in
-    let had = has_client profile whole tag.client client is.0 found holds in
+    let had = has_client profile whole tag.client place is.0 found holds in
     let at = at_number profile built tag.number is.1.some in
-    piece_is messages client.gathering server_header (length built) had.0.sending tag cited.tags had.1.joined.of_client.gathers.front had.1.keeps.of_client.from (lit< tt) had.1.keeps.of_slot.sending is.1
-    ∙ ap (λ (m : List ℕ). tagged client.gathering tag.number m tag.index) at
+    piece_is messages place.client.gathering server_header (length built) had.0.sending tag cited.tags had.1.joined.of_client.gathers.front had.1.keeps.of_client.from (lit< tt) had.1.keeps.of_slot.sending is.1
+    ∙ ap (λ (m : List ℕ). tagged place.client.gathering tag.number m tag.index) at
 
 -- and what is gathered then was begun
-pub tag_gathers : (profile : Profile) (whole : Whole) (tag : Tag) (client : ClientState) → Cited profile → IsFor profile whole tag
-    → client_at whole.ends tag.client ≡ Some client → Holds profile whole
+pub tag_gathers : (profile : Profile) (whole : Whole) (tag : Tag) (place : Place) → Cited profile → IsFor profile whole tag
+    → place_at whole.ends tag.client ≡ Some place → Holds profile whole
     → Gathers (messages_of profile (history_at whole.histories tag.client).built) (length (history_at whole.histories tag.client).built)
-    (tagged client.gathering tag.number (built_bytes profile (named whole.histories tag)) tag.index).gathering
-tag_gathers profile whole tag client cited is found holds =
+    (tagged place.client.gathering tag.number (built_bytes profile (named whole.histories tag)) tag.index).gathering
+tag_gathers profile whole tag place cited is found holds =
     let built = (history_at whole.histories tag.client).built in
     let messages = messages_of profile built in
-    let had = has_client profile whole tag.client client is.0 found holds in
-    subst (λ (m : List ℕ). Gathers messages (length built) (tagged client.gathering tag.number m tag.index).gathering) (at_number profile built tag.number is.1.some)
-    (cited.gathers.piece messages (length built) client.gathering tag.number tag.index had.1.joined.of_client.gathers is.1.begun)
+    let had = has_client profile whole tag.client place is.0 found holds in
+    subst (λ (m : List ℕ). Gathers messages (length built) (tagged place.client.gathering tag.number m tag.index).gathering) (at_number profile built tag.number is.1.some)
+    (cited.gathers.piece messages (length built) place.client.gathering tag.number tag.index had.1.joined.of_client.gathers is.1.begun)
 
 -- a message for a client that doesn't play has no base
 pub waits_none : (profile : Profile) (challenge n : ℕ) (built : Built) → IsBuilt profile challenge n built → built.under ≡ None → built.base ≡ None
@@ -196,37 +198,37 @@ pub record Named (profile : Profile) (whole : Whole) (c n : ℕ) (slot : SlotSta
   pub lines : client.gathering.taken < n → IfSome built.under (λ game. client.state.lines ≡ built.lines)
   pub hears : client.gathering.taken < n → ClientHears slot client (history_at whole.histories c) n built
 
-pub names : (profile : Profile) (whole : Whole) (tag : Tag) (slot : SlotState) (client : ClientState) → Cited profile → IsFor profile whole tag → Has profile whole tag.client slot client
-    → Named profile whole tag.client tag.number slot client (named whole.histories tag)
-names profile whole tag slot client cited is had =
+pub names : (profile : Profile) (whole : Whole) (tag : Tag) (slot : SlotState) (place : Place) → Cited profile → IsFor profile whole tag → Has profile whole tag.client slot place
+    → Named profile whole tag.client tag.number slot place.client (named whole.histories tag)
+names profile whole tag slot place cited is had =
     let c = tag.client in
     let history = history_at whole.histories c in
-    let built = tag_was_built profile whole tag slot client is.1 had in
+    let built = tag_was_built profile whole tag slot place is.1 had in
     let of_slot = subst (λ (challenge : ℕ). IsBuilt profile challenge tag.number (named whole.histories tag)) (sym had.keeps.challenge) built in
-    let known = known_base profile slot client history tag.number is.1.some is.1.begun of_slot had.keeps.of_slot had.joined.asked in
+    let known = known_base profile slot place.client history tag.number is.1.some is.1.begun of_slot had.keeps.of_slot had.joined.asked in
     record {
       is = built;
       was = λ telling one. names_built profile whole tag is.1 telling one;
       carries = λ telling one. record { some = is.1.some; begun = is.1.begun; is = ap (λ (b : Built). b.message.section) one.is };
-      base = λ newer. mapped_base whole.ends.server.map slot client history tag.number newer is.1.begun had.joined.mapped (waits_none profile client.challenge tag.number (named whole.histories tag) built) known;
-      lines = λ newer. mapped_lines whole.ends.server.map slot client history tag.number newer is.1.begun had.joined.mapped;
-      hears = λ newer. client_hears cited.windows.flow slot client history tag.number newer is.1.begun had.joined.commanded;
+      base = λ newer. mapped_base whole.ends.server.map slot place.client history tag.number newer is.1.begun had.joined.mapped (waits_none profile place.client.challenge tag.number (named whole.histories tag) built) known;
+      lines = λ newer. mapped_lines whole.ends.server.map slot place.client history tag.number newer is.1.begun had.joined.mapped;
+      hears = λ newer. client_hears cited.windows.flow slot place.client history tag.number newer is.1.begun had.joined.commanded;
     }
 
 -- by its bytes it is received as the value that was built
-pub received_alike : (profile : Profile) (whole : Whole) (c n : ℕ) (slot : SlotState) (client : ClientState) (built : Built) → Cited profile → Has profile whole c slot client
-    → Named profile whole c n slot client built → client.gathering.taken < n
-    → receive_bytes client n (built_bytes profile built) ≡ Ok (receive_message client n built.message (plain_bytes profile built))
-received_alike profile whole c n slot client built cited had named_is newer =
+pub received_alike : (profile : Profile) (whole : Whole) (c n : ℕ) (slot : SlotState) (place : Place) (built : Built) → Cited profile → Has profile whole c slot place
+    → Named profile whole c n slot place.client built → place.client.gathering.taken < n
+    → receive_bytes place.client n (built_bytes profile built) ≡ Ok (receive_message place.client n built.message (plain_bytes profile built))
+received_alike profile whole c n slot place built cited had named_is newer =
     let history = history_at whole.histories c in
     let takes = had.joined.of_client in
     let are = had.keeps.of_slot.built in
     let since = accepted_since history.games history.accepted in
     let were = since_were history.games history.accepted (WasBuilt history.built) takes.accepted in
     let hears = named_is.hears newer in
-    cited.reads client n built named_is.is had.keeps.of_client.by had.keeps.of_client.applied (named_is.lines newer) hears.takes hears.text
-    (if_some_then built.base (KnownBase n history.built since) (λ base. IsSnapshot profile base × HoldsThis client.state.held base)
-    (λ base known. (was_built_is profile slot.challenge history.built base are known.1, holds_this cited.rings client.state.held history.built since base takes.stands were known.1))
+    cited.reads place.client n built named_is.is had.keeps.of_client.by had.keeps.of_client.applied (named_is.lines newer) hears.takes hears.text
+    (if_some_then built.base (KnownBase n history.built since) (λ base. IsSnapshot profile base × HoldsThis place.client.state.held base)
+    (λ base known. (was_built_is profile slot.challenge history.built base are known.1, holds_this cited.rings place.client.state.held history.built since base takes.stands were known.1))
     (named_is.base newer))
 
 -- where nothing comes whole, the commands on their way are as they were
@@ -259,57 +261,57 @@ abbrev heard_state : AppliedState → List Command → AppliedState
 heard_state state commands = hearing state commands
 
 -- what arrives of a piece: what holds stays
-pub holds_piece : (profile : Profile) (whole : Whole) (c datagram n : ℕ) (slot : SlotState) (client : ClientState) (took : Took) (built : Built) → Cited profile → c < places
-    → n ≤ length (history_at whole.histories c).built → Has profile whole c slot client → PieceDoes client.gathering n (built_bytes profile built) took
+pub holds_piece : (profile : Profile) (whole : Whole) (c datagram n : ℕ) (slot : SlotState) (place : Place) (took : Took) (built : Built) → Cited profile → c < places
+    → n ≤ length (history_at whole.histories c).built → Has profile whole c slot place → PieceDoes place.client.gathering n (built_bytes profile built) took
     → Gathers (messages_of profile (history_at whole.histories c).built) (length (history_at whole.histories c).built) took.gathering
-    → Named profile whole c n slot client built
-    → Holds profile whole → Holds profile (client_took whole datagram c n built.message.section (take_gathered client took (λ k. Ok (receive_message client k built.message (plain_bytes profile built))))).whole
-holds_piece profile whole c datagram n slot client took built cited lt within had does gathers named_is holds =
+    → Named profile whole c n slot place.client built
+    → Holds profile whole → Holds profile (client_took whole datagram c place n built.message.section (take_gathered place.client took (λ k. Ok (receive_message place.client k built.message (plain_bytes profile built))))).whole
+holds_piece profile whole c datagram n slot place took built cited lt within had does gathers named_is holds =
     let g = took.gathering in
     let map = whole.ends.server.map in
     let history = history_at whole.histories c in
     let since = accepted_since history.games history.accepted in
-    let state = client.state in
-    let now = record client { gathering = g } in
-    let read : ℕ → Read = λ k. Ok (receive_message client k built.message (plain_bytes profile built)) in
+    let state = place.client.state in
+    let now = record place.client { gathering = g } in
+    let read : ℕ → Read = λ k. Ok (receive_message place.client k built.message (plain_bytes profile built)) in
     let joined = had.joined.of_client in
     let mapped = had.joined.mapped in
     let window = had.keeps.of_client.window in
     elim does.either [
       | inl waits ↦
           let same = quiet_client now took.answer read waits.quiet in
-          let noted = nothing_noted history n client.last_time (take_answer now took.answer read) built.message.section same.accepted same.heard (same.game built.message.section) in
-          rw (noted, same.client_is) (Holds-taken profile whole c slot client g state client.message client.issued client.delta false history.games history.accepted history.client_executed lt had does.side refl refl
-          (waits_so slot client history g waits.taken had.keeps.of_client.applied window had.joined.commanded)
-          (TakesBuilt-gathered profile client history.built history.accepted since g waits.taken gathers joined) had.joined.asked
-          (subst (λ (k : ℕ). AreMapped map (standing_of slot) state k client.last_time history.built history.games history.said history.accepted history.client_executed) (sym waits.taken) mapped) had.joined.since holds)
+          let noted = nothing_noted history n place.client.last_time (take_answer now took.answer read) built.message.section same.accepted same.heard (same.game built.message.section) in
+          rw (noted, same.client_is) (Holds-taken profile whole c slot place g state place.client.message place.client.issued place.client.delta false history.games history.accepted history.client_executed lt had does.side refl refl
+          (waits_so slot place.client history g waits.taken had.keeps.of_client.applied window had.joined.commanded)
+          (TakesBuilt-gathered profile place.client history.built history.accepted since g waits.taken gathers joined) had.joined.asked
+          (subst (λ (k : ℕ). AreMapped map (standing_of slot) state k place.client.last_time history.built history.games history.said history.accepted history.client_executed) (sym waits.taken) mapped) had.joined.since holds)
       | inr came ↦
           let newer = came.newer in
           let below = joined.below in
           let is = named_is.is in
           let taken = came.taken in
           let hears = named_is.hears newer in
-          let after = window_heard client built in
+          let after = window_heard place.client built in
           let plain = plain_bytes profile built in
           let commands = built.message.commands in
           let fresh = fresh_of state.executed.executed commands in
           let texts = texts_of fresh in
           let heard = history.client_executed ++ texts in
-          let still : IsOutgoing after = cited.windows.stays.acknowledges client.issued built.message.ack window in
+          let still : IsOutgoing after = cited.windows.stays.acknowledges place.client.issued built.message.ack window in
           let at_taken : (state : AppliedState) (games : List Played) (accepted : List Snapshot) (heard : List (List ℕ))
-          → AreMapped map (standing_of slot) state n client.last_time history.built games history.said accepted heard
-          → AreMapped map (standing_of slot) state g.taken client.last_time history.built games history.said accepted heard =
+          → AreMapped map (standing_of slot) state n place.client.last_time history.built games history.said accepted heard
+          → AreMapped map (standing_of slot) state g.taken place.client.last_time history.built games history.said accepted heard =
           λ state games accepted heard is.
-          subst (λ (k : ℕ). AreMapped map (standing_of slot) state k client.last_time history.built games history.said accepted heard) (sym taken) is in
-          let own = fresh_own slot client history n built had.keeps.of_slot.own hears in
+          subst (λ (k : ℕ). AreMapped map (standing_of slot) state k place.client.last_time history.built games history.said accepted heard) (sym taken) is in
+          let own = fresh_own slot place.client history n built had.keeps.of_slot.own hears in
           let to_server : Flow after slot.executed history.client_commands history.server_executed (carried_said history.said) (acks_built history.built) g.taken slot.gathering.taken =
           subst (λ (k : ℕ). Flow after slot.executed history.client_commands history.server_executed (carried_said history.said) (acks_built history.built) k slot.gathering.taken) (sym taken) hears.to_server in
           let to_client : Flow slot.issued (executes state.executed commands) history.server_commands heard (carried_built history.built) (acks_said history.said) slot.gathering.taken g.taken =
           subst (λ (k : ℕ). Flow slot.issued (executes state.executed commands) history.server_commands heard (carried_built history.built) (acks_said history.said) slot.gathering.taken k) (sym taken) hears.to_client in
           let applied_as : Application → Taken = λ application. applies now (record { message = plain; issued = after; application = application }) in
           let short = had.keeps.of_slot.sending.short in
-          let applied = cited.stays.receives client n (built_bytes profile built) (receive_message client n built.message plain) (omega (arith, within, short)) had.keeps.of_client.applied window
-          (received_alike profile whole c n slot client built cited had named_is newer) in
+          let applied = cited.stays.receives place.client n (built_bytes profile built) (receive_message place.client n built.message plain) (omega (arith, within, short)) had.keeps.of_client.applied window
+          (received_alike profile whole c n slot place built cited had named_is newer) in
           let came_so : take_answer now took.answer read ≡ applied_as (apply_message state n built.message) = ap (λ (a : Gathered). take_answer now a read) came.answer in
           elim is.section [
             | inl one ↦
@@ -321,24 +323,24 @@ holds_piece profile whole c datagram n slot client took built cited lt within ha
                   | inl accepted ↦
                       let state' = record (hearing state commands) { number = n; held = accept_at state.held snapshot } in
                       let since_is = since_more history.games history.accepted snapshot mapped.has in
-                      let takes = TakesBuilt-accepted cited.rings profile client history.built history.accepted since g state' plain after client.moves snapshot (taken ∙ sym number_is) gathers one.are.few (named_is.was is.telling one)
+                      let takes = TakesBuilt-accepted cited.rings profile place.client history.built history.accepted since g state' plain after place.client.moves snapshot (taken ∙ sym number_is) gathers one.are.few (named_is.was is.telling one)
                       (omega (arith, newer, number_is)) refl joined in
-                      subst (λ (t : Taken). Holds profile (client_took whole datagram c n built.message.section t).whole) (sym (came_so ∙ ap applied_as accepted.1))
-                      (subst (λ (s : Told). Holds profile (client_took whole datagram c n s (applied_as (heard_with state commands (accepts (hearing state commands) n (number_of built.base) snapshot)))).whole) (sym section)
-                      (Holds-taken profile whole c slot client g state' plain after true false history.games (history.accepted ++ snapshot ∷ []) heard lt had does.side refl refl
+                      subst (λ (t : Taken). Holds profile (client_took whole datagram c place n built.message.section t).whole) (sym (came_so ∙ ap applied_as accepted.1))
+                      (subst (λ (s : Told). Holds profile (client_took whole datagram c place n s (applied_as (heard_with state commands (accepts (hearing state commands) n (number_of built.base) snapshot)))).whole) (sym section)
+                      (Holds-taken profile whole c slot place g state' plain after true false history.games (history.accepted ++ snapshot ∷ []) heard lt had does.side refl refl
                       (record { applied = subst (λ (a : Application). IsApplied a.state) accepted.1 applied; is = still; to_client = to_client; to_server = to_server })
-                      (subst (λ (s : List Snapshot). TakesBuilt profile (taking.client_took client g state' plain after true false) history.built (history.accepted ++ snapshot ∷ []) s) (sym since_is) takes)
+                      (subst (λ (s : List Snapshot). TakesBuilt profile (taking.client_took place.client g state' plain after true false) history.built (history.accepted ++ snapshot ∷ []) s) (sym since_is) takes)
                       (AreAsked-accepted slot history.said history.built history.accepted snapshot had.joined.asked)
-                      (at_taken state' history.games (history.accepted ++ snapshot ∷ []) heard (mapped_accepted map slot client history n commands snapshot (accept_at state.held snapshot) newer number_is own mapped))
+                      (at_taken state' history.games (history.accepted ++ snapshot ∷ []) heard (mapped_accepted map slot place.client history n commands snapshot (accept_at state.held snapshot) newer number_is own mapped))
                       had.joined.since holds))
                   | inr skipped ↦
                       let state' = record (hearing state commands) { number = n } in
-                      subst (λ (t : Taken). Holds profile (client_took whole datagram c n built.message.section t).whole) (sym (came_so ∙ ap applied_as skipped.2))
-                      (subst (λ (s : Told). Holds profile (client_took whole datagram c n s (applied_as (heard_with state commands (passes (hearing state commands) n (Skipped (number_of built.base) (EntitiesGone skipped.0)))))).whole) (sym section)
-                      (Holds-taken profile whole c slot client g state' plain after false false history.games history.accepted heard lt had does.side refl refl
+                      subst (λ (t : Taken). Holds profile (client_took whole datagram c place n built.message.section t).whole) (sym (came_so ∙ ap applied_as skipped.2))
+                      (subst (λ (s : Told). Holds profile (client_took whole datagram c place n s (applied_as (heard_with state commands (passes (hearing state commands) n (Skipped (number_of built.base) (EntitiesGone skipped.0)))))).whole) (sym section)
+                      (Holds-taken profile whole c slot place g state' plain after false false history.games history.accepted heard lt had does.side refl refl
                       (record { applied = subst (λ (a : Application). IsApplied a.state) skipped.2 applied; is = still; to_client = to_client; to_server = to_server })
-                      (TakesBuilt-passed profile client history.built history.accepted since g state' plain after client.moves (omega (arith, taken, newer)) gathers refl joined) had.joined.asked
-                      (at_taken state' history.games history.accepted heard (mapped_passed map slot client history n commands state.held newer own mapped)) had.joined.since holds))
+                      (TakesBuilt-passed profile place.client history.built history.accepted since g state' plain after place.client.moves (omega (arith, taken, newer)) gathers refl joined) had.joined.asked
+                      (at_taken state' history.games history.accepted heard (mapped_passed map slot place.client history n commands state.held newer own mapped)) had.joined.since holds))
                 ]
             | inr made ↦
                 let game = made.game in
@@ -347,40 +349,41 @@ holds_piece profile whole c datagram n slot client took built cited lt within ha
                 hears.last ∙ (ap (λ (b : Built). b.last) made.is ∙ sym made.last) in
                 let jumped : jump_at (executes state.executed commands) game.command ≡ executes state.executed commands = jump_same (executes state.executed commands) game.command last in
                 let state' = record (after_gamestate (hearing state commands) game) { number = n } in
-                let played : Played = record { number = n; game = game; accepted = length history.accepted; executed = length heard; time = client.last_time } in
+                let played : Played = record { number = n; game = game; accepted = length history.accepted; executed = length heard; time = place.client.last_time } in
                 let games = history.games ++ played ∷ [] in
                 let since_is : accepted_since games history.accepted ≡ [] = since_none history.games history.accepted played refl in
-                let takes = TakesBuilt-started cited.rings profile client history.built history.accepted since g state' plain after [] (omega (arith, taken, newer)) gathers (subst (λ (k : ℕ). 512 ≤ k) (sym had.keeps.of_client.ring) cited.ring) refl joined in
-                subst (λ (t : Taken). Holds profile (client_took whole datagram c n built.message.section t).whole) (sym (came_so ∙ ap applied_as (applies_game_message state n built is.telling game made.is)))
-                (subst (λ (s : Told). Holds profile (client_took whole datagram c n s (applied_as (heard_with state commands (applies_game (hearing state commands) n game)))).whole) (sym section)
-                (Holds-taken profile whole c slot client g state' plain after false true games history.accepted heard lt had does.side refl refl
+                let takes = TakesBuilt-started cited.rings profile place.client history.built history.accepted since g state' plain after [] (omega (arith, taken, newer)) gathers (subst (λ (k : ℕ). 512 ≤ k) (sym had.keeps.of_client.ring) cited.ring) refl joined in
+                subst (λ (t : Taken). Holds profile (client_took whole datagram c place n built.message.section t).whole) (sym (came_so ∙ ap applied_as (applies_game_message state n built is.telling game made.is)))
+                (subst (λ (s : Told). Holds profile (client_took whole datagram c place n s (applied_as (heard_with state commands (applies_game (hearing state commands) n game)))).whole) (sym section)
+                (Holds-taken profile whole c slot place g state' plain after false true games history.accepted heard lt had does.side refl refl
                 (record {
                   applied = subst (λ (a : Application). IsApplied a.state) (applies_game_message state n built is.telling game made.is) applied;
                   is = still;
                   to_client = subst (λ (i : IncomingState). Flow slot.issued i history.server_commands heard (carried_built history.built) (acks_said history.said) slot.gathering.taken g.taken) (sym jumped) to_client;
                   to_server = to_server;
                 })
-                (subst (λ (s : List Snapshot). TakesBuilt profile (taking.client_took client g state' plain after false true) history.built history.accepted s) (sym since_is) takes) had.joined.asked
-                (at_taken state' games history.accepted heard (mapped_started profile map slot client history n commands game newer (named_is.carries is.telling made) made.are joined.most mapped))
+                (subst (λ (s : List Snapshot). TakesBuilt profile (taking.client_took place.client g state' plain after false true) history.built history.accepted s) (sym since_is) takes) had.joined.asked
+                (at_taken state' games history.accepted heard (mapped_started profile map slot place.client history n commands game newer (named_is.carries is.telling made) made.are joined.most mapped))
                 (AreSince-started history.games played) holds))
           ]
     ]
 
-pub delivered_to : (profile : Profile) (whole : Whole) (number : ℕ) (tag : Tag) (found : Option ClientState) → Cited profile
-    → IsFor profile whole tag → client_at whole.ends tag.client ≡ found → Holds profile whole
-    → Agree profile (kept_to_client (kept_of profile whole) number (bytes_of tag) found) (to_client profile whole number tag found)
+pub delivered_to : (profile : Profile) (whole : Whole) (number : ℕ) (tag : Tag) (found : Option Place) → Cited profile
+    → IsFor profile whole tag → place_at whole.ends tag.client ≡ found → Holds profile whole
+    → Agree profile (kept_ends (kept_of profile whole) (client_takes whole.ends tag.client (fronts.Deliver number) tag.bytes found)) (to_client profile whole number tag found)
 delivered_to profile whole number tag None cited is at holds = record { same = refl; holds = holds }
-delivered_to profile whole number tag (Some client) cited is at holds =
+delivered_to profile whole number tag (Some place) cited is at holds =
+    let client = place.client in
     let built = named whole.histories tag in
-    let had = has_client profile whole tag.client client is.0 at holds in
-    let named_is = names profile whole tag had.0 client cited is had.1 in
+    let had = has_client profile whole tag.client place is.0 at holds in
+    let named_is = names profile whole tag had.0 place cited is had.1 in
     let took = tagged client.gathering tag.number (built_bytes profile built) tag.index in
     let does = cited.does client.gathering tag.number (built_bytes profile built) tag.index in
     record {
-      same = ap (λ (t : Taken). kept_client_took (kept_of profile whole) number tag.client t)
-          (taken_by_bytes client tag.bytes took had.1.joined.of_client.legible (tag_is profile whole tag client cited is at holds)
-          ∙ taken_alike profile client took tag.number built (received_alike profile whole tag.client tag.number had.0 client built cited had.1 named_is) does);
-      holds = holds_piece profile whole tag.client number tag.number had.0 client took built cited is.0 is.1.begun had.1 does (tag_gathers profile whole tag client cited is at holds) named_is holds;
+      same = ap (λ (t : Taken). kept_ends (kept_of profile whole) (by_ends.client_took whole.ends tag.client (fronts.Deliver number) place t))
+          (taken_by_bytes client tag.bytes took had.1.joined.of_client.legible (tag_is profile whole tag place cited is at holds)
+          ∙ taken_alike profile client took tag.number built (received_alike profile whole tag.client tag.number had.0 place built cited had.1 named_is) does);
+      holds = holds_piece profile whole tag.client number tag.number had.0 place took built cited is.0 is.1.begun had.1 does (tag_gathers profile whole tag place cited is at holds) named_is holds;
     }
 
 -- ---- delivering to the server
@@ -542,15 +545,15 @@ said_most profile client history moves keeps were =
     subst (λ (most : ℕ). All (λ (one : Move). one.time ≤ most) moves) (sym keeps.last) (issued_most moves history.issued keeps.rise were)
 
 -- what comes of a piece: what holds stays
-pub holds_heard : (profile : Profile) (whole : Whole) (c number n : ℕ) (from : Address) (slot : SlotState) (client : ClientState) (took : Took) (said : Said) → Cited profile → c < places
-    → Has profile whole c slot client → from.host ≡ slot.address.host → PieceDoes slot.gathering n (said_bytes profile said) took
+pub holds_heard : (profile : Profile) (whole : Whole) (c number n : ℕ) (from : Address) (slot : SlotState) (place : Place) (took : Took) (said : Said) → Cited profile → c < places
+    → Has profile whole c slot place → from.host ≡ slot.address.host → PieceDoes slot.gathering n (said_bytes profile said) took
     → Gathers (messages_said profile (history_at whole.histories c).said) (length (history_at whole.histories c).said) took.gathering
     → Contains (history_at whole.histories c).said said
     → All (Contains (history_at whole.histories c).issued) said.message.moves
     → (said.message.delta ≡ true → WasAccepted (history_at whole.histories c).accepted said.message.acknowledged)
-    → (slot.gathering.taken < n → SlotHears slot client (history_at whole.histories c) n said) → Holds profile whole
+    → (slot.gathering.taken < n → SlotHears slot place.client (history_at whole.histories c) n said) → Holds profile whole
     → Holds profile (server_took whole number c (hears.taken_at whole.ends.server c (by_slot.take_gathered whole.ends.server.map (record slot { address = from }) c took (λ k. Ok (came_as whole.ends.server.map said.message))))).whole
-holds_heard profile whole c number n from slot client took said cited lt had host does gathers there were asks hears_so holds =
+holds_heard profile whole c number n from slot place took said cited lt had host does gathers there were asks hears_so holds =
     let g = took.gathering in
     let map = whole.ends.server.map in
     let history = history_at whole.histories c in
@@ -564,9 +567,9 @@ holds_heard profile whole c number n from slot client took said cited lt had hos
     elim does.either [
       | inl waits ↦
           let same = quiet_slot map now c took.answer read waits.quiet in
-          rw (same.slot_is, same.commands, same.moves) (Holds-heard profile whole c slot slot client from g (record { commands = []; entered = result.entered; moves = []; owed = result.owed }) lt had host does.side refl refl refl gathers
+          rw (same.slot_is, same.commands, same.moves) (Holds-heard profile whole c slot slot place from g (record { commands = []; entered = result.entered; moves = []; owed = result.owed }) lt had host does.side refl refl refl gathers
           (none_run profile slot history keeps)
-          (hears_nothing slot client history g waits.taken had.joined.commanded)
+          (hears_nothing slot place.client history g waits.taken had.joined.commanded)
           (All-nil (Contains history.issued)) before mapped holds)
       | inr came ↦
           let heard = hears_so came.newer in
@@ -580,33 +583,33 @@ holds_heard profile whole c number n from slot client took said cited lt had hos
                 let ignored : result ≡ by_slot.ignores map now c (heads_of message) =
                 read_so ∙ ap (λ (b : Bool). by_slot.run_read map now c n (Ok (if b then OfOther (heads_of message) else OfMap message))) other in
                 subst (λ (t : by_slot.SlotTaken). Holds profile (server_took whole number c (hears.taken_at whole.ends.server c t)).whole) (sym ignored)
-                (Holds-heard profile whole c slot has client from g (record { commands = []; entered = None; moves = []; owed = owed }) lt had host does.side refl refl refl gathers
+                (Holds-heard profile whole c slot has place from g (record { commands = []; entered = None; moves = []; owed = owed }) lt had host does.side refl refl refl gathers
                 (none_run profile has history (KeepsSlot-acknowledged profile slot history.qport history.host history.built history.run history.server_commands after owed still keeps))
-                (hears_other slot client history g n said came.taken heard)
-                (All-nil (Contains history.issued)) before (mapped_other map slot client history said there other mapped) holds)
+                (hears_other slot place.client history g n said came.taken heard)
+                (All-nil (Contains history.issued)) before (mapped_other map slot place.client history said there other mapped) holds)
             | inr same ↦
                 let executed = executes slot.executed message.commands in
                 let playing = goes_on slot message message.moves in
                 let has = record slot { stage = playing.stage; issued = after; executed = executed; delta = playing.delta; last_run = playing.last_run } in
-                let on = mapped_runs map slot client history said there same (said_most profile client history said.message.moves had.keeps.of_client were) mapped in
+                let on = mapped_runs map slot place.client history said there same (said_most profile place.client history said.message.moves had.keeps.of_client were) mapped in
                 let rises = plays_on slot message history.run keeps.last keeps.rise on.late in
                 let ran_so : result ≡ by_slot.run_unless now c n message None =
                 read_so ∙ (ap (λ (b : Bool). by_slot.run_read map now c n (Ok (if b then OfOther (heads_of message) else OfMap message))) same ∙ runs_whole now c n message heard.gap) in
                 subst (λ (t : by_slot.SlotTaken). Holds profile (server_took whole number c (hears.taken_at whole.ends.server c t)).whole) (sym ran_so)
-                (Holds-heard profile whole c slot has client from g (record { commands = fresh_of slot.executed.executed message.commands; entered = playing.entered; moves = playing.moves; owed = slot.owed })
+                (Holds-heard profile whole c slot has place from g (record { commands = fresh_of slot.executed.executed message.commands; entered = playing.entered; moves = playing.moves; owed = slot.owed })
                 lt had host does.side refl refl refl gathers
                 (KeepsSlot-ran profile slot history.qport history.host history.built history.run history.server_commands after executed playing still rises.0 rises.1 keeps)
-                (hears_run slot client history g n said came.taken heard)
+                (hears_run slot place.client history g n said came.taken heard)
                 (plays_are (Contains history.issued) slot message were) (asked_playing history.accepted slot message before asks) on.mapped holds)
           ]
     ]
 
 -- what is known of a message that the tag of a client's datagram names
-pub said_hears : (profile : Profile) (whole : Whole) (tag : Tag) (from : Address) (slot : SlotState) (client : ClientState) → Cited profile → IsOf profile whole tag from
-    → Has profile whole tag.client slot client → slot.gathering.taken < tag.number
-    → SlotHears slot client (history_at whole.histories tag.client) tag.number (said_under whole.histories tag)
-said_hears profile whole tag from slot client cited is had newer =
-    slot_hears cited.windows.flow slot client (history_at whole.histories tag.client) tag.number newer is.2.begun had.joined.commanded
+pub said_hears : (profile : Profile) (whole : Whole) (tag : Tag) (from : Address) (slot : SlotState) (place : Place) → Cited profile → IsOf profile whole tag from
+    → Has profile whole tag.client slot place → slot.gathering.taken < tag.number
+    → SlotHears slot place.client (history_at whole.histories tag.client) tag.number (said_under whole.histories tag)
+said_hears profile whole tag from slot place cited is had newer =
+    slot_hears cited.windows.flow slot place.client (history_at whole.histories tag.client) tag.number newer is.2.begun had.joined.commanded
 
 -- its client has a slot
 pub slot_of_tag : (profile : Profile) (whole : Whole) (tag : Tag) (from : Address) → IsOf profile whole tag from → Holds profile whole
@@ -616,8 +619,8 @@ slot_of_tag profile whole tag from is holds =
     let history = history_at whole.histories c in
     elim (found_or (slot_at whole.ends.server c)) [
       | inl at ↦
-          let none = no_client profile (client_at whole.ends c) (address_at whole.ends c) history
-          (subst (λ (s : Option SlotState). IsClient profile s (client_at whole.ends c) (address_at whole.ends c) history) at (holds.facts.each c is.0)) in
+          let none = no_client profile (place_at whole.ends c) history
+          (subst (λ (s : Option SlotState). IsClient profile s (place_at whole.ends c) history) at (holds.facts.each c is.0)) in
           let some = is.2.some in
           let begun = is.2.begun in
           let nothing : length history.said ≡ 0 = ap (λ (h : History). length h.said) none in
@@ -634,13 +637,13 @@ said_tag_is profile whole tag from slot cited is at holds =
     let had = has_slot profile whole tag.client slot is.0 at holds in
     let keeps = had.1.keeps in
     let at_said = said_number profile history.said tag.number is.2.some in
-    piece_is (messages_said profile history.said) slot.gathering (client_header history.qport) (length history.said) had.0.sending tag cited.tags had.1.joined.of_slot.gathers.front keeps.of_slot.from keeps.of_client.fits
+    piece_is (messages_said profile history.said) slot.gathering (client_header history.qport) (length history.said) had.0.client.sending tag cited.tags had.1.joined.of_slot.gathers.front keeps.of_slot.from keeps.of_client.fits
     keeps.of_client.sending is.2
     ∙ ap (λ (m : List ℕ). tagged slot.gathering tag.number m tag.index) at_said
 
 pub heard_at : (profile : Profile) (whole : Whole) (number : ℕ) (tag : Tag) (from : Address) → Cited profile
     → IsOf profile whole tag from → Holds profile whole
-    → Agree profile (kept_server_took (kept_of profile whole) number (hears.take_at whole.ends.server from tag.bytes))
+    → Agree profile (kept_ends (kept_of profile whole) (server_takes whole.ends (fronts.Deliver number) from tag.bytes))
     (to_server profile whole number tag from (slot_at whole.ends.server tag.client))
 heard_at profile whole number tag from cited is holds =
     let found = slot_of_tag profile whole tag from is holds in
@@ -666,12 +669,12 @@ heard_at profile whole number tag from cited is holds =
     let there : Contains history.said said = Contains-get_or history.said (tag.number - 1) no_said within in
     let carried = consecutive_issued said.message.moves history.issued (keeps.of_client.carried (tag.number - 1) no_said within) in
     let reads : slot.gathering.taken < tag.number → said_by profile map slot (said_bytes profile said) ≡ Ok (came_as map said.message) =
-    λ newer. let heard = hears_so newer in cited.hears map slot said said_is heard.takes heard.text (λ same. (mapped_runs map slot had.0 history said there same (said_most profile had.0 history said.message.moves keeps.of_client carried) had.1.joined.mapped).feed) in
+    λ newer. let heard = hears_so newer in cited.hears map slot said said_is heard.takes heard.text (λ same. (mapped_runs map slot had.0.client history said there same (said_most profile had.0.client history said.message.moves keeps.of_client carried) had.1.joined.mapped).feed) in
     let gathers : Gathers messages (length history.said) took.gathering =
     subst (λ (m : List ℕ). Gathers messages (length history.said) (tagged slot.gathering tag.number m tag.index).gathering) at_said
     (cited.gathers.piece messages (length history.said) slot.gathering tag.number tag.index had.1.joined.of_slot.gathers is.2.begun) in
     rw at (record {
-      same = ap (λ (t : hears.Taken). kept_server_took (kept_of profile whole) number t)
+      same = ap (λ (t : hears.Taken). kept_ends (kept_of profile whole) (by_ends.server_took whole.ends (fronts.Deliver number) t))
           (heard_by_bytes profile whole tag from slot cited is at holds
           ∙ (ap (λ (t : Took). hears.taken_at whole.ends.server c (by_slot.take_gathered map (record slot { address = from }) c t (λ k. said_by profile map slot t.message))) takes
           ∙ ap (λ (t : by_slot.SlotTaken). hears.taken_at whole.ends.server c t) (heard_alike profile map slot c took tag.number said reads does from)));
@@ -700,22 +703,22 @@ is_of_client profile whole tag from way is =
 
 pub arrives_at : (profile : Profile) (whole : Whole) (number : ℕ) (tag : Tag) (direction : Direction) → Cited profile → tag.direction ≡ direction → IsSent profile whole.histories tag
     → Holds profile whole
-    → Agree profile (kept_arrive (kept_of profile whole) number (bytes_of tag) direction) (arrive profile whole number tag direction)
+    → Agree profile (kept_ends (kept_of profile whole) (arrive_at whole.ends number (bytes_of tag) direction)) (arrive profile whole number tag direction)
 arrives_at profile whole number tag ToClient cited way is holds =
-    delivered_to profile whole number tag (client_at whole.ends tag.client) cited (is_for profile whole tag way is) refl holds
+    delivered_to profile whole number tag (place_at whole.ends tag.client) cited (is_for profile whole tag way is) refl holds
 arrives_at profile whole number tag (ToServer from) cited way is holds =
     heard_at profile whole number tag from cited (is_of_client profile whole tag from way is) holds
 
 pub sent_at : (profile : Profile) (whole : Whole) (number : ℕ) (found : Option Tag) → Cited profile
     → slice_get whole.sent (number - 1) ≡ found → Holds profile whole
-    → Agree profile (kept_deliver (kept_of profile whole) number (option_map bytes_of found)) (deliver profile whole number found)
+    → Agree profile (kept_ends (kept_of profile whole) (deliver_at whole.ends number (option_map bytes_of found))) (deliver profile whole number found)
 sent_at profile whole number None cited at holds = record { same = refl; holds = holds }
 sent_at profile whole number (Some tag) cited at holds =
     arrives_at profile whole number tag tag.direction cited refl (is_sent profile whole (number - 1) tag at holds) holds
 
 pub delivers_agree : (profile : Profile) (whole : Whole) (number : ℕ) → Cited profile → Holds profile whole
-    → Agree profile (kept_step (kept_of profile whole) (events.Deliver number)) (step profile whole (events.Deliver number))
-unfolding kept_step step
+    → Agree profile (kept_ends (kept_of profile whole) (deliver_at whole.ends number (slice_get (map bytes_of whole.sent) (number - 1))))
+    (deliver_as whole.foreign profile whole number (slice_get whole.sent (number - 1)))
 delivers_agree profile whole number cited holds =
-    subst (λ (b : Bool). Agree profile (kept_deliver (kept_of profile whole) number (slice_get (map bytes_of whole.sent) (number - 1))) (deliver_as b profile whole number (slice_get whole.sent (number - 1)))) (sym holds.own)
+    subst (λ (b : Bool). Agree profile (kept_ends (kept_of profile whole) (deliver_at whole.ends number (slice_get (map bytes_of whole.sent) (number - 1)))) (deliver_as b profile whole number (slice_get whole.sent (number - 1)))) (sym holds.own)
     (rw (slice_get-map bytes_of whole.sent (number - 1)) (sent_at profile whole number (slice_get whole.sent (number - 1)) cited refl holds))

@@ -19,7 +19,8 @@ use Rattle.q3_client.specs.Moves.{asks_delta}
 use Rattle.q3_client.specs.Sending.{IsSaid, said_bytes, next_message, next_said}
 use Rattle.q3_world.specs.declared.made.Direction.TheVariants.{ToClient, ToServer}
 use Rattle.q3_world.specs.Layers.{ServerLaws, WindowLaws}
-use Rattle.q3_world.specs.Ends.{client_at, address_at}
+use Rattle.q3_world.specs.declared.places.Place.{Place}
+use Rattle.q3_world.specs.Ends.{place_at}
 use Rattle.q3_world.specs.World.{Tag, History, Whole, history_at, with_history, with_built, with_said}
 use Rattle.q3_server.specs.Standing.{IsMap}
 use Rattle.q3_world.specs.StandsFor.{messages_of, messages_said, KeepsClient, KeepsFrames, WasBuilt, acks_built, carried_said, AreCommanded, IsJoined}
@@ -82,20 +83,20 @@ executed_by_slot profile slot client history keeps commanded =
     commanded.to_server
 
 -- a message is begun, and its first piece is handed out; with a gamestate its client's stage changes, and the map notes it
-pub Holds-begun : WindowLaws → (profile : Profile) (whole : Whole) (c : ℕ) (slot : SlotState) (client : ClientState) (stage : ClientStage) (game : Option ℕ) (owed : Bool) (next : Built) (map : MapState) (frames : FramesState) (left : UnderWay)
-    → EndsSend → EndsGather → c < places → Has profile whole c slot client → slot.sending.number + 1 < sequence_end
+pub Holds-begun : WindowLaws → (profile : Profile) (whole : Whole) (c : ℕ) (slot : SlotState) (place : Place) (stage : ClientStage) (game : Option ℕ) (owed : Bool) (next : Built) (map : MapState) (frames : FramesState) (left : UnderWay)
+    → EndsSend → EndsGather → c < places → Has profile whole c slot place → slot.sending.number + 1 < sequence_end
     → IsBuilt profile slot.challenge (slot.sending.number + 1) next → IsSendable (built_bytes profile next)
     → carriage_built next ≡ carriage_of slot.issued → ack_built next ≡ acknowledgement_of slot.executed
     → IfSome next.base (BaseIs (slot.sending.number + 1) (asked slot) (history_at whole.histories c).built)
     → (slot_begun profile (record slot { stage = stage; game = game; owed = owed }) next).sending.under_way ≡ Some left
-    → IsMap profile map → ((s : Option SlotState) (e : Option ClientState) (h : History) → IsJoined profile whole.ends.server.map s e h → IsJoined profile map s e h)
+    → IsMap profile map → ((s : Option SlotState) (e : Option Place) (h : History) → IsJoined profile whole.ends.server.map s e h → IsJoined profile map s e h)
     → KeepsFrames frames (with_history whole.histories c (with_built (history_at whole.histories c) (Some next)))
-    → AreMapped map (standing_of (record slot { stage = stage; game = game; owed = owed })) client.state client.gathering.taken client.last_time
+    → AreMapped map (standing_of (record slot { stage = stage; game = game; owed = owed })) place.client.state place.client.gathering.taken place.client.last_time
     ((history_at whole.histories c).built ++ next ∷ []) (history_at whole.histories c).games (history_at whole.histories c).said (history_at whole.histories c).accepted (history_at whole.histories c).client_executed
     → Holds profile whole
     → Holds profile (with_server_of whole c (slot_handed (slot_begun profile (record slot { stage = stage; game = game; owed = owed }) next)) map frames
     (with_built (history_at whole.histories c) (Some next)) (whole.sent ++ handed_tag c (slot_begun profile (record slot { stage = stage; game = game; owed = owed }) next) left ∷ []))
-Holds-begun windows profile whole c slot client stage game owed built map frames left sends gathers lt had fits is sendable carries acks base way map_is stays kept mapped holds =
+Holds-begun windows profile whole c slot place stage game owed built map frames left sends gathers lt had fits is sendable carries acks base way map_is stays kept mapped holds =
     let history = history_at whole.histories c in
     let stands = record slot { stage = stage; game = game; owed = owed } in
     let starts = slot_begun profile stands built in
@@ -107,9 +108,9 @@ Holds-begun windows profile whole c slot client stage game owed built map frames
     let was = if_some_then built.base (BaseIs (slot.sending.number + 1) (asked slot) history.built) (WasBuilt history.built) (λ b known. known.1) base in
     let begun = KeepsSlot-begun profile stands history.qport history.host history.built history.run history.server_commands built sends fits is sendable was
     (KeepsSlot-stands profile slot history.qport history.host history.built history.run history.server_commands stage game owed keeps.of_slot) in
-    let commanded = AreCommanded-built windows.flow slot client history built carries acks joined.commanded in
+    let commanded = AreCommanded-built windows.flow slot place.client history built carries acks joined.commanded in
     let grows = HistoryGrows-built history built in
-    Holds-slot profile whole c slot next client map frames noted (whole.sent ++ handed_tag c starts left ∷ []) lt had
+    Holds-slot profile whole c slot next place map frames noted (whole.sent ++ handed_tag c starts left ∷ []) lt had
     (record {
       host = refl;
       qport = refl;
@@ -118,7 +119,7 @@ Holds-begun windows profile whole c slot client stage game owed built map frames
       grows = grows;
       keeps = record { of_slot = KeepsSlot-handed profile starts history.qport history.host more history.run history.server_commands sends begun; of_client = keeps.of_client; challenge = keeps.challenge; host = keeps.host };
       joined = record {
-        of_client = TakesBuilt-more profile client history.built history.accepted (accepted_since history.games history.accepted) built gathers joined.of_client;
+        of_client = TakesBuilt-more profile place.client history.built history.accepted (accepted_since history.games history.accepted) built gathers joined.of_client;
         of_slot = TakesSaid-same profile slot next history.said history.issued history.run refl joined.of_slot;
         asked = AreAsked-built slot next history.said history.built history.accepted (slot.sending.number + 1) built refl joined.of_client.accepted base joined.asked;
         commanded = record { to_client = commanded.to_client; to_server = commanded.to_server };
@@ -164,55 +165,55 @@ abbrev pub said_tag : ℕ → Address → ClientState → UnderWay → Tag
 said_tag c from client left = record { client = c; direction = ToServer from; number = client.sending.number; index = left.next; bytes = (next_of client.sending).datagram }
 
 -- what is left of a client's message goes on
-pub Holds-goes : (profile : Profile) (whole : Whole) (c : ℕ) (client : ClientState) (left : UnderWay) → EndsSend → c < places
-    → client_at whole.ends c ≡ Some client → client.sending.under_way ≡ Some left → Holds profile whole
-    → Holds profile (with_client_of whole c (client_handed client) (history_at whole.histories c) (whole.sent ++ said_tag c (address_at whole.ends c) client left ∷ []))
-Holds-goes profile whole c client left sends lt found way holds =
+pub Holds-goes : (profile : Profile) (whole : Whole) (c : ℕ) (place : Place) (left : UnderWay) → EndsSend → c < places
+    → place_at whole.ends c ≡ Some place → place.client.sending.under_way ≡ Some left → Holds profile whole
+    → Holds profile (with_client_of whole c place (client_handed place.client) (history_at whole.histories c) (whole.sent ++ said_tag c (place.address) place.client left ∷ []))
+Holds-goes profile whole c place left sends lt found way holds =
     let history = history_at whole.histories c in
-    let from = address_at whole.ends c in
-    let tag = said_tag c from client left in
-    let had = has_client profile whole c client lt found holds in
+    let from = place.address in
+    let tag = said_tag c from place.client left in
+    let had = has_client profile whole c place lt found holds in
     let keeps = had.1.keeps in
     let joined = had.1.joined in
     let grows = HistoryGrows-same history in
-    Holds-client profile whole c had.0 client (client_handed client) history (whole.sent ++ tag ∷ []) lt had.1
+    Holds-client profile whole c had.0 place (client_handed place.client) history (whole.sent ++ tag ∷ []) lt had.1
     (record {
       host = refl;
       qport = refl;
       map_is = holds.facts.map;
       stays = λ s e h joined. joined;
       grows = grows;
-      keeps = record { of_slot = keeps.of_slot; of_client = KeepsClient-handed profile client history.qport history.said history.issued history.client_commands sends keeps.of_client; challenge = keeps.challenge; host = keeps.host };
-      joined = record { of_client = TakesBuilt-same profile client (client_handed client) history.built history.accepted (accepted_since history.games history.accepted) refl refl refl refl joined.of_client; of_slot = joined.of_slot; asked = joined.asked; commanded = record { to_client = joined.commanded.to_client; to_server = joined.commanded.to_server }; mapped = joined.mapped; since = joined.since };
+      keeps = record { of_slot = keeps.of_slot; of_client = KeepsClient-handed profile place.client history.qport history.said history.issued history.client_commands sends keeps.of_client; challenge = keeps.challenge; host = keeps.host };
+      joined = record { of_client = TakesBuilt-same profile place.client (client_handed place.client) history.built history.accepted (accepted_since history.games history.accepted) refl refl refl refl joined.of_client; of_slot = joined.of_slot; asked = joined.asked; commanded = record { to_client = joined.commanded.to_client; to_server = joined.commanded.to_server }; mapped = joined.mapped; since = joined.since };
       sent = sent_more profile whole c history tag lt grows refl (
         keeps.host,
-        handed_piece (client_header history.qport) (messages_said profile history.said) (length history.said) client.sending left tag sends keeps.of_client.sending way refl refl refl,
+        handed_piece (client_header history.qport) (messages_said profile history.said) (length history.said) place.client.sending left tag sends keeps.of_client.sending way refl refl refl,
       ) holds;
       kept = frames_stay profile whole c history lt refl holds;
     }) holds
 
 -- a client's message is begun, and its first piece goes out
-pub Holds-said : WindowLaws → (profile : Profile) (whole : Whole) (c : ℕ) (slot : SlotState) (client : ClientState) (left : UnderWay) → EndsSend → EndsGather → c < places
-    → Has profile whole c slot client → (client_begun profile client).sending.under_way ≡ Some left → client.sending.number + 1 < sequence_end
-    → IsSaid profile client.challenge (next_said client) → IsSendable (said_bytes profile (next_said client))
-    → AreMapped whole.ends.server.map (standing_of slot) client.state client.gathering.taken client.last_time (history_at whole.histories c).built (history_at whole.histories c).games
-    ((history_at whole.histories c).said ++ next_said client ∷ []) (history_at whole.histories c).accepted (history_at whole.histories c).client_executed → Holds profile whole
-    → Holds profile (with_client_of whole c (client_handed (client_begun profile client)) (with_said (history_at whole.histories c) (Some (next_said client)))
-    (whole.sent ++ said_tag c (address_at whole.ends c) (client_begun profile client) left ∷ []))
-Holds-said windows profile whole c slot client left sends gathers lt had way fits is sendable mapped holds =
+pub Holds-said : WindowLaws → (profile : Profile) (whole : Whole) (c : ℕ) (slot : SlotState) (place : Place) (left : UnderWay) → EndsSend → EndsGather → c < places
+    → Has profile whole c slot place → (client_begun profile place.client).sending.under_way ≡ Some left → place.client.sending.number + 1 < sequence_end
+    → IsSaid profile place.client.challenge (next_said place.client) → IsSendable (said_bytes profile (next_said place.client))
+    → AreMapped whole.ends.server.map (standing_of slot) place.client.state place.client.gathering.taken place.client.last_time (history_at whole.histories c).built (history_at whole.histories c).games
+    ((history_at whole.histories c).said ++ next_said place.client ∷ []) (history_at whole.histories c).accepted (history_at whole.histories c).client_executed → Holds profile whole
+    → Holds profile (with_client_of whole c place (client_handed (client_begun profile place.client)) (with_said (history_at whole.histories c) (Some (next_said place.client)))
+    (whole.sent ++ said_tag c (place.address) (client_begun profile place.client) left ∷ []))
+Holds-said windows profile whole c slot place left sends gathers lt had way fits is sendable mapped holds =
     let history = history_at whole.histories c in
-    let from = address_at whole.ends c in
-    let begun = client_begun profile client in
-    let next = next_said client in
+    let from = place.address in
+    let begun = client_begun profile place.client in
+    let next = next_said place.client in
     let more = history.said ++ next ∷ [] in
     let tag = said_tag c from begun left in
     let keeps = had.keeps in
     let joined = had.joined in
     let since = accepted_since history.games history.accepted in
-    let starts = KeepsClient-begun profile client history.qport history.said history.issued history.client_commands sends fits is sendable keeps.of_client in
-    let commanded = AreCommanded-said windows.flow slot client history next refl refl joined.commanded in
+    let starts = KeepsClient-begun profile place.client history.qport history.said history.issued history.client_commands sends fits is sendable keeps.of_client in
+    let commanded = AreCommanded-said windows.flow slot place.client history next refl refl joined.commanded in
     let grows = HistoryGrows-said history next in
-    Holds-client profile whole c slot client (client_handed begun) (record history { said = more }) (whole.sent ++ tag ∷ []) lt had
+    Holds-client profile whole c slot place (client_handed begun) (record history { said = more }) (whole.sent ++ tag ∷ []) lt had
     (record {
       host = refl;
       qport = refl;
@@ -221,9 +222,9 @@ Holds-said windows profile whole c slot client left sends gathers lt had way fit
       grows = grows;
       keeps = record { of_slot = keeps.of_slot; of_client = KeepsClient-handed profile begun history.qport more history.issued history.client_commands sends starts; challenge = keeps.challenge; host = keeps.host };
       joined = record {
-        of_client = TakesBuilt-same profile client (client_handed begun) history.built history.accepted since refl refl refl refl joined.of_client;
+        of_client = TakesBuilt-same profile place.client (client_handed begun) history.built history.accepted since refl refl refl refl joined.of_client;
         of_slot = TakesSaid-more profile slot history.said history.issued history.run next gathers joined.of_slot;
-        asked = AreAsked-said slot history.said history.built history.accepted next (λ so. since_accepted history.games history.accepted client.gathering.taken (joined.of_client.asks.0 (asks_only client so))) joined.asked;
+        asked = AreAsked-said slot history.said history.built history.accepted next (λ so. since_accepted history.games history.accepted place.client.gathering.taken (joined.of_client.asks.0 (asks_only place.client so))) joined.asked;
         commanded = record { to_client = commanded.to_client; to_server = commanded.to_server };
         mapped = mapped;
         since = joined.since;

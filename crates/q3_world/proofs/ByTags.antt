@@ -11,7 +11,7 @@ use Rattle.q3_script.specs.declared.event.Event.{Event}
 use Rattle.q3_script.specs.declared.event.Event.TheVariants as events
 use Rattle.q3_script.specs.Grammar.{IsReplayEvent}
 use Rattle.q3_world.specs.Layers.{Layers}
-use Rattle.q3_world.specs.Ends.{Answered}
+use Rattle.q3_report.specs.Answers.{Answered}
 use Rattle.q3_world.specs.Kept.{Kept, opening_kept, kept_step, kept_after, kept_answers}
 use Rattle.q3_world.specs.World.{Whole, opening, step, after, answers}
 use Rattle.q3_world.specs.StandsFor.{IsChecked, StandsFor}

@@ -18,6 +18,7 @@ use Rattle.q3_built.specs.Built.{Built, IsBuilt, BuildsSnapshot, Telling}
 use Rattle.q3_slot.specs.Slot.{SlotState, asked}
 use Rattle.q3_server.specs.Server.{places}
 use Rattle.q3_client.specs.Client.{ClientState, moves_behind}
+use Rattle.q3_world.specs.declared.places.Place.{Place}
 use Rattle.q3_world.specs.World.{Tag, History, Whole, no_message, history_at, built_at, texts_of, with_run, named, Played}
 use Rattle.q3_world.specs.StandsFor.{messages_of, messages_said, KeepsSlot, IsPiece, snapshot_in, WasBuilt, WasAccepted, TakesBuilt, carried_built, acks_built, carried_said, acks_said, AreAsked}
 use Rattle.q3_world.proofs.Growth.{HistoryGrows-beside}
@@ -46,22 +47,22 @@ pub record TakesSo (slot : SlotState) (history : History) (g : Gathering) (state
 abbrev pub took_noted : History → List Played → List Snapshot → List (List ℕ) → History
 took_noted history games accepted executed = record history { games = games; accepted = accepted; client_executed = executed }
 
-pub Holds-taken : (profile : Profile) (whole : Whole) (c : ℕ) (slot : SlotState) (client : ClientState) (g : Gathering) (state : AppliedState) (message : List ℕ) (window : OutgoingState) (delta game : Bool)
+pub Holds-taken : (profile : Profile) (whole : Whole) (c : ℕ) (slot : SlotState) (place : Place) (g : Gathering) (state : AppliedState) (message : List ℕ) (window : OutgoingState) (delta game : Bool)
     (games : List Played) (accepted : List Snapshot) (executed : List (List ℕ)) → c < places
-    → Has profile whole c slot client → g.side ≡ client.gathering.side → state.profile ≡ client.state.profile → state.held.ring ≡ client.state.held.ring
+    → Has profile whole c slot place → g.side ≡ place.client.gathering.side → state.profile ≡ place.client.state.profile → state.held.ring ≡ place.client.state.held.ring
     → TakesSo slot (history_at whole.histories c) g state window executed
-    → TakesBuilt profile (client_took client g state message window delta game) (history_at whole.histories c).built accepted (accepted_since games accepted)
+    → TakesBuilt profile (client_took place.client g state message window delta game) (history_at whole.histories c).built accepted (accepted_since games accepted)
     → AreAsked slot (history_at whole.histories c).said (history_at whole.histories c).built accepted
-    → AreMapped whole.ends.server.map (standing_of slot) state g.taken client.last_time (history_at whole.histories c).built games (history_at whole.histories c).said accepted executed
-    → AreSince games (moves_behind game client.moves) → Holds profile whole
-    → Holds profile (with_client_of whole c (client_took client g state message window delta game) (took_noted (history_at whole.histories c) games accepted executed) whole.sent)
-Holds-taken profile whole c slot client g state message window delta game games accepted executed lt had side by ring so takes asked mapped later holds =
+    → AreMapped whole.ends.server.map (standing_of slot) state g.taken place.client.last_time (history_at whole.histories c).built games (history_at whole.histories c).said accepted executed
+    → AreSince games (moves_behind game place.client.moves) → Holds profile whole
+    → Holds profile (with_client_of whole c place (client_took place.client g state message window delta game) (took_noted (history_at whole.histories c) games accepted executed) whole.sent)
+Holds-taken profile whole c slot place g state message window delta game games accepted executed lt had side by ring so takes asked mapped later holds =
     let history = history_at whole.histories c in
     let noted = took_noted history games accepted executed in
     let keeps = had.keeps in
     let joined = had.joined in
     let grows = HistoryGrows-beside history noted refl refl refl refl in
-    Holds-client profile whole c slot client (client_took client g state message window delta game) noted whole.sent lt had
+    Holds-client profile whole c slot place (client_took place.client g state message window delta game) noted whole.sent lt had
     (record {
       host = refl;
       qport = refl;
@@ -70,7 +71,7 @@ Holds-taken profile whole c slot client g state message window delta game games 
       grows = grows;
       keeps = record {
         of_slot = keeps.of_slot;
-        of_client = KeepsClient-took profile client history.qport history.said history.issued history.client_commands g state message window delta game so.applied so.is side by ring keeps.of_client;
+        of_client = KeepsClient-took profile place.client history.qport history.said history.issued history.client_commands g state message window delta game so.applied so.is side by ring keeps.of_client;
         challenge = keeps.challenge;
         host = keeps.host;
       };
@@ -98,24 +99,24 @@ pub record HearsSo (client : ClientState) (history : History) (g : Gathering) (w
 
 -- an acknowledgement was taken, commands were executed, and moves were run, each of which was issued; and a snapshot may be asked for
 -- that was accepted
-pub Holds-heard : (profile : Profile) (whole : Whole) (c : ℕ) (slot has : SlotState) (client : ClientState) (from : Address) (g : Gathering) (ran : Run) → c < places
-    → Has profile whole c slot client → from.host ≡ slot.address.host → g.side ≡ slot.gathering.side → has.gathering ≡ slot.gathering → has.qport ≡ slot.qport → has.challenge ≡ slot.challenge
+pub Holds-heard : (profile : Profile) (whole : Whole) (c : ℕ) (slot has : SlotState) (place : Place) (from : Address) (g : Gathering) (ran : Run) → c < places
+    → Has profile whole c slot place → from.host ≡ slot.address.host → g.side ≡ slot.gathering.side → has.gathering ≡ slot.gathering → has.qport ≡ slot.qport → has.challenge ≡ slot.challenge
     → Gathers (messages_said profile (history_at whole.histories c).said) (length (history_at whole.histories c).said) g
     → KeepsSlot profile has (history_at whole.histories c).qport (history_at whole.histories c).host
     (history_at whole.histories c).built ((history_at whole.histories c).run ++ ran.moves) (history_at whole.histories c).server_commands
-    → HearsSo client (history_at whole.histories c) g has.issued has.executed ran.commands
+    → HearsSo place.client (history_at whole.histories c) g has.issued has.executed ran.commands
     → All (Contains (history_at whole.histories c).issued) ran.moves → (has.delta ≡ 0) ⊎ WasAccepted (history_at whole.histories c).accepted has.delta
-    → AreMapped whole.ends.server.map (standing_of has) client.state client.gathering.taken client.last_time (history_at whole.histories c).built (history_at whole.histories c).games
+    → AreMapped whole.ends.server.map (standing_of has) place.client.state place.client.gathering.taken place.client.last_time (history_at whole.histories c).built (history_at whole.histories c).games
     (history_at whole.histories c).said (history_at whole.histories c).accepted (history_at whole.histories c).client_executed → Holds profile whole
     → Holds profile (with_server_of whole c (slot_heard has from g) whole.ends.server.map whole.ends.server.frames (with_run (history_at whole.histories c) ran) whole.sent)
-Holds-heard profile whole c slot has client from g ran lt had host side same_gathering same_qport same_challenge gathers ran_so so were asks mapped holds =
+Holds-heard profile whole c slot has place from g ran lt had host side same_gathering same_qport same_challenge gathers ran_so so were asks mapped holds =
     let history = history_at whole.histories c in
     let next = slot_heard has from g in
     let noted = with_run history ran in
     let keeps = had.keeps in
     let joined = had.joined in
     let grows = HistoryGrows-beside history noted refl refl refl refl in
-    Holds-slot profile whole c slot next client whole.ends.server.map whole.ends.server.frames noted whole.sent lt had
+    Holds-slot profile whole c slot next place whole.ends.server.map whole.ends.server.frames noted whole.sent lt had
     (record {
       host = host;
       qport = same_qport;
@@ -144,10 +145,10 @@ Holds-heard profile whole c slot has client from g ran lt had host side same_gat
 -- ---- what a tag names
 
 -- the message that a server's tag names was built
-pub tag_was_built : (profile : Profile) (whole : Whole) (tag : Tag) (slot : SlotState) (client : ClientState)
+pub tag_was_built : (profile : Profile) (whole : Whole) (tag : Tag) (slot : SlotState) (place : Place)
     → IsPiece server_header (messages_of profile (history_at whole.histories tag.client).built) (length (history_at whole.histories tag.client).built) tag
-    → Has profile whole tag.client slot client → IsBuilt profile client.challenge tag.number (named whole.histories tag)
-tag_was_built profile whole tag slot client is had =
+    → Has profile whole tag.client slot place → IsBuilt profile place.client.challenge tag.number (named whole.histories tag)
+tag_was_built profile whole tag slot place is had =
     let some = is.some in
     let begun = is.begun in
     let place : tag.number - 1 + 1 ≡ tag.number = omega arith in

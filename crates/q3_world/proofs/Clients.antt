@@ -35,6 +35,7 @@ use Rattle.circular_buffer.specs.Buffer.{keep_last}
 use Rattle.q3_client.specs.Moves.{most_moves, issue}
 use Rattle.q3_client.specs.Sending.{said_bytes, Said, IsSaid, next_said}
 use Rattle.q3_world.specs.Layers.{ServerLaws}
+use Rattle.q3_world.specs.declared.places.Place.{Place}
 use Rattle.q3_world.specs.World.{History, no_history, no_message, no_said, built_at, said_at}
 use Rattle.q3_world.specs.StandsFor.{messages_of, messages_said, KeepsSlot, KeepsClient, AreEnds, IsClient, WasBuilt, HasSnapshot, AreOfBuilt, KeepsMoves, AreAsked}
 use Rattle.q3_world.specs.Moves.{TimesRise, AreConsecutive}
@@ -47,26 +48,26 @@ use Rattle.q3_world.proofs.MoveLists.{last_time-append, TimesRise-append, carrie
 -- ---- presence
 
 -- with no slot there is no client and no history
-pub no_client : (profile : Profile) (client : Option ClientState) (address : Address) (history : History) → IsClient profile None client address history → history ≡ no_history
-no_client profile None address history none = none
-no_client profile (Some client) address history none = absurd none
+pub no_client : (profile : Profile) (place : Option Place) (history : History) → IsClient profile None place history → history ≡ no_history
+no_client profile None history none = none
+no_client profile (Some place) history none = absurd none
 
 -- with no client there is no history
-pub no_end : (profile : Profile) (slot : Option SlotState) (address : Address) (history : History) → IsClient profile slot None address history → history ≡ no_history
-no_end profile None address history none = none
-no_end profile (Some slot) address history none = absurd none
+pub no_end : (profile : Profile) (slot : Option SlotState) (history : History) → IsClient profile slot None history → history ≡ no_history
+no_end profile None history none = none
+no_end profile (Some slot) history none = absurd none
 
 -- with a slot there is a client
-pub a_client : (profile : Profile) (slot : SlotState) (client : Option ClientState) (address : Address) (history : History) → IsClient profile (Some slot) client address history
-    → (found : ClientState) × (client ≡ Some found) × AreEnds profile slot found address history
-a_client profile slot None address history none = absurd none
-a_client profile slot (Some client) address history ends = (client, refl, ends)
+pub a_client : (profile : Profile) (slot : SlotState) (place : Option Place) (history : History) → IsClient profile (Some slot) place history
+    → (found : Place) × (place ≡ Some found) × AreEnds profile slot found.client found.address history
+a_client profile slot None history none = absurd none
+a_client profile slot (Some place) history ends = (place, refl, ends)
 
 -- with a client there is a slot
-pub a_slot : (profile : Profile) (slot : Option SlotState) (client : ClientState) (address : Address) (history : History) → IsClient profile slot (Some client) address history
-    → (found : SlotState) × (slot ≡ Some found) × AreEnds profile found client address history
-a_slot profile None client address history none = absurd none
-a_slot profile (Some slot) client address history ends = (slot, refl, ends)
+pub a_slot : (profile : Profile) (slot : Option SlotState) (place : Place) (history : History) → IsClient profile slot (Some place) history
+    → (found : SlotState) × (slot ≡ Some found) × AreEnds profile found place.client place.address history
+a_slot profile None place history none = absurd none
+a_slot profile (Some slot) place history ends = (slot, refl, ends)
 
 -- ---- what the server keeps
 

@@ -8,8 +8,8 @@ use Rattle.q3_profile.specs.declared.profile.Profile.{Profile}
 use Rattle.q3_map.specs.Map.{MapState}
 use Rattle.q3_slot.specs.Slot.{SlotState, is_of}
 use Rattle.q3_server.specs.Server.{places, slot_at}
-use Rattle.q3_client.specs.Client.{ClientState}
-use Rattle.q3_world.specs.Ends.{client_at, address_at}
+use Rattle.q3_world.specs.declared.places.Place.{Place}
+use Rattle.q3_world.specs.Ends.{place_at}
 use Rattle.q3_world.specs.World.{History, Whole, no_history, history_at}
 use Rattle.q3_server.specs.Standing.{IsMap}
 use Rattle.q3_world.specs.StandsFor.{AreEnds, AreJoined, IsClient, IsJoined}
@@ -81,8 +81,8 @@ pub record EveryChanges (profile : Profile) (whole : Whole) (map_is : MapState) 
   pub grows : Grow whole.histories histories
   pub built : (c : ℕ) → c < places → (history_at histories c).built ≡ (history_at whole.histories c).built
   pub nobody : (c : ℕ) → c < places → slot_at whole.ends.server c ≡ None → history_at whole.histories c ≡ no_history → history_at histories c ≡ no_history
-  pub keeps : (c : ℕ) (slot : SlotState) (client : ClientState) → c < places → Has profile whole c slot client → AreEnds profile (f slot) client (address_at whole.ends c) (history_at histories c)
-  pub joins : (c : ℕ) (slot : SlotState) (client : ClientState) → c < places → Has profile whole c slot client → AreJoined profile map_is (f slot) client (history_at histories c)
+  pub keeps : (c : ℕ) (slot : SlotState) (place : Place) → c < places → Has profile whole c slot place → AreEnds profile (f slot) place.client place.address (history_at histories c)
+  pub joins : (c : ℕ) (slot : SlotState) (place : Place) → c < places → Has profile whole c slot place → AreJoined profile map_is (f slot) place.client (history_at histories c)
 
 pub Holds-every : (profile : Profile) (whole : Whole) (map_is : MapState) (f : SlotState → SlotState) (histories : List History) → EveryChanges profile whole map_is f histories → Holds profile whole
     → Holds profile (every_changed whole map_is f histories)
@@ -95,7 +95,6 @@ Holds-every profile whole map_is f histories every holds =
         by = facts.by;
         slots = length-map server.slots (option_map f) ∙ facts.slots;
         clients = facts.clients;
-        addresses = facts.addresses;
         histories = every.count;
         map = every.is;
         each = λ c lt. rw (slot_changed f server.slots c) (of_client c lt (slot_at server c) refl);
@@ -108,19 +107,19 @@ Holds-every profile whole map_is f histories every holds =
     }
   where
     of_client : (c : ℕ) → c < places → (s : Option SlotState) → slot_at whole.ends.server c ≡ s
-        → IsClient profile (option_map f s) (client_at whole.ends c) (address_at whole.ends c) (history_at histories c)
-    of_client c lt None none = nobody_at (client_at whole.ends c)
-        (subst (λ (s : Option SlotState). IsClient profile s (client_at whole.ends c) (address_at whole.ends c) (history_at whole.histories c)) none (holds.facts.each c lt))
+        → IsClient profile (option_map f s) (place_at whole.ends c) (history_at histories c)
+    of_client c lt None none = nobody_at (place_at whole.ends c)
+        (subst (λ (s : Option SlotState). IsClient profile s (place_at whole.ends c) (history_at whole.histories c)) none (holds.facts.each c lt))
       where
-        nobody_at : (e : Option ClientState) → IsClient profile None e (address_at whole.ends c) (history_at whole.histories c) → IsClient profile None e (address_at whole.ends c) (history_at histories c)
+        nobody_at : (e : Option Place) → IsClient profile None e (history_at whole.histories c) → IsClient profile None e (history_at histories c)
         nobody_at None is = every.nobody c lt none is
-        nobody_at (Some client) is = absurd is
+        nobody_at (Some place) is = absurd is
     of_client c lt (Some slot) at =
         let had = has_slot profile whole c slot lt at holds in
-        rw had.1.client_is (every.keeps c slot had.0 lt had.1)
+        rw had.1.place_is (every.keeps c slot had.0 lt had.1)
 
-    of_joined : (c : ℕ) → c < places → (s : Option SlotState) → slot_at whole.ends.server c ≡ s → IsJoined profile map_is (option_map f s) (client_at whole.ends c) (history_at histories c)
+    of_joined : (c : ℕ) → c < places → (s : Option SlotState) → slot_at whole.ends.server c ≡ s → IsJoined profile map_is (option_map f s) (place_at whole.ends c) (history_at histories c)
     of_joined c lt None none = tt
     of_joined c lt (Some slot) at =
         let had = has_slot profile whole c slot lt at holds in
-        rw had.1.client_is (every.joins c slot had.0 lt had.1)
+        rw had.1.place_is (every.joins c slot had.0 lt had.1)

@@ -15,7 +15,8 @@ use Rattle.q3_server.specs.Server.{places, slot_at, with_slot}
 use Rattle.q3_client.specs.Client.{ClientState}
 use Rattle.q3_client.specs.Moves.{issue, most_moves}
 use Rattle.q3_client.specs.Sending.{Said}
-use Rattle.q3_world.specs.Ends.{client_at}
+use Rattle.q3_world.specs.declared.places.Place.{Place}
+use Rattle.q3_world.specs.Ends.{place_at}
 use Rattle.q3_world.specs.World.{History, Whole, history_at, Played}
 use Rattle.q3_server.specs.Standing.{IsMap}
 use Rattle.q3_world.specs.StandsFor.{IsJoined}
@@ -39,12 +40,11 @@ Holds-given profile whole c slot player area lt found held is holds =
     let history = history_at whole.histories c in
     let next = record slot { player = player; area = area } in
     let had = has_slot profile whole c slot lt found holds in
-    let client = had.0 in
     let keeps = had.1.keeps in
     let joined = had.1.joined in
     subst (λ (histories : List History). Holds profile (record { ends = record whole.ends { server = with_slot whole.ends.server c next }; histories = histories; sent = whole.sent; foreign = whole.foreign }))
     (noted_same whole.histories c)
-    (Holds-slot profile whole c slot next client whole.ends.server.map whole.ends.server.frames history whole.sent lt had.1
+    (Holds-slot profile whole c slot next had.0 whole.ends.server.map whole.ends.server.frames history whole.sent lt had.1
     (record {
       host = refl;
       qport = refl;
@@ -83,33 +83,33 @@ Holds-area profile whole c slot area lt found is holds =
 
 -- ---- a client issues a move
 
-pub Holds-issued : (profile : Profile) (whole : Whole) (c : ℕ) (slot : SlotState) (client : ClientState) (one : Move) → c < places → IsMove one
-    → client.last_time < one.time → client.state.has_game ≡ true → Has profile whole c slot client
-    → AreMapped whole.ends.server.map (standing_of slot) client.state client.gathering.taken one.time (history_at whole.histories c).built (history_at whole.histories c).games
+pub Holds-issued : (profile : Profile) (whole : Whole) (c : ℕ) (slot : SlotState) (place : Place) (one : Move) → c < places → IsMove one
+    → place.client.last_time < one.time → place.client.state.has_game ≡ true → Has profile whole c slot place
+    → AreMapped whole.ends.server.map (standing_of slot) place.client.state place.client.gathering.taken one.time (history_at whole.histories c).built (history_at whole.histories c).games
     (history_at whole.histories c).said (history_at whole.histories c).accepted (history_at whole.histories c).client_executed → Holds profile whole
-    → Holds profile (with_client_of whole c (issue client one) (record (history_at whole.histories c) { issued = (history_at whole.histories c).issued ++ one ∷ [] }) whole.sent)
-Holds-issued profile whole c slot client one lt is later game had mapped holds =
+    → Holds profile (with_client_of whole c place (issue place.client one) (record (history_at whole.histories c) { issued = (history_at whole.histories c).issued ++ one ∷ [] }) whole.sent)
+Holds-issued profile whole c slot place one lt is later game had mapped holds =
     let history = history_at whole.histories c in
-    let next = issue client one in
+    let next = issue place.client one in
     let noted = record history { issued = history.issued ++ one ∷ [] } in
     let keeps = had.keeps in
     let joined = had.joined in
     let grows = HistoryGrows-beside history noted refl refl refl refl in
-    Holds-client profile whole c slot client next noted whole.sent lt had
+    Holds-client profile whole c slot place next noted whole.sent lt had
     (record {
       host = refl;
       qport = refl;
       map_is = holds.facts.map;
       stays = λ s e h joined. joined;
       grows = grows;
-      keeps = record { of_slot = keeps.of_slot; of_client = KeepsClient-issued profile client history.qport history.said history.issued history.client_commands one is later keeps.of_client; challenge = keeps.challenge; host = keeps.host };
+      keeps = record { of_slot = keeps.of_slot; of_client = KeepsClient-issued profile place.client history.qport history.said history.issued history.client_commands one is later keeps.of_client; challenge = keeps.challenge; host = keeps.host };
       joined = record {
-        of_client = TakesBuilt-same profile client next history.built history.accepted (accepted_since history.games history.accepted) refl refl refl refl joined.of_client;
+        of_client = TakesBuilt-same profile place.client next history.built history.accepted (accepted_since history.games history.accepted) refl refl refl refl joined.of_client;
         of_slot = TakesSaid-issued profile slot history.said history.issued history.run one joined.of_slot;
         asked = joined.asked;
         commanded = record { to_client = joined.commanded.to_client; to_server = joined.commanded.to_server };
         mapped = mapped;
-        since = AreSince-issued client.state client.gathering.taken client.last_time history.built history.games history.accepted history.client_executed most_moves client.moves (record { begun = client.sending.number; one = one }) game later joined.mapped.has joined.since;
+        since = AreSince-issued place.client.state place.client.gathering.taken place.client.last_time history.built history.games history.accepted history.client_executed most_moves place.client.moves (record { begun = place.client.sending.number; one = one }) game later joined.mapped.has joined.since;
       };
       sent = sent_grows profile whole c noted lt grows holds;
       kept = frames_stay profile whole c noted lt refl holds;
@@ -121,7 +121,7 @@ abbrev pub with_map : Whole → MapState → Whole
 with_map whole map = record whole { ends = record whole.ends { server = record whole.ends.server { map = map } } }
 
 pub Holds-map : (profile : Profile) (whole : Whole) (map : MapState) → IsMap profile map
-    → ((s : Option SlotState) (e : Option ClientState) (h : History) → IsJoined profile whole.ends.server.map s e h → IsJoined profile map s e h)
+    → ((s : Option SlotState) (e : Option Place) (h : History) → IsJoined profile whole.ends.server.map s e h → IsJoined profile map s e h)
     → Holds profile whole → Holds profile (with_map whole map)
 Holds-map profile whole map is stays holds =
     let facts = holds.facts in
@@ -131,7 +131,6 @@ Holds-map profile whole map is stays holds =
         by = facts.by;
         slots = facts.slots;
         clients = facts.clients;
-        addresses = facts.addresses;
         histories = facts.histories;
         map = is;
         each = facts.each;
@@ -139,7 +138,7 @@ Holds-map profile whole map is stays holds =
         sent = facts.sent;
         frames = facts.frames;
       };
-      joined = λ c lt. stays (slot_at whole.ends.server c) (client_at whole.ends c) (history_at whole.histories c) (holds.joined c lt);
+      joined = λ c lt. stays (slot_at whole.ends.server c) (place_at whole.ends c) (history_at whole.histories c) (holds.joined c lt);
       own = holds.own;
     }
 
@@ -147,15 +146,15 @@ Holds-map profile whole map is stays holds =
 pub joined_stays : (profile : Profile) (old new : MapState)
     → ((slot : Standing) (state : AppliedState) (taken last : ℕ) (built : List Built) (games : List Played) (said : List Said) (accepted : List Snapshot) (executed : List (List ℕ))
     → AreMapped old slot state taken last built games said accepted executed → AreMapped new slot state taken last built games said accepted executed)
-    → (s : Option SlotState) (e : Option ClientState) (h : History) → IsJoined profile old s e h → IsJoined profile new s e h
+    → (s : Option SlotState) (e : Option Place) (h : History) → IsJoined profile old s e h → IsJoined profile new s e h
 joined_stays profile old new stays None None h joined = tt
-joined_stays profile old new stays None (Some client) h joined = tt
+joined_stays profile old new stays None (Some place) h joined = tt
 joined_stays profile old new stays (Some slot) None h joined = tt
-joined_stays profile old new stays (Some slot) (Some client) h joined = record {
+joined_stays profile old new stays (Some slot) (Some place) h joined = record {
   of_client = joined.of_client;
   of_slot = joined.of_slot;
   asked = joined.asked;
   commanded = joined.commanded;
-  mapped = stays (standing_of slot) client.state client.gathering.taken client.last_time h.built h.games h.said h.accepted h.client_executed joined.mapped;
+  mapped = stays (standing_of slot) place.client.state place.client.gathering.taken place.client.last_time h.built h.games h.said h.accepted h.client_executed joined.mapped;
   since = joined.since;
 }

@@ -35,14 +35,18 @@ use Rattle.q3_slot.specs.Slots.{changes_own, lacks_room, tells}
 use Rattle.q3_server.specs.declared.server.ConfigRefused.{ConfigRefused}
 use Rattle.q3_server.specs.declared.server.ConfigRefused.TheVariants.{Own}
 use Rattle.q3_server.specs.Server.{ServerState, Handed, places, own_string, slot_at, with_slot, is_same, change_config, change_unless, change_or}
-use Rattle.q3_report.specs.declared.answer.Answer.TheVariants.{Config}
+use Rattle.q3_report.specs.declared.answer.HandedIn.TheVariants as answers
+use Rattle.q3_report.specs.Answers.{Answered, Given}
+use Rattle.q3_ends.specs.AtServer as at_server
+use Rattle.q3_ends.specs.AtClient as at_client
+use Rattle.q3_world.specs.declared.places.Place.{Place}
 use Rattle.q3_world.specs.Layers.{WindowLaws}
-use Rattle.q3_world.specs.Ends.{EndsStep, client_at, with_client, address_at, moved, join, new_map, set_baseline, set_config, set_time, set_entity, remove_entity, set_player, set_area, say_command, type_command, add_move}
+use Rattle.q3_world.specs.Ends.{EndsStep, place_at, with_client, given, join, to_server, type_text, add_move}
 use Rattle.q3_world.specs.Games.{standing_of}
 use Rattle.q3_world.specs.Kept.{kept_ends}
 use Rattle.q3_server.specs.Standing.{IsMap}
 use Rattle.q3_world.specs.StandsFor.{KeepsSlot, AreEnds, AreJoined}
-use Rattle.q3_world.specs.World.{Whole, History, no_history, history_at, with_history, with_joined, with_spoken, texts_told, with_texts_told, with_told, with_typed, with_issued, with_ends, with_noted, with_all}
+use Rattle.q3_world.specs.World.{Whole, History, no_history, history_at, with_history, with_joined, with_spoken, texts_told, with_texts_told, with_told, with_typed, with_issued, with_noted}
 use Rattle.q3_world.proofs.MoveLists.{is_move}
 use Rattle.q3_world.proofs.Growth.{Grow, HistoryGrows, HistoryGrows-same, HistoryGrows-beside}
 use Rattle.q3_world.proofs.Clients.{no_area, KeepsSlot-told}
@@ -60,12 +64,16 @@ use Rattle.q3_world.proofs.Agree.{Cited, kept_of, Agree, found_or, unnoted, left
 -- ---- what the game hands in, or reads
 
 -- both worlds do it by one definition
-pub handed : (profile : Profile) (whole : Whole) (given : EndsStep) → Holds profile (record whole { ends = given.ends })
-    → Agree profile (kept_ends (kept_of profile whole) given) (with_ends whole given)
-handed profile whole given holds = record { same = refl; holds = holds }
+pub handed : (profile : Profile) (whole : Whole) (step : EndsStep) → Holds profile (record whole { ends = step.ends })
+    → Agree profile (kept_ends (kept_of profile whole) step) (with_noted whole whole.histories step)
+handed profile whole step holds = record { same = refl; holds = holds }
+
+-- the world behind what is handed in to one client, of which something is noted
+abbrev pub noting : Whole → ℕ → EndsStep → (Answered → History) → Whole
+noting whole c step note = (with_noted whole (with_history whole.histories c (note step.answer)) step).whole
 
 pub holds_join : (profile : Profile) (whole : Whole) (c challenge qport dup : ℕ) (address : Address) → Cited profile → c < places → qport < 2 ^ 16 → Holds profile whole
-    → Holds profile (with_noted whole c (join profile whole.ends c challenge qport dup address) (with_joined (history_at whole.histories c) qport address)).whole
+    → Holds profile (noting whole c (join profile whole.ends c challenge qport dup address) (with_joined (history_at whole.histories c) qport address))
 holds_join profile whole c challenge qport dup address cited lt fits holds =
     let slots = whole.ends.server.slots in
     let within : nat_le (length slots) c ≡ false = lt-leb (length slots) c (omega (arith, lt, holds.facts.slots)) in
@@ -80,7 +88,7 @@ holds_join profile whole c challenge qport dup address cited lt fits holds =
     ])
 
 pub holds_player : (profile : Profile) (whole : Whole) (c : ℕ) (player : PlayerState) → IsHeld profile (normal_player profile.player.kinds player) → c < places → Holds profile whole
-    → Holds profile (record whole { ends = (set_player whole.ends c player).ends })
+    → Holds profile (record whole { ends = (to_server whole.ends (at_server.set_player whole.ends.server c player)).ends })
 holds_player profile whole c player held lt holds =
     elim (found_or (slot_at whole.ends.server c)) [
       | inl none ↦ rw none holds
@@ -90,7 +98,7 @@ holds_player profile whole c player held lt holds =
     ]
 
 pub holds_area : (profile : Profile) (whole : Whole) (c : ℕ) (area : ArrayVec ℕ) → IsArea area.items → c < places → Holds profile whole
-    → Holds profile (record whole { ends = (set_area whole.ends c area).ends })
+    → Holds profile (record whole { ends = (to_server whole.ends (at_server.set_area whole.ends.server c area)).ends })
 holds_area profile whole c area is lt holds =
     elim (found_or (slot_at whole.ends.server c)) [
       | inl none ↦ rw none holds
@@ -105,13 +113,13 @@ holds_given profile whole time entities is holds =
     let next = record map { time = time; entities = entities } in
     Holds-map profile whole next is (joined_stays profile map next (AreMapped-given map time entities)) holds
 
-pub holds_time : (profile : Profile) (whole : Whole) (time : ℕ) → Cited profile → time < 2 ^ 32 → Holds profile whole → Holds profile (record whole { ends = (set_time whole.ends time).ends })
+pub holds_time : (profile : Profile) (whole : Whole) (time : ℕ) → Cited profile → time < 2 ^ 32 → Holds profile whole → Holds profile (record whole { ends = (to_server whole.ends (at_server.set_time whole.ends.server time)).ends })
 holds_time profile whole time cited short holds =
     let map = whole.ends.server.map in
     holds_given profile whole time map.entities (cited.maps.timed profile map time short holds.facts.map) holds
 
 pub holds_entity : (profile : Profile) (whole : Whole) (state : EntityState) → Cited profile → state.number ≤ last_entity → AreWords 64 state.words → Holds profile whole
-    → Holds profile (record whole { ends = (set_entity whole.ends state).ends })
+    → Holds profile (record whole { ends = (to_server whole.ends (at_server.set_entity whole.ends.server state)).ends })
 holds_entity profile whole state cited le words holds =
     let facts = holds.facts in
     let server = whole.ends.server in
@@ -120,7 +128,7 @@ holds_entity profile whole state cited le words holds =
     (holds_given profile whole server.map.time (with_entity entity server.map.entities) (cited.maps.entered profile server.map state cited.codec (omega (arith, le)) words facts.map) holds)
 
 pub holds_removed : (profile : Profile) (whole : Whole) (number : ℕ) → Cited profile → Holds profile whole
-    → Holds profile (record whole { ends = (remove_entity whole.ends number).ends })
+    → Holds profile (record whole { ends = (to_server whole.ends (at_server.remove_entity whole.ends.server number)).ends })
 holds_removed profile whole number cited holds =
     let map = whole.ends.server.map in
     holds_given profile whole map.time (without_entity number map.entities) (cited.maps.removed profile map number holds.facts.map) holds
@@ -164,7 +172,7 @@ joined_on_map profile map slot client history id feed above joined =
 
 -- a new map, whose id is above the last one's
 pub holds_new_map : (profile : Profile) (whole : Whole) (id feed : ℕ) → Cited profile → id < 2 ^ 31 → feed < 2 ^ 32 → Holds profile whole
-    → Holds profile (record whole { ends = (new_map whole.ends id feed).ends })
+    → Holds profile (record whole { ends = (to_server whole.ends (at_server.new_map whole.ends.server id feed)).ends })
 holds_new_map profile whole id feed cited least short holds =
     let map = whole.ends.server.map in
     elim (cases_Bool (nat_le id map.id)) [
@@ -178,7 +186,7 @@ holds_new_map profile whole id feed cited least short holds =
             grows = λ c. HistoryGrows-same (history_at whole.histories c);
             built = λ c lt. refl;
             nobody = λ c lt none is. is;
-            keeps = λ c slot client lt had.
+            keeps = λ c slot place lt had.
                 let history = history_at whole.histories c in
                 let keeps = had.keeps in
                 record {
@@ -187,13 +195,13 @@ holds_new_map profile whole id feed cited least short holds =
                   challenge = keeps.challenge;
                   host = keeps.host;
                 };
-            joins = λ c slot client lt had. joined_on_map profile map slot client (history_at whole.histories c) id feed (leb-false id map.id later) had.joined;
+            joins = λ c slot place lt had. joined_on_map profile map slot place.client (history_at whole.histories c) id feed (leb-false id map.id later) had.joined;
           }) holds)
     ]
 
 -- a baseline, which is refused once a gamestate of the map was begun
 pub holds_baseline : (profile : Profile) (whole : Whole) (state : EntityState) → Cited profile → state.number ≤ last_entity → AreWords 64 state.words → Holds profile whole
-    → Holds profile (record whole { ends = (set_baseline whole.ends state).ends })
+    → Holds profile (record whole { ends = (to_server whole.ends (at_server.set_baseline whole.ends.server state)).ends })
 holds_baseline profile whole state cited le words holds =
     let map = whole.ends.server.map in
     let entity = normal_entity profile.entity state in
@@ -316,13 +324,13 @@ Holds-config profile whole index text cited is may holds =
       nobody = λ c lt none nothing.
           told_at server texts whole.histories c lt
           ∙ (ap (λ (s : Option SlotState). told_history texts s (history_at whole.histories c)) none ∙ ap (λ (h : History). told_history texts None h) nothing);
-      keeps = λ c slot client lt had.
-          subst (AreEnds profile (tells texts slot) client (address_at whole.ends c)) (sym (noted c slot lt had.slot_is))
-          (ends_told cited.windows profile slot client (history_at whole.histories c) texts (lacks c slot lt had.slot_is) may.are may.own (address_at whole.ends c) had.keeps);
-      joins = λ c slot client lt had.
-          subst (AreJoined profile next (tells texts slot) client) (sym (noted c slot lt had.slot_is))
-          (joins_told cited.windows profile slot client (history_at whole.histories c) texts (lacks c slot lt had.slot_is) may.are may.own next had.keeps.of_slot.window
-          (joined_stays profile server.map next (AreMapped-configured server.map (with_string server.map.strings index text)) (Some slot) (Some client) (history_at whole.histories c) had.joined));
+      keeps = λ c slot place lt had.
+          subst (AreEnds profile (tells texts slot) place.client place.address) (sym (noted c slot lt had.slot_is))
+          (ends_told cited.windows profile slot place.client (history_at whole.histories c) texts (lacks c slot lt had.slot_is) may.are may.own place.address had.keeps);
+      joins = λ c slot place lt had.
+          subst (AreJoined profile next (tells texts slot) place.client) (sym (noted c slot lt had.slot_is))
+          (joins_told cited.windows profile slot place.client (history_at whole.histories c) texts (lacks c slot lt had.slot_is) may.are may.own next had.keeps.of_slot.window
+          (joined_stays profile server.map next (AreMapped-configured server.map (with_string server.map.strings index text)) (Some slot) (Some place) (history_at whole.histories c) had.joined));
     }) holds
   where
     lacks : (c : ℕ) (slot : SlotState) → c < places → slot_at whole.ends.server c ≡ Some slot → lacks_room (piece_texts index text) (Some slot) ≡ false
@@ -339,12 +347,14 @@ abbrev Configured : Profile → Whole → ℕ → List ℕ → Handed ConfigRefu
 Configured profile whole index text given =
     Holds profile (record whole {
       ends = record whole.ends { server = given.server };
-      histories = with_told whole.ends.server index text (Config index given.answer) whole.histories;
+      histories = with_told whole.ends.server index text (Given (answers.Config index given.answer)) whole.histories;
     })
 
 -- a config string but string 1: each client for which a gamestate was begun is told, unless one has no room
 pub holds_config : (profile : Profile) (whole : Whole) (index : ℕ) (text : List ℕ) → Cited profile → All (λ byte. (0 < byte) × (byte < 256)) text → Holds profile whole
-    → Holds profile (with_all whole (set_config whole.ends index text) (with_told whole.ends.server index text)).whole
+    → Holds profile (with_noted whole
+    (with_told whole.ends.server index text (to_server whole.ends (at_server.set_config whole.ends.server index text)).answer whole.histories)
+    (to_server whole.ends (at_server.set_config whole.ends.server index text))).whole
 holds_config profile whole index text cited bytes holds =
     let server = whole.ends.server in
     cond_both (index == own_string) (record { server = server; answer = Err Own }) (change_or server index text (admit_fault server.map.strings index text)) (Configured profile whole index text)
@@ -378,9 +388,9 @@ holds_config profile whole index text cited bytes holds =
 -- ---- moves
 
 -- what holds behind a move, or where it is refused
-abbrev Moved : Profile → Whole → ℕ → Move → HandedMove MoveError → Type 0
-Moved profile whole c one given =
-    Holds profile (with_noted whole c (record { ends = with_client whole.ends c given.client; answer = moved c given.answer }) (with_issued (history_at whole.histories c) one)).whole
+abbrev Moved : Profile → Whole → ℕ → Place → Move → HandedMove MoveError → Type 0
+Moved profile whole c place one moving =
+    Holds profile (noting whole c (given (with_client whole.ends c place moving.client) (at_client.moved c moving.answer)) (with_issued (history_at whole.histories c) one))
 
 -- a move of a client that has a gamestate
 abbrev moves_on : ClientState → Move → HandedMove MoveError
@@ -390,29 +400,31 @@ moves_on client one =
     else record { client = client; answer = Err Range }
 
 pub holds_move : (profile : Profile) (whole : Whole) (c : ℕ) (one : Move) → IsHeldMove one → c < places → Holds profile whole
-    → Holds profile (with_noted whole c (add_move whole.ends c one) (with_issued (history_at whole.histories c) one)).whole
+    → Holds profile (noting whole c (add_move whole.ends c one) (with_issued (history_at whole.histories c) one))
 holds_move profile whole c one held lt holds =
-    elim (found_or (client_at whole.ends c)) [
+    elim (found_or (place_at whole.ends c)) [
       | inl none ↦ rw none (unnoted profile whole c holds)
       | inr found ↦
-          rw found.1 (cond_both (not found.0.state.has_game) (record { client = found.0; answer = Err NoGame }) (moves_on found.0 one) (Moved profile whole c one)
+          let client = found.0.client in
+          rw found.1 (cond_both (not client.state.has_game) (record { client = client; answer = Err NoGame }) (moves_on client one) (Moved profile whole c found.0 one)
           (λ none. left_alone profile whole c found.0 whole.sent found.1 refl holds)
-          (λ game. with_game found.0 found.1 (not-false found.0.state.has_game game)))
+          (λ game. with_game found.0 found.1 (not-false client.state.has_game game)))
     ]
   where
-    with_game : (client : ClientState) → client_at whole.ends c ≡ Some client → client.state.has_game ≡ true → Moved profile whole c one (moves_on client one)
-    with_game client at game =
-        let had = has_client profile whole c client lt at holds in
+    with_game : (place : Place) → place_at whole.ends c ≡ Some place → place.client.state.has_game ≡ true → Moved profile whole c place one (moves_on place.client one)
+    with_game place at game =
+        let client = place.client in
+        let had = has_client profile whole c place lt at holds in
         let slot = had.0 in
         let has = had.1 in
         elim (cases_Bool (nat_le one.time client.last_time)) [
-          | inl early ↦ rw early (left_alone profile whole c client whole.sent at refl holds)
+          | inl early ↦ rw early (left_alone profile whole c place whole.sent at refl holds)
           | inr later ↦ rw later (elim (cases_Bool (is_issuable one)) [
             | inl may ↦
                 let above = leb-false one.time client.last_time later in
-                rw may (Holds-issued profile whole c slot client one lt (is_move one held may) above game has
+                rw may (Holds-issued profile whole c slot place one lt (is_move one held may) above game has
                 (mapped_issued whole.ends.server.map slot client (history_at whole.histories c) one.time (omega (arith, above)) has.joined.mapped) holds)
-            | inr bad ↦ rw bad (left_alone profile whole c client whole.sent at refl holds)
+            | inr bad ↦ rw bad (left_alone profile whole c place whole.sent at refl holds)
           ])
         ]
 
@@ -420,7 +432,7 @@ holds_move profile whole c one held lt holds =
 
 -- the server issues one for a client
 pub holds_say : (profile : Profile) (whole : Whole) (c : ℕ) (text : List ℕ) → Cited profile → IsText text → c < places → Holds profile whole
-    → Holds profile (with_noted whole c (say_command whole.ends c text) (with_spoken (history_at whole.histories c) text)).whole
+    → Holds profile (noting whole c (to_server whole.ends (at_server.say_command whole.ends.server c text)) (with_spoken (history_at whole.histories c) text))
 holds_say profile whole c text cited is lt holds =
     elim (found_or (slot_at whole.ends.server c)) [
       | inl none ↦ rw none (unnoted profile whole c holds)
@@ -447,14 +459,13 @@ holds_say profile whole c text cited is lt holds =
 
 -- and a client issues one
 pub holds_type : (profile : Profile) (whole : Whole) (c : ℕ) (text : List ℕ) → Cited profile → IsText text → c < places → Holds profile whole
-    → Holds profile (with_noted whole c (type_command whole.ends c text) (with_typed (history_at whole.histories c) text)).whole
+    → Holds profile (noting whole c (type_text whole.ends c text) (with_typed (history_at whole.histories c) text))
 holds_type profile whole c text cited is lt holds =
-    elim (found_or (client_at whole.ends c)) [
+    elim (found_or (place_at whole.ends c)) [
       | inl none ↦ rw none (unnoted profile whole c holds)
       | inr found ↦
-          let client = found.0 in
-          rw found.1 (elim (cases_Bool (has_room client.issued 1 (length text))) [
-            | inl room ↦ rw room (Holds-typed cited.windows profile whole c client text lt found.1 room is holds)
-            | inr full ↦ rw full (left_alone profile whole c client whole.sent found.1 refl holds)
+          rw found.1 (elim (cases_Bool (has_room found.0.client.issued 1 (length text))) [
+            | inl room ↦ rw room (Holds-typed cited.windows profile whole c found.0 text lt found.1 room is holds)
+            | inr full ↦ rw full (left_alone profile whole c found.0 whole.sent found.1 refl holds)
           ])
     ]

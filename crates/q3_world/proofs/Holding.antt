@@ -16,7 +16,8 @@ use Rattle.q3_slot.specs.Slot.{SlotState, is_of, new_slot}
 use Rattle.q3_server.specs.Server.{ServerState, places, slot_at, with_slot}
 use Rattle.q3_client.specs.Client.{ClientState, new_client}
 use Rattle.q3_world.specs.Layers.{RingLaws, WindowLaws}
-use Rattle.q3_world.specs.Ends.{Ends, client_at, with_client, no_address, address_at}
+use Rattle.q3_world.specs.declared.places.Place.{Place}
+use Rattle.q3_world.specs.Ends.{Ends, place_at, with_client}
 use Rattle.q3_world.specs.World.{Tag, History, Whole, no_history, history_at, with_history, opening}
 use Rattle.q3_server.specs.Standing.{IsMap}
 use Rattle.q3_server.specs.Laws.{MapStays}
@@ -44,14 +45,13 @@ pub Holds-opening : (profile : Profile) → MapStays → IsChecked profile → H
 unfolding opening
 Holds-opening profile maps checked =
     let no_slots = λ (c : ℕ) (lt : c < places). get_or-replicate {A = Option SlotState} places c None None lt in
-    let no_clients = λ (c : ℕ) (lt : c < places). get_or-replicate {A = Option ClientState} places c None None lt in
+    let no_clients = λ (c : ℕ) (lt : c < places). get_or-replicate {A = Option Place} places c None None lt in
     record {
       facts = record {
         checked = checked;
         by = refl;
         slots = refl;
         clients = refl;
-        addresses = refl;
         histories = refl;
         map = maps.none profile;
         each = λ c lt. rw (no_slots c lt, no_clients c lt, get_or-replicate places c no_history no_history lt) refl;
@@ -91,20 +91,20 @@ pub record Differ (profile : Profile) (c : ℕ) (old new : Whole) : Type 0 where
   pub by : new.ends.server.profile ≡ old.ends.server.profile
   pub own : new.foreign ≡ old.foreign
   pub map : IsMap profile new.ends.server.map
-  pub stays : (slot : Option SlotState) (client : Option ClientState) (history : History) → IsJoined profile old.ends.server.map slot client history → IsJoined profile new.ends.server.map slot client history
+  pub stays : (slot : Option SlotState) (place : Option Place) (history : History) → IsJoined profile old.ends.server.map slot place history → IsJoined profile new.ends.server.map slot place history
   pub at : DifferAt c old.ends new.ends old.histories new.histories
   pub found : AllFound new.ends.server.slots
   pub sent : AllSent profile new.histories new.sent
   pub frames : KeepsFrames new.ends.server.frames new.histories
 
 -- what joins the ends of a client
-abbrev OfJoined : Profile → MapState → Option SlotState → Option ClientState → Address → History → Type 0
-OfJoined profile map slot client address history = IsJoined profile map slot client history
+abbrev OfJoined : Profile → MapState → Option SlotState → Option Place → History → Type 0
+OfJoined profile map slot place history = IsJoined profile map slot place history
 
 -- what holds of the others stays
 pub Holds-at : (profile : Profile) (c : ℕ) (old new : Whole) → Differ profile c old new
-    → IsClient profile (slot_at new.ends.server c) (client_at new.ends c) (address_at new.ends c) (history_at new.histories c)
-    → IsJoined profile new.ends.server.map (slot_at new.ends.server c) (client_at new.ends c) (history_at new.histories c)
+    → IsClient profile (slot_at new.ends.server c) (place_at new.ends c) (history_at new.histories c)
+    → IsJoined profile new.ends.server.map (slot_at new.ends.server c) (place_at new.ends c) (history_at new.histories c)
     → Holds profile old → Holds profile new
 Holds-at profile c old new differ client joined holds =
     let facts = holds.facts in
@@ -115,7 +115,6 @@ Holds-at profile c old new differ client joined holds =
         by = differ.by ∙ facts.by;
         slots = at.slots.count ∙ facts.slots;
         clients = at.clients.count ∙ facts.clients;
-        addresses = at.addresses.count ∙ facts.addresses;
         histories = at.histories.count ∙ facts.histories;
         map = differ.map;
         each = each_at (IsClient profile) c old.ends new.ends old.histories new.histories at client facts.each;
@@ -124,7 +123,7 @@ Holds-at profile c old new differ client joined holds =
         frames = differ.frames;
       };
       joined = each_at (OfJoined profile new.ends.server.map) c old.ends new.ends old.histories new.histories at joined
-          (λ k lt. differ.stays (slot_at old.ends.server k) (client_at old.ends k) (history_at old.histories k) (holds.joined k lt));
+          (λ k lt. differ.stays (slot_at old.ends.server k) (place_at old.ends k) (history_at old.histories k) (holds.joined k lt));
       own = differ.own ∙ holds.own;
     }
 
@@ -136,8 +135,7 @@ with_new whole c qport address slot client =
     record whole {
       ends = record {
         server = with_slot whole.ends.server c slot;
-        clients = slice_set whole.ends.clients c (Some client);
-        addresses = slice_set whole.ends.addresses c address;
+        clients = slice_set whole.ends.clients c (Some (record { client = client; address = address }));
       };
       histories = with_history whole.histories c (record (history_at whole.histories c) { qport = qport; host = address.host });
     }
@@ -154,12 +152,12 @@ Holds-new laws windows profile whole c challenge qport dup address ring sends ga
     let client = new_client profile challenge qport dup in
     let history = history_at whole.histories c in
     let there = record history { qport = qport; host = address.host } in
+    let place : Place = record { client = client; address = address } in
     let history_is : history ≡ no_history =
-    no_client profile (client_at ends c) (address_at ends c) history
-    (subst (λ (s : Option SlotState). IsClient profile s (client_at ends c) (address_at ends c) history) none (facts.each c lt)) in
+    no_client profile (place_at ends c) history
+    (subst (λ (s : Option SlotState). IsClient profile s (place_at ends c) history) none (facts.each c lt)) in
     let slot_is = set_there slots c None (Some slot) facts.slots lt in
-    let client_is = set_there ends.clients c None (Some client) facts.clients lt in
-    let address_is = set_there ends.addresses c no_address address facts.addresses lt in
+    let place_is = set_there ends.clients c None (Some place) facts.clients lt in
     let noted = set_there whole.histories c no_history there facts.histories lt in
     let keeps : AreEnds profile slot client address there = subst (λ (h : History). AreEnds profile slot client address (record h { qport = qport; host = address.host })) (sym history_is)
     (record {
@@ -185,8 +183,7 @@ Holds-new laws windows profile whole c challenge qport dup address ring sends ga
       stays = λ s e h joined. joined;
       at = record {
         slots = OnlyAt-set None c slots (Some slot);
-        clients = OnlyAt-set None c ends.clients (Some client);
-        addresses = OnlyAt-set no_address c ends.addresses address;
+        clients = OnlyAt-set None c ends.clients (Some place);
         histories = OnlyAt-set no_history c whole.histories there;
       };
       found = found_joined slots c slot facts.slots lt none alone facts.found;
@@ -194,88 +191,87 @@ Holds-new laws windows profile whole c challenge qport dup address ring sends ga
           (Grow-at whole.histories c there facts.histories lt (HistoryGrows-joined history there history_is)) facts.sent;
       frames = KeepsFrames-same whole.ends.server.frames whole.histories c there lt facts.histories refl facts.frames;
     })
-    (rw (slot_is, client_is, address_is, noted) keeps)
-    (rw (slot_is, client_is, noted) joins)
+    (rw (slot_is, place_is, noted) keeps)
+    (rw (slot_is, place_is, noted) joins)
     holds
 
 -- ---- a client that is there
 
--- what is known of it: its slot, its end, what they keep, and what joins them
-pub record Has (profile : Profile) (whole : Whole) (c : ℕ) (slot : SlotState) (client : ClientState) : Type 0 where
+-- what is known of it: its slot, its place, what both ends keep, and what joins them
+pub record Has (profile : Profile) (whole : Whole) (c : ℕ) (slot : SlotState) (place : Place) : Type 0 where
   pub slot_is : slot_at whole.ends.server c ≡ Some slot
-  pub client_is : client_at whole.ends c ≡ Some client
-  pub keeps : AreEnds profile slot client (address_at whole.ends c) (history_at whole.histories c)
-  pub joined : AreJoined profile whole.ends.server.map slot client (history_at whole.histories c)
+  pub place_is : place_at whole.ends c ≡ Some place
+  pub keeps : AreEnds profile slot place.client place.address (history_at whole.histories c)
+  pub joined : AreJoined profile whole.ends.server.map slot place.client (history_at whole.histories c)
 
 abbrev some_slot : SlotState → Option SlotState
 some_slot slot = Some slot
 
-abbrev some_client : ClientState → Option ClientState
-some_client client = Some client
+abbrev some_place : Place → Option Place
+some_place place = Some place
 
 -- with a slot
 pub has_slot : (profile : Profile) (whole : Whole) (c : ℕ) (slot : SlotState) → c < places → slot_at whole.ends.server c ≡ Some slot → Holds profile whole
-    → (client : ClientState) × Has profile whole c slot client
+    → (place : Place) × Has profile whole c slot place
 has_slot profile whole c slot lt found holds =
     let history = history_at whole.histories c in
-    let address = address_at whole.ends c in
     let map = whole.ends.server.map in
-    let ends = a_client profile slot (client_at whole.ends c) address history
-    (subst (λ (s : Option SlotState). IsClient profile s (client_at whole.ends c) address history) found (holds.facts.each c lt)) in
-    let joined : IsJoined profile map (some_slot slot) (client_at whole.ends c) history = subst (λ (s : Option SlotState). IsJoined profile map s (client_at whole.ends c) history) found (holds.joined c lt) in
-    (ends.0, record { slot_is = found; client_is = ends.1; keeps = ends.2; joined = subst (λ (e : Option ClientState). IsJoined profile map (some_slot slot) e history) ends.1 joined })
+    let ends = a_client profile slot (place_at whole.ends c) history
+    (subst (λ (s : Option SlotState). IsClient profile s (place_at whole.ends c) history) found (holds.facts.each c lt)) in
+    let joined : IsJoined profile map (some_slot slot) (place_at whole.ends c) history = subst (λ (s : Option SlotState). IsJoined profile map s (place_at whole.ends c) history) found (holds.joined c lt) in
+    (ends.0, record { slot_is = found; place_is = ends.1; keeps = ends.2; joined = subst (λ (e : Option Place). IsJoined profile map (some_slot slot) e history) ends.1 joined })
 
 -- with its own end
-pub has_client : (profile : Profile) (whole : Whole) (c : ℕ) (client : ClientState) → c < places → client_at whole.ends c ≡ Some client → Holds profile whole
-    → (slot : SlotState) × Has profile whole c slot client
-has_client profile whole c client lt found holds =
+pub has_client : (profile : Profile) (whole : Whole) (c : ℕ) (place : Place) → c < places → place_at whole.ends c ≡ Some place → Holds profile whole
+    → (slot : SlotState) × Has profile whole c slot place
+has_client profile whole c place lt found holds =
     let history = history_at whole.histories c in
-    let address = address_at whole.ends c in
     let map = whole.ends.server.map in
-    let had = a_slot profile (slot_at whole.ends.server c) client address history
-    (subst (λ (e : Option ClientState). IsClient profile (slot_at whole.ends.server c) e address history) found (holds.facts.each c lt)) in
-    let joined : IsJoined profile map (some_slot had.0) (some_client client) history =
-    subst (λ (s : Option SlotState). IsJoined profile map s (some_client client) history) had.1
-    (subst (λ (e : Option ClientState). IsJoined profile map (slot_at whole.ends.server c) e history) found (holds.joined c lt)) in
-    (had.0, record { slot_is = had.1; client_is = found; keeps = had.2; joined = joined })
+    let had = a_slot profile (slot_at whole.ends.server c) place history
+    (subst (λ (e : Option Place). IsClient profile (slot_at whole.ends.server c) e history) found (holds.facts.each c lt)) in
+    let joined : IsJoined profile map (some_slot had.0) (some_place place) history =
+    subst (λ (s : Option SlotState). IsJoined profile map s (some_place place) history) had.1
+    (subst (λ (e : Option Place). IsJoined profile map (slot_at whole.ends.server c) e history) found (holds.joined c lt)) in
+    (had.0, record { slot_is = had.1; place_is = found; keeps = had.2; joined = joined })
 
 -- the server with another slot, another map and other frames
 abbrev pub with_both : ServerState → ℕ → SlotState → MapState → FramesState → ServerState
 with_both server c slot map frames = record (with_slot server c slot) { map = map; frames = frames }
 
 -- the world in which its slot, its end, the map, the frames, and what is noted of it are these, and this was sent
-abbrev pub changed : Whole → ℕ → SlotState → ClientState → MapState → FramesState → History → List Tag → Whole
-changed whole c slot client map frames history sent =
+abbrev pub changed : Whole → ℕ → SlotState → Place → ClientState → MapState → FramesState → History → List Tag → Whole
+changed whole c slot place client map frames history sent =
     record {
-      ends = record whole.ends { server = with_both whole.ends.server c slot map frames; clients = slice_set whole.ends.clients c (Some client) };
+      ends = record whole.ends { server = with_both whole.ends.server c slot map frames; clients = slice_set whole.ends.clients c (Some (record place { client = client })) };
       histories = with_history whole.histories c history;
       sent = sent;
       foreign = whole.foreign;
     }
 
 -- a change of a client that is there
-pub record Changes (profile : Profile) (whole : Whole) (c : ℕ) (slot : SlotState) (client : ClientState) (slot' : SlotState) (client' : ClientState) (map : MapState) (frames : FramesState) (history : History) (tags : List Tag) : Type 0 where
+pub record Changes (profile : Profile) (whole : Whole) (c : ℕ) (slot : SlotState) (place : Place) (slot' : SlotState) (client' : ClientState) (map : MapState) (frames : FramesState) (history : History) (tags : List Tag) : Type 0 where
   pub host : slot'.address.host ≡ slot.address.host
   pub qport : slot'.qport ≡ slot.qport
   pub map_is : IsMap profile map
-  pub stays : (s : Option SlotState) (e : Option ClientState) (h : History) → IsJoined profile whole.ends.server.map s e h → IsJoined profile map s e h
+  pub stays : (s : Option SlotState) (e : Option Place) (h : History) → IsJoined profile whole.ends.server.map s e h → IsJoined profile map s e h
   pub grows : HistoryGrows (history_at whole.histories c) history
-  pub keeps : AreEnds profile slot' client' (address_at whole.ends c) history
+  pub keeps : AreEnds profile slot' client' place.address history
   pub joined : AreJoined profile map slot' client' history
   pub sent : AllSent profile (with_history whole.histories c history) tags
   pub kept : KeepsFrames frames (with_history whole.histories c history)
 
-pub Holds-changed : (profile : Profile) (whole : Whole) (c : ℕ) (slot slot' : SlotState) (client client' : ClientState) (map : MapState) (frames : FramesState) (history : History) (sent : List Tag) → c < places
-    → Has profile whole c slot client → Changes profile whole c slot client slot' client' map frames history sent → Holds profile whole
-    → Holds profile (changed whole c slot' client' map frames history sent)
-Holds-changed profile whole c slot slot' client client' map frames history sent lt had changes holds =
+pub Holds-changed : (profile : Profile) (whole : Whole) (c : ℕ) (slot slot' : SlotState) (place : Place) (client' : ClientState) (map : MapState) (frames : FramesState) (history : History) (sent : List Tag) → c < places
+    → Has profile whole c slot place → Changes profile whole c slot place slot' client' map frames history sent → Holds profile whole
+    → Holds profile (changed whole c slot' place client' map frames history sent)
+Holds-changed profile whole c slot slot' place client' map frames history sent lt had changes holds =
     let facts = holds.facts in
     let ends = whole.ends in
     let slots = ends.server.slots in
+    let there : Place = record place { client = client' } in
     let slot_is = set_there slots c None (Some slot') facts.slots lt in
-    let client_is = set_there ends.clients c None (Some client') facts.clients lt in
+    let place_is = set_there ends.clients c None (Some there) facts.clients lt in
     let noted = set_there whole.histories c no_history history facts.histories lt in
-    Holds-at profile c whole (changed whole c slot' client' map frames history sent)
+    Holds-at profile c whole (changed whole c slot' place client' map frames history sent)
     (record {
       by = refl;
       own = refl;
@@ -283,16 +279,15 @@ Holds-changed profile whole c slot slot' client client' map frames history sent 
       stays = changes.stays;
       at = record {
         slots = OnlyAt-set None c slots (Some slot');
-        clients = OnlyAt-set None c ends.clients (Some client');
-        addresses = OnlyAt-same no_address c ends.addresses;
+        clients = OnlyAt-set None c ends.clients (Some there);
         histories = OnlyAt-set no_history c whole.histories history;
       };
       found = found_changed slots c slot slot' facts.slots lt had.slot_is changes.host changes.qport facts.found;
       sent = changes.sent;
       frames = changes.kept;
     })
-    (rw (slot_is, client_is, noted) changes.keeps)
-    (rw (slot_is, client_is, noted) changes.joined)
+    (rw (slot_is, place_is, noted) changes.keeps)
+    (rw (slot_is, place_is, noted) changes.joined)
     holds
 
 -- what was sent stays so
@@ -319,24 +314,24 @@ same_server server c slot found =
     (ap (λ (s : Option SlotState). slice_set server.slots c s) (sym found) ∙ set-get_or server.slots c None)
 
 -- a client put where it was
-pub same_clients : (ends : Ends) (c : ℕ) (client : ClientState) → client_at ends c ≡ Some client → slice_set ends.clients c (Some client) ≡ ends.clients
-same_clients ends c client found = ap (λ (s : Option ClientState). slice_set ends.clients c s) (sym found) ∙ set-get_or ends.clients c None
+pub same_clients : (ends : Ends) (c : ℕ) (place : Place) → place_at ends c ≡ Some place → slice_set ends.clients c (Some place) ≡ ends.clients
+same_clients ends c place found = ap (λ (s : Option Place). slice_set ends.clients c s) (sym found) ∙ set-get_or ends.clients c None
 
 -- only the slot, the map and the frames change, and what is noted
 abbrev pub with_server_of : Whole → ℕ → SlotState → MapState → FramesState → History → List Tag → Whole
 with_server_of whole c slot map frames history sent =
     record { ends = record whole.ends { server = with_both whole.ends.server c slot map frames }; histories = with_history whole.histories c history; sent = sent; foreign = whole.foreign }
 
-pub Holds-slot : (profile : Profile) (whole : Whole) (c : ℕ) (slot slot' : SlotState) (client : ClientState) (map : MapState) (frames : FramesState) (history : History) (sent : List Tag) → c < places
-    → Has profile whole c slot client → Changes profile whole c slot client slot' client map frames history sent → Holds profile whole
+pub Holds-slot : (profile : Profile) (whole : Whole) (c : ℕ) (slot slot' : SlotState) (place : Place) (map : MapState) (frames : FramesState) (history : History) (sent : List Tag) → c < places
+    → Has profile whole c slot place → Changes profile whole c slot place slot' place.client map frames history sent → Holds profile whole
     → Holds profile (with_server_of whole c slot' map frames history sent)
-Holds-slot profile whole c slot slot' client map frames history sent lt had changes holds =
-    subst (λ (clients : List (Option ClientState)). Holds profile (record {
+Holds-slot profile whole c slot slot' place map frames history sent lt had changes holds =
+    subst (λ (clients : List (Option Place)). Holds profile (record {
       ends = record whole.ends { server = with_both whole.ends.server c slot' map frames; clients = clients };
       histories = with_history whole.histories c history;
       sent = sent;
       foreign = whole.foreign;
-    })) (same_clients whole.ends c client had.client_is) (Holds-changed profile whole c slot slot' client client map frames history sent lt had changes holds)
+    })) (same_clients whole.ends c place had.place_is) (Holds-changed profile whole c slot slot' place place.client map frames history sent lt had changes holds)
 
 -- frames that are kept where no message was begun
 pub frames_stay : (profile : Profile) (whole : Whole) (c : ℕ) (history : History) → c < places → history.built ≡ (history_at whole.histories c).built → Holds profile whole
@@ -345,17 +340,17 @@ frames_stay profile whole c history lt built holds =
     KeepsFrames-same whole.ends.server.frames whole.histories c history lt holds.facts.histories built holds.facts.frames
 
 -- only the client's own end changes, and what is noted
-abbrev pub with_client_of : Whole → ℕ → ClientState → History → List Tag → Whole
-with_client_of whole c client history sent =
-    record { ends = with_client whole.ends c client; histories = with_history whole.histories c history; sent = sent; foreign = whole.foreign }
+abbrev pub with_client_of : Whole → ℕ → Place → ClientState → History → List Tag → Whole
+with_client_of whole c place client history sent =
+    record { ends = with_client whole.ends c place client; histories = with_history whole.histories c history; sent = sent; foreign = whole.foreign }
 
-pub Holds-client : (profile : Profile) (whole : Whole) (c : ℕ) (slot : SlotState) (client client' : ClientState) (history : History) (sent : List Tag) → c < places
-    → Has profile whole c slot client → Changes profile whole c slot client slot client' whole.ends.server.map whole.ends.server.frames history sent → Holds profile whole
-    → Holds profile (with_client_of whole c client' history sent)
-Holds-client profile whole c slot client client' history sent lt had changes holds =
+pub Holds-client : (profile : Profile) (whole : Whole) (c : ℕ) (slot : SlotState) (place : Place) (client' : ClientState) (history : History) (sent : List Tag) → c < places
+    → Has profile whole c slot place → Changes profile whole c slot place slot client' whole.ends.server.map whole.ends.server.frames history sent → Holds profile whole
+    → Holds profile (with_client_of whole c place client' history sent)
+Holds-client profile whole c slot place client' history sent lt had changes holds =
     subst (λ (server : ServerState). Holds profile (record {
-      ends = record whole.ends { server = server; clients = slice_set whole.ends.clients c (Some client') };
+      ends = record whole.ends { server = server; clients = slice_set whole.ends.clients c (Some (record place { client = client' })) };
       histories = with_history whole.histories c history;
       sent = sent;
       foreign = whole.foreign;
-    })) (same_server whole.ends.server c slot had.slot_is) (Holds-changed profile whole c slot slot client client' whole.ends.server.map whole.ends.server.frames history sent lt had changes holds)
+    })) (same_server whole.ends.server c slot had.slot_is) (Holds-changed profile whole c slot slot place client' whole.ends.server.map whole.ends.server.frames history sent lt had changes holds)

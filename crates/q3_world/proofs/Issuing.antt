@@ -14,7 +14,8 @@ use Rattle.q3_slot.specs.Slots.{changes_own}
 use Rattle.q3_server.specs.Server.{places, slot_at}
 use Rattle.q3_client.specs.Client.{ClientState}
 use Rattle.q3_world.specs.Layers.{WindowLaws}
-use Rattle.q3_world.specs.Ends.{client_at}
+use Rattle.q3_world.specs.declared.places.Place.{Place}
+use Rattle.q3_world.specs.Ends.{place_at}
 use Rattle.q3_world.specs.World.{Whole, History, history_at}
 use Rattle.q3_world.specs.Games.{accepted_since}
 use Rattle.q3_world.specs.StandsFor.{AreJoined, carried_built, acks_built, carried_said, acks_said}
@@ -65,7 +66,8 @@ Holds-spoken laws profile whole c slot text lt found room is own holds =
     let next = record slot { issued = with_texts slot.issued texts } in
     let noted = record history { server_commands = history.server_commands ++ texts } in
     let had = has_slot profile whole c slot lt found holds in
-    let client = had.0 in
+    let place = had.0 in
+    let client = place.client in
     let keeps = had.1.keeps in
     let grows = HistoryGrows-beside history noted refl refl refl refl in
     let total : length text ≡ total_of texts = omega arith in
@@ -73,7 +75,7 @@ Holds-spoken laws profile whole c slot text lt found room is own holds =
     let are = All-cons IsText text [] is (All-nil IsText) in
     let none = All-cons (λ (t : List ℕ). changes_own t ≡ false) text [] own (All-nil (λ (t : List ℕ). changes_own t ≡ false)) in
     let window = laws.stays.tells slot.issued texts keeps.of_slot.window room_of are in
-    Holds-slot profile whole c slot next client whole.ends.server.map whole.ends.server.frames noted whole.sent lt had.1
+    Holds-slot profile whole c slot next place whole.ends.server.map whole.ends.server.frames noted whole.sent lt had.1
     (record {
       host = refl;
       qport = refl;
@@ -92,25 +94,25 @@ Holds-spoken laws profile whole c slot text lt found room is own holds =
     }) holds
 
 -- a client issues one
-pub Holds-typed : WindowLaws → (profile : Profile) (whole : Whole) (c : ℕ) (client : ClientState) (text : List ℕ) → c < places → client_at whole.ends c ≡ Some client
-    → has_room client.issued 1 (length text) ≡ true → IsText text → Holds profile whole
-    → Holds profile (with_client_of whole c (record client { issued = with_texts client.issued (text ∷ []) })
+pub Holds-typed : WindowLaws → (profile : Profile) (whole : Whole) (c : ℕ) (place : Place) (text : List ℕ) → c < places → place_at whole.ends c ≡ Some place
+    → has_room place.client.issued 1 (length text) ≡ true → IsText text → Holds profile whole
+    → Holds profile (with_client_of whole c place (record place.client { issued = with_texts place.client.issued (text ∷ []) })
     (record (history_at whole.histories c) { client_commands = (history_at whole.histories c).client_commands ++ text ∷ [] }) whole.sent)
-Holds-typed laws profile whole c client text lt found room is holds =
+Holds-typed laws profile whole c place text lt found room is holds =
     let history = history_at whole.histories c in
     let texts = text ∷ [] in
-    let next = record client { issued = with_texts client.issued texts } in
+    let next = record place.client { issued = with_texts place.client.issued texts } in
     let noted = record history { client_commands = history.client_commands ++ text ∷ [] } in
-    let had = has_client profile whole c client lt found holds in
+    let had = has_client profile whole c place lt found holds in
     let slot = had.0 in
     let keeps = had.1.keeps in
     let joined = had.1.joined in
     let grows = HistoryGrows-beside history noted refl refl refl refl in
     let total : length text ≡ total_of texts = omega arith in
-    let room_of : has_room client.issued (length texts) (total_of texts) ≡ true = subst (λ (k : ℕ). has_room client.issued 1 k ≡ true) total room in
-    let so = issues_so laws client.issued slot.executed history.client_commands history.server_executed (carried_said history.said) (acks_built history.built) client.gathering.taken slot.gathering.taken texts room_of
+    let room_of : has_room place.client.issued (length texts) (total_of texts) ≡ true = subst (λ (k : ℕ). has_room place.client.issued 1 k ≡ true) total room in
+    let so = issues_so laws place.client.issued slot.executed history.client_commands history.server_executed (carried_said history.said) (acks_built history.built) place.client.gathering.taken slot.gathering.taken texts room_of
     (All-cons IsText text [] is (All-nil IsText)) keeps.of_client.window joined.commanded.to_server in
-    Holds-client profile whole c slot client next noted whole.sent lt had.1
+    Holds-client profile whole c slot place next noted whole.sent lt had.1
     (record {
       host = refl;
       qport = refl;
@@ -119,12 +121,12 @@ Holds-typed laws profile whole c client text lt found room is holds =
       grows = grows;
       keeps = record {
         of_slot = keeps.of_slot;
-        of_client = KeepsClient-typed profile client history.qport history.said history.issued history.client_commands (with_texts client.issued texts) text so.is is keeps.of_client;
+        of_client = KeepsClient-typed profile place.client history.qport history.said history.issued history.client_commands (with_texts place.client.issued texts) text so.is is keeps.of_client;
         challenge = keeps.challenge;
         host = keeps.host;
       };
       joined = record {
-        of_client = TakesBuilt-same profile client next history.built history.accepted (accepted_since history.games history.accepted) refl refl refl refl joined.of_client;
+        of_client = TakesBuilt-same profile place.client next history.built history.accepted (accepted_since history.games history.accepted) refl refl refl refl joined.of_client;
         of_slot = joined.of_slot;
         asked = joined.asked;
         commanded = record { to_client = joined.commanded.to_client; to_server = so.flow };

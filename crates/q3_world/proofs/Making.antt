@@ -31,11 +31,11 @@ use Rattle.q3_server.specs.Standing as server_has
 use Rattle.q3_client.specs.Standing.{IsClient}
 use Rattle.q3_client.specs.Sending.{IsSaid}
 use Rattle.q3_world.proofs.Commanded.{MayName}
-use Rattle.q3_world.specs.Ends.{client_at, address_at}
+use Rattle.q3_world.specs.declared.places.Place.{Place}
+use Rattle.q3_world.specs.Ends.{place_at}
 use Rattle.q3_world.specs.Kept.{kept_serve, kept_said, kept_send}
-use Rattle.q3_world.specs.World.{Whole, history_at, serve, say, send, with_built}
+use Rattle.q3_world.specs.World.{Whole, history_at, serve, say, send, with_built, bytes_of}
 use Rattle.q3_world.specs.Layers.{ScramblingLaws}
-use Rattle.q3_world.specs.StandsFor.{bytes_of}
 use Rattle.q3_world.proofs.Clients.{slot_begun, client_begun, asked_has, next_base, next_number}
 use Rattle.q3_world.proofs.Holding.{Holds, has_slot, has_client, same_server, Has}
 use Rattle.q3_world.proofs.Given.{joined_stays}
@@ -79,8 +79,8 @@ low_byte : (number : ℕ) → number % 256 < 2 ^ 8
 low_byte number = omega arith
 
 -- a client as the server keeps it: one for which no gamestate was begun is connected, and one is owed on a map alone
-is_joined : (profile : Profile) (whole : Whole) (c : ℕ) (slot : SlotState) (client : ClientState) → Has profile whole c slot client → server_has.IsJoined profile whole.ends.server.map.id slot
-is_joined profile whole c slot client had = record {
+is_joined : (profile : Profile) (whole : Whole) (c : ℕ) (slot : SlotState) (place : Place) → Has profile whole c slot place → server_has.IsJoined profile whole.ends.server.map.id slot
+is_joined profile whole c slot place had = record {
   player = had.keeps.of_slot.player;
   begun = λ none. had.joined.mapped.stands.none.0 none;
   owed = λ owed. (had.joined.mapped.stands.owed owed).1;
@@ -91,17 +91,17 @@ slot_stands : (profile : Profile) (slot : SlotState) → IsOutgoing slot.issued 
 slot_stands profile slot window area names = record { window = window; executed = names.number; last = names.text; area = area }
 
 -- the message with the next snapshot is one that a server builds
-next_is_built : (profile : Profile) (whole : Whole) (c : ℕ) (slot : SlotState) (client : ClientState) → Cited profile → c < places → Has profile whole c slot client
+next_is_built : (profile : Profile) (whole : Whole) (c : ℕ) (slot : SlotState) (place : Place) → Cited profile → c < places → Has profile whole c slot place
     → slot.sending.number + 1 < sequence_end → is_unclear profile slot.executed.executed ≡ false → Holds profile whole
     → IsBuilt profile slot.challenge (slot.sending.number + 1) (begun_next whole.ends.server.map whole.ends.server.frames c slot)
-next_is_built profile whole c slot client cited lt had fits clear holds =
+next_is_built profile whole c slot place cited lt had fits clear holds =
     let map = whole.ends.server.map in
     let frames = whole.ends.server.frames in
     let history = history_at whole.histories c in
     let keeps = had.keeps.of_slot in
     let joined = had.joined in
-    let names = executed_by_slot profile slot client history had.keeps.of_client joined.commanded in
-    cited.begins.snapshot profile map slot cited.codec holds.facts.map (is_joined profile whole c slot client had) (slot_stands profile slot keeps.window keeps.area names)
+    let names = executed_by_slot profile slot place.client history had.keeps.of_client joined.commanded in
+    cited.begins.snapshot profile map slot cited.codec holds.facts.map (is_joined profile whole c slot place had) (slot_stands profile slot keeps.window keeps.area names)
     frames c fits clear
 
 -- a snapshot is begun, unless it is too long
@@ -118,7 +118,8 @@ served_built profile whole c slot cited lt is fits clear holds =
     let bits = built_bits profile next in
     let first : UnderWay = record { message = built_bytes profile next; next = 0 } in
     let had = has_slot profile whole c slot lt is holds in
-    let client = had.0 in
+    let place = had.0 in
+    let client = place.client in
     let joined = had.1.joined in
     let begun = had.1.keeps.of_slot.sending.begun in
     let number = next_number map slot in
@@ -132,13 +133,13 @@ served_built profile whole c slot cited lt is fits clear holds =
       | inl long ↦ rw long (record { same = rw count refl; holds = Holds-too_long cited.server profile whole c slot lt is holds })
       | inr short ↦
           let pushed = map_push bytes_of whole.sent (handed_tag c (slot_begun profile slot next) first) in
-          let built = next_is_built profile whole c slot client cited lt had.1 fits clear holds in
+          let built = next_is_built profile whole c slot place cited lt had.1 fits clear holds in
           let kept = KeepsFrames-built cited.server frames whole.histories c (with_built history (Some next)) (next_snapshot map slot) lt holds.facts.histories
           (frames_begun cited.server frames c history.built (telling_of slot) map.lines next.base (next_snapshot map slot) (omega (arith, begun, number)) are) holds.facts.frames in
           let mapped = mapped_snapshot map slot client history next (has_snapshot next refl) refl refl (asked_base slot next history.built (slot.sending.number + 1) base) joined.mapped in
           rw short (record {
             same = rw (count, pushed) refl;
-            holds = Holds-begun cited.windows profile whole c slot client slot.stage slot.game slot.owed next map (next_frames map frames c slot) first cited.sends cited.gathers lt had.1 fits built (may short) refl refl base refl
+            holds = Holds-begun cited.windows profile whole c slot place slot.stage slot.game slot.owed next map (next_frames map frames c slot) first cited.sends cited.gathers lt had.1 fits built (may short) refl refl base refl
                 holds.facts.map (λ s e h joined. joined) kept mapped holds;
           })
     ]
@@ -158,7 +159,8 @@ served_game profile whole c slot cited lt is owed fits clear holds =
     let stands = primed slot n in
     let first : UnderWay = record { message = built_bytes profile next; next = 0 } in
     let had = has_slot profile whole c slot lt is holds in
-    let client = had.0 in
+    let place = had.0 in
+    let client = place.client in
     let joined = had.1.joined in
     let keeps = had.1.keeps in
     let begun = keeps.of_slot.sending.begun in
@@ -170,7 +172,7 @@ served_game profile whole c slot cited lt is owed fits clear holds =
       | inr short ↦
           let pushed = map_push bytes_of whole.sent (handed_tag c (slot_begun profile stands next) first) in
           let other = joined.mapped.stands.owed owed in
-          let built = cited.begins.game profile map slot cited.codec holds.facts.map (is_joined profile whole c slot client had.1) (slot_stands profile slot keeps.of_slot.window keeps.of_slot.area names)
+          let built = cited.begins.game profile map slot cited.codec holds.facts.map (is_joined profile whole c slot place had.1) (slot_stands profile slot keeps.of_slot.window keeps.of_slot.area names)
           c (omega (arith, lt)) owed clear in
           let kept = KeepsFrames-game frames whole.histories c (with_built history (Some next)) lt holds.facts.histories
           (frames_of_game frames c history.built next refl (holds.facts.frames.each c lt)) holds.facts.frames in
@@ -178,7 +180,7 @@ served_game profile whole c slot cited lt is owed fits clear holds =
           joined.mapped in
           rw short (record {
             same = rw (count, pushed) refl;
-            holds = Holds-begun cited.windows profile whole c slot client Primed (Some n) false next (begins_game map) frames first cited.sends cited.gathers lt had.1 fits built (may short) refl refl tt refl
+            holds = Holds-begun cited.windows profile whole c slot place Primed (Some n) false next (begins_game map) frames first cited.sends cited.gathers lt had.1 fits built (may short) refl refl tt refl
                 (cited.maps.begun profile map holds.facts.map) (joined_stays profile map (begins_game map) (AreMapped-begun map)) kept mapped holds;
           })
     ]
@@ -233,87 +235,89 @@ served profile whole c cited lt holds =
 
 -- ---- sending
 
-abbrev pub SaidSo : Profile → Whole → ℕ → speaks.Emission → Type 0
-SaidSo profile whole c emission = Agree profile (kept_said (kept_of profile whole) c emission) (say whole c emission)
+abbrev pub SaidSo : Profile → Whole → ℕ → Place → speaks.Emission → Type 0
+SaidSo profile whole c place emission = Agree profile (kept_said (kept_of profile whole) c place emission) (say whole c place emission)
 
 -- nothing was begun or sent, and the client is as it was
-pub silent : (profile : Profile) (whole : Whole) (c : ℕ) (client : ClientState) (answer : Sent) → client_at whole.ends c ≡ Some client → Holds profile whole
-    → SaidSo profile whole c (speaks.nothing client answer)
-silent profile whole c client answer found holds =
+pub silent : (profile : Profile) (whole : Whole) (c : ℕ) (place : Place) (answer : Sent) → place_at whole.ends c ≡ Some place → Holds profile whole
+    → SaidSo profile whole c place (speaks.nothing place.client answer)
+silent profile whole c place answer found holds =
     let count = length-map whole.sent bytes_of in
-    record { same = rw count refl; holds = left_alone profile whole c client whole.sent found refl holds }
+    record { same = rw count refl; holds = left_alone profile whole c place whole.sent found refl holds }
 
 -- what a client took fits a long
-pub taken_fits : (profile : Profile) (whole : Whole) (c : ℕ) (client : ClientState) → c < places → client_at whole.ends c ≡ Some client → Holds profile whole → client.gathering.taken < 2 ^ 32
-taken_fits profile whole c client lt found holds =
-    let had = has_client profile whole c client lt found holds in
+pub taken_fits : (profile : Profile) (whole : Whole) (c : ℕ) (place : Place) → c < places → place_at whole.ends c ≡ Some place → Holds profile whole → place.client.gathering.taken < 2 ^ 32
+taken_fits profile whole c place lt found holds =
+    let had = has_client profile whole c place lt found holds in
     let short = had.1.keeps.of_slot.sending.short in
     let taken = had.1.joined.of_client.gathers.taken in
     omega (arith, short, taken)
 
 -- a message is begun, unless it is too long
-pub said_text : (profile : Profile) (whole : Whole) (c : ℕ) (client : ClientState) → Cited profile → c < places → client_at whole.ends c ≡ Some client
-    → client.sending.number + 1 < sequence_end → is_said_unclear profile (next_message client) ≡ false → Holds profile whole
-    → SaidSo profile whole c (speaks.emit_bits client (next_said client) (said_bits profile (next_said client)))
-said_text profile whole c client cited lt found fits clear holds =
-    let next = next_said client in
+pub said_text : (profile : Profile) (whole : Whole) (c : ℕ) (place : Place) → Cited profile → c < places → place_at whole.ends c ≡ Some place
+    → place.client.sending.number + 1 < sequence_end → is_said_unclear profile (next_message place.client) ≡ false → Holds profile whole
+    → SaidSo profile whole c place (speaks.emit_bits place.client (next_said place.client) (said_bits profile (next_said place.client)))
+said_text profile whole c place cited lt found fits clear holds =
+    let next = next_said place.client in
     let bits = said_bits profile next in
     let first : UnderWay = record { message = said_bytes profile next; next = 0 } in
-    let had = has_client profile whole c client lt found holds in
+    let had = has_client profile whole c place lt found holds in
     let keeps = had.1.keeps.of_client in
-    let is : IsClient client = record { applied = keeps.applied; taken = taken_fits profile whole c client lt found holds; window = keeps.window; few = keeps.moves.few; moves = record { each = keeps.moves.each } } in
-    let said_is : IsSaid profile client.challenge next = subst (λ (p : Profile). IsSaid p client.challenge next) keeps.by
-    (cited.says.next client is (subst (λ (p : Profile). is_said_unclear p (next_message client) ≡ false) (sym keeps.by) clear)) in
-    let may = sendable cited.scrambles bits Client next.key cited.bytes (low_byte (bit_xor (bit_xor client.challenge client.state.id) client.gathering.taken)) keeps.applied.last in
+    let is : IsClient place.client = record { applied = keeps.applied; taken = taken_fits profile whole c place lt found holds; window = keeps.window; few = keeps.moves.few; moves = record { each = keeps.moves.each } } in
+    let said_is : IsSaid profile place.client.challenge next = subst (λ (p : Profile). IsSaid p place.client.challenge next) keeps.by
+    (cited.says.next place.client is (subst (λ (p : Profile). is_said_unclear p (next_message place.client) ≡ false) (sym keeps.by) clear)) in
+    let may = sendable cited.scrambles bits Client next.key cited.bytes (low_byte (bit_xor (bit_xor place.client.challenge place.client.state.id) place.client.gathering.taken)) keeps.applied.last in
     elim (cases_Bool (nat_lt longest_message (message_length (length bits)))) [
-      | inl long ↦ rw long (silent profile whole c client answered_sent.Overlong found holds)
+      | inl long ↦ rw long (silent profile whole c place answered_sent.Overlong found holds)
       | inr short ↦
           let count = length-map whole.sent bytes_of in
-          let pushed = map_push bytes_of whole.sent (said_tag c (address_at whole.ends c) (client_begun profile client) first) in
+          let pushed = map_push bytes_of whole.sent (said_tag c (place.address) (client_begun profile place.client) first) in
           rw short (record {
             same = rw (count, pushed) refl;
-            holds = Holds-said cited.windows profile whole c had.0 client first cited.sends cited.gathers lt had.1 refl fits said_is (may short)
-                (mapped_said whole.ends.server.map had.0 client (history_at whole.histories c) had.1.joined.of_client.asks.0 had.1.joined.since had.1.joined.mapped) holds;
+            holds = Holds-said cited.windows profile whole c had.0 place first cited.sends cited.gathers lt had.1 refl fits said_is (may short)
+                (mapped_said whole.ends.server.map had.0 place.client (history_at whole.histories c) had.1.joined.of_client.asks.0 had.1.joined.since had.1.joined.mapped) holds;
           })
     ]
 
 -- the next message, unless message numbers have ended, or its leading longs would be hidden
-pub said_new : (profile : Profile) (whole : Whole) (c : ℕ) (client : ClientState) → Cited profile → c < places → client_at whole.ends c ≡ Some client → Holds profile whole
-    → SaidSo profile whole c (speaks.emit_new client)
-said_new profile whole c client cited lt found holds =
-    let had = has_client profile whole c client lt found holds in
-    elim (cases_Bool (nat_le sequence_end (client.sending.number + 1))) [
-      | inl ended ↦ rw ended (silent profile whole c client answered_sent.SequenceEnd found holds)
-      | inr goes ↦ elim (cases_Bool (is_said_unclear client.state.profile (next_message client))) [
-        | inl hidden ↦ rw (goes, hidden) (silent profile whole c client answered_sent.Unclear found holds)
+pub said_new : (profile : Profile) (whole : Whole) (c : ℕ) (place : Place) → Cited profile → c < places → place_at whole.ends c ≡ Some place → Holds profile whole
+    → SaidSo profile whole c place (speaks.emit_new place.client)
+said_new profile whole c place cited lt found holds =
+    let had = has_client profile whole c place lt found holds in
+    elim (cases_Bool (nat_le sequence_end (place.client.sending.number + 1))) [
+      | inl ended ↦ rw ended (silent profile whole c place answered_sent.SequenceEnd found holds)
+      | inr goes ↦ elim (cases_Bool (is_said_unclear place.client.state.profile (next_message place.client))) [
+        | inl hidden ↦ rw (goes, hidden) (silent profile whole c place answered_sent.Unclear found holds)
         | inr clear ↦
             let by = had.1.keeps.of_client.by in
-            let clear_so : is_said_unclear profile (next_message client) ≡ false = subst (λ (p : Profile). is_said_unclear p (next_message client) ≡ false) by clear in
+            let clear_so : is_said_unclear profile (next_message place.client) ≡ false = subst (λ (p : Profile). is_said_unclear p (next_message place.client) ≡ false) by clear in
             rw (goes, clear)
-            (subst (λ (p : Profile). SaidSo profile whole c (speaks.emit_bits client (next_said client) (said_bits p (next_said client)))) (sym by)
-            (said_text profile whole c client cited lt found (leb-false sequence_end (client.sending.number + 1) goes) clear_so holds))
+            (subst (λ (p : Profile). SaidSo profile whole c place (speaks.emit_bits place.client (next_said place.client) (said_bits p (next_said place.client)))) (sym by)
+            (said_text profile whole c place cited lt found (leb-false sequence_end (place.client.sending.number + 1) goes) clear_so holds))
       ]
     ]
 
 -- what is left of a message goes first
-pub said_left : (profile : Profile) (whole : Whole) (c : ℕ) (client : ClientState) (left : Option UnderWay) → Cited profile → c < places
-    → client_at whole.ends c ≡ Some client → client.sending.under_way ≡ left → Holds profile whole → SaidSo profile whole c (speaks.emit_left client left)
-said_left profile whole c client None cited lt found none holds = said_new profile whole c client cited lt found holds
-said_left profile whole c client (Some left) cited lt found some holds =
+pub said_left : (profile : Profile) (whole : Whole) (c : ℕ) (place : Place) (left : Option UnderWay) → Cited profile → c < places
+    → place_at whole.ends c ≡ Some place → place.client.sending.under_way ≡ left → Holds profile whole → SaidSo profile whole c place (speaks.emit_left place.client left)
+said_left profile whole c place None cited lt found none holds = said_new profile whole c place cited lt found holds
+said_left profile whole c place (Some left) cited lt found some holds =
     let count = length-map whole.sent bytes_of in
-    let pushed = map_push bytes_of whole.sent (said_tag c (address_at whole.ends c) client left) in
-    record { same = rw (count, pushed) refl; holds = Holds-goes profile whole c client left cited.sends lt found some holds }
+    let pushed = map_push bytes_of whole.sent (said_tag c (place.address) place.client left) in
+    record { same = rw (count, pushed) refl; holds = Holds-goes profile whole c place left cited.sends lt found some holds }
 
 pub sends_agree : (profile : Profile) (whole : Whole) (c : ℕ) → Cited profile → c < places → Holds profile whole
-    → Agree profile (kept_send (kept_of profile whole) c (client_at whole.ends c)) (send whole c (client_at whole.ends c))
+    → Agree profile (kept_send (kept_of profile whole) c (place_at whole.ends c)) (send whole c (place_at whole.ends c))
 unfolding speaks.emit_at
 sends_agree profile whole c cited lt holds =
     let count = length-map whole.sent bytes_of in
-    elim (found_or (client_at whole.ends c)) [
+    elim (found_or (place_at whole.ends c)) [
       | inl none ↦ rw (none, count) (record { same = refl; holds = holds })
       | inr found ↦
-          let had = has_client profile whole c found.0 lt found.1 holds in
+          let place = found.0 in
+          let client = place.client in
+          let had = has_client profile whole c place lt found.1 holds in
           rw found.1
-          (subst (λ (dropped : Option Illegible). SaidSo profile whole c (speaks.emit_unless found.0 dropped)) (sym had.1.joined.of_client.legible)
-          (said_left profile whole c found.0 found.0.sending.under_way cited lt found.1 refl holds))
+          (subst (λ (dropped : Option Illegible). SaidSo profile whole c place (speaks.emit_unless client dropped)) (sym had.1.joined.of_client.legible)
+          (said_left profile whole c place client.sending.under_way cited lt found.1 refl holds))
     ]

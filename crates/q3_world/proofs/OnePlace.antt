@@ -2,11 +2,10 @@
 use Rattle.std.proofs.Common.{◌≡◌, ℕ, ◌<◌, List, length, get_or, set, Option, None, refl, sym, subst, inl, inr, arith}
 use Rattle.std.proofs.lemmas.List.{get_or-set_same, get_or-set_other, length-set}
 use Rattle.std.proofs.lemmas.Bool.{cases_eq}
-use Rattle.q3_io.specs.declared.address.Address.{Address}
 use Rattle.q3_slot.specs.Slot.{SlotState}
 use Rattle.q3_server.specs.Server.{places, slot_at}
-use Rattle.q3_client.specs.Client.{ClientState}
-use Rattle.q3_world.specs.Ends.{Ends, client_at, no_address, address_at}
+use Rattle.q3_world.specs.declared.places.Place.{Place}
+use Rattle.q3_world.specs.Ends.{Ends, place_at}
 use Rattle.q3_world.specs.World.{History, no_history, history_at}
 
 -- what stands at a place where it was put
@@ -24,26 +23,25 @@ OnlyAt-set d c xs x = record { count = length-set xs c x; others = λ k ne. get_
 pub OnlyAt-same : {X : Type 0} (d : X) (c : ℕ) (xs : List X) → OnlyAt d c xs xs
 OnlyAt-same d c xs = record { count = refl; others = λ k ne. refl }
 
--- what is said of each client, of its slot, its end, its address and its history
+-- what is said of each client, of its slot, its place and its history
 abbrev pub OfClient : Type 1
-OfClient = Option SlotState → Option ClientState → Address → History → Type 0
+OfClient = Option SlotState → Option Place → History → Type 0
 
 abbrev pub Each : OfClient → Ends → List History → Type 0
-Each Says ends histories = (c : ℕ) → c < places → Says (slot_at ends.server c) (client_at ends c) (address_at ends c) (history_at histories c)
+Each Says ends histories = (c : ℕ) → c < places → Says (slot_at ends.server c) (place_at ends c) (history_at histories c)
 
 -- only what stands for one client may differ
 pub record DifferAt (c : ℕ) (old new : Ends) (before now : List History) : Type 0 where
   pub slots : OnlyAt None c old.server.slots new.server.slots
   pub clients : OnlyAt None c old.clients new.clients
-  pub addresses : OnlyAt no_address c old.addresses new.addresses
   pub histories : OnlyAt no_history c before now
 
 -- one client changes and the others stay
 pub each_at : (Says : OfClient) (c : ℕ) (old new : Ends) (histories histories' : List History) → DifferAt c old new histories histories'
-    → Says (slot_at new.server c) (client_at new c) (address_at new c) (history_at histories' c)
+    → Says (slot_at new.server c) (place_at new c) (history_at histories' c)
     → Each Says old histories → Each Says new histories'
 each_at Says c old new histories histories' differ here all k lt =
     elim (cases_eq k c) [
-      | inl same ↦ subst (λ (j : ℕ). Says (slot_at new.server j) (client_at new j) (address_at new j) (history_at histories' j)) (sym same) here
-      | inr other ↦ rw (differ.slots.others k other, differ.clients.others k other, differ.addresses.others k other, differ.histories.others k other) (all k lt)
+      | inl same ↦ subst (λ (j : ℕ). Says (slot_at new.server j) (place_at new j) (history_at histories' j)) (sym same) here
+      | inr other ↦ rw (differ.slots.others k other, differ.clients.others k other, differ.histories.others k other) (all k lt)
     ]

@@ -1,12 +1,12 @@
 -- An event of one client leaves what the others have.
-use Rattle.std.specs.Prelude.{◌≡◌, ◌≢◌, ℕ, ◌-◌, Option, Some, None, slice_get}
+use Rattle.std.specs.Prelude.{◌≡◌, ◌≢◌, ℕ, ◌-◌, Option, Some, None, IfSome, slice_get}
 use Rattle.q3_script.specs.declared.event.Event.{Event}
 use Rattle.q3_script.specs.declared.event.Event.TheVariants.{Client, Port, Map, Player, Area, Config, Say, TypeText, Move, Serve, Send, Deliver, Toclient, Toserver}
 use Rattle.q3_server.specs.Server.{slot_at}
 use Rattle.q3_server.specs.Apart.{KeepsFrames, taker_of}
 use Rattle.q3_world.specs.declared.made.Direction.{Direction}
 use Rattle.q3_world.specs.declared.made.Direction.TheVariants.{ToClient, ToServer}
-use Rattle.q3_world.specs.Ends.{Ends, client_at, address_at}
+use Rattle.q3_world.specs.Ends.{Ends, place_at}
 use Rattle.q3_world.specs.Kept.{SentBytes, Kept, kept_step}
 
 -- a datagram is neither for the client at a place nor found to be of it
@@ -35,15 +35,14 @@ IsApart kept (Serve c) d = d ≢ c
 IsApart kept (Send c) d = d ≢ c
 IsApart kept (Deliver number) d = IsOfOthers kept.ends d (slice_get kept.datagrams (number - 1))
 IsApart kept (Toclient c bytes) d = d ≢ c
-IsApart kept (Toserver c bytes) d = taker_of kept.ends.server (address_at kept.ends c) bytes ≢ Some d
+IsApart kept (Toserver c bytes) d = IfSome (place_at kept.ends c) (λ place. taker_of kept.ends.server place.address bytes ≢ Some d)
 IsApart kept other d = Unit {0}
 
--- a client has the same slot, the same frames as far as they are there, the same end and the same address
+-- a client has the same slot, the same frames as far as they are there, and at its place the same end and address
 pub record IsLeft (d : ℕ) (old new : Ends) : Type 0 where
   pub slot : slot_at new.server d ≡ slot_at old.server d
   pub frames : KeepsFrames d old.server.frames new.server.frames
-  pub client : client_at new d ≡ client_at old d
-  pub address : address_at new d ≡ address_at old d
+  pub place : place_at new d ≡ place_at old d
 
 -- an event that isn't of a client leaves its slot, its frames, its end and its address, in every state and whatever bytes arrive
 abbrev pub SlotsApart : Type 0

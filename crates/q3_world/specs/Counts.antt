@@ -12,10 +12,8 @@ use Rattle.q3_slot.specs.declared.answer.Emitted.TheVariants as emitted
 use Rattle.q3_slot.specs.declared.taking.ServerTook.{ServerTook}
 use Rattle.q3_slot.specs.declared.taking.ServerTook.TheVariants.{Ran}
 use Rattle.q3_lines.specs.ServerLines.{Run}
-use Rattle.q3_report.specs.declared.answer.Answer.{Answer}
-use Rattle.q3_report.specs.declared.answer.Answer.TheVariants.{Serve, Send, Deliver, ToServer, Toclient, Toserver}
+use Rattle.q3_report.specs.Answers.{Taking, ByClient, ByServer, Answered, Served, SentOut, Took}
 use Rattle.q3_world.specs.declared.counts.Counts.{Counts}
-use Rattle.q3_world.specs.Ends.{Answered}
 use Rattle.q3_world.specs.Kept.{Kept}
 
 -- what the program's world keeps, and what it counted
@@ -63,15 +61,17 @@ abbrev pub lines_of_server : ServerTook → Run → Counts
 lines_of_server (Ran slot number) ran = record one_event { client_commands = length ran.commands; moves = length ran.moves }
 lines_of_server other ran = one_event
 
+-- the lines of an end that took bytes
+abbrev pub lines_of_taking : Taking → Counts
+lines_of_taking (ByClient c took state commands) = lines_of_client took commands
+lines_of_taking (ByServer took ran) = lines_of_server took ran
+
 -- the lines of an answer
-abbrev pub lines_in : Answer → Run → Counts
-lines_in (Serve c emission datagram) ran = record one_event { datagrams = made_served emission }
-lines_in (Send c (Ok said) datagram) ran = record one_event { datagrams = made_sent said }
-lines_in (Deliver datagram c took) ran = lines_of_client took ran.commands
-lines_in (Toclient c (Ok took)) ran = lines_of_client took ran.commands
-lines_in (ToServer datagram took) ran = lines_of_server took ran
-lines_in (Toserver c (Ok took)) ran = lines_of_server took ran
-lines_in other ran = one_event
+abbrev pub lines_in : Answered → Counts
+lines_in (Served c emission datagram) = record one_event { datagrams = made_served emission }
+lines_in (SentOut c (Ok said) datagram) = record one_event { datagrams = made_sent said }
+lines_in (Took front taking) = lines_of_taking taking
+lines_in other = one_event
 
 -- a count with so many more, which stops at the greatest of 64 bits
 abbrev pub more : ℕ → ℕ → ℕ
@@ -91,12 +91,12 @@ with_lines counts lines = record {
 
 -- with an answer
 abbrev pub counted : Counts → Answered → Counts
-counted counts given = with_lines counts (lines_in given.answer given.ran)
+counted counts answer = with_lines counts (lines_in answer)
 
 -- with these answers, one after the other
 unfoldable pub counted_all : Counts → List Answered → Counts
 counted_all counts [] = counts
-counted_all counts (given ∷ others) = counted_all (counted counts given) others
+counted_all counts (answer ∷ others) = counted_all (counted counts answer) others
 
 -- what a replay counts that answers so
 abbrev pub counts_of : List Answered → Counts

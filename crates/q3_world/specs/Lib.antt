@@ -2,7 +2,6 @@ pub mod Layers
 pub mod Apart
 pub mod Ends
 pub mod Counts
-pub mod Executed
 pub mod Kept
 pub mod Moves
 pub mod World
@@ -10,5 +9,6 @@ pub mod Games
 pub mod StandsFor
 pub mod Report
 pub mod Outcome
+pub mod Doing
 pub mod Answering
 pub mod ByTags

@@ -2,8 +2,8 @@
 use Rattle.std.specs.Prelude.{◌≡◌, ℕ, ◌≤◌, List, Option, Result, Ok, Err}
 use Rattle.q3_script.specs.declared.event.Event.{Event}
 use Rattle.q3_script.specs.declared.event.Event.TheVariants.{Client, Serve, Send}
-use Rattle.q3_world.specs.declared.world.StepError.{StepError}
-use Rattle.q3_world.specs.declared.world.StepError.TheVariants.{NoMemory, WriteFault}
+use Rattle.q3_world.specs.declared.told.StepError.{StepError}
+use Rattle.q3_world.specs.declared.told.StepError.TheVariants.{NoMemory, WriteFault}
 use Rattle.q3_io.specs.Faults.{Rose}
 use Rattle.q3_io.specs.Written.{Written, Adds}
 

@@ -35,9 +35,10 @@ use Rattle.q3_client.specs.Moves.{most_moves}
 use Rattle.q3_client.specs.Sending.{said_bytes, Said, IsSaid}
 use Rattle.q3_world.specs.declared.made.Direction.{Direction}
 use Rattle.q3_world.specs.declared.made.Direction.TheVariants.{ToClient, ToServer}
-use Rattle.q3_world.specs.Ends.{client_at, address_at}
+use Rattle.q3_world.specs.declared.places.Place.{Place}
+use Rattle.q3_world.specs.Ends.{place_at}
 use Rattle.q3_world.specs.Kept.{SentBytes, Kept}
-use Rattle.q3_world.specs.World.{Tag, History, Whole, no_history, history_at, built_at, said_at}
+use Rattle.q3_world.specs.World.{Tag, History, Whole, no_history, history_at, built_at, said_at, bytes_of}
 use Rattle.q3_world.specs.Moves.{TimesRise, AreConsecutive}
 use Rattle.q3_world.specs.Games.{accepted_since, standing_of, AreSince, AreMapped}
 use Rattle.q3_slot.specs.Slots.{changes_own}
@@ -144,10 +145,10 @@ pub record AreEnds (profile : Profile) (slot : SlotState) (client : ClientState)
   pub host : address.host ≡ history.host
 
 -- a client is at both ends or at none
-abbrev pub IsClient : Profile → Option SlotState → Option ClientState → Address → History → Type 0
-IsClient profile None None address history = history ≡ no_history
-IsClient profile (Some slot) (Some client) address history = AreEnds profile slot client address history
-IsClient profile slot client address history = ⊥
+abbrev pub IsClient : Profile → Option SlotState → Option Place → History → Type 0
+IsClient profile None None history = history ≡ no_history
+IsClient profile (Some slot) (Some place) history = AreEnds profile slot place.client place.address history
+IsClient profile slot place history = ⊥
 
 -- a datagram carries a piece of a message that was begun, and has its bytes
 pub record IsPiece (header : Header) (messages : ℕ → List ℕ) (last : ℕ) (tag : Tag) : Type 0 where
@@ -180,11 +181,10 @@ pub record Facts (profile : Profile) (whole : Whole) : Type 0 where
   pub by : whole.ends.server.profile ≡ profile
   pub slots : length whole.ends.server.slots ≡ places
   pub clients : length whole.ends.clients ≡ places
-  pub addresses : length whole.ends.addresses ≡ places
   pub histories : length whole.histories ≡ places
   pub map : IsMap profile whole.ends.server.map
   pub each : (c : ℕ) → c < places
-      → IsClient profile (slot_at whole.ends.server c) (client_at whole.ends c) (address_at whole.ends c) (history_at whole.histories c)
+      → IsClient profile (slot_at whole.ends.server c) (place_at whole.ends c) (history_at whole.histories c)
   pub found : (c : ℕ) (slot : SlotState) → slot_at whole.ends.server c ≡ Some slot
       → sender_of whole.ends.server slot.address.host slot.qport ≡ Some c
   pub sent : (k : ℕ) (d : Tag) → k < length whole.sent → IsSent profile whole.histories (slice_index_or whole.sent k d)
@@ -259,20 +259,16 @@ pub record AreJoined (profile : Profile) (map : MapState) (slot : SlotState) (cl
   pub since : AreSince history.games client.moves
 
 -- of a client that is at both ends
-abbrev pub IsJoined : Profile → MapState → Option SlotState → Option ClientState → History → Type 0
-IsJoined profile map (Some slot) (Some client) history = AreJoined profile map slot client history
-IsJoined profile map slot client history = Unit {0}
+abbrev pub IsJoined : Profile → MapState → Option SlotState → Option Place → History → Type 0
+IsJoined profile map (Some slot) (Some place) history = AreJoined profile map slot place.client history
+IsJoined profile map slot place history = Unit {0}
 
 -- of every client
 abbrev pub AllJoined : Profile → Whole → Type 0
 AllJoined profile whole = (c : ℕ) → c < places
-    → IsJoined profile whole.ends.server.map (slot_at whole.ends.server c) (client_at whole.ends c) (history_at whole.histories c)
+    → IsJoined profile whole.ends.server.map (slot_at whole.ends.server c) (place_at whole.ends c) (history_at whole.histories c)
 
 -- ---- the two worlds
-
--- the bytes of a tag
-abbrev pub bytes_of : Tag → SentBytes
-bytes_of tag = record { client = tag.client; direction = tag.direction; bytes = tag.bytes }
 
 -- the ends are the same, each datagram has the bytes of its tag, and, as long as no line handed other bytes to an end, all of the
 -- above holds

@@ -1,6 +1,7 @@
 -- The whole world: both ends, and what nothing wipes. A step delivers a datagram by its tag: what arrives is the message that was
 -- begun under its number. Once a line handed other bytes to an end, it delivers a datagram by its bytes.
-use Rattle.std.specs.Prelude.{ℕ, ◌+◌, ◌-◌, if◌then◌else◌, Bool, true, false, List, [], ◌∷◌, ◌++◌, length, map, replicate, Option, Some, None, Ok, Err, slice_get, slice_set, slice_index_or}
+use Rattle.std.specs.Prelude.{ℕ, ◌+◌, ◌-◌, if◌then◌else◌, Bool, true, false, List, [], ◌∷◌, ◌++◌, length, map, replicate, Option, Some, None, option_map, Ok, Err, slice_get, slice_set, slice_index_or}
+use Rattle.std.specs.List.{range_with_len}
 use Rattle.q3_profile.specs.declared.profile.Profile.{Profile}
 use Rattle.q3_io.specs.declared.address.Address.{Address}
 use Rattle.q3_player.specs.Heads.{empty_head}
@@ -13,32 +14,34 @@ use Rattle.q3_text.specs.declared.text.Command.{Command}
 use Rattle.q3_clmsg.specs.declared.moves.Move.{Move}
 use Rattle.q3_clmsg.specs.Values.{empty_message}
 use Rattle.q3_ring.specs.Snapshot.{Snapshot}
-use Rattle.q3_slot.specs.declared.taking.ServerTook.TheVariants.{Stranger}
-use Rattle.q3_built.specs.Built.{Built, built_of, built_bytes, plain_bytes}
-use Rattle.q3_slot.specs.Slot.{SlotState}
-use Rattle.std.specs.List.{range_with_len}
-use Rattle.std.specs.Option.{option_map}
 use Rattle.q3_entity.specs.Baselines.{no_lines}
 use Rattle.q3_config.specs.Laws.{piece_texts}
 use Rattle.q3_gamestate.specs.Values.{Gamestate}
 use Rattle.q3_svmsg.specs.Values as told
 use Rattle.q3_svmsg.specs.Values.{Told}
-use Rattle.q3_slot.specs.Slot.{is_connected}
+use Rattle.q3_built.specs.Built.{Built, built_of, built_bytes, plain_bytes}
+use Rattle.q3_slot.specs.declared.taking.ServerTook.TheVariants.{Stranger}
+use Rattle.q3_slot.specs.Slot.{SlotState, is_connected}
 use Rattle.q3_slot.specs.Taking.{came_as}
+use Rattle.q3_slot.specs.Taking as by_slot
 use Rattle.q3_client.specs.declared.client.ClientTook.{ClientTook}
 use Rattle.q3_client.specs.declared.client.ClientTook.TheVariants as took
-use Rattle.q3_lines.specs.ServerLines.{Run}
-use Rattle.q3_server.specs.Server.{ServerState, Emission, places, slot_at, emit_at, is_same}
-use Rattle.q3_slot.specs.Taking as by_slot
-use Rattle.q3_server.specs.Taking as hears
-use Rattle.q3_client.specs.Client.{ClientState, Taken, receive_message, take_gathered}
+use Rattle.q3_client.specs.Client.{Taken, receive_message, take_gathered}
 use Rattle.q3_client.specs.Sending as speaks
 use Rattle.q3_client.specs.Sending.{Said, said_bytes}
-use Rattle.q3_report.specs.declared.answer.Answer.{Answer}
-use Rattle.q3_report.specs.declared.answer.Answer.TheVariants as answer
+use Rattle.q3_lines.specs.ServerLines.{Run}
+use Rattle.q3_server.specs.Server.{ServerState, Emission, places, slot_at, emit_at, is_same}
+use Rattle.q3_server.specs.Taking as hears
+use Rattle.q3_report.specs.declared.answer.HandedIn.TheVariants as handed
+use Rattle.q3_report.specs.declared.answer.Front.TheVariants as fronts
+use Rattle.q3_report.specs.Answers.{Answered, Given, Served, SentOut, Untaken, Bytes}
+use Rattle.q3_ends.specs.AtServer.{ran_of}
 use Rattle.q3_world.specs.declared.made.Direction.{Direction}
 use Rattle.q3_world.specs.declared.made.Direction.TheVariants.{ToClient, ToServer}
-use Rattle.q3_world.specs.Ends.{Ends, EndsStep, EndsTook, Answered, answered, client_at, with_client, address_at, new_ends, served, sent, unknown, told_bytes, delivered, ran, ran_of, client_takes, server_takes, hand_client, hand_server, join, set_port, new_map, set_baseline, set_config, set_time, set_entity, remove_entity, set_player, set_area, say_command, type_command, add_move, show}
+use Rattle.q3_world.specs.Ends as by_ends
+use Rattle.q3_world.specs.declared.places.Place.{Place}
+use Rattle.q3_world.specs.Ends.{Ends, EndsStep, place_at, with_client, new_ends, Line, Hands, Serves, Sends, Delivers, TellsBytes, HandsBytes, line_of}
+use Rattle.q3_world.specs.Kept.{SentBytes, deliver_at}
 
 -- a datagram that was made: the client that it is for or comes from, which of the two, its message's number, which of its
 -- pieces it carries, and its bytes
@@ -57,6 +60,10 @@ pub record Played : Type 0 where
   pub accepted : ℕ
   pub executed : ℕ
   pub time : ℕ
+
+-- what is kept of it
+abbrev pub bytes_of : Tag → SentBytes
+bytes_of tag = record { client = tag.client; direction = tag.direction; bytes = tag.bytes }
 
 -- of one client: the qport and the host that it joined with, the messages that the server began for it, the one under number
 -- 1 first, the gamestates that it applied, the snapshots that it accepted, the messages that it began, the moves that it issued, and
@@ -135,8 +142,8 @@ said_at said number = slice_index_or said (number - 1) no_said
 -- ---- what is noted of a client
 
 -- how it joined, if it did
-abbrev pub with_joined : History → ℕ → Address → Answer → History
-with_joined history qport address (answer.Client c (Ok x)) = record history { qport = qport; host = address.host }
+abbrev pub with_joined : History → ℕ → Address → Answered → History
+with_joined history qport address (Given (handed.Client c (Ok x))) = record history { qport = qport; host = address.host }
 with_joined history qport address other = history
 
 -- a message that the server began for it, if it did
@@ -172,8 +179,8 @@ with_game history number time (Some game) = record history {
 }
 
 -- a command that the server issued for it, if it did
-abbrev pub with_spoken : History → List ℕ → Answer → History
-with_spoken history text (answer.Say c (Ok number)) = record history { server_commands = history.server_commands ++ text ∷ [] }
+abbrev pub with_spoken : History → List ℕ → Answered → History
+with_spoken history text (Given (handed.Say c (Ok number))) = record history { server_commands = history.server_commands ++ text ∷ [] }
 with_spoken history text other = history
 
 -- the commands of a config change that the client in a slot is told, if there is one
@@ -187,14 +194,14 @@ with_texts_told server texts histories =
     map (λ c. record (history_at histories c) { server_commands = (history_at histories c).server_commands ++ texts_told texts (slot_at server c) }) (range_with_len 0 places)
 
 -- if it did; a change to the text that was there issues nothing
-abbrev pub with_told : ServerState → ℕ → List ℕ → Answer → List History → List History
-with_told server index text (answer.Config i (Ok x)) histories =
+abbrev pub with_told : ServerState → ℕ → List ℕ → Answered → List History → List History
+with_told server index text (Given (handed.Config i (Ok x))) histories =
     if is_same server.map index text then histories else with_texts_told server (piece_texts index text) histories
 with_told server index text other histories = histories
 
 -- a command that it issued, if it did
-abbrev pub with_typed : History → List ℕ → Answer → History
-with_typed history text (answer.TypeText c (Ok number)) = record history { client_commands = history.client_commands ++ text ∷ [] }
+abbrev pub with_typed : History → List ℕ → Answered → History
+with_typed history text (Given (handed.TypeText c (Ok number))) = record history { client_commands = history.client_commands ++ text ∷ [] }
 with_typed history text other = history
 
 -- a message that it began, if it did
@@ -203,8 +210,8 @@ with_said history None = history
 with_said history (Some said) = record history { said = history.said ++ said ∷ [] }
 
 -- a move that it issued, if it did
-abbrev pub with_issued : History → Move → Answer → History
-with_issued history one (answer.Move c (Ok x)) = record history { issued = history.issued ++ one ∷ [] }
+abbrev pub with_issued : History → Move → Answered → History
+with_issued history one (Given (handed.Move c (Ok x))) = record history { issued = history.issued ++ one ∷ [] }
 with_issued history one other = history
 
 -- the commands that the server executed, and the moves that it ran
@@ -212,28 +219,24 @@ abbrev pub with_run : History → Run → History
 with_run history ran =
     record history { run = history.run ++ ran.moves; server_executed = history.server_executed ++ texts_of ran.commands }
 
+-- what is noted of a line that hands something in, by its answer
+abbrev pub noted : ServerState → List History → Event → Answered → List History
+noted server histories (events.Client c challenge qport dup address) answer = with_history histories c (with_joined (history_at histories c) qport address answer)
+noted server histories (events.Config index text) answer = with_told server index text answer histories
+noted server histories (events.Say c text) answer = with_history histories c (with_spoken (history_at histories c) text answer)
+noted server histories (events.TypeText c text) answer = with_history histories c (with_typed (history_at histories c) text answer)
+noted server histories (events.Move c one) answer = with_history histories c (with_issued (history_at histories c) one answer)
+noted server histories other answer = histories
+
 -- ---- events
 
 -- before the first event
 unfoldable pub opening : Profile → Whole
 opening profile = record { ends = new_ends profile; histories = replicate places no_history; sent = []; foreign = false }
 
--- what the game handed in, or read
-abbrev pub with_ends : Whole → EndsStep → Step
-with_ends whole step = record { whole = record whole { ends = step.ends }; answer = answered step.ends step.answer }
-
--- and what is noted of a client with it
-abbrev pub with_noted : Whole → ℕ → EndsStep → (Answer → History) → Step
-with_noted whole c step note =
-    record {
-      whole = record whole { ends = step.ends; histories = with_history whole.histories c (note step.answer) };
-      answer = answered step.ends step.answer;
-    }
-
--- and what is noted of every client with it
-abbrev pub with_all : Whole → EndsStep → (Answer → List History → List History) → Step
-with_all whole step note =
-    record { whole = record whole { ends = step.ends; histories = note step.answer whole.histories }; answer = answered step.ends step.answer }
+-- something was handed in, or a client shown, and this is noted
+abbrev pub with_noted : Whole → List History → EndsStep → Step
+with_noted whole histories step = record { whole = record whole { ends = step.ends; histories = histories }; answer = step.answer }
 
 -- the tags, and behind them that of what an emission for a client, or of a client, hands out
 abbrev pub sent_after : List Tag → ℕ → Direction → Option Piece → List Tag
@@ -250,25 +253,25 @@ serve whole c emission =
         histories = with_history whole.histories c (with_built (history_at whole.histories c) emission.began);
         sent = sent_after whole.sent c ToClient emission.piece;
       };
-      answer = served c emission.answer (length whole.sent + 1);
+      answer = Served c emission.answer (length whole.sent + 1);
     }
 
 -- a client makes a datagram, which gets a tag if it is handed out
-abbrev pub say : Whole → ℕ → speaks.Emission → Step
-say whole c emission =
+abbrev pub say : Whole → ℕ → Place → speaks.Emission → Step
+say whole c place emission =
     record {
       whole = record whole {
-        ends = with_client whole.ends c emission.client;
+        ends = with_client whole.ends c place emission.client;
         histories = with_history whole.histories c (with_said (history_at whole.histories c) emission.began);
-        sent = sent_after whole.sent c (ToServer (address_at whole.ends c)) emission.piece;
+        sent = sent_after whole.sent c (ToServer place.address) emission.piece;
       };
-      answer = sent c (Ok emission.answer) (length whole.sent + 1);
+      answer = SentOut c (Ok emission.answer) (length whole.sent + 1);
     }
 
 -- a datagram of the client at a place, if there is one
-abbrev pub send : Whole → ℕ → Option ClientState → Step
-send whole c None = record { whole = whole; answer = sent c (Err (record {})) (length whole.sent + 1) }
-send whole c (Some from) = say whole c (speaks.emit_at from)
+abbrev pub send : Whole → ℕ → Option Place → Step
+send whole c None = record { whole = whole; answer = SentOut c (Err (record {})) (length whole.sent + 1) }
+send whole c (Some place) = say whole c place (speaks.emit_at place.client)
 
 -- the message that the tag of a datagram for a client names
 abbrev pub named : List History → Tag → Built
@@ -285,24 +288,19 @@ with_taken history number section taken =
     with_game (with_heard history taken.accepted taken.heard) number taken.client.last_time (game_in taken.answer section)
 
 -- a client took a datagram of the message under a number, which has this section
-abbrev pub client_took : Whole → ℕ → ℕ → ℕ → Told → Taken → Step
-client_took whole datagram c number section taken =
-    record {
-      whole = record whole {
-        ends = with_client whole.ends c taken.client;
-        histories = with_history whole.histories c (with_taken (history_at whole.histories c) number section taken);
-      };
-      answer = delivered datagram c taken.client.state taken.answer taken.heard;
-    }
+abbrev pub client_took : Whole → ℕ → ℕ → Place → ℕ → Told → Taken → Step
+client_took whole datagram c place number section taken =
+    with_noted whole (with_history whole.histories c (with_taken (history_at whole.histories c) number section taken))
+    (by_ends.client_took whole.ends c (fronts.Deliver datagram) place taken)
 
 -- a datagram arrives at its client, by its tag: the number and the piece decide what it does, and of a message that comes
 -- whole the client applies the value that was built
-abbrev pub to_client : Profile → Whole → ℕ → Tag → Option ClientState → Step
-to_client profile whole datagram tag None = record { whole = whole; answer = unknown datagram }
-to_client profile whole datagram tag (Some client) =
-    client_took whole datagram tag.client tag.number (named whole.histories tag).message.section
-    (take_gathered client (tagged client.gathering tag.number (built_bytes profile (named whole.histories tag)) tag.index)
-    (λ n. Ok (receive_message client n (named whole.histories tag).message (plain_bytes profile (named whole.histories tag)))))
+abbrev pub to_client : Profile → Whole → ℕ → Tag → Option Place → Step
+to_client profile whole datagram tag None = record { whole = whole; answer = Untaken (fronts.Deliver datagram) }
+to_client profile whole datagram tag (Some place) =
+    client_took whole datagram tag.client place tag.number (named whole.histories tag).message.section
+    (take_gathered place.client (tagged place.client.gathering tag.number (built_bytes profile (named whole.histories tag)) tag.index)
+    (λ n. Ok (receive_message place.client n (named whole.histories tag).message (plain_bytes profile (named whole.histories tag)))))
 
 -- the message that the tag of a client's datagram names
 abbrev pub said_under : List History → Tag → Said
@@ -311,13 +309,8 @@ said_under histories tag = said_at (history_at histories tag.client).said tag.nu
 -- the server took a datagram of a client, and what it ran is noted
 abbrev pub server_took : Whole → ℕ → ℕ → hears.Taken → Step
 server_took whole number c taken =
-    record {
-      whole = record whole {
-        ends = record whole.ends { server = taken.server };
-        histories = with_history whole.histories c (with_run (history_at whole.histories c) (ran_of taken));
-      };
-      answer = ran number taken.answer (ran_of taken);
-    }
+    with_noted whole (with_history whole.histories c (with_run (history_at whole.histories c) (ran_of taken)))
+    (by_ends.server_took whole.ends (fronts.Deliver number) taken)
 
 -- a client's datagram comes to its slot, from an address, by its tag: of a message that comes whole the slot runs the value
 -- that the client began
@@ -332,69 +325,47 @@ to_server profile whole number tag from (Some slot) =
 
 -- a datagram arrives at the end that it goes to
 abbrev pub arrive : Profile → Whole → ℕ → Tag → Direction → Step
-arrive profile whole number tag ToClient = to_client profile whole number tag (client_at whole.ends tag.client)
+arrive profile whole number tag ToClient = to_client profile whole number tag (place_at whole.ends tag.client)
 arrive profile whole number tag (ToServer from) = to_server profile whole number tag from (slot_at whole.ends.server tag.client)
 
 -- the datagram of a number, if it was made, arrives
 abbrev pub deliver : Profile → Whole → ℕ → Option Tag → Step
-deliver profile whole number None = record { whole = whole; answer = unknown number }
+deliver profile whole number None = record { whole = whole; answer = Untaken (fronts.Deliver number) }
 deliver profile whole number (Some tag) = arrive profile whole number tag tag.direction
 
 -- ---- bytes arrive
 
 -- an end took bytes. What is noted of clients stays as it is: of what comes behind bytes that no end made nothing is noted
-abbrev pub with_took : Whole → EndsTook → Step
-with_took whole took = record { whole = record whole { ends = took.ends }; answer = took.answer }
-
--- a datagram arrives by its bytes at the end that it goes to
-abbrev pub arrive_bytes : Whole → ℕ → Tag → Direction → Step
-arrive_bytes whole number tag ToClient =
-    with_took whole
-    (client_takes whole.ends tag.client tag.bytes (λ took. answer.Deliver number tag.client took) (answer.Unknown number) (client_at whole.ends tag.client))
-arrive_bytes whole number tag (ToServer from) = with_took whole (server_takes whole.ends from tag.bytes (λ took. answer.ToServer number took))
-
--- the datagram of a number, if it was made, arrives by its bytes
-abbrev pub deliver_bytes : Whole → ℕ → Option Tag → Step
-deliver_bytes whole number None = record { whole = whole; answer = unknown number }
-deliver_bytes whole number (Some tag) = arrive_bytes whole number tag tag.direction
+abbrev pub with_took : Whole → EndsStep → Step
+with_took whole step = record { whole = record whole { ends = step.ends }; answer = step.answer }
 
 -- a datagram arrives by its bytes once a line handed other bytes to an end, and by its tag before
 abbrev pub deliver_as : Bool → Profile → Whole → ℕ → Option Tag → Step
 deliver_as false profile whole number found = deliver profile whole number found
-deliver_as true profile whole number found = deliver_bytes whole number found
+deliver_as true profile whole number found = with_took whole (deliver_at whole.ends number (option_map bytes_of found))
 
 -- the bytes of the datagram of a number, if it was made
 abbrev pub sent_bytes : List Tag → ℕ → Option (List ℕ)
 sent_bytes sent number = option_map (λ (tag : Tag). tag.bytes) (slice_get sent (number - 1))
 
 -- a line hands bytes to an end, where its client is there; with no such client nothing is handed over
-abbrev pub with_handed : Whole → Option ClientState → EndsTook → Step
-with_handed whole None took = with_took whole took
-with_handed whole (Some client) took = record { whole = record whole { ends = took.ends; foreign = true }; answer = took.answer }
+abbrev pub with_handed : Whole → Option Place → EndsStep → Step
+with_handed whole None step = with_took whole step
+with_handed whole (Some place) step = record { whole = record whole { ends = step.ends; foreign = true }; answer = step.answer }
+
+-- what a line does, where this is noted of what it hands in
+abbrev pub whole_line : Profile → Whole → (Answered → List History) → Line → Step
+whole_line profile whole note (Hands step) = with_noted whole (note step.answer) step
+whole_line profile whole note (Serves c) = serve whole c (emit_at whole.ends.server c)
+whole_line profile whole note (Sends c) = send whole c (place_at whole.ends c)
+whole_line profile whole note (Delivers number) = deliver_as whole.foreign profile whole number (slice_get whole.sent (number - 1))
+whole_line profile whole note (TellsBytes number) = record { whole = whole; answer = Bytes number (sent_bytes whole.sent number) }
+whole_line profile whole note (HandsBytes c step) = with_handed whole (place_at whole.ends c) step
 
 -- one event
 unfoldable pub step : Profile → Whole → Event → Step
-step profile whole (events.Client c challenge qport dup address) =
-    with_noted whole c (join profile whole.ends c challenge qport dup address) (with_joined (history_at whole.histories c) qport address)
-step profile whole (events.Port c port) = with_ends whole (set_port whole.ends c port)
-step profile whole (events.Map id feed) = with_ends whole (new_map whole.ends id feed)
-step profile whole (events.Baseline state) = with_ends whole (set_baseline whole.ends state)
-step profile whole (events.Config index text) = with_all whole (set_config whole.ends index text) (with_told whole.ends.server index text)
-step profile whole (events.Entity state) = with_ends whole (set_entity whole.ends state)
-step profile whole (events.Remove number) = with_ends whole (remove_entity whole.ends number)
-step profile whole (events.Player c player) = with_ends whole (set_player whole.ends c player)
-step profile whole (events.Area c area) = with_ends whole (set_area whole.ends c area)
-step profile whole (events.Time time) = with_ends whole (set_time whole.ends time)
-step profile whole (events.Say c text) = with_noted whole c (say_command whole.ends c text) (with_spoken (history_at whole.histories c) text)
-step profile whole (events.TypeText c text) = with_noted whole c (type_command whole.ends c text) (with_typed (history_at whole.histories c) text)
-step profile whole (events.Move c one) = with_noted whole c (add_move whole.ends c one) (with_issued (history_at whole.histories c) one)
-step profile whole (events.Serve c) = serve whole c (emit_at whole.ends.server c)
-step profile whole (events.Send c) = send whole c (client_at whole.ends c)
-step profile whole (events.Deliver number) = deliver_as whole.foreign profile whole number (slice_get whole.sent (number - 1))
-step profile whole (events.Show c) = with_ends whole (show whole.ends c)
-step profile whole (events.Bytes number) = record { whole = whole; answer = told_bytes number (sent_bytes whole.sent number) }
-step profile whole (events.Toclient c bytes) = with_handed whole (client_at whole.ends c) (hand_client whole.ends c bytes)
-step profile whole (events.Toserver c bytes) = with_handed whole (client_at whole.ends c) (hand_server whole.ends c bytes)
+step profile whole event =
+    whole_line profile whole (λ answer. noted whole.ends.server whole.histories event answer) (line_of profile whole.ends event)
 
 -- the world after these events
 unfoldable pub after : Profile → Whole → List Event → Whole

@@ -1,13 +1,13 @@
 //! What a replay counts: the lines of its report, by their kind.
 
-ghost use Rattle.std.specs.Prelude.{◌≡◌, ℕ};
+ghost use Rattle.std.specs.Prelude.{◌≡◌};
 ghost use Rattle.q3_lines.specs.ServerLines.{run_of};
-ghost use Rattle.q3_report.specs.AnswerLines.{ran_with};
+ghost use Rattle.q3_report.specs.Tellings.{answered_of};
 ghost use Rattle.q3_world.specs.Counts.{no_counts, made_served, made_sent, accepted_in, skipped_in, lines_of_client, lines_of_server, lines_in, with_lines};
 
 use q3_client::{ClientTook, Sent};
 use q3_clstate::{Log, SnapOutcome};
-use q3_report::Answer;
+use q3_report::{Answer, Taker};
 use q3_server::{Emitted, Heard, ServerTook};
 
 /// Lines of a report, by their kind. Each count stops at 2^64 - 1.
@@ -106,21 +106,19 @@ impl Counts {
     }
 }
 
-/// The lines of an answer, with what was executed and run.
-pub(crate) fn lines_in(answer: &Answer, log: &Log, heard: &Heard) -> Counts
-    ensures { result ≡ lines_in answer.now (ran_with answer.now log.now heard.now) }
+/// The lines of an answer.
+pub(crate) fn lines_in(answer: &Answer) -> Counts
+    ensures { result ≡ lines_in (answered_of answer.now) }
 {
     match answer {
         Answer::Serve { emitted, .. } => Counts::of_making(made_served(emitted)),
         Answer::Send { sent: Ok(sent), .. } => Counts::of_making(made_sent(sent)),
-        Answer::Deliver { took, .. } => lines_of_client(took, log),
-        Answer::Toclient {
-            outcome: Ok(took),
+        Answer::Took {
+            taker: Taker::Client { took, log, .. },
             ..
         } => lines_of_client(took, log),
-        Answer::ToServer { took, .. } => lines_of_server(took, heard),
-        Answer::Toserver {
-            outcome: Ok(took),
+        Answer::Took {
+            taker: Taker::Server { took, heard },
             ..
         } => lines_of_server(took, heard),
         _ => Counts::of_making(0),

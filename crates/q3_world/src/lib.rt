@@ -2,11 +2,13 @@
 #![tactic(auto)]
 
 pub mod counts;
+mod ends;
 pub mod laws;
 mod made;
 mod places;
-mod replay;
+pub mod told;
 pub mod world;
 
 pub use counts::Counts;
-pub use world::{StepError, World};
+pub use told::StepError;
+pub use world::World;

@@ -3,18 +3,11 @@
 ghost use Rattle.std.specs.Prelude.{◌≡◌, ◌<◌, ◌≤◌, ◌+◌, [], length, vec_capacity, Option, OnOk, IfOk};
 ghost use Rattle.q3_chan.specs.Sending.{Piece, HandsOut};
 ghost use Rattle.q3_server.specs.Server.{places};
-ghost use Rattle.q3_slot.specs.declared.taking.Heard.{Heard as HeardValue};
-ghost use Rattle.q3_world.specs.Ends.{client_at, hand_client};
-ghost use Rattle.q3_world.specs.Executed.{answered_with};
-ghost use Rattle.q3_world.specs.Kept.{Kept, datagrams_after, kept_took, kept_to_client, kept_arrive};
+ghost use Rattle.q3_world.specs.Kept.{datagrams_after};
 
 use q3_bits::NoMemory;
 use q3_chan::{DATAGRAM_ROOM, Datagram};
-use q3_client::Client;
-use q3_clstate::Log;
 use q3_io::Address;
-use q3_report::Answer;
-use q3_server::{Heard, NoClient, Server};
 use std::alloc::Global;
 use std::marker::Model;
 
@@ -82,79 +75,5 @@ pub(crate) fn keep(
                 bytes,
             })
             .unwrap();
-    }
-}
-
-/// The end that a datagram goes to takes it, and tells what it executed and ran in its own list.
-pub(crate) fn arrive(
-    server: &mut Server,
-    clients: &mut Vec<Option<Client>>,
-    number: u32,
-    sent: &Made,
-    log: &mut Log,
-    heard: &mut Heard,
-) -> Answer
-    requires places { length clients.old.items ≡ places }
-    ensures places { length clients.new.items ≡ places }
-    ensures takes { (kept : Kept) → kept.ends.server ≡ server.old → kept.ends.clients ≡ clients.old.items → kept_arrive kept number sent.now sent.now.direction
-        ≡ record {
-          kept = record kept { ends = record kept.ends { server = server.new; clients = clients.new.items } };
-          answer = answered_with (record kept { ends = record kept.ends { server = server.new; clients = clients.new.items } }) result log.new heard.new;
-        } }
-{
-    match sent.direction {
-        Direction::ToClient => to_client(clients, number, sent, log),
-        Direction::ToServer { from } => Answer::ToServer {
-            datagram: number,
-            took: server.take(from, &sent.bytes, heard),
-        },
-    }
-}
-
-/// The client that a datagram is for takes it.
-fn to_client(clients: &mut Vec<Option<Client>>, number: u32, sent: &Made, log: &mut Log) -> Answer
-    requires { length clients.old.items ≡ places }
-    ensures places { length clients.new.items ≡ places }
-    ensures takes { (kept : Kept) → (heard : HeardValue) → kept.ends.clients ≡ clients.old.items → kept_to_client kept number sent.now (client_at kept.ends sent.now.client)
-        ≡ record {
-          kept = record kept { ends = record kept.ends { clients = clients.new.items } };
-          answer = answered_with (record kept { ends = record kept.ends { clients = clients.new.items } }) result log.new heard;
-        } }
-{
-    let Some(client) = &mut clients[sent.client as usize] else {
-        return Answer::Unknown { datagram: number };
-    };
-    Answer::Deliver {
-        datagram: number,
-        c: sent.client,
-        took: client.take(&sent.bytes, log),
-    }
-}
-
-/// Bytes are handed to a client, if it is there.
-pub(crate) fn hand_client(
-    clients: &mut Vec<Option<Client>>,
-    c: u8,
-    bytes: &[u8],
-    log: &mut Log,
-) -> Answer
-    requires place { c < places }
-    requires places { length clients.old.items ≡ places }
-    ensures places { length clients.new.items ≡ places }
-    ensures takes { (kept : Kept) → (heard : HeardValue) → kept.ends.clients ≡ clients.old.items → kept_took kept (hand_client kept.ends c bytes.now)
-        ≡ record {
-          kept = record kept { ends = record kept.ends { clients = clients.new.items } };
-          answer = answered_with (record kept { ends = record kept.ends { clients = clients.new.items } }) result log.new heard;
-        } }
-{
-    let Some(client) = &mut clients[c as usize] else {
-        return Answer::Toclient {
-            c,
-            outcome: Err(NoClient),
-        };
-    };
-    Answer::Toclient {
-        c,
-        outcome: Ok(client.take(bytes, log)),
     }
 }

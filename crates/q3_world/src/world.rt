@@ -1,59 +1,67 @@
 //! Both ends over a schedule of events: the world of a replay.
 
-ghost use Rattle.std.specs.Prelude.{◌≡◌, ◌+◌, ◌<◌, ◌≤◌, length, IfOk, OnOk, IsErrOf};
+ghost use Rattle.std.specs.Prelude.{◌≡◌, ◌+◌, ◌-◌, ◌<◌, ◌≤◌, length, slice_get, option_map, IfOk, IfSome, IsSome, OnOk, IsErrOf};
 ghost use Rattle.q3_profile.specs.declared.profile.Profile.{Profile as ProfileValue};
 ghost use Rattle.q3_profile.specs.Profile.{IsProfile};
 ghost use Rattle.q3_script.specs.Grammar.{IsReplayEvent};
 ghost use Rattle.q3_io.specs.Written.{NothingWaits};
+ghost use Rattle.q3_server.specs.Server.{places, emit_at};
+ghost use Rattle.q3_report.specs.AnswerLines.{lines_of};
+ghost use Rattle.q3_report.specs.Answers.{Bytes};
+ghost use Rattle.q3_report.specs.Tellings.{answered_of};
 ghost use Rattle.q3_world.specs.Counts.{no_counts, counted};
-ghost use Rattle.q3_world.specs.Kept.{most_datagrams, kept_step};
+ghost use Rattle.q3_world.specs.Ends.{place_at, step_in, line_of};
+ghost use Rattle.q3_world.specs.Kept.{most_datagrams, deliver_at, kept_bytes, kept_ends, kept_serve, kept_send, kept_step};
 ghost use Rattle.q3_world.specs.World.{Whole, opening, step as step_of};
 ghost use Rattle.q3_world.specs.StandsFor.{StandsFor};
-ghost use Rattle.q3_world.specs.Report.{answer_text};
 ghost use Rattle.q3_world.specs.Outcome.{TakesMemory, Prints, HasStepCause};
 
-use crate::counts::{Counts, lines_in};
+use crate::counts::Counts;
+use crate::ends::Ends;
 use crate::laws;
-use crate::replay::Replay;
+use crate::made::{Made, room_for_one};
+use crate::told::{StepError, tell};
 use q3_bits::NoMemory;
 use q3_clstate::Log;
-use q3_io::{Failed, Files, Sink};
+use q3_io::{Files, Sink};
 use q3_profile::Profile;
-use q3_report::print_answer;
+use q3_report::Answer;
 use q3_script::Event;
 use q3_server::Heard;
 use q3_text::Commands;
 use std::alloc::Global;
 use std::marker::Model;
 
-/// Why a step failed.
-#[derive(Clone, Copy, Debug, PartialEq, Eq)]
-pub enum StepError {
-    /// Want of memory, at an event that makes a client or a datagram; the world is as it was.
-    NoMemory,
-    /// The sink failed, and took a front of the event's lines.
-    WriteFault,
-}
-
-/// A replay of a schedule: a copy of the profile, a server, a client for each added slot, every datagram that was made, and
+/// A replay of a schedule: a copy of the profile, a server and each client that was added, every datagram that was made, and
 /// what a client, and the server, executed and ran last, in boxes, and counts of the lines that were printed.
 #[derive(Drop)]
 pub struct World {
-    replay: Replay,
+    alloc: Global,
+    profile: Profile,
+    ends: Ends,
+    datagrams: Vec<Made>,
     counts: Counts,
     log: Box<Log>,
     heard: Box<Heard>,
 }
 
 impl Model for World {
+    ghost use Rattle.q3_profile.specs.Profile.{IsProfile};
     ghost use Rattle.q3_world.specs.Counts.{Counting};
 
     ghost Value = { Counting };
 
-    ghost view = { λ w. record { kept = w.replay; counts = w.counts } };
+    ghost view = { λ w. record {
+      kept = record { profile = w.profile; ends = w.ends; datagrams = w.datagrams.items };
+      counts = w.counts;
+    } };
+
+    ghost invariant = { λ w. IsProfile w.profile };
 }
 
 impl World {
+    ghost use Rattle.q3_world.specs.Doing.{Does};
+
     /// A world by this profile, with no client, nothing sent, and the time 0. `Err` is want of memory.
     pub fn new(alloc: Global, profile: &Profile) -> Result<World, NoMemory>
         requires { IsProfile profile.now }
@@ -61,16 +69,20 @@ impl World {
         ensures counts { IfOk result (λ world. world.counts ≡ no_counts) }
     {
         laws::layers();
+        let copy = profile.copy()?;
+        let ends = Ends::new(alloc, profile)?;
+        let commands = Commands::new(alloc)?;
+        let log = Box::new(alloc, Log { commands })?;
+        let heard = Heard::new(alloc)?;
+        let heard = Box::new(alloc, heard)?;
         Ok(World {
-            replay: Replay::new(alloc, profile)?,
+            alloc,
+            profile: copy,
+            ends,
+            datagrams: Vec::new(alloc),
             counts: Counts::none(),
-            log: Box::new(
-                alloc,
-                Log {
-                    commands: Commands::new(alloc)?,
-                },
-            )?,
-            heard: Box::new(alloc, Heard::new(alloc)?)?,
+            log,
+            heard,
         })
     }
 
@@ -91,9 +103,9 @@ impl World {
         ensures counts { OnOk result (self.new.counts ≡ counted self.old.counts (kept_step self.old.kept event.now).answer) }
         ensures counts_whole { OnOk result ((profile : ProfileValue) (whole : Whole) → StandsFor profile self.old.kept whole
             → self.new.counts ≡ counted self.old.counts (step_of profile whole event.now).answer) }
-        ensures printed { Prints (O.written out.old) (O.written out.new) (answer_text (kept_step self.old.kept event.now).answer) result }
+        ensures printed { Prints (O.written out.old) (O.written out.new) (lines_of (kept_step self.old.kept event.now).answer) result }
         ensures lines { (profile : ProfileValue) (whole : Whole) → StandsFor profile self.old.kept whole
-            → Prints (O.written out.old) (O.written out.new) (answer_text (step_of profile whole event.now).answer) result }
+            → Prints (O.written out.old) (O.written out.new) (lines_of (step_of profile whole event.now).answer) result }
         ensures flushed { OnOk result (NothingWaits (O.written out.new)) }
         ensures cause { HasStepCause (O.faults out.old) (O.faults out.new) result }
         ensures no_memory { IsErrOf result StepError.NoMemory
@@ -105,18 +117,105 @@ impl World {
         let _ = files;
         // What the clauses on the whole world cite.
         laws::step_follows();
-        let Ok(answer) = self.replay.apply(event, &mut self.log, &mut self.heard) else {
+        self.act(event, out)
+    }
+
+    /// Does one event.
+    #[tactic(auto, unfolding(crate::specs::Kept::kept_step, crate::specs::Ends::line_of, q3_ends::specs::AtServer::server_line))]
+    fn act<O: Sink>(&mut self, event: &Event, out: &mut O) -> Result<(), StepError>
+        requires event { IsReplayEvent event.now }
+        requires few { length self.old.kept.datagrams < most_datagrams }
+        ensures does { Does self.old self.new (O.written out.old) (O.written out.new) (O.faults out.old) (O.faults out.new) (kept_step self.old.kept event.now) result }
+        ensures memory { IsErrOf result StepError.NoMemory → TakesMemory event.now }
+    {
+        match event {
+            Event::Serve { c } => self.serve(*c, out),
+            Event::Send { c } => self.send(*c, out),
+            Event::Deliver { datagram } => self.deliver(*datagram, out),
+            Event::Bytes { datagram } => self.tell_bytes(*datagram, out),
+            _ => self.hand_in(event, out),
+        }
+    }
+
+    /// What a line does that hands something in, hands bytes to an end, or shows a client.
+    fn hand_in<O: Sink>(&mut self, event: &Event, out: &mut O) -> Result<(), StepError>
+        requires event { IsReplayEvent event.now }
+        requires line { IsSome (step_in (line_of self.old.kept.profile self.old.kept.ends event.now)) }
+        ensures does { IfSome (step_in (line_of self.old.kept.profile self.old.kept.ends event.now))
+            (λ step. Does self.old self.new (O.written out.old) (O.written out.new) (O.faults out.old) (O.faults out.new) (kept_ends self.old.kept step) result) }
+        ensures memory { IsErrOf result StepError.NoMemory → TakesMemory event.now }
+    {
+        self.ends.line(
+            self.alloc,
+            &self.profile,
+            event,
+            &mut self.log,
+            &mut self.heard,
+            &mut self.counts,
+            out,
+        )
+    }
+
+    /// The server makes a datagram for a client, whose memory is taken first.
+    #[tactic(auto, using(crate::proofs::Stepped::few_served))]
+    fn serve<O: Sink>(&mut self, c: u8, out: &mut O) -> Result<(), StepError>
+        requires place { c < places }
+        requires few { length self.old.kept.datagrams < most_datagrams }
+        ensures { Does self.old self.new (O.written out.old) (O.written out.new) (O.faults out.old) (O.faults out.new)
+            (kept_serve self.old.kept c (emit_at self.old.kept.ends.server c)) result }
+    {
+        let Ok(bytes) = room_for_one(self.alloc, &mut self.datagrams) else {
             return Err(StepError::NoMemory);
         };
-        let lines = lines_in(&answer, &self.log, &self.heard);
-        self.counts = self.counts.with(lines);
-        let snapshot = self.replay.lent(answer);
-        let taker = self.replay.taker(answer);
-        let bytes = self.replay.bytes(answer);
-        match print_answer(&answer, snapshot, taker, bytes, &self.log, &self.heard, out) {
-            Ok(()) => Ok(()),
-            Err(Failed) => Err(StepError::WriteFault),
-        }
+        self.ends
+            .serve(c, &mut self.datagrams, bytes, &mut self.counts, out)
+    }
+
+    /// A client makes a datagram, whose memory is taken first.
+    #[tactic(auto, using(crate::proofs::Stepped::few_sent))]
+    fn send<O: Sink>(&mut self, c: u8, out: &mut O) -> Result<(), StepError>
+        requires place { c < places }
+        requires few { length self.old.kept.datagrams < most_datagrams }
+        ensures { Does self.old self.new (O.written out.old) (O.written out.new) (O.faults out.old) (O.faults out.new)
+            (kept_send self.old.kept c (place_at self.old.kept.ends c)) result }
+    {
+        let Ok(bytes) = room_for_one(self.alloc, &mut self.datagrams) else {
+            return Err(StepError::NoMemory);
+        };
+        self.ends
+            .send(c, &mut self.datagrams, bytes, &mut self.counts, out)
+    }
+
+    /// A datagram arrives: the end that it goes to takes the stored bytes.
+    fn deliver<O: Sink>(&mut self, number: u32, out: &mut O) -> Result<(), StepError>
+        requires { 1 ≤ number }
+        ensures does { Does self.old self.new (O.written out.old) (O.written out.new) (O.faults out.old) (O.faults out.new)
+            (kept_ends self.old.kept (deliver_at self.old.kept.ends number (slice_get self.old.kept.datagrams (number - 1)))) result }
+        ensures memory { IsErrOf result StepError.NoMemory → ⊥ }
+    {
+        self.ends.deliver(
+            number,
+            &self.datagrams,
+            &mut self.log,
+            &mut self.heard,
+            &mut self.counts,
+            out,
+        )
+    }
+
+    /// The bytes of the datagram of a number are printed, if it was made.
+    fn tell_bytes<O: Sink>(&mut self, number: u32, out: &mut O) -> Result<(), StepError>
+        requires { 1 ≤ number }
+        ensures does { Does self.old self.new (O.written out.old) (O.written out.new) (O.faults out.old) (O.faults out.new)
+            (record { kept = self.old.kept; answer = Bytes number (kept_bytes self.old.kept.datagrams number) }) result }
+        ensures memory { IsErrOf result StepError.NoMemory → ⊥ }
+    {
+        let bytes = bytes_of(&self.datagrams, number);
+        let answer = Answer::Bytes {
+            datagram: number,
+            bytes,
+        };
+        tell(&answer, &mut self.counts, out)
     }
 
     /// What was counted of the lines of all events so far.
@@ -125,4 +224,13 @@ impl World {
     {
         self.counts
     }
+}
+
+/// The bytes of the datagram of a number, if it was made.
+fn bytes_of(datagrams: &[Made], number: u32) -> Option<&[u8]>
+    requires { 1 ≤ number }
+    ensures { option_map (λ bytes. bytes.now) result ≡ kept_bytes datagrams.now number }
+{
+    let sent = datagrams.get(number as usize - 1)?;
+    Some(&sent.bytes)
 }

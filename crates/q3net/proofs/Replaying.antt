@@ -6,8 +6,8 @@ use Rattle.q3_script.specs.declared.event.Event.{Event}
 use Rattle.q3_io.specs.Laws.{TextsFollow}
 use Rattle.q3_io.specs.Written.{Written}
 use Rattle.q3_io.specs.Told.{File, Told, contents_of}
-use Rattle.q3_world.specs.declared.world.StepError.{StepError}
-use Rattle.q3_world.specs.declared.world.StepError.TheVariants as step
+use Rattle.q3_world.specs.declared.told.StepError.{StepError}
+use Rattle.q3_world.specs.declared.told.StepError.TheVariants as step
 use Rattle.q3_world.specs.Kept.{Kept}
 use Rattle.q3_world.specs.World.{opening, answers}
 use Rattle.q3_world.specs.StandsFor.{StandsFor}

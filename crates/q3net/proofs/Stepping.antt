@@ -7,21 +7,21 @@ use Rattle.std.proofs.lemmas.Grind.{flat_map-append}
 use Rattle.std.proofs.Math.Seq.{take-add}
 use Rattle.q3_profile.specs.declared.profile.Profile.{Profile}
 use Rattle.q3_script.specs.declared.event.Event.{Event}
-use Rattle.q3_world.specs.declared.world.StepError.{StepError}
-use Rattle.q3_world.specs.declared.world.StepError.TheVariants as errors
+use Rattle.q3_report.specs.Answers.{Answered}
+use Rattle.q3_report.specs.AnswerLines.{lines_of}
+use Rattle.q3_world.specs.declared.told.StepError.{StepError}
+use Rattle.q3_world.specs.declared.told.StepError.TheVariants as errors
 use Rattle.q3_io.specs.Laws.{TextsFollow}
 use Rattle.q3_io.specs.Written.{Written, Wrote}
 use Rattle.q3_world.specs.Outcome.{Prints}
-use Rattle.q3_world.specs.Ends.{Answered}
 use Rattle.q3_world.specs.Counts.{Counting}
 use Rattle.q3_world.specs.World.{Whole, step, answers}
 use Rattle.q3_world.specs.StandsFor.{StandsFor}
-use Rattle.q3_world.specs.Report.{answer_text}
 use Rattle.q3net.specs.Run.{AddsLines}
 
 -- the lines of these answers
-abbrev pub lines_of : List Answered → List ℕ
-lines_of all = flat_map answer_text all
+abbrev pub all_lines : List Answered → List ℕ
+all_lines all = flat_map lines_of all
 
 -- one event and the others
 pub answers-next : (profile : Profile) (whole : Whole) (event : Event) (events : List Event)
@@ -35,20 +35,20 @@ answers-none profile whole = refl
 
 -- the lines of the first answers, with those of one more, and with those of all others
 lines-more : (all : List Answered) (k : ℕ) (one : Answered) (others : List Answered) → drop k all ≡ one ∷ others
-    → lines_of (take (k + 1) all) ≡ lines_of (take k all) ++ answer_text one
+    → all_lines (take (k + 1) all) ≡ all_lines (take k all) ++ lines_of one
 lines-more all k one others parts =
-    ap lines_of (take-add k 1 all ∙ ap (λ (left : List Answered). take k all ++ take 1 left) parts)
-    ∙ (flat_map-append answer_text (take k all) (one ∷ []) ∙ ap (λ (text : List ℕ). lines_of (take k all) ++ text) (append-nil (answer_text one)))
+    ap all_lines (take-add k 1 all ∙ ap (λ (left : List Answered). take k all ++ take 1 left) parts)
+    ∙ (flat_map-append lines_of (take k all) (one ∷ []) ∙ ap (λ (text : List ℕ). all_lines (take k all) ++ text) (append-nil (lines_of one)))
 
-pub lines-all : (all : List Answered) (k : ℕ) → lines_of all ≡ lines_of (take k all) ++ lines_of (drop k all)
-lines-all all k = ap lines_of (sym (take-append-drop k all)) ∙ flat_map-append answer_text (take k all) (drop k all)
+pub lines-all : (all : List Answered) (k : ℕ) → all_lines all ≡ all_lines (take k all) ++ all_lines (drop k all)
+lines-all all k = ap all_lines (sym (take-append-drop k all)) ∙ flat_map-append lines_of (take k all) (drop k all)
 
 -- the events before the k-th were done, and the lines of their answers written; the other answers are those that come
 abbrev pub HasStepped : Profile → Counting → Counting → Option Written → Option Written → List Event → ℕ → Type 0
 HasStepped profile start now had written events k =
     (whole : Whole) → StandsFor profile start.kept whole
     → (next : Whole) × StandsFor profile now.kept next
-    × Wrote had written (lines_of (take k (answers profile whole events))) true
+    × Wrote had written (all_lines (take k (answers profile whole events))) true
     × (drop k (answers profile whole events) ≡ answers profile next (drop k events))
 
 -- the answers that come are that of the k-th event and the others
@@ -65,7 +65,7 @@ HasStepped-begin follow profile start had events = λ whole begun. (whole, begun
 pub HasStepped-more : (follow : TextsFollow) (profile : Profile) (start now after : Counting) (had written more : Option Written) (events : List Event) (k : ℕ) (event : Event) → event ≡ get_or events k event → k < length events
     → HasStepped profile start now had written events k
     → ((whole : Whole) → StandsFor profile now.kept whole → StandsFor profile after.kept (step profile whole event).whole)
-    → ((whole : Whole) → StandsFor profile now.kept whole → Wrote written more (answer_text (step profile whole event).answer) true)
+    → ((whole : Whole) → StandsFor profile now.kept whole → Wrote written more (lines_of (step profile whole event).answer) true)
     → HasStepped profile start after had more events (k + 1)
 HasStepped-more follow profile start now after had written more events k event is lt stepped stands lines = λ whole begun.
     let was = stepped whole begun in
@@ -82,21 +82,21 @@ HasStepped-more follow profile start now after had written more events k event i
 -- the sink or memory failed at the k-th event
 pub HasStepped-early : (follow : TextsFollow) (profile : Profile) (start now : Counting) (had written more : Option Written) (events : List Event) (k : ℕ) (event : Event) (e : StepError) → event ≡ get_or events k event → k < length events
     → HasStepped profile start now had written events k
-    → ((whole : Whole) → StandsFor profile now.kept whole → Prints written more (answer_text (step profile whole event).answer) (Err e))
+    → ((whole : Whole) → StandsFor profile now.kept whole → Prints written more (lines_of (step profile whole event).answer) (Err e))
     → (whole : Whole) → StandsFor profile start.kept whole → AddsLines (answers profile whole events) had more (Err e)
 HasStepped-early follow profile start now had written more events k event errors.NoMemory is lt stepped lines whole begun =
     let was = stepped whole begun in
-    (k, subst (λ (m : Option Written). Wrote had m (lines_of (take k (answers profile whole events))) true) (sym (lines was.0 was.1)) was.2)
+    (k, subst (λ (m : Option Written). Wrote had m (all_lines (take k (answers profile whole events))) true) (sym (lines was.0 was.1)) was.2)
 HasStepped-early follow profile start now had written more events k event errors.WriteFault is lt stepped lines whole begun =
     let was = stepped whole begun in
     let done = step profile was.0 event in
     let all = answers profile whole events in
     let others = answers profile done.whole (drop (k + 1) events) in
-    let first = lines_of (take k all) in
-    let total : lines_of all ≡ (first ++ answer_text done.answer) ++ lines_of others =
-    lines-all all k ∙ (ap (λ (left : List Answered). first ++ lines_of left) (comes profile all was.0 events k event is lt was.3)
-    ∙ sym (append_assoc first (answer_text done.answer) (lines_of others))) in
-    follow.early (lines_of others) (follow.more was.2 (lines was.0 was.1) refl) total
+    let first = all_lines (take k all) in
+    let total : all_lines all ≡ (first ++ lines_of done.answer) ++ all_lines others =
+    lines-all all k ∙ (ap (λ (left : List Answered). first ++ all_lines left) (comes profile all was.0 events k event is lt was.3)
+    ∙ sym (append_assoc first (lines_of done.answer) (all_lines others))) in
+    follow.early (all_lines others) (follow.more was.2 (lines was.0 was.1) refl) total
 
 -- every event was done
 all_done : (profile : Profile) (start now : Counting) (had written : Option Written) (events : List Event) (k : ℕ) → length events ≤ k
@@ -111,8 +111,8 @@ taken_all all k none = sym (append-nil (take k all)) ∙ (ap (λ (left : List An
 
 pub HasStepped-all : (profile : Profile) (start now : Counting) (had written : Option Written) (events : List Event) (k : ℕ) → length events ≤ k
     → HasStepped profile start now had written events k
-    → (whole : Whole) → StandsFor profile start.kept whole → Wrote had written (lines_of (answers profile whole events)) true
+    → (whole : Whole) → StandsFor profile start.kept whole → Wrote had written (all_lines (answers profile whole events)) true
 HasStepped-all profile start now had written events k le stepped whole begun =
     let all = answers profile whole events in
-    subst (λ (first : List Answered). Wrote had written (lines_of first) true) (taken_all all k (all_done profile start now had written events k le stepped whole begun))
+    subst (λ (first : List Answered). Wrote had written (all_lines first) true) (taken_all all k (all_done profile start now had written events k le stepped whole begun))
     (stepped whole begun).2

@@ -4,10 +4,10 @@ use Rattle.std.specs.List.{flat_map}
 use Rattle.q3_io.specs.Faults.{Rose}
 use Rattle.q3_io.specs.Told.{Told}
 use Rattle.q3_io.specs.Written.{Written, Wrote, NothingWaits}
-use Rattle.q3_world.specs.declared.world.StepError.{StepError}
-use Rattle.q3_world.specs.declared.world.StepError.TheVariants as step
-use Rattle.q3_world.specs.Ends.{Answered}
-use Rattle.q3_world.specs.Report.{answer_text}
+use Rattle.q3_report.specs.Answers.{Answered}
+use Rattle.q3_report.specs.AnswerLines.{lines_of}
+use Rattle.q3_world.specs.declared.told.StepError.{StepError}
+use Rattle.q3_world.specs.declared.told.StepError.TheVariants as step
 use Rattle.q3net.specs.Command.{Command, files_of}
 use Rattle.q3net.specs.Faults.{IsOutside, FileCause}
 use Rattle.q3net.specs.Input.{IsFront, looked_up, created, LeavesTold, LeavesFirst, Touches}
@@ -121,6 +121,6 @@ Touched command told now =
 
 -- the lines of all answers; those of the first of them, where memory runs out; a front of the lines, where the sink fails
 abbrev pub AddsLines : List Answered → Option Written → Option Written → Result (Unit {0}) StepError → Type 0
-AddsLines all old now (Ok x) = Wrote old now (flat_map answer_text all) true
-AddsLines all old now (Err step.NoMemory) = (k : ℕ) × Wrote old now (flat_map answer_text (take k all)) true
-AddsLines all old now (Err step.WriteFault) = Wrote old now (flat_map answer_text all) false
+AddsLines all old now (Ok x) = Wrote old now (flat_map lines_of all) true
+AddsLines all old now (Err step.NoMemory) = (k : ℕ) × Wrote old now (flat_map lines_of (take k all)) true
+AddsLines all old now (Err step.WriteFault) = Wrote old now (flat_map lines_of all) false

@@ -1,0 +1,2 @@
+pub mod AtServer
+pub mod AtClient

@@ -1,0 +1,39 @@
+-- What an event does to the program's world, and to its ends.
+use Rattle.std.specs.Prelude.{◌≡◌, ℕ, ◌+◌, ◌≤◌, length, Option, Result, OnOk, IsErrOf}
+use Rattle.q3_io.specs.Written.{Written, NothingWaits}
+use Rattle.q3_report.specs.Answers.{Answered}
+use Rattle.q3_report.specs.AnswerLines.{lines_of}
+use Rattle.q3_world.specs.declared.counts.Counts.{Counts}
+use Rattle.q3_world.specs.declared.told.StepError.{StepError}
+use Rattle.q3_world.specs.declared.told.StepError.TheVariants.{NoMemory}
+use Rattle.q3_world.specs.Counts.{Counting, counted}
+use Rattle.q3_world.specs.Ends.{Ends, EndsStep}
+use Rattle.q3_world.specs.Kept.{KeptStep}
+use Rattle.q3_world.specs.Outcome.{Prints, HasStepCause}
+
+-- an answer is counted, and its lines are printed, or a front of them
+pub record Tells (old new : Counts) (before behind : Option Written) (were are : ℕ) (answer : Answered) (result : Result (Unit {0}) StepError) : Type 0 where
+  pub counts : new ≡ counted old answer
+  pub printed : Prints before behind (lines_of answer) result
+  pub flushed : OnOk result (NothingWaits behind)
+  pub cause : HasStepCause were are result
+  pub memory : IsErrOf result NoMemory → ⊥
+
+-- the ends are those of a step, and its answer is told; at want of memory all stays as it was
+pub record EndsDo (old new : Ends) (counts_old counts : Counts) (before behind : Option Written) (were are : ℕ) (step : EndsStep) (result : Result (Unit {0}) StepError) : Type 0 where
+  pub ends : OnOk result (new ≡ step.ends)
+  pub told : OnOk result (counts ≡ counted counts_old step.answer)
+  pub printed : Prints before behind (lines_of step.answer) result
+  pub flushed : OnOk result (NothingWaits behind)
+  pub cause : HasStepCause were are result
+  pub no_memory : IsErrOf result NoMemory → (new ≡ old) × (counts ≡ counts_old) × (behind ≡ before)
+
+-- what a step gives is kept, its answer is counted, and its lines are printed, or a front of them; at want of memory all stays as it was
+pub record Does (old new : Counting) (before behind : Option Written) (were are : ℕ) (step : KeptStep) (result : Result (Unit {0}) StepError) : Type 0 where
+  pub kept : OnOk result (new.kept ≡ step.kept)
+  pub counts : OnOk result (new.counts ≡ counted old.counts step.answer)
+  pub printed : Prints before behind (lines_of step.answer) result
+  pub flushed : OnOk result (NothingWaits behind)
+  pub cause : HasStepCause were are result
+  pub no_memory : IsErrOf result NoMemory → (new ≡ old) × (behind ≡ before)
+  pub few : length new.kept.datagrams ≤ length old.kept.datagrams + 1

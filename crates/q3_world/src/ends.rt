@@ -1,0 +1,384 @@
+//! Both ends of every client, and what a line of a script does at them.
+
+ghost use Rattle.std.specs.Prelude.{◌≡◌, ◌<◌, ◌≤◌, ◌+◌, ◌-◌, [], length, slice_get, vec_capacity, IfOk, IfSome, IsSome, IsErrOf, OnErr, OnOk};
+ghost use Rattle.q3_profile.specs.Profile.{IsProfile, IsCodec};
+ghost use Rattle.q3_script.specs.Grammar.{IsReplayEvent};
+ghost use Rattle.q3_server.specs.Server.{places, emit_at};
+ghost use Rattle.q3_report.specs.Answers.{Given, Shown};
+ghost use Rattle.q3_report.specs.Tellings.{answered_of};
+ghost use Rattle.q3_ends.specs.AtServer.{server_line};
+
+use crate::counts::Counts;
+use crate::made::{Direction, Made, keep};
+use crate::places::{Place, no_places};
+use crate::told::{StepError, tell};
+use q3_bits::NoMemory;
+use q3_chan::{DATAGRAM_ROOM, Datagram};
+use q3_client::Client;
+use q3_clmsg::Move;
+use q3_clstate::Log;
+use q3_ends::client::show;
+use q3_ends::server::{server_line, server_takes};
+use q3_io::{Address, Sink};
+use q3_profile::Profile;
+use q3_report::{Answer, Front, HandedIn, MoveRefused, Shown, TypeRefused};
+use q3_script::Event;
+use q3_server::{Heard, MOST_SLOTS, NoClient, Server};
+use q3_text::Text;
+use std::alloc::Global;
+use std::marker::Model;
+
+/// A server, and each client that was added, at its place.
+#[derive(Drop)]
+pub(crate) struct Ends {
+    server: Server,
+    clients: Vec<Option<Place>>,
+}
+
+impl Model for Ends {
+    ghost use Rattle.std.specs.Prelude.{◌≡◌, length};
+    ghost use Rattle.q3_server.specs.Server.{places};
+    ghost use Rattle.q3_world.specs.Ends as both;
+
+    ghost Value = { both.Ends };
+
+    ghost view = { λ e. record { server = e.server; clients = e.clients.items } };
+
+    ghost invariant = { λ e. length e.clients.items ≡ places };
+}
+
+impl Ends {
+    ghost use Rattle.q3_world.specs.Ends.{place_at, new_ends, join, set_port, game_step, type_text, add_move, show, client_takes, server_takes, hand_server, step_in, line_of};
+    ghost use Rattle.q3_world.specs.Kept.{Kept, most_datagrams, deliver_at, kept_serve, kept_send};
+    ghost use Rattle.q3_world.specs.Doing.{Tells, EndsDo};
+    ghost use Rattle.q3_world.specs.Outcome.{TakesMemory};
+
+    /// A server by this profile, and no client. `Err` is want of memory.
+    pub fn new(alloc: Global, profile: &Profile) -> Result<Ends, NoMemory>
+        requires { IsProfile profile.now }
+        ensures made { IfOk result (λ made. made ≡ new_ends profile.now) }
+        ensures codec { OnOk result (IsCodec profile.now) }
+    {
+        Ok(Ends {
+            server: Server::new(alloc, profile, MOST_SLOTS)?,
+            clients: no_places(alloc)?,
+        })
+    }
+
+    /// What a line does that hands something in, hands bytes to an end, or shows a client; and its answer is told. Where bytes are taken,
+    /// the list of the end that takes them says what was executed and run; both lists may hold anything before. `NoMemory` comes at
+    /// `client` alone, and changes nothing.
+    #[tactic(auto, unfolding(crate::specs::Ends::line_of, q3_ends::specs::AtServer::server_line))]
+    pub fn line<O: Sink>(
+        &mut self,
+        alloc: Global,
+        profile: &Profile,
+        event: &Event,
+        log: &mut Log,
+        heard: &mut Heard,
+        counts: &mut Counts,
+        out: &mut O,
+    ) -> Result<(), StepError>
+        requires profile { IsProfile profile.now }
+        requires event { IsReplayEvent event.now }
+        requires line { IsSome (step_in (line_of profile.now self.old event.now)) }
+        ensures does { IfSome (step_in (line_of profile.now self.old event.now))
+            (λ step. EndsDo self.old self.new counts.old counts.new (O.written out.old) (O.written out.new) (O.faults out.old) (O.faults out.new) step result) }
+        ensures memory { IsErrOf result StepError.NoMemory → TakesMemory event.now }
+    {
+        match event {
+            Event::Client {
+                c,
+                challenge,
+                qport,
+                dup,
+                address,
+            } => {
+                let Ok(handed) = self.join(alloc, profile, *c, *challenge, *qport, *dup, *address)
+                else {
+                    return Err(StepError::NoMemory);
+                };
+                tell(&Answer::HandedIn(handed), counts, out)
+            }
+            Event::Port { c, port } => {
+                let handed = self.set_port(*c, *port);
+                tell(&Answer::HandedIn(handed), counts, out)
+            }
+            Event::TypeText { c, text } => {
+                let handed = self.type_text(*c, text);
+                tell(&Answer::HandedIn(handed), counts, out)
+            }
+            Event::Move { c, one } => {
+                let handed = self.add_move(*c, one);
+                tell(&Answer::HandedIn(handed), counts, out)
+            }
+            Event::Show { c } => tell(&self.show(*c), counts, out),
+            Event::Toclient { c, bytes } => {
+                let front = Front::Toclient { c: *c };
+                self.client_takes(front, *c, bytes.bytes(), log, counts, out)
+            }
+            Event::Toserver { c, bytes } => {
+                self.hand_server(*c, bytes.bytes(), heard, counts, out)
+            }
+            _ => self.game_line(event, counts, out),
+        }
+    }
+
+    /// A client joins, at both ends. The memory of its own end is taken first.
+    fn join(
+        &mut self,
+        alloc: Global,
+        profile: &Profile,
+        c: u8,
+        challenge: u32,
+        qport: u16,
+        dup: u8,
+        address: Address,
+    ) -> Result<HandedIn, NoMemory>
+        requires profile { IsProfile profile.now }
+        requires place { c < places }
+        ensures ok { IfOk result (λ handed. join profile.now self.old c challenge qport dup address ≡ record { ends = self.new; answer = Given handed }) }
+        ensures err { OnErr result (self.new ≡ self.old) }
+    {
+        let client = Client::new(alloc, profile, challenge, qport, dup)?;
+        if let Err(error) = self.server.add_client(c, challenge, qport, address) {
+            return Ok(HandedIn::Client {
+                c,
+                outcome: Err(error),
+            });
+        }
+        self.clients[c as usize] = Some(Place { client, address });
+        Ok(HandedIn::Client { c, outcome: Ok(()) })
+    }
+
+    /// A client's later datagrams come from another port.
+    fn set_port(&mut self, c: u8, port: u16) -> HandedIn
+        requires { c < places }
+        ensures { set_port self.old c port ≡ record { ends = self.new; answer = Given result } }
+    {
+        let Some(place) = &mut self.clients[c as usize] else {
+            return HandedIn::Port {
+                c,
+                outcome: Err(NoClient),
+            };
+        };
+        place.address.port = port;
+        HandedIn::Port { c, outcome: Ok(()) }
+    }
+
+    /// A line of the game, at the server.
+    fn game_line<O: Sink>(
+        &mut self,
+        event: &Event,
+        counts: &mut Counts,
+        out: &mut O,
+    ) -> Result<(), StepError>
+        requires event { IsReplayEvent event.now }
+        requires line { IsSome (server_line self.old.server event.now) }
+        ensures ends { self.new ≡ (game_step self.old (server_line self.old.server event.now)).ends }
+        ensures told { Tells counts.old counts.new (O.written out.old) (O.written out.new) (O.faults out.old) (O.faults out.new)
+            (game_step self.old (server_line self.old.server event.now)).answer result }
+    {
+        let handed = server_line(&mut self.server, event).unwrap();
+        tell(&Answer::HandedIn(handed), counts, out)
+    }
+
+    /// A client issues a command.
+    fn type_text(&mut self, c: u8, text: &Text) -> HandedIn
+        requires { c < places }
+        ensures { type_text self.old c text.now ≡ record { ends = self.new; answer = Given result } }
+    {
+        let Some(place) = &mut self.clients[c as usize] else {
+            return HandedIn::TypeText {
+                c,
+                outcome: Err(TypeRefused::NoClient),
+            };
+        };
+        place.type_text(c, text)
+    }
+
+    /// A client issues a move.
+    fn add_move(&mut self, c: u8, one: &Move) -> HandedIn
+        requires { c < places }
+        ensures { add_move self.old c one.now ≡ record { ends = self.new; answer = Given result } }
+    {
+        let Some(place) = &mut self.clients[c as usize] else {
+            return HandedIn::Move {
+                c,
+                outcome: Err(MoveRefused::NoClient),
+            };
+        };
+        place.add_move(c, one)
+    }
+
+    /// What a client shows.
+    fn show(&self, c: u8) -> Answer<'_>
+        requires { c < places }
+        ensures { show self.now c ≡ record { ends = self.now; answer = answered_of result } }
+    {
+        let shown = match &self.clients[c as usize] {
+            None => Shown::NoClient,
+            Some(place) => show(&place.client),
+        };
+        Answer::Show { c, shown }
+    }
+
+    /// The client at a place takes bytes, if it is there.
+    fn client_takes<O: Sink>(
+        &mut self,
+        front: Front,
+        c: u8,
+        bytes: &[u8],
+        log: &mut Log,
+        counts: &mut Counts,
+        out: &mut O,
+    ) -> Result<(), StepError>
+        requires { c < places }
+        ensures ends { self.new ≡ (client_takes self.old c front bytes.now (place_at self.old c)).ends }
+        ensures told { Tells counts.old counts.new (O.written out.old) (O.written out.new) (O.faults out.old) (O.faults out.new)
+            (client_takes self.old c front bytes.now (place_at self.old c)).answer result }
+    {
+        match &mut self.clients[c as usize] {
+            None => tell(&Answer::Untaken { front }, counts, out),
+            Some(place) => place.take(front, c, bytes, log, counts, out),
+        }
+    }
+
+    /// The server takes bytes from the address of a client, if it is there.
+    fn hand_server<O: Sink>(
+        &mut self,
+        c: u8,
+        bytes: &[u8],
+        heard: &mut Heard,
+        counts: &mut Counts,
+        out: &mut O,
+    ) -> Result<(), StepError>
+        requires { c < places }
+        ensures ends { self.new ≡ (hand_server self.old c bytes.now).ends }
+        ensures told { Tells counts.old counts.new (O.written out.old) (O.written out.new) (O.faults out.old) (O.faults out.new)
+            (hand_server self.old c bytes.now).answer result }
+    {
+        let front = Front::Toserver { c };
+        let Some(place) = &self.clients[c as usize] else {
+            return tell(&Answer::Untaken { front }, counts, out);
+        };
+        let from = place.address;
+        self.server_takes(front, from, bytes, heard, counts, out)
+    }
+
+    /// The server takes bytes from an address.
+    fn server_takes<O: Sink>(
+        &mut self,
+        front: Front,
+        from: Address,
+        bytes: &[u8],
+        heard: &mut Heard,
+        counts: &mut Counts,
+        out: &mut O,
+    ) -> Result<(), StepError>
+        ensures ends { self.new ≡ (server_takes self.old front from bytes.now).ends }
+        ensures told { Tells counts.old counts.new (O.written out.old) (O.written out.new) (O.faults out.old) (O.faults out.new)
+            (server_takes self.old front from bytes.now).answer result }
+    {
+        tell(
+            &server_takes(&mut self.server, front, from, bytes, heard),
+            counts,
+            out,
+        )
+    }
+
+    /// The datagram of a number, if it was made, arrives: the end that it goes to takes it.
+    pub fn deliver<O: Sink>(
+        &mut self,
+        number: u32,
+        datagrams: &[Made],
+        log: &mut Log,
+        heard: &mut Heard,
+        counts: &mut Counts,
+        out: &mut O,
+    ) -> Result<(), StepError>
+        requires { 1 ≤ number }
+        ensures ends { self.new ≡ (deliver_at self.old number (slice_get datagrams.now (number - 1))).ends }
+        ensures told { Tells counts.old counts.new (O.written out.old) (O.written out.new) (O.faults out.old) (O.faults out.new)
+            (deliver_at self.old number (slice_get datagrams.now (number - 1))).answer result }
+    {
+        let front = Front::Deliver { datagram: number };
+        let Some(sent) = datagrams.get(number as usize - 1) else {
+            return tell(&Answer::Untaken { front }, counts, out);
+        };
+        match sent.direction {
+            Direction::ToServer { from } => {
+                self.server_takes(front, from, &sent.bytes, heard, counts, out)
+            }
+            Direction::ToClient => {
+                self.client_takes(front, sent.client, &sent.bytes, log, counts, out)
+            }
+        }
+    }
+
+    /// The server makes a datagram for a client, which is kept behind the others under the next number, if it is handed out.
+    pub fn serve<O: Sink>(
+        &mut self,
+        c: u8,
+        datagrams: &mut Vec<Made>,
+        bytes: Vec<u8>,
+        counts: &mut Counts,
+        out: &mut O,
+    ) -> Result<(), StepError>
+        requires place { c < places }
+        requires few { length datagrams.old.items < most_datagrams }
+        requires room { length datagrams.old.items + 1 ≤ vec_capacity datagrams.old }
+        requires bytes { (bytes.items ≡ []) × (DATAGRAM_ROOM ≤ vec_capacity bytes) }
+        ensures kept { (kept : Kept) → kept.ends ≡ self.old → kept.datagrams ≡ datagrams.old.items
+            → (kept_serve kept c (emit_at kept.ends.server c)).kept ≡ record kept { ends = self.new; datagrams = datagrams.new.items } }
+        ensures told { (kept : Kept) → kept.ends ≡ self.old → kept.datagrams ≡ datagrams.old.items
+            → Tells counts.old counts.new (O.written out.old) (O.written out.new) (O.faults out.old) (O.faults out.new)
+            (kept_serve kept c (emit_at kept.ends.server c)).answer result }
+    {
+        let datagram = datagrams.len() as u32 + 1;
+        let mut made = Datagram::new();
+        let emitted = self.server.emit(c, &mut made);
+        keep(datagrams, c, Direction::ToClient, bytes, &made);
+        let answer = Answer::Serve {
+            c,
+            emitted,
+            datagram,
+        };
+        tell(&answer, counts, out)
+    }
+
+    /// A client makes a datagram, which is kept likewise.
+    pub fn send<O: Sink>(
+        &mut self,
+        c: u8,
+        datagrams: &mut Vec<Made>,
+        bytes: Vec<u8>,
+        counts: &mut Counts,
+        out: &mut O,
+    ) -> Result<(), StepError>
+        requires place { c < places }
+        requires few { length datagrams.old.items < most_datagrams }
+        requires room { length datagrams.old.items + 1 ≤ vec_capacity datagrams.old }
+        requires bytes { (bytes.items ≡ []) × (DATAGRAM_ROOM ≤ vec_capacity bytes) }
+        ensures kept { (kept : Kept) → kept.ends ≡ self.old → kept.datagrams ≡ datagrams.old.items
+            → (kept_send kept c (place_at kept.ends c)).kept ≡ record kept { ends = self.new; datagrams = datagrams.new.items } }
+        ensures told { (kept : Kept) → kept.ends ≡ self.old → kept.datagrams ≡ datagrams.old.items
+            → Tells counts.old counts.new (O.written out.old) (O.written out.new) (O.faults out.old) (O.faults out.new)
+            (kept_send kept c (place_at kept.ends c)).answer result }
+    {
+        let datagram = datagrams.len() as u32 + 1;
+        let Some(place) = &mut self.clients[c as usize] else {
+            let sent = Err(NoClient);
+            return tell(&Answer::Send { c, sent, datagram }, counts, out);
+        };
+        let mut made = Datagram::new();
+        let (sent, from) = place.send(&mut made);
+        keep(datagrams, c, Direction::ToServer { from }, bytes, &made);
+        let answer = Answer::Send {
+            c,
+            sent: Ok(sent),
+            datagram,
+        };
+        tell(&answer, counts, out)
+    }
+}
