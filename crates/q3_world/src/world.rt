@@ -2,7 +2,7 @@
 
 ghost use Rattle.std.specs.Prelude.{◌≡◌, ◌+◌, ◌-◌, ◌<◌, ◌≤◌, length, slice_get, option_map, IfOk, IfSome, IsSome, OnOk, IsErrOf};
 ghost use Rattle.q3_profile.specs.declared.profile.Profile.{Profile as ProfileValue};
-ghost use Rattle.q3_profile.specs.Profile.{IsProfile};
+ghost use Rattle.q3_profile.specs.Profile.{IsProfile, IsCodec};
 ghost use Rattle.q3_script.specs.Grammar.{IsReplayEvent};
 ghost use Rattle.q3_io.specs.Written.{NothingWaits};
 ghost use Rattle.q3_server.specs.Server.{places, emit_at};
@@ -11,7 +11,7 @@ ghost use Rattle.q3_report.specs.Answers.{Bytes};
 ghost use Rattle.q3_report.specs.Tellings.{answered_of};
 ghost use Rattle.q3_world.specs.Counts.{no_counts, counted};
 ghost use Rattle.q3_world.specs.Ends.{place_at, step_in, line_of};
-ghost use Rattle.q3_world.specs.Kept.{most_datagrams, deliver_at, kept_bytes, kept_ends, kept_serve, kept_send, kept_step};
+ghost use Rattle.q3_world.specs.Kept.{most_datagrams, opening_kept, deliver_at, kept_bytes, kept_ends, kept_serve, kept_send, kept_step};
 ghost use Rattle.q3_world.specs.World.{Whole, opening, step as step_of};
 ghost use Rattle.q3_world.specs.StandsFor.{StandsFor};
 ghost use Rattle.q3_world.specs.Outcome.{TakesMemory, Prints, HasStepCause};
@@ -69,6 +69,16 @@ impl World {
         ensures counts { IfOk result (λ world. world.counts ≡ no_counts) }
     {
         laws::layers();
+        let world = World::empty(alloc, profile)?;
+        Ok(world)
+    }
+
+    /// What a world begins as.
+    fn empty(alloc: Global, profile: &Profile) -> Result<World, NoMemory>
+        requires { IsProfile profile.now }
+        ensures made { IfOk result (λ world. world ≡ record { kept = opening_kept profile.now; counts = no_counts }) }
+        ensures codec { OnOk result (IsCodec profile.now) }
+    {
         let copy = profile.copy()?;
         let ends = Ends::new(alloc, profile)?;
         let commands = Commands::new(alloc)?;
