@@ -167,7 +167,6 @@ impl World {
     }
 
     /// The server makes a datagram for a client, whose memory is taken first.
-    #[tactic(auto, using(crate::proofs::Stepped::few_served))]
     fn serve<O: Sink>(&mut self, c: u8, out: &mut O) -> Result<(), StepError>
         requires place { c < places }
         requires few { length self.old.kept.datagrams < most_datagrams }
@@ -182,7 +181,6 @@ impl World {
     }
 
     /// A client makes a datagram, whose memory is taken first.
-    #[tactic(auto, using(crate::proofs::Stepped::few_sent))]
     fn send<O: Sink>(&mut self, c: u8, out: &mut O) -> Result<(), StepError>
         requires place { c < places }
         requires few { length self.old.kept.datagrams < most_datagrams }
