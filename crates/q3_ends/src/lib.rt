@@ -1,5 +1,5 @@
-//! What a line of a script does at one end: what it hands in to a server or to a client, what an end makes of bytes, and what a client
-//! shows. Whoever has both ends, and whoever has one, does these lines by the calls of this crate.
+//! What a line of a script does at one end: what it hands in to a server or to a client, what a server makes of bytes, and what a
+//! client shows. Whoever has both ends, and whoever has one, does these lines by the calls of this crate.
 #![tactic(auto)]
 
 pub mod client;

@@ -66,7 +66,7 @@ pub fn server_line(server: &mut Server, event: &Event) -> Option<HandedIn>
     }
 }
 
-/// A server takes bytes from an address. What it executed and ran is in the answer, and stays in `heard` until the next take.
+/// A server takes bytes from an address. What it executed and ran is in the answer; `heard` may hold anything before.
 pub fn server_takes<'a>(
     server: &mut Server,
     front: Front,

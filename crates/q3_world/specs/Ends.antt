@@ -83,7 +83,7 @@ set_port ends c port = set_port_of ends c port (place_at ends c)
 abbrev pub to_server : Ends → ServerStep → EndsStep
 to_server ends step = given (record ends { server = step.server }) step.answer
 
--- which each line is that `line_of` doesn't name; so there is a step
+-- and so is each line that `line_of` doesn't name: with no step it never comes there
 abbrev pub game_step : Ends → Option ServerStep → EndsStep
 game_step ends (Some step) = to_server ends step
 game_step ends None = given ends Time

@@ -65,9 +65,8 @@ impl Ends {
         })
     }
 
-    /// What a line does that hands something in, hands bytes to an end, or shows a client; and its answer is told. Where bytes are taken,
-    /// the list of the end that takes them says what was executed and run; both lists may hold anything before. `NoMemory` comes at
-    /// `client` alone, and changes nothing.
+    /// What a line does that hands something in, hands bytes to an end, or shows a client; and its answer is told. Both lists may hold
+    /// anything before. `NoMemory` comes at `client` alone, and changes nothing.
     #[tactic(auto, unfolding(crate::specs::Ends::line_of, q3_ends::specs::AtServer::server_line))]
     pub fn line<O: Sink>(
         &mut self,

@@ -47,7 +47,7 @@ impl Place {
         add_move(&mut self.client, c, one)
     }
 
-    /// The client takes bytes, and what it made of them is told. The commands that it executed stay in `log` until the next take.
+    /// The client takes bytes, and what it made of them is told. `log` may hold anything before.
     pub(crate) fn take<O: Sink>(
         &mut self,
         front: Front,

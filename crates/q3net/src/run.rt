@@ -1,6 +1,6 @@
 //! The top call: does all that the program does.
 
-ghost use Rattle.std.specs.Prelude.{◌≡◌, ◌⊎◌, ◌≤◌, map, Err, IfErr, IsNone, IsOk};
+ghost use Rattle.std.specs.Prelude.{◌≡◌, ◌⊎◌, ◌≤◌, map, Err, IfErr, IsNone, IsOk, OnOk};
 ghost use Rattle.std.specs.String.{string_bytes};
 ghost use Rattle.q3_io.specs.Faults.{HasCause, Rose};
 ghost use Rattle.q3_io.specs.Written.{Adds, NothingWaits};
@@ -92,6 +92,7 @@ fn execute<F: Files, O: Sink>(
 /// The status of a run, or of a start without one: then its fault line is printed.
 pub(crate) fn settle<O: Sink>(started: Result<u8, Fault>, out: &mut O) -> u8
     ensures took { IfErr started (λ fault. Took (Err fault) (fault_line fault) (O.written out.old) (O.written out.new) result) }
+    ensures nothing_more { OnOk started (O.written out.new ≡ O.written out.old) }
     ensures status { Settles started (O.faults out.old) (O.faults out.new) result }
 {
     match started {
