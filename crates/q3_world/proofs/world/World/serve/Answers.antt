@@ -8,5 +8,5 @@ pub returns : goal.returns
 returns g c =
     let k : Kept = record { profile = c.self.inside.profile; ends = c.self.inside.ends; datagrams = c.self.inside.datagrams.items } in
     let room = sym c.room_for_one.ensures.same in
-    rw c.self.view_is
+    rw (← c.self.view_is)
     (tells_does _ _ _ _ _ _ (kept_serve k c.args.c (emit_at k.ends.server c.args.c)) c.serve.result (sym (c.serve.ensures.kept k refl room)) (c.serve.ensures.told k refl room) (few_served k c.args.c))
