@@ -22,7 +22,7 @@ use Rattle.q3net.specs.Verdict.{IsVerdict, reads_first, settled, profile_in, eve
 use Rattle.q3net.specs.Run.{AddsLines, Executes}
 use Rattle.q3net.proofs.Loading.{held}
 use Rattle.q3net.proofs.Looking.{got_ok, gave}
-use Rattle.q3net.proofs.Stepping.{lines_of, lines-all}
+use Rattle.q3net.proofs.Stepping.{all_lines, lines-all}
 use Rattle.q3net.proofs.Ending.{part_ended, wants_memory}
 
 -- the first part that its input ends, or the text
@@ -104,8 +104,8 @@ pub steps_ended : (told : Option Told) (profile script : List ℕ) (by : Profile
 unfolding report
 steps_ended told profile script by events old now step.NoMemory read adds =
     let all = answers by (opening by) events in
-    let front : IsFront (lines_of (take adds.0 all)) (lines_of all) = (lines_of (drop adds.0 all), sym (lines-all all adds.0)) in
-    (settled reads_first (profile ∷ script ∷ []) (Ok (report by events)), verdict_of told profile script by events read, inl (lines_of (take adds.0 all), inr (faults.NoMemory, refl, front), adds.1))
+    let front : IsFront (all_lines (take adds.0 all)) (all_lines all) = (all_lines (drop adds.0 all), sym (lines-all all adds.0)) in
+    (settled reads_first (profile ∷ script ∷ []) (Ok (report by events)), verdict_of told profile script by events read, inl (all_lines (take adds.0 all), inr (faults.NoMemory, refl, front), adds.1))
 steps_ended told profile script by events old now step.WriteFault read adds =
     (settled reads_first (profile ∷ script ∷ []) (Ok (report by events)), verdict_of told profile script by events read, inr (refl, adds))
 
