@@ -37,8 +37,7 @@ impl<'a> Ahead<'a> {
         }
     }
 
-    /// The same, made anew field by field, for the reader that a loop has of its own: by `Copy`, which serves everywhere else, it is
-    /// copied as memory, and a loop over bytes then takes some 4% more instructions.
+    /// The same, made anew.
     #[inline]
     pub(crate) fn copy(&self) -> Ahead<'a>
         ensures { bits_ahead result ≡ bits_ahead self.now }
@@ -50,7 +49,7 @@ impl<'a> Ahead<'a> {
         }
     }
 
-    /// Gathers as many bytes more as there is room for, also of the last seven. It isn't inlined: `fuller` is the half that is.
+    /// Gathers as many bytes more as there is room for.
     #[inline(never)]
     pub(crate) fn refill(&mut self)
         ensures bits { bits_ahead self.new ≡ bits_ahead self.old }
@@ -65,8 +64,7 @@ impl<'a> Ahead<'a> {
         self.refill_last(room);
     }
 
-    /// The same, with as many bytes more gathered as there is room for, where eight are left: the half of `refill` that is
-    /// inlined, and takes and gives a value, so that a loop keeps it in registers.
+    /// The same, with as many bytes more gathered as there is room for, where eight are left.
     #[inline]
     pub(crate) fn fuller(self) -> Ahead<'a>
         ensures { bits_ahead result ≡ bits_ahead self.entry }

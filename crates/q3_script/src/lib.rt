@@ -1,11 +1,10 @@
-//! The script language, this project's own: each line of a script is an event of a replay, of a server or of a client.
+//! The script language, this project's own: each line of a script is an event of a replay.
 #![tactic(auto)]
 
 mod address;
 mod area;
 pub mod bytes;
 pub mod cause;
-mod course;
 pub mod event;
 mod fields;
 pub mod laws;

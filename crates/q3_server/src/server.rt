@@ -26,7 +26,6 @@ use q3_fields::laws::are_words;
 use q3_frames::Frames;
 use q3_io::Address;
 use q3_map::{Late, Map, NotLater};
-use q3_player::laws::is_state;
 use q3_player::{PlayerState, SnapHead};
 use q3_profile::Profile;
 use q3_slot::laws::nothing_is_listed;
@@ -253,7 +252,7 @@ impl Server {
         ensures { set_player_at self.old slot player.now ≡ record { server = self.new; answer = result } }
     {
         below();
-        is_state(player);
+        player.stand();
         if !self.has(slot) {
             return Err(NoClient);
         }

@@ -168,7 +168,6 @@ fn word(cause: LineCause) -> &'static [u8]
         LineCause::Fields => b"fields",
         LineCause::Text => b"text",
         LineCause::Address => b"address",
-        LineCause::Order => b"order",
     }
 }
 
