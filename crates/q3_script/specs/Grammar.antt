@@ -1,5 +1,6 @@
 -- The grammar of a script: which words spell which event, and which lines which events.
 use Rattle.std.specs.Prelude.{◌≡◌, ℕ, ◌^◌, ◌<◌, ◌≤◌, ℤ, pos, neg_ℤ, ◌≤ℤ◌, Bool, true, false, List, [], ◌∷◌, ◌++◌, length, map, codes, decimal, All, Ok}
+use Rattle.std.specs.List.{AllByRecursion}
 use Rattle.q3_fields.specs.Places.{Change, AreRising}
 use Rattle.q3_fields.specs.States.{AreWords}
 use Rattle.q3_clmsg.specs.declared.moves.Move.{Move as MoveValue}
@@ -12,13 +13,15 @@ use Rattle.q3_io.specs.Quoted.{quoted}
 use Rattle.q3_io.specs.declared.address.Address.{Address}
 use Rattle.q3_text.specs.Texts.{IsText, text_of}
 use Rattle.q3_script.specs.declared.event.Event.{Event}
-use Rattle.q3_script.specs.declared.event.Event.TheVariants.{Client, Port, Map, Entity, Remove, Baseline, Player, Area, Time, Config, Say, TypeText, Move, Serve, Send, Deliver, Show, Bytes, Toclient, Toserver}
+use Rattle.q3_script.specs.declared.event.Event.TheVariants.{Client, Port, Map, Entity, Remove, Baseline, Player, Area, Time, Config, Say, TypeText, Move, Serve, Send, Deliver, Show, Bytes, Toclient, Toserver, At, End}
+use Rattle.q3_script.specs.declared.cause.ScriptKind.{ScriptKind}
+use Rattle.q3_script.specs.declared.cause.ScriptKind.TheVariants as kinds
 use Rattle.q3_script.specs.Words.{words_of}
 use Rattle.q3_script.specs.Addresses.{host_of}
 use Rattle.q3_io.specs.Print.{hex_word}
 use Rattle.q3_script.specs.Hex.{most_area, most_handed}
 use Rattle.q3_script.specs.Fields.{values_of, player_of}
-use Rattle.q3_script.specs.Lines.{last_client, last_entity, last_datagram, most_config}
+use Rattle.q3_script.specs.Lines.{last_client, last_entity, last_datagram, last_time, most_config}
 use Rattle.q3_script.specs.Script.{is_passed_over, lines_of, longest_script, most_events}
 
 -- a signed value of 8 bits
@@ -36,29 +39,75 @@ pub record IsHeldMove (one : MoveValue) : Type 0 where
   pub buttons : one.buttons < 2 ^ 16
   pub weapon : one.weapon < 2 ^ 8
 
--- an event that a replay's script may have
-abbrev pub IsReplayEvent : Event → Type 0
-IsReplayEvent (Client c challenge qport dup address) =
+-- an event whose numbers and bytes are within their ranges
+abbrev pub IsInRange : Event → Type 0
+IsInRange (Client c challenge qport dup address) =
     (c ≤ last_client) × (challenge < 2 ^ 32) × (qport < 2 ^ 16) × (dup ≤ 5) × (1 ≤ address.port) × (address.port < 2 ^ 16) × (address.host < 2 ^ 32)
-IsReplayEvent (Port c port) = (c ≤ last_client) × (1 ≤ port) × (port < 2 ^ 16)
-IsReplayEvent (Map id feed) = (1 ≤ id) × (id < 2 ^ 31) × (feed < 2 ^ 32)
-IsReplayEvent (Entity state) = (state.number ≤ last_entity) × AreWords 64 state.words
-IsReplayEvent (Remove number) = number ≤ last_entity
-IsReplayEvent (Baseline state) = (1 ≤ state.number) × (state.number ≤ last_entity) × AreWords 64 state.words
-IsReplayEvent (Player c player) = (c ≤ last_client) × IsState player
-IsReplayEvent (Area c area) = (c ≤ last_client) × (length area.items ≤ most_area) × All (λ byte. byte < 256) area.items
-IsReplayEvent (Time time) = time < 2 ^ 32
-IsReplayEvent (Config index text) = (index < 2 ^ 32) × (length text ≤ most_config) × All (λ byte. (0 < byte) × (byte < 256)) text
-IsReplayEvent (Say c text) = (c ≤ last_client) × IsText text
-IsReplayEvent (TypeText c text) = (c ≤ last_client) × IsText text
-IsReplayEvent (Move c one) = (c ≤ last_client) × IsHeldMove one
-IsReplayEvent (Serve c) = c ≤ last_client
-IsReplayEvent (Send c) = c ≤ last_client
-IsReplayEvent (Deliver datagram) = (1 ≤ datagram) × (datagram ≤ last_datagram)
-IsReplayEvent (Show c) = c ≤ last_client
-IsReplayEvent (Bytes datagram) = (1 ≤ datagram) × (datagram ≤ last_datagram)
-IsReplayEvent (Toclient c bytes) = (c ≤ last_client) × (length bytes ≤ most_handed) × All (λ byte. byte < 256) bytes
-IsReplayEvent (Toserver c bytes) = (c ≤ last_client) × (length bytes ≤ most_handed) × All (λ byte. byte < 256) bytes
+IsInRange (Port c port) = (c ≤ last_client) × (1 ≤ port) × (port < 2 ^ 16)
+IsInRange (Map id feed) = (1 ≤ id) × (id < 2 ^ 31) × (feed < 2 ^ 32)
+IsInRange (Entity state) = (state.number ≤ last_entity) × AreWords 64 state.words
+IsInRange (Remove number) = number ≤ last_entity
+IsInRange (Baseline state) = (1 ≤ state.number) × (state.number ≤ last_entity) × AreWords 64 state.words
+IsInRange (Player c player) = (c ≤ last_client) × IsState player
+IsInRange (Area c area) = (c ≤ last_client) × (length area.items ≤ most_area) × All (λ byte. byte < 256) area.items
+IsInRange (Time time) = time < 2 ^ 32
+IsInRange (Config index text) = (index < 2 ^ 32) × (length text ≤ most_config) × All (λ byte. (0 < byte) × (byte < 256)) text
+IsInRange (Say c text) = (c ≤ last_client) × IsText text
+IsInRange (TypeText c text) = (c ≤ last_client) × IsText text
+IsInRange (Move c one) = (c ≤ last_client) × IsHeldMove one
+IsInRange (Serve c) = c ≤ last_client
+IsInRange (Send c) = c ≤ last_client
+IsInRange (Deliver datagram) = (1 ≤ datagram) × (datagram ≤ last_datagram)
+IsInRange (Show c) = c ≤ last_client
+IsInRange (Bytes datagram) = (1 ≤ datagram) × (datagram ≤ last_datagram)
+IsInRange (Toclient c bytes) = (c ≤ last_client) × (length bytes ≤ most_handed) × All (λ byte. byte < 256) bytes
+IsInRange (Toserver c bytes) = (c ≤ last_client) × (length bytes ≤ most_handed) × All (λ byte. byte < 256) bytes
+IsInRange (At ms) = ms ≤ last_time
+IsInRange (End ms) = ms ≤ last_time
+
+-- an event that a replay's script may have: any but a time
+abbrev pub IsReplayEvent : Event → Type 0
+IsReplayEvent (At ms) = ⊥
+IsReplayEvent (End ms) = ⊥
+IsReplayEvent event = IsInRange event
+
+-- an event that a server's script may have: what the game hands in, a datagram for a client, and a time
+abbrev pub IsServeEvent : Event → Type 0
+IsServeEvent (Port c port) = ⊥
+IsServeEvent (TypeText c text) = ⊥
+IsServeEvent (Move c one) = ⊥
+IsServeEvent (Send c) = ⊥
+IsServeEvent (Deliver datagram) = ⊥
+IsServeEvent (Show c) = ⊥
+IsServeEvent (Bytes datagram) = ⊥
+IsServeEvent (Toclient c bytes) = ⊥
+IsServeEvent (Toserver c bytes) = ⊥
+IsServeEvent event = IsInRange event
+
+-- an event that a client's script may have: that it joins, a command, a move, a datagram, a snapshot to be shown, and a time
+abbrev pub IsJoinEvent : Event → Type 0
+IsJoinEvent (Port c port) = ⊥
+IsJoinEvent (Map id feed) = ⊥
+IsJoinEvent (Entity state) = ⊥
+IsJoinEvent (Remove number) = ⊥
+IsJoinEvent (Baseline state) = ⊥
+IsJoinEvent (Player c player) = ⊥
+IsJoinEvent (Area c area) = ⊥
+IsJoinEvent (Time time) = ⊥
+IsJoinEvent (Config index text) = ⊥
+IsJoinEvent (Say c text) = ⊥
+IsJoinEvent (Serve c) = ⊥
+IsJoinEvent (Deliver datagram) = ⊥
+IsJoinEvent (Bytes datagram) = ⊥
+IsJoinEvent (Toclient c bytes) = ⊥
+IsJoinEvent (Toserver c bytes) = ⊥
+IsJoinEvent event = IsInRange event
+
+-- an event that a script of a kind may have
+abbrev pub IsEventOf : ScriptKind → Event → Type 0
+IsEventOf kinds.Replay event = IsReplayEvent event
+IsEventOf kinds.Serve event = IsServeEvent event
+IsEventOf kinds.Join event = IsJoinEvent event
 
 -- an address: four numbers with dots between them, a colon and a port
 pub record SpellsAddress (word : List ℕ) (address : Address) : Type 0 where
@@ -145,24 +194,62 @@ HasWords words (Show c) = words ≡ codes "show" ∷ decimal c ∷ []
 HasWords words (Bytes datagram) = words ≡ codes "bytes" ∷ decimal datagram ∷ []
 HasWords words (Toclient c bytes) = (last : List ℕ) × SpellsHex last bytes × (words ≡ codes "toclient" ∷ decimal c ∷ last ∷ [])
 HasWords words (Toserver c bytes) = (last : List ℕ) × SpellsHex last bytes × (words ≡ codes "toserver" ∷ decimal c ∷ last ∷ [])
+HasWords words (At ms) = words ≡ codes "at" ∷ decimal ms ∷ []
+HasWords words (End ms) = words ≡ codes "end" ∷ decimal ms ∷ []
 
 -- the words of a line spell an event
-pub record SpellsEvent (words : List (List ℕ)) (event : Event) : Type 0 where
-  pub event_of_replay : IsReplayEvent event
+pub record SpellsEvent (kind : ScriptKind) (words : List (List ℕ)) (event : Event) : Type 0 where
+  pub event_of : IsEventOf kind event
   pub whole : HasWords words event
 
 -- each line spells the next event, but for those that are passed over
-abbrev pub SpellLine : Bool → List ℕ → (List Event → Type 0) → List Event → Type 0
-SpellLine true line Others events = Others events
-SpellLine false line Others [] = ⊥
-SpellLine false line Others (event ∷ events) = SpellsEvent (words_of line) event × Others events
+abbrev pub SpellLine : ScriptKind → Bool → List ℕ → (List Event → Type 0) → List Event → Type 0
+SpellLine kind true line Others events = Others events
+SpellLine kind false line Others [] = ⊥
+SpellLine kind false line Others (event ∷ events) = SpellsEvent kind (words_of line) event × Others events
 
-abbrev pub SpellEvents : List (List ℕ) → List Event → Type 0
-SpellEvents [] events = events ≡ []
-SpellEvents (line ∷ lines) events = SpellLine (is_passed_over line) line (SpellEvents lines) events
+abbrev pub SpellEvents : ScriptKind → List (List ℕ) → List Event → Type 0
+SpellEvents kind [] events = events ≡ []
+SpellEvents kind (line ∷ lines) events = SpellLine kind (is_passed_over line) line (SpellEvents kind lines) events
 
--- the bytes are a script of these events
-pub record SpellsScript (bytes : List ℕ) (events : List Event) : Type 0 where
+-- ---- the order of a node's lines
+
+-- no time is less than the one before it
+abbrev pub TimesRise : ℕ → List Event → Type 0
+TimesRise least [] = Unit {0}
+TimesRise least (At ms ∷ events) = (least ≤ ms) × TimesRise ms events
+TimesRise least (End ms ∷ events) = (least ≤ ms) × TimesRise ms events
+TimesRise least (event ∷ events) = TimesRise least events
+
+-- the last line is `end`, and no other
+abbrev pub EndsLast : List Event → Type 0
+EndsLast [] = ⊥
+EndsLast (End ms ∷ events) = events ≡ []
+EndsLast (event ∷ events) = EndsLast events
+
+-- a line that a client's script may have behind its first, `client`
+abbrev pub IsOfClient : ℕ → Event → Type 0
+IsOfClient c (Client d challenge qport dup address) = ⊥
+IsOfClient c (TypeText d text) = d ≡ c
+IsOfClient c (Move d one) = d ≡ c
+IsOfClient c (Send d) = d ≡ c
+IsOfClient c (Show d) = d ≡ c
+IsOfClient c event = Unit {0}
+
+-- the first line is `client`, and all others are of that client
+abbrev pub IsOneClient : List Event → Type 0
+IsOneClient (Client c challenge qport dup address ∷ events) = AllByRecursion (IsOfClient c) events
+IsOneClient events = ⊥
+
+-- the events stand in an order that a script of a kind may have
+abbrev pub AreOrdered : ScriptKind → List Event → Type 0
+AreOrdered kinds.Replay events = Unit {0}
+AreOrdered kinds.Serve events = TimesRise 0 events × EndsLast events
+AreOrdered kinds.Join events = TimesRise 0 events × EndsLast events × IsOneClient events
+
+-- the bytes are a script of a kind, of these events
+pub record SpellsScript (kind : ScriptKind) (bytes : List ℕ) (events : List Event) : Type 0 where
   pub small : length bytes ≤ longest_script
   pub few : length events ≤ most_events
-  pub spelled : SpellEvents (lines_of bytes) events
+  pub spelled : SpellEvents kind (lines_of bytes) events
+  pub ordered : AreOrdered kind events

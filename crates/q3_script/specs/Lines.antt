@@ -6,9 +6,11 @@ use Rattle.std.specs.Map.{lookup}
 use Rattle.std.specs.Str.{bytes_eq}
 use Rattle.q3_clmsg.specs.declared.moves.Move.{Move as MoveValue}
 use Rattle.q3_script.specs.declared.event.Event.{Event}
-use Rattle.q3_script.specs.declared.event.Event.TheVariants.{Client, Port, Map, Entity, Remove, Baseline, Player, Area, Time, Config, Say, TypeText, Move, Serve, Send, Deliver, Show, Bytes, Toclient, Toserver}
+use Rattle.q3_script.specs.declared.event.Event.TheVariants.{Client, Port, Map, Entity, Remove, Baseline, Player, Area, Time, Config, Say, TypeText, Move, Serve, Send, Deliver, Show, Bytes, Toclient, Toserver, At, End}
 use Rattle.q3_script.specs.declared.cause.LineCause.{LineCause}
 use Rattle.q3_script.specs.declared.cause.LineCause.TheVariants as causes
+use Rattle.q3_script.specs.declared.cause.ScriptKind.{ScriptKind}
+use Rattle.q3_script.specs.declared.cause.ScriptKind.TheVariants as kinds
 use Rattle.q3_bits.specs.ResultBind.{◌>>=◌}
 use Rattle.q3_text.specs.Decimals.{number_at}
 use Rattle.q3_script.specs.Words.{behind}
@@ -20,6 +22,10 @@ use Rattle.q3_script.specs.Fields.{entity_at, player_at}
 -- the greatest number of a datagram that a line can name
 abbrev pub last_datagram : ℕ
 last_datagram = 65536
+
+-- the latest time of a node's script, in milliseconds
+abbrev pub last_time : ℕ
+last_time = 3600000
 
 -- the greatest number of an entity
 abbrev pub last_entity : ℕ
@@ -237,6 +243,18 @@ toserver_line words = do
   hand ← hand_at words
   Ok (Toserver hand.0 hand.1)
 
+unfoldable pub at_line : List (List ℕ) → Result Event LineCause
+at_line (ms ∷ []) = do
+  ms ← number_word 0 last_time ms
+  Ok (At ms)
+at_line words = Err causes.Count
+
+unfoldable pub end_line : List (List ℕ) → Result Event LineCause
+end_line (ms ∷ []) = do
+  ms ← number_word 0 last_time ms
+  Ok (End ms)
+end_line words = Err causes.Count
+
 -- lines by their first words, each with what reads the others
 abbrev pub Table : Type 0
 Table = List (List ℕ × (List (List ℕ) → Result Event LineCause))
@@ -270,6 +288,42 @@ replay_lines =
     ∷ (codes "bytes", bytes_line)
     ∷ []
 
-unfoldable pub line_at : List (List ℕ) → Result Event LineCause
-line_at [] = Err causes.Word
-line_at (word ∷ others) = line_in replay_lines word others
+-- the lines of a server's script
+abbrev pub serve_lines : Table
+serve_lines =
+    (codes "client", client_line)
+    ∷ (codes "map", map_line)
+    ∷ (codes "entity", entity_line)
+    ∷ (codes "remove", remove_line)
+    ∷ (codes "baseline", baseline_line)
+    ∷ (codes "player", player_line)
+    ∷ (codes "area", area_line)
+    ∷ (codes "time", time_line)
+    ∷ (codes "config", config_line)
+    ∷ (codes "say", say_line)
+    ∷ (codes "serve", serve_line)
+    ∷ (codes "at", at_line)
+    ∷ (codes "end", end_line)
+    ∷ []
+
+-- the lines of a client's script
+abbrev pub join_lines : Table
+join_lines =
+    (codes "client", client_line)
+    ∷ (codes "type", type_line)
+    ∷ (codes "move", move_line)
+    ∷ (codes "send", send_line)
+    ∷ (codes "show", show_line)
+    ∷ (codes "at", at_line)
+    ∷ (codes "end", end_line)
+    ∷ []
+
+-- the lines that a command takes
+abbrev pub lines_taken : ScriptKind → Table
+lines_taken kinds.Replay = replay_lines
+lines_taken kinds.Serve = serve_lines
+lines_taken kinds.Join = join_lines
+
+unfoldable pub line_at : ScriptKind → List (List ℕ) → Result Event LineCause
+line_at kind [] = Err causes.Word
+line_at kind (word ∷ others) = line_in (lines_taken kind) word others

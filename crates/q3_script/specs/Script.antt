@@ -1,13 +1,14 @@
 -- The events that a script spells, or its first bad line.
-use Rattle.std.specs.Prelude.{◌≡◌, ℕ, ◌+◌, ◌==◌, ◌||◌, if◌then◌else◌, Bool, List, [], ◌∷◌, length, nat_lt, nat_le, slice_index, Result, Ok, Err}
+use Rattle.std.specs.Prelude.{◌≡◌, ℕ, ◌+◌, ◌==◌, ◌||◌, if◌then◌else◌, Bool, true, false, List, [], ◌∷◌, Option, Some, None, length, nat_lt, nat_le, slice_index, Result, Ok, Err}
 use Rattle.std.specs.Result.{result_map_both}
-use Rattle.std.specs.List.{slice_split}
+use Rattle.std.specs.List.{slice_split, last_or}
 use Rattle.std.specs.Global.{Vec}
 use Rattle.q3_script.specs.declared.event.Event.{Event}
+use Rattle.q3_script.specs.declared.event.Event.TheVariants as events
 use Rattle.q3_script.specs.declared.cause.LineCause.{LineCause}
-use Rattle.q3_script.specs.declared.cause.LineCause.TheVariants.{Large, Many}
+use Rattle.q3_script.specs.declared.cause.LineCause.TheVariants.{Large, Many, Order}
 use Rattle.q3_script.specs.declared.cause.ScriptKind.{ScriptKind}
-use Rattle.q3_script.specs.declared.cause.ScriptKind.TheVariants.{Replay}
+use Rattle.q3_script.specs.declared.cause.ScriptKind.TheVariants.{Replay, Serve, Join}
 use Rattle.q3_script.specs.declared.cause.ScriptError.{ScriptError}
 use Rattle.q3_script.specs.declared.cause.ScriptError.TheVariants as errors
 use Rattle.q3_bits.specs.ResultBind.{◌>>=◌}
@@ -35,28 +36,84 @@ pub record BadLine : Type 0 where
   pub cause : LineCause
 
 -- the event of a line behind so many others
-abbrev pub event_at : ℕ → List ℕ → Result Event LineCause
-event_at before line = if nat_le most_events before then Err Many else line_at (words_of line)
+abbrev pub event_at : ScriptKind → ℕ → List ℕ → Result Event LineCause
+event_at kind before line = if nat_le most_events before then Err Many else line_at kind (words_of line)
+
+-- what the lines so far say of the next: the least time that it may have, whether `end` stood among them, and the client that they are of
+pub record Course : Type 0 where
+  pub time : ℕ
+  pub ended : Bool
+  pub client : Option ℕ
+
+-- before the first line
+abbrev pub no_course : Course
+no_course = record { time = 0; ended = false; client = None }
+
+-- behind a time
+abbrev pub timed : Course → ℕ → Result Course LineCause
+timed course ms = if nat_lt ms course.time then Err Order else Ok (record course { time = ms })
+
+-- behind a line of a node
+abbrev pub node_behind : Course → Event → Result Course LineCause
+node_behind course (events.At ms) = timed course ms
+node_behind course (events.End ms) = timed (record course { ended = true }) ms
+node_behind course other = Ok course
+
+-- whether a line behind `client` is of that client
+abbrev pub is_of : ℕ → Event → Bool
+is_of c (events.Client d challenge qport dup address) = false
+is_of c (events.TypeText d text) = d == c
+is_of c (events.Move d one) = d == c
+is_of c (events.Send d) = d == c
+is_of c (events.Show d) = d == c
+is_of c other = true
+
+-- behind the first line of a client's script, and behind a later one
+abbrev pub first_behind : Course → Event → Result Course LineCause
+first_behind course (events.Client c challenge qport dup address) = Ok (record course { client = Some c })
+first_behind course other = Err Order
+
+abbrev pub client_behind : Course → Option ℕ → Event → Result Course LineCause
+client_behind course None event = first_behind course event
+client_behind course (Some c) event = if is_of c event then node_behind course event else Err Order
+
+-- behind a line of a script of a kind, if it may stand there; nothing stands behind `end`
+abbrev pub course_behind : ScriptKind → Course → Event → Result Course LineCause
+course_behind Replay course event = Ok course
+course_behind Serve course event = if course.ended then Err Order else node_behind course event
+course_behind Join course event = if course.ended then Err Order else client_behind course course.client event
+
+-- whether a script may end there
+abbrev pub is_complete : ScriptKind → Course → Bool
+is_complete Replay course = true
+is_complete Serve course = course.ended
+is_complete Join course = course.ended
+
+-- the number behind that of the last line: what stands behind the last newline is a line unless it is empty
+abbrev pub line_behind : List ℕ → ℕ
+line_behind bytes = if last_or 10 bytes == 10 then length (lines_of bytes) else length (lines_of bytes) + 1
 
 -- an answer, where a cause is that of this line
-abbrev pub at_line : {A : Type 0} → ℕ → Result A LineCause → Result A BadLine
-at_line line answer = result_map_both (λ x. x) (λ cause. record { line = line; cause = cause }) answer
+abbrev pub in_line : {A : Type 0} → ℕ → Result A LineCause → Result A BadLine
+in_line line answer = result_map_both (λ x. x) (λ cause. record { line = line; cause = cause }) answer
 
--- the events of the lines from this number on, where so many events stood before them
-unfoldable pub events_from : ℕ → ℕ → List (List ℕ) → Result (List Event) BadLine
-events_from number before [] = Ok []
-events_from number before (line ∷ lines) =
-    if is_passed_over line then events_from (number + 1) before lines
+-- the events of the lines from this number on, where so many events stood before them, on this course, and the number behind the last line
+-- is `past`
+unfoldable pub events_from : ScriptKind → ℕ → ℕ → ℕ → Course → List (List ℕ) → Result (List Event) BadLine
+events_from kind past number before course [] = if is_complete kind course then Ok [] else Err (record { line = past; cause = Order })
+events_from kind past number before course (line ∷ lines) =
+    if is_passed_over line then events_from kind past (number + 1) before course lines
     else (do
-      event ← at_line number (event_at before line)
-      events ← events_from (number + 1) (before + 1) lines
+      event ← in_line number (event_at kind before line)
+      course ← in_line number (course_behind kind course event)
+      events ← events_from kind past (number + 1) (before + 1) course lines
       Ok (event ∷ events))
 
 -- the events of a script of a kind, or its first bad line
 unfoldable pub script_at : ScriptKind → List ℕ → Result (List Event) BadLine
-script_at Replay bytes =
+script_at kind bytes =
     if nat_lt longest_script (length bytes) then Err (record { line = 0; cause = Large })
-    else events_from 1 0 (lines_of bytes)
+    else events_from kind (line_behind bytes) 1 0 no_course (lines_of bytes)
 
 -- an answer with the events of its vector
 abbrev pub with_items : Result (Vec Event) ScriptError → Result (List Event) ScriptError

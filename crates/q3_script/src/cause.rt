@@ -8,7 +8,12 @@ use std::alloc::{AllocError, AllocFailed};
 /// The command that takes the script.
 #[derive(Clone, Copy, Debug, PartialEq, Eq)]
 pub enum ScriptKind {
+    /// A replay: both ends, and the datagrams between them.
     Replay,
+    /// A server over a wire.
+    Serve,
+    /// A client over a wire.
+    Join,
 }
 
 /// Why a line is refused: the first cause in this order.
@@ -31,6 +36,10 @@ pub enum LineCause {
     Text,
     /// The word isn't an address.
     Address,
+    /// The line can't stand here: a time that is less than the one before it, a line behind `end`, or, in a client's script, a first
+    /// line that isn't `client`, another `client`, or a line of another client. Of a script of a node that has no `end` it is the line
+    /// behind the last.
+    Order,
 }
 
 /// Why no script could be read.

@@ -1,4 +1,4 @@
-//! The events of a replay.
+//! The events of a script.
 
 use crate::bytes::Bytes;
 use arrayvec::ArrayVec;
@@ -106,5 +106,13 @@ pub enum Event {
     Toserver {
         c: u8,
         bytes: Bytes,
+    },
+    /// The lines behind this one are due when so many milliseconds have passed, 0 to 3,600,000.
+    At {
+        ms: u32,
+    },
+    /// The node ends when so many have passed.
+    End {
+        ms: u32,
     },
 }
