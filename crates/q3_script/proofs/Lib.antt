@@ -11,8 +11,10 @@ pub mod Coming
 pub mod Rising
 pub mod Steps
 pub mod NumberWords
+pub mod SpelledLines
 pub mod SpelledMoves
 pub mod SpelledCommands
 pub mod SpelledEvents
+pub mod Ordered
 pub mod SpelledScripts
 pub mod PlayerParts

@@ -12,7 +12,8 @@ use Rattle.q3_script.specs.declared.event.Event.TheVariants.{Config, Say, TypeTe
 use Rattle.q3_bits.specs.ResultBind.{◌>>=◌, bind_ok}
 use Rattle.q3_script.specs.Quotes.{bytes_word, text_word}
 use Rattle.q3_script.specs.Lines.{last_client, most_config, number_word, client_word, config_at, config_line, command_at, say_line, type_line}
-use Rattle.q3_script.specs.Grammar.{SpellsBytes, SpellsText, SpellsEvent}
+use Rattle.q3_script.specs.Grammar.{SpellsBytes, SpellsText}
+use Rattle.q3_script.proofs.SpelledLines.{IsLine}
 use Rattle.q3_script.proofs.Spaces.{words_at_space, AreLeft, IsOfLine, second_of_line}
 use Rattle.q3_script.proofs.NumberWords.{ok_is, number_word-spelled, number_word-again}
 use Rattle.q3_script.proofs.Unquoted.{bytes_word-spelled, bytes_word-again, text_word-spelled, text_word-again}
@@ -44,21 +45,21 @@ command_at-spelled (word ∷ first ∷ rest) command left e =
     subst (λ (x : ℕ × List ℕ). WasCommand (word ∷ first ∷ rest) x.0 x.1) (ok_is (c.0, text.0) command text.2) was
 
 -- what is read of each line was spelled so
-pub say_line-spelled : (words : List (List ℕ)) (event : Event) → AreLeft words → say_line words ≡ Ok event → SpellsEvent (codes "say" ∷ words) event
+pub say_line-spelled : (words : List (List ℕ)) (event : Event) → AreLeft words → say_line words ≡ Ok event → IsLine (codes "say" ∷ words) event
 unfolding say_line
 say_line-spelled words event left e =
     let command = bind_ok (command_at words) (λ command. Ok (Say command.0 command.1)) event e in
     let was = command_at-spelled words command.0 left command.1 in
-    subst (λ (x : Event). SpellsEvent (codes "say" ∷ words) x) (ok_is (Say command.0.0 command.0.1) event command.2)
-    (record { event_of_replay = (was.small, was.is_text); whole = (was.last, was.spelled, ap (λ (others : List (List ℕ)). codes "say" ∷ others) was.whole) })
+    subst (λ (x : Event). IsLine (codes "say" ∷ words) x) (ok_is (Say command.0.0 command.0.1) event command.2)
+    (record { in_range = (was.small, was.is_text); whole = (was.last, was.spelled, ap (λ (others : List (List ℕ)). codes "say" ∷ others) was.whole) })
 
-pub type_line-spelled : (words : List (List ℕ)) (event : Event) → AreLeft words → type_line words ≡ Ok event → SpellsEvent (codes "type" ∷ words) event
+pub type_line-spelled : (words : List (List ℕ)) (event : Event) → AreLeft words → type_line words ≡ Ok event → IsLine (codes "type" ∷ words) event
 unfolding type_line
 type_line-spelled words event left e =
     let command = bind_ok (command_at words) (λ command. Ok (TypeText command.0 command.1)) event e in
     let was = command_at-spelled words command.0 left command.1 in
-    subst (λ (x : Event). SpellsEvent (codes "type" ∷ words) x) (ok_is (TypeText command.0.0 command.0.1) event command.2)
-    (record { event_of_replay = (was.small, was.is_text); whole = (was.last, was.spelled, ap (λ (others : List (List ℕ)). codes "type" ∷ others) was.whole) })
+    subst (λ (x : Event). IsLine (codes "type" ∷ words) x) (ok_is (TypeText command.0.0 command.0.1) event command.2)
+    (record { in_range = (was.small, was.is_text); whole = (was.last, was.spelled, ap (λ (others : List (List ℕ)). codes "type" ∷ others) was.whole) })
 
 -- a command that is spelled so is read
 pub command_at-again : (c : ℕ) (text : List ℕ) (last : List (List ℕ)) → c ≤ last_client → SpellsText last text → command_at (decimal c ∷ last) ≡ Ok (c, text)
@@ -95,13 +96,13 @@ config_at-spelled (word ∷ first ∷ rest) config left e =
     subst (λ (x : ℕ × List ℕ). WasConfig (word ∷ first ∷ rest) x.0 x.1) (ok_is (index.0, text.0) config text.2) was
 
 -- what is read of the line was spelled so
-pub config_line-spelled : (words : List (List ℕ)) (event : Event) → AreLeft words → config_line words ≡ Ok event → SpellsEvent (codes "config" ∷ words) event
+pub config_line-spelled : (words : List (List ℕ)) (event : Event) → AreLeft words → config_line words ≡ Ok event → IsLine (codes "config" ∷ words) event
 unfolding config_line
 config_line-spelled words event left e =
     let config = bind_ok (config_at words) (λ config. Ok (Config config.0 config.1)) event e in
     let was = config_at-spelled words config.0 left config.1 in
-    subst (λ (x : Event). SpellsEvent (codes "config" ∷ words) x) (ok_is (Config config.0.0 config.0.1) event config.2)
-    (record { event_of_replay = (was.small, was.short, was.spelled.are_bytes); whole = (was.last, was.spelled, ap (λ (others : List (List ℕ)). codes "config" ∷ others) was.whole) })
+    subst (λ (x : Event). IsLine (codes "config" ∷ words) x) (ok_is (Config config.0.0 config.0.1) event config.2)
+    (record { in_range = (was.small, was.short, was.spelled.are_bytes); whole = (was.last, was.spelled, ap (λ (others : List (List ℕ)). codes "config" ∷ others) was.whole) })
 
 -- a config string that is spelled so is read
 pub config_at-again : (index : ℕ) (text : List ℕ) (last : List (List ℕ)) → index < 2 ^ 32 → length text ≤ most_config → SpellsBytes last text → config_at (decimal index ∷ last) ≡ Ok (index, text)

@@ -1,5 +1,5 @@
 -- The words of a line against the grammar of events: what is read was spelled so, and what is spelled so is read.
-use Rattle.std.proofs.Common.{◌≡◌, ℕ, ◌^◌, ◌%◌, ◌<◌, ◌≤◌, Bool, true, false, cond, List, [], ◌∷◌, length, set, replicate, slice_index_or, take, drop, Some, Result, Ok, Err, inl, inr, refl, sym, ap, subst, ◌∙◌, arith}
+use Rattle.std.proofs.Common.{◌≡◌, ℕ, ◌^◌, ◌%◌, ◌<◌, ◌≤◌, Bool, true, false, cond, List, [], ◌∷◌, length, set, replicate, slice_index_or, take, drop, Some, Result, Ok, Err, ◌⊎◌, inl, inr, refl, sym, ap, subst, ◌∙◌, arith}
 use Rattle.std.specs.Prelude.{codes, All}
 use Rattle.std.specs.Fmt.{decimal}
 use Rattle.std.specs.List.{position_or_len}
@@ -13,6 +13,7 @@ use Rattle.std.proofs.lemmas.Int.{ints}
 use Rattle.std.proofs.lemmas.List.{length-map, length-set, length-replicate}
 use Rattle.std.proofs.lemmas.List.Elements.{All-head, All-tail, All-set, All-map, All-replicate}
 use Rattle.std.proofs.lemmas.Slice.Eq.{bytes_eq-Decides}
+use Rattle.q3_clmsg.specs.Report.{move_words}
 use Rattle.q3_fields.specs.Places.{Change, with_changes}
 use Rattle.q3_fields.specs.States.{AreWords}
 use Rattle.q3_player.specs.State.{IsShort, AreShorts, IsState, shorts_of}
@@ -20,16 +21,19 @@ use Rattle.q3_entity.specs.declared.state.EntityState.{EntityState}
 use Rattle.q3_player.specs.declared.state.PlayerState.{PlayerState}
 use Rattle.q3_io.specs.declared.address.Address.{Address}
 use Rattle.q3_script.specs.declared.event.Event.{Event}
-use Rattle.q3_script.specs.declared.event.Event.TheVariants.{Client, Port, Map, Entity, Remove, Baseline, Player, Area, Time, Config, Say, TypeText, Move, Serve, Send, Deliver, Show, Bytes, Toclient, Toserver}
+use Rattle.q3_script.specs.declared.event.Event.TheVariants.{Client, Port, Map, Entity, Remove, Baseline, Player, Area, Time, Config, Say, TypeText, Move, Serve, Send, Deliver, Show, Bytes, Toclient, Toserver, At, End}
 use Rattle.q3_script.specs.declared.cause.LineCause.{LineCause}
 use Rattle.q3_script.specs.declared.cause.LineCause.TheVariants as causes
+use Rattle.q3_script.specs.declared.cause.ScriptKind.{ScriptKind}
+use Rattle.q3_script.specs.declared.cause.ScriptKind.TheVariants as kinds
 use Rattle.q3_bits.specs.ResultBind.{◌>>=◌, bind_ok}
 use Rattle.q3_script.specs.Words.{words_of, words_left}
 use Rattle.q3_script.specs.Addresses.{address_at}
 use Rattle.q3_script.specs.Hex.{most_handed, area_at, handed_at}
 use Rattle.q3_script.specs.Fields.{values_of, player_of, entity_at, player_at}
-use Rattle.q3_script.specs.Lines.{last_client, last_entity, last_datagram, number_word, entity_word, client_word, client_line, port_line, map_line, entity_line, remove_line, baseline_line, player_line, area_line, time_line, config_line, say_line, type_line, move_line, serve_line, send_line, deliver_line, show_line, bytes_line, hand_at, toclient_line, toserver_line, Table, replay_lines, line_in, line_at}
-use Rattle.q3_script.specs.Grammar.{AreFields, SpellsAddress, SpellsHex, SpellsEntity, SpellsPlayer, SpellsEvent}
+use Rattle.q3_script.specs.Lines.{last_client, last_entity, last_datagram, last_time, number_word, entity_word, client_word, client_line, port_line, map_line, entity_line, remove_line, baseline_line, player_line, area_line, time_line, config_line, say_line, type_line, move_line, serve_line, send_line, deliver_line, show_line, bytes_line, hand_at, toclient_line, toserver_line, at_line, end_line, Table, line_in, lines_taken, line_at}
+use Rattle.q3_script.specs.Grammar.{AreFields, SpellsAddress, SpellsHex, SpellsEntity, SpellsPlayer, SpellsEvent, IsInRange, IsEventOf, HasWords}
+use Rattle.q3_script.proofs.SpelledLines.{IsLine}
 use Rattle.q3_script.proofs.Spaces.{is_space, words_at_space, AreLeft}
 use Rattle.q3_script.proofs.NumberWords.{done, ok_is, ok_or-ok, number_word-spelled, number_word-again}
 use Rattle.q3_script.proofs.Addresses.{address_at-spelled, address_at-again}
@@ -41,11 +45,6 @@ use Rattle.q3_script.proofs.SpelledMoves.{move_line-spelled, move_line-again}
 -- a refusal
 abbrev refuse : LineCause → Result Event LineCause
 refuse cause = Err cause
-
--- a test that didn't refuse
-pub guard_ok : {A : Type 0} (b : Bool) (cause : LineCause) (r : Result A LineCause) (y : A) → cond b (Err cause) r ≡ Ok y → (b ≡ false) × (r ≡ Ok y)
-guard_ok true cause r y e = absurd cc
-guard_ok false cause r y e = (refl, e)
 
 -- ---- entities and players
 
@@ -114,7 +113,7 @@ host_small word address spelled =
 
 -- the five words of a client, each read
 client_from : (c challenge qport dup last : List ℕ) (c' challenge' qport' dup' : ℕ) (address : Address) → client_word c ≡ Ok c' → number_word 0 4294967295 challenge ≡ Ok challenge' → number_word 0 65535 qport ≡ Ok qport' → number_word 0 5 dup ≡ Ok dup' → address_at last ≡ Some address
-    → SpellsEvent (codes "client" ∷ c ∷ challenge ∷ qport ∷ dup ∷ last ∷ []) (Client c' challenge' qport' dup' address)
+    → IsLine (codes "client" ∷ c ∷ challenge ∷ qport ∷ dup ∷ last ∷ []) (Client c' challenge' qport' dup' address)
 client_from c challenge qport dup last c' challenge' qport' dup' address c_read challenge_read qport_read dup_read address_read =
     let c_is = number_word-spelled 0 last_client c c' (omega arith) c_read in
     let challenge_is = number_word-spelled 0 4294967295 challenge challenge' (omega arith) challenge_read in
@@ -122,12 +121,12 @@ client_from c challenge qport dup last c' challenge' qport' dup' address c_read 
     let dup_is = number_word-spelled 0 5 dup dup' (omega arith) dup_read in
     let address_is = address_at-spelled last address address_read in
     record {
-      event_of_replay = (omega arith, omega arith, omega arith, omega arith, address_is.least, address_is.most, host_small last address address_is.spelled);
+      in_range = (omega arith, omega arith, omega arith, omega arith, address_is.least, address_is.most, host_small last address address_is.spelled);
       whole = (last, address_is.spelled, rw (c_is.2, challenge_is.2, qport_is.2, dup_is.2) refl);
     }
 
 -- what is read of each line was spelled so
-client_line-spelled : (words : List (List ℕ)) (event : Event) → client_line words ≡ Ok event → SpellsEvent (codes "client" ∷ words) event
+client_line-spelled : (words : List (List ℕ)) (event : Event) → client_line words ≡ Ok event → IsLine (codes "client" ∷ words) event
 unfolding client_line
 client_line-spelled [] event e = absurd cc
 client_line-spelled (c ∷ []) event e = absurd cc
@@ -140,45 +139,45 @@ client_line-spelled (c ∷ challenge ∷ qport ∷ dup ∷ last ∷ []) event e 
     let qport' = bind_ok (number_word 0 65535 qport) (λ qport'. number_word 0 5 dup >>= λ dup'. ok_or (address_at last) causes.Address >>= λ address. Ok (Client c'.0 challenge'.0 qport' dup' address)) event challenge'.2 in
     let dup' = bind_ok (number_word 0 5 dup) (λ dup'. ok_or (address_at last) causes.Address >>= λ address. Ok (Client c'.0 challenge'.0 qport'.0 dup' address)) event qport'.2 in
     let address = bind_ok (ok_or (address_at last) causes.Address) (λ address. Ok (Client c'.0 challenge'.0 qport'.0 dup'.0 address)) event dup'.2 in
-    subst (λ (x : Event). SpellsEvent (codes "client" ∷ c ∷ challenge ∷ qport ∷ dup ∷ last ∷ []) x) (ok_is (Client c'.0 challenge'.0 qport'.0 dup'.0 address.0) event address.2)
+    subst (λ (x : Event). IsLine (codes "client" ∷ c ∷ challenge ∷ qport ∷ dup ∷ last ∷ []) x) (ok_is (Client c'.0 challenge'.0 qport'.0 dup'.0 address.0) event address.2)
     (client_from c challenge qport dup last c'.0 challenge'.0 qport'.0 dup'.0 address.0 c'.1 challenge'.1 qport'.1 dup'.1 (ok_or-ok (address_at last) causes.Address address.0 address.1))
 client_line-spelled (c ∷ challenge ∷ qport ∷ dup ∷ address ∷ other ∷ others) event e = absurd cc
 
 -- the two words of a port, each read
-port_from : (word last : List ℕ) (c port : ℕ) → client_word word ≡ Ok c → number_word 1 65535 last ≡ Ok port → SpellsEvent (codes "port" ∷ word ∷ last ∷ []) (Port c port)
+port_from : (word last : List ℕ) (c port : ℕ) → client_word word ≡ Ok c → number_word 1 65535 last ≡ Ok port → IsLine (codes "port" ∷ word ∷ last ∷ []) (Port c port)
 port_from word last c port c_read port_read =
     let c_is = number_word-spelled 0 last_client word c (omega arith) c_read in
     let port_is = number_word-spelled 1 65535 last port (omega arith) port_read in
-    record { event_of_replay = (c_is.1, port_is.0, omega arith); whole = rw (c_is.2, port_is.2) refl }
+    record { in_range = (c_is.1, port_is.0, omega arith); whole = rw (c_is.2, port_is.2) refl }
 
-port_line-spelled : (words : List (List ℕ)) (event : Event) → port_line words ≡ Ok event → SpellsEvent (codes "port" ∷ words) event
+port_line-spelled : (words : List (List ℕ)) (event : Event) → port_line words ≡ Ok event → IsLine (codes "port" ∷ words) event
 unfolding port_line
 port_line-spelled [] event e = absurd cc
 port_line-spelled (word ∷ []) event e = absurd cc
 port_line-spelled (word ∷ last ∷ []) event e =
     let c = bind_ok (client_word word) (λ c. number_word 1 65535 last >>= λ port. Ok (Port c port)) event e in
     let port = bind_ok (number_word 1 65535 last) (λ port. Ok (Port c.0 port)) event c.2 in
-    subst (λ (x : Event). SpellsEvent (codes "port" ∷ word ∷ last ∷ []) x) (ok_is (Port c.0 port.0) event port.2) (port_from word last c.0 port.0 c.1 port.1)
+    subst (λ (x : Event). IsLine (codes "port" ∷ word ∷ last ∷ []) x) (ok_is (Port c.0 port.0) event port.2) (port_from word last c.0 port.0 c.1 port.1)
 port_line-spelled (word ∷ last ∷ other ∷ others) event e = absurd cc
 
 -- the two words of a map, each read
-map_from : (word last : List ℕ) (id feed : ℕ) → number_word 1 2147483647 word ≡ Ok id → number_word 0 4294967295 last ≡ Ok feed → SpellsEvent (codes "map" ∷ word ∷ last ∷ []) (Map id feed)
+map_from : (word last : List ℕ) (id feed : ℕ) → number_word 1 2147483647 word ≡ Ok id → number_word 0 4294967295 last ≡ Ok feed → IsLine (codes "map" ∷ word ∷ last ∷ []) (Map id feed)
 map_from word last id feed id_read feed_read =
     let id_is = number_word-spelled 1 2147483647 word id (omega arith) id_read in
     let feed_is = number_word-spelled 0 4294967295 last feed (omega arith) feed_read in
-    record { event_of_replay = (id_is.0, omega arith, omega arith); whole = rw (id_is.2, feed_is.2) refl }
+    record { in_range = (id_is.0, omega arith, omega arith); whole = rw (id_is.2, feed_is.2) refl }
 
-map_line-spelled : (words : List (List ℕ)) (event : Event) → map_line words ≡ Ok event → SpellsEvent (codes "map" ∷ words) event
+map_line-spelled : (words : List (List ℕ)) (event : Event) → map_line words ≡ Ok event → IsLine (codes "map" ∷ words) event
 unfolding map_line
 map_line-spelled [] event e = absurd cc
 map_line-spelled (word ∷ []) event e = absurd cc
 map_line-spelled (word ∷ last ∷ []) event e =
     let id = bind_ok (number_word 1 2147483647 word) (λ id. number_word 0 4294967295 last >>= λ feed. Ok (Map id feed)) event e in
     let feed = bind_ok (number_word 0 4294967295 last) (λ feed. Ok (Map id.0 feed)) event id.2 in
-    subst (λ (x : Event). SpellsEvent (codes "map" ∷ word ∷ last ∷ []) x) (ok_is (Map id.0 feed.0) event feed.2) (map_from word last id.0 feed.0 id.1 feed.1)
+    subst (λ (x : Event). IsLine (codes "map" ∷ word ∷ last ∷ []) x) (ok_is (Map id.0 feed.0) event feed.2) (map_from word last id.0 feed.0 id.1 feed.1)
 map_line-spelled (word ∷ last ∷ other ∷ others) event e = absurd cc
 
-entity_line-spelled : (words : List (List ℕ)) (event : Event) → entity_line words ≡ Ok event → SpellsEvent (codes "entity" ∷ words) event
+entity_line-spelled : (words : List (List ℕ)) (event : Event) → entity_line words ≡ Ok event → IsLine (codes "entity" ∷ words) event
 unfolding entity_line
 entity_line-spelled [] event e = absurd cc
 entity_line-spelled (word ∷ words) event e =
@@ -187,19 +186,19 @@ entity_line-spelled (word ∷ words) event e =
     let is = number_word-spelled 0 last_entity word number.0 (omega arith) number.1 in
     let was = entity_at-spelled number.0 words state.0 state.1 in
     let same = was.is in
-    subst (λ (x : Event). SpellsEvent (codes "entity" ∷ word ∷ words) x) (ok_is (Entity state.0) event state.2)
-    (record { event_of_replay = (omega arith, entity_words words state.0 was.spelled); whole = (words, was.spelled, ap (λ (w : List ℕ). codes "entity" ∷ w ∷ words) (is.2 ∙ ap decimal (sym same))) })
+    subst (λ (x : Event). IsLine (codes "entity" ∷ word ∷ words) x) (ok_is (Entity state.0) event state.2)
+    (record { in_range = (omega arith, entity_words words state.0 was.spelled); whole = (words, was.spelled, ap (λ (w : List ℕ). codes "entity" ∷ w ∷ words) (is.2 ∙ ap decimal (sym same))) })
 
-remove_line-spelled : (words : List (List ℕ)) (event : Event) → remove_line words ≡ Ok event → SpellsEvent (codes "remove" ∷ words) event
+remove_line-spelled : (words : List (List ℕ)) (event : Event) → remove_line words ≡ Ok event → IsLine (codes "remove" ∷ words) event
 unfolding remove_line
 remove_line-spelled [] event e = absurd cc
 remove_line-spelled (word ∷ []) event e =
     let number = bind_ok (entity_word word) (λ number. Ok (Remove number)) event e in
     let is = number_word-spelled 0 last_entity word number.0 (omega arith) number.1 in
-    subst (λ (x : Event). SpellsEvent (codes "remove" ∷ word ∷ []) x) (ok_is (Remove number.0) event number.2) (record { event_of_replay = is.1; whole = ap (λ (w : List ℕ). codes "remove" ∷ w ∷ []) is.2 })
+    subst (λ (x : Event). IsLine (codes "remove" ∷ word ∷ []) x) (ok_is (Remove number.0) event number.2) (record { in_range = is.1; whole = ap (λ (w : List ℕ). codes "remove" ∷ w ∷ []) is.2 })
 remove_line-spelled (word ∷ other ∷ others) event e = absurd cc
 
-baseline_line-spelled : (words : List (List ℕ)) (event : Event) → baseline_line words ≡ Ok event → SpellsEvent (codes "baseline" ∷ words) event
+baseline_line-spelled : (words : List (List ℕ)) (event : Event) → baseline_line words ≡ Ok event → IsLine (codes "baseline" ∷ words) event
 unfolding baseline_line
 baseline_line-spelled [] event e = absurd cc
 baseline_line-spelled (word ∷ words) event e =
@@ -208,10 +207,10 @@ baseline_line-spelled (word ∷ words) event e =
     let is = number_word-spelled 1 last_entity word number.0 (omega arith) number.1 in
     let was = entity_at-spelled number.0 words state.0 state.1 in
     let same = was.is in
-    subst (λ (x : Event). SpellsEvent (codes "baseline" ∷ word ∷ words) x) (ok_is (Baseline state.0) event state.2)
-    (record { event_of_replay = (omega arith, omega arith, entity_words words state.0 was.spelled); whole = (words, was.spelled, ap (λ (w : List ℕ). codes "baseline" ∷ w ∷ words) (is.2 ∙ ap decimal (sym same))) })
+    subst (λ (x : Event). IsLine (codes "baseline" ∷ word ∷ words) x) (ok_is (Baseline state.0) event state.2)
+    (record { in_range = (omega arith, omega arith, entity_words words state.0 was.spelled); whole = (words, was.spelled, ap (λ (w : List ℕ). codes "baseline" ∷ w ∷ words) (is.2 ∙ ap decimal (sym same))) })
 
-player_line-spelled : (words : List (List ℕ)) (event : Event) → player_line words ≡ Ok event → SpellsEvent (codes "player" ∷ words) event
+player_line-spelled : (words : List (List ℕ)) (event : Event) → player_line words ≡ Ok event → IsLine (codes "player" ∷ words) event
 unfolding player_line
 player_line-spelled [] event e = absurd cc
 player_line-spelled (word ∷ words) event e =
@@ -219,10 +218,10 @@ player_line-spelled (word ∷ words) event e =
     let player = bind_ok (player_at words) (λ player. Ok (Player c.0 player)) event c.2 in
     let is = number_word-spelled 0 last_client word c.0 (omega arith) c.1 in
     let spelled = player_at-spelled words player.0 player.1 in
-    subst (λ (x : Event). SpellsEvent (codes "player" ∷ word ∷ words) x) (ok_is (Player c.0 player.0) event player.2)
-    (record { event_of_replay = (omega arith, is_state words player.0 spelled); whole = (words, spelled, ap (λ (w : List ℕ). codes "player" ∷ w ∷ words) is.2) })
+    subst (λ (x : Event). IsLine (codes "player" ∷ word ∷ words) x) (ok_is (Player c.0 player.0) event player.2)
+    (record { in_range = (omega arith, is_state words player.0 spelled); whole = (words, spelled, ap (λ (w : List ℕ). codes "player" ∷ w ∷ words) is.2) })
 
-area_line-spelled : (words : List (List ℕ)) (event : Event) → area_line words ≡ Ok event → SpellsEvent (codes "area" ∷ words) event
+area_line-spelled : (words : List (List ℕ)) (event : Event) → area_line words ≡ Ok event → IsLine (codes "area" ∷ words) event
 unfolding area_line
 area_line-spelled [] event e = absurd cc
 area_line-spelled (word ∷ []) event e = absurd cc
@@ -231,63 +230,81 @@ area_line-spelled (word ∷ last ∷ []) event e =
     let area = bind_ok (ok_or (area_at last) causes.Number) (λ area. Ok (Area c.0 area)) event c.2 in
     let is = number_word-spelled 0 last_client word c.0 (omega arith) c.1 in
     let were = area_at-spelled last area.0 (ok_or-ok (area_at last) causes.Number area.0 area.1) in
-    subst (λ (x : Event). SpellsEvent (codes "area" ∷ word ∷ last ∷ []) x) (ok_is (Area c.0 area.0) event area.2)
-    (record { event_of_replay = (omega arith, were.few, were.each); whole = (last, were.spelled, ap (λ (w : List ℕ). codes "area" ∷ w ∷ last ∷ []) is.2) })
+    subst (λ (x : Event). IsLine (codes "area" ∷ word ∷ last ∷ []) x) (ok_is (Area c.0 area.0) event area.2)
+    (record { in_range = (omega arith, were.few, were.each); whole = (last, were.spelled, ap (λ (w : List ℕ). codes "area" ∷ w ∷ last ∷ []) is.2) })
 area_line-spelled (word ∷ last ∷ other ∷ others) event e = absurd cc
 
-time_line-spelled : (words : List (List ℕ)) (event : Event) → time_line words ≡ Ok event → SpellsEvent (codes "time" ∷ words) event
+time_line-spelled : (words : List (List ℕ)) (event : Event) → time_line words ≡ Ok event → IsLine (codes "time" ∷ words) event
 unfolding time_line
 time_line-spelled [] event e = absurd cc
 time_line-spelled (word ∷ []) event e =
     let time = bind_ok (number_word 0 4294967295 word) (λ time. Ok (Time time)) event e in
     let is = number_word-spelled 0 4294967295 word time.0 (omega arith) time.1 in
-    subst (λ (x : Event). SpellsEvent (codes "time" ∷ word ∷ []) x) (ok_is (Time time.0) event time.2) (record { event_of_replay = omega arith; whole = ap (λ (w : List ℕ). codes "time" ∷ w ∷ []) is.2 })
+    subst (λ (x : Event). IsLine (codes "time" ∷ word ∷ []) x) (ok_is (Time time.0) event time.2) (record { in_range = omega arith; whole = ap (λ (w : List ℕ). codes "time" ∷ w ∷ []) is.2 })
 time_line-spelled (word ∷ other ∷ others) event e = absurd cc
 
-serve_line-spelled : (words : List (List ℕ)) (event : Event) → serve_line words ≡ Ok event → SpellsEvent (codes "serve" ∷ words) event
+serve_line-spelled : (words : List (List ℕ)) (event : Event) → serve_line words ≡ Ok event → IsLine (codes "serve" ∷ words) event
 unfolding serve_line
 serve_line-spelled [] event e = absurd cc
 serve_line-spelled (word ∷ []) event e =
     let c = bind_ok (client_word word) (λ c. Ok (Serve c)) event e in
     let is = number_word-spelled 0 last_client word c.0 (omega arith) c.1 in
-    subst (λ (x : Event). SpellsEvent (codes "serve" ∷ word ∷ []) x) (ok_is (Serve c.0) event c.2) (record { event_of_replay = omega arith; whole = ap (λ (w : List ℕ). codes "serve" ∷ w ∷ []) is.2 })
+    subst (λ (x : Event). IsLine (codes "serve" ∷ word ∷ []) x) (ok_is (Serve c.0) event c.2) (record { in_range = omega arith; whole = ap (λ (w : List ℕ). codes "serve" ∷ w ∷ []) is.2 })
 serve_line-spelled (word ∷ other ∷ others) event e = absurd cc
 
-send_line-spelled : (words : List (List ℕ)) (event : Event) → send_line words ≡ Ok event → SpellsEvent (codes "send" ∷ words) event
+send_line-spelled : (words : List (List ℕ)) (event : Event) → send_line words ≡ Ok event → IsLine (codes "send" ∷ words) event
 unfolding send_line
 send_line-spelled [] event e = absurd cc
 send_line-spelled (word ∷ []) event e =
     let c = bind_ok (client_word word) (λ c. Ok (Send c)) event e in
     let is = number_word-spelled 0 last_client word c.0 (omega arith) c.1 in
-    subst (λ (x : Event). SpellsEvent (codes "send" ∷ word ∷ []) x) (ok_is (Send c.0) event c.2) (record { event_of_replay = omega arith; whole = ap (λ (w : List ℕ). codes "send" ∷ w ∷ []) is.2 })
+    subst (λ (x : Event). IsLine (codes "send" ∷ word ∷ []) x) (ok_is (Send c.0) event c.2) (record { in_range = omega arith; whole = ap (λ (w : List ℕ). codes "send" ∷ w ∷ []) is.2 })
 send_line-spelled (word ∷ other ∷ others) event e = absurd cc
 
-deliver_line-spelled : (words : List (List ℕ)) (event : Event) → deliver_line words ≡ Ok event → SpellsEvent (codes "deliver" ∷ words) event
+deliver_line-spelled : (words : List (List ℕ)) (event : Event) → deliver_line words ≡ Ok event → IsLine (codes "deliver" ∷ words) event
 unfolding deliver_line
 deliver_line-spelled [] event e = absurd cc
 deliver_line-spelled (word ∷ []) event e =
     let datagram = bind_ok (number_word 1 last_datagram word) (λ datagram. Ok (Deliver datagram)) event e in
     let is = number_word-spelled 1 last_datagram word datagram.0 (omega arith) datagram.1 in
-    subst (λ (x : Event). SpellsEvent (codes "deliver" ∷ word ∷ []) x) (ok_is (Deliver datagram.0) event datagram.2) (record { event_of_replay = (is.0, is.1); whole = ap (λ (w : List ℕ). codes "deliver" ∷ w ∷ []) is.2 })
+    subst (λ (x : Event). IsLine (codes "deliver" ∷ word ∷ []) x) (ok_is (Deliver datagram.0) event datagram.2) (record { in_range = (is.0, is.1); whole = ap (λ (w : List ℕ). codes "deliver" ∷ w ∷ []) is.2 })
 deliver_line-spelled (word ∷ other ∷ others) event e = absurd cc
 
-show_line-spelled : (words : List (List ℕ)) (event : Event) → show_line words ≡ Ok event → SpellsEvent (codes "show" ∷ words) event
+show_line-spelled : (words : List (List ℕ)) (event : Event) → show_line words ≡ Ok event → IsLine (codes "show" ∷ words) event
 unfolding show_line
 show_line-spelled [] event e = absurd cc
 show_line-spelled (word ∷ []) event e =
     let c = bind_ok (client_word word) (λ c. Ok (Show c)) event e in
     let is = number_word-spelled 0 last_client word c.0 (omega arith) c.1 in
-    subst (λ (x : Event). SpellsEvent (codes "show" ∷ word ∷ []) x) (ok_is (Show c.0) event c.2) (record { event_of_replay = omega arith; whole = ap (λ (w : List ℕ). codes "show" ∷ w ∷ []) is.2 })
+    subst (λ (x : Event). IsLine (codes "show" ∷ word ∷ []) x) (ok_is (Show c.0) event c.2) (record { in_range = omega arith; whole = ap (λ (w : List ℕ). codes "show" ∷ w ∷ []) is.2 })
 show_line-spelled (word ∷ other ∷ others) event e = absurd cc
 
-bytes_line-spelled : (words : List (List ℕ)) (event : Event) → bytes_line words ≡ Ok event → SpellsEvent (codes "bytes" ∷ words) event
+bytes_line-spelled : (words : List (List ℕ)) (event : Event) → bytes_line words ≡ Ok event → IsLine (codes "bytes" ∷ words) event
 unfolding bytes_line
 bytes_line-spelled [] event e = absurd cc
 bytes_line-spelled (word ∷ []) event e =
     let datagram = bind_ok (number_word 1 last_datagram word) (λ datagram. Ok (Bytes datagram)) event e in
     let is = number_word-spelled 1 last_datagram word datagram.0 (omega arith) datagram.1 in
-    subst (λ (x : Event). SpellsEvent (codes "bytes" ∷ word ∷ []) x) (ok_is (Bytes datagram.0) event datagram.2) (record { event_of_replay = (is.0, is.1); whole = ap (λ (w : List ℕ). codes "bytes" ∷ w ∷ []) is.2 })
+    subst (λ (x : Event). IsLine (codes "bytes" ∷ word ∷ []) x) (ok_is (Bytes datagram.0) event datagram.2) (record { in_range = (is.0, is.1); whole = ap (λ (w : List ℕ). codes "bytes" ∷ w ∷ []) is.2 })
 bytes_line-spelled (word ∷ other ∷ others) event e = absurd cc
+
+at_line-spelled : (words : List (List ℕ)) (event : Event) → at_line words ≡ Ok event → IsLine (codes "at" ∷ words) event
+unfolding at_line
+at_line-spelled [] event e = absurd cc
+at_line-spelled (word ∷ []) event e =
+    let ms = bind_ok (number_word 0 last_time word) (λ ms. Ok (At ms)) event e in
+    let is = number_word-spelled 0 last_time word ms.0 (omega arith) ms.1 in
+    subst (λ (x : Event). IsLine (codes "at" ∷ word ∷ []) x) (ok_is (At ms.0) event ms.2) (record { in_range = is.1; whole = ap (λ (w : List ℕ). codes "at" ∷ w ∷ []) is.2 })
+at_line-spelled (word ∷ other ∷ others) event e = absurd cc
+
+end_line-spelled : (words : List (List ℕ)) (event : Event) → end_line words ≡ Ok event → IsLine (codes "end" ∷ words) event
+unfolding end_line
+end_line-spelled [] event e = absurd cc
+end_line-spelled (word ∷ []) event e =
+    let ms = bind_ok (number_word 0 last_time word) (λ ms. Ok (End ms)) event e in
+    let is = number_word-spelled 0 last_time word ms.0 (omega arith) ms.1 in
+    subst (λ (x : Event). IsLine (codes "end" ∷ word ∷ []) x) (ok_is (End ms.0) event ms.2) (record { in_range = is.1; whole = ap (λ (w : List ℕ). codes "end" ∷ w ∷ []) is.2 })
+end_line-spelled (word ∷ other ∷ others) event e = absurd cc
 
 -- bytes that are handed in, and whose they are
 record WasHand (words : List (List ℕ)) (c : ℕ) (bytes : List ℕ) : Type 0 where
@@ -314,21 +331,21 @@ hand_at-spelled (word ∷ last ∷ []) hand e =
     subst (λ (x : ℕ × List ℕ). WasHand (word ∷ last ∷ []) x.0 x.1) (ok_is (c.0, bytes.0) hand bytes.2) (hand_from word last c.0 bytes.0 c.1 (ok_or-ok (handed_at last) causes.Number bytes.0 bytes.1))
 hand_at-spelled (word ∷ last ∷ other ∷ others) hand e = absurd cc
 
-toclient_line-spelled : (words : List (List ℕ)) (event : Event) → toclient_line words ≡ Ok event → SpellsEvent (codes "toclient" ∷ words) event
+toclient_line-spelled : (words : List (List ℕ)) (event : Event) → toclient_line words ≡ Ok event → IsLine (codes "toclient" ∷ words) event
 unfolding toclient_line
 toclient_line-spelled words event e =
     let hand = bind_ok (hand_at words) (λ hand. Ok (Toclient hand.0 hand.1)) event e in
     let was = hand_at-spelled words hand.0 hand.1 in
-    subst (λ (x : Event). SpellsEvent (codes "toclient" ∷ words) x) (ok_is (Toclient hand.0.0 hand.0.1) event hand.2)
-    (record { event_of_replay = (was.small, was.few, was.each); whole = (was.last, was.spelled, ap (λ (others : List (List ℕ)). codes "toclient" ∷ others) was.whole) })
+    subst (λ (x : Event). IsLine (codes "toclient" ∷ words) x) (ok_is (Toclient hand.0.0 hand.0.1) event hand.2)
+    (record { in_range = (was.small, was.few, was.each); whole = (was.last, was.spelled, ap (λ (others : List (List ℕ)). codes "toclient" ∷ others) was.whole) })
 
-toserver_line-spelled : (words : List (List ℕ)) (event : Event) → toserver_line words ≡ Ok event → SpellsEvent (codes "toserver" ∷ words) event
+toserver_line-spelled : (words : List (List ℕ)) (event : Event) → toserver_line words ≡ Ok event → IsLine (codes "toserver" ∷ words) event
 unfolding toserver_line
 toserver_line-spelled words event e =
     let hand = bind_ok (hand_at words) (λ hand. Ok (Toserver hand.0 hand.1)) event e in
     let was = hand_at-spelled words hand.0 hand.1 in
-    subst (λ (x : Event). SpellsEvent (codes "toserver" ∷ words) x) (ok_is (Toserver hand.0.0 hand.0.1) event hand.2)
-    (record { event_of_replay = (was.small, was.few, was.each); whole = (was.last, was.spelled, ap (λ (others : List (List ℕ)). codes "toserver" ∷ others) was.whole) })
+    subst (λ (x : Event). IsLine (codes "toserver" ∷ words) x) (ok_is (Toserver hand.0.0 hand.0.1) event hand.2)
+    (record { in_range = (was.small, was.few, was.each); whole = (was.last, was.spelled, ap (λ (others : List (List ℕ)). codes "toserver" ∷ others) was.whole) })
 
 -- bytes to hand in that are spelled so are read
 hand_at-again : (c : ℕ) (bytes last : List ℕ) → c ≤ last_client → length bytes ≤ most_handed → All (λ byte. byte < 256) bytes → SpellsHex last bytes → hand_at (decimal c ∷ last ∷ []) ≡ Ok (c, bytes)
@@ -336,15 +353,15 @@ unfolding hand_at
 hand_at-again c bytes last small few each spelled = rw (number_word-again 0 last_client c (omega arith) (omega arith) (omega arith), hex_within-again most_handed last bytes spelled few each) refl
 
 -- a word that passed the test is that word
-word_is : (word text : List ℕ) (others : List (List ℕ)) (event : Event) → bytes_eq text word ≡ true → SpellsEvent (text ∷ others) event → SpellsEvent (word ∷ others) event
-word_is word text others event same spelled = subst (λ (w : List ℕ). SpellsEvent (w ∷ others) event) ((bytes_eq-Decides text word).0 same) spelled
+word_is : (word text : List ℕ) (others : List (List ℕ)) (event : Event) → bytes_eq text word ≡ true → IsLine (text ∷ others) event → IsLine (word ∷ others) event
+word_is word text others event same spelled = subst (λ (w : List ℕ). IsLine (w ∷ others) event) ((bytes_eq-Decides text word).0 same) spelled
 
 -- what is left of a line, read as an event, was spelled so behind the line's first word
 abbrev ReadIsSpelled : List ℕ × (List (List ℕ) → Result Event LineCause) → Type 0
-ReadIsSpelled line = (others : List (List ℕ)) (event : Event) → AreLeft others → line.1 others ≡ Ok event → SpellsEvent (line.0 ∷ others) event
+ReadIsSpelled line = (others : List (List ℕ)) (event : Event) → AreLeft others → line.1 others ≡ Ok event → IsLine (line.0 ∷ others) event
 
 -- also of any other words
-of_any : (word : List ℕ) (line : List (List ℕ) → Result Event LineCause) → ((words : List (List ℕ)) (event : Event) → line words ≡ Ok event → SpellsEvent (word ∷ words) event) → ReadIsSpelled (word, line)
+of_any : (word : List ℕ) (line : List (List ℕ) → Result Event LineCause) → ((words : List (List ℕ)) (event : Event) → line words ≡ Ok event → IsLine (word ∷ words) event) → ReadIsSpelled (word, line)
 of_any word line each = λ others event left e. each others event e
 
 -- a line of a table, whose entries each read what is spelled so
@@ -352,7 +369,7 @@ abbrev EachIsSpelled : Table → Type 0
 EachIsSpelled [] = Unit {0}
 EachIsSpelled (line ∷ lines) = ReadIsSpelled line × EachIsSpelled lines
 
-found : (lines : Table) (word : List ℕ) (others : List (List ℕ)) (event : Event) → EachIsSpelled lines → AreLeft others → line_in lines word others ≡ Ok event → SpellsEvent (word ∷ others) event
+found : (lines : Table) (word : List ℕ) (others : List (List ℕ)) (event : Event) → EachIsSpelled lines → AreLeft others → line_in lines word others ≡ Ok event → IsLine (word ∷ others) event
 found [] word others event each left e = let none : refuse causes.Word ≡ done event = e in absurd cc
 found (line ∷ lines) word others event each left e =
     elim (cases_Bool (bytes_eq line.0 word)) [
@@ -360,122 +377,207 @@ found (line ∷ lines) word others event each left e =
       | inr other ↦ found lines word others event each.1 left (rw other at e)
     ]
 
+-- each line of a table reads what is spelled so
+each_line : (kind : ScriptKind) → EachIsSpelled (lines_taken kind)
+each_line kinds.Replay = (of_any (codes "client") client_line client_line-spelled, (of_any (codes "port") port_line port_line-spelled, (of_any (codes "toclient") toclient_line toclient_line-spelled, (of_any (codes "toserver") toserver_line toserver_line-spelled, (of_any (codes "map") map_line map_line-spelled, (of_any (codes "entity") entity_line entity_line-spelled, (of_any (codes "remove") remove_line remove_line-spelled, (of_any (codes "baseline") baseline_line baseline_line-spelled, (of_any (codes "player") player_line player_line-spelled, (of_any (codes "area") area_line area_line-spelled, (of_any (codes "time") time_line time_line-spelled, (config_line-spelled, (say_line-spelled, (type_line-spelled, (of_any (codes "move") move_line move_line-spelled, (of_any (codes "serve") serve_line serve_line-spelled, (of_any (codes "send") send_line send_line-spelled, (of_any (codes "deliver") deliver_line deliver_line-spelled, (of_any (codes "show") show_line show_line-spelled, (of_any (codes "bytes") bytes_line bytes_line-spelled, tt))))))))))))))))))))
+each_line kinds.Serve = (of_any (codes "client") client_line client_line-spelled, (of_any (codes "map") map_line map_line-spelled, (of_any (codes "entity") entity_line entity_line-spelled, (of_any (codes "remove") remove_line remove_line-spelled, (of_any (codes "baseline") baseline_line baseline_line-spelled, (of_any (codes "player") player_line player_line-spelled, (of_any (codes "area") area_line area_line-spelled, (of_any (codes "time") time_line time_line-spelled, (config_line-spelled, (say_line-spelled, (of_any (codes "serve") serve_line serve_line-spelled, (of_any (codes "at") at_line at_line-spelled, (of_any (codes "end") end_line end_line-spelled, tt)))))))))))))
+each_line kinds.Join = (of_any (codes "client") client_line client_line-spelled, (type_line-spelled, (of_any (codes "move") move_line move_line-spelled, (of_any (codes "send") send_line send_line-spelled, (of_any (codes "show") show_line show_line-spelled, (of_any (codes "at") at_line at_line-spelled, (of_any (codes "end") end_line end_line-spelled, tt)))))))
+
 -- what is read of words behind a first one was spelled so
-others_spelled : (word : List ℕ) (others : List (List ℕ)) (event : Event) → AreLeft others → line_at (word ∷ others) ≡ Ok event → SpellsEvent (word ∷ others) event
+others_spelled : (kind : ScriptKind) (word : List ℕ) (others : List (List ℕ)) (event : Event) → AreLeft others → line_at kind (word ∷ others) ≡ Ok event → IsLine (word ∷ others) event
 unfolding line_at
-others_spelled word others event left e =
-    found replay_lines word others event (
-      of_any (codes "client") client_line client_line-spelled,
-      (
-        of_any (codes "port") port_line port_line-spelled,
-        (
-          of_any (codes "toclient") toclient_line toclient_line-spelled,
-          (
-            of_any (codes "toserver") toserver_line toserver_line-spelled,
-            (
-              of_any (codes "map") map_line map_line-spelled,
-              (
-                of_any (codes "entity") entity_line entity_line-spelled,
-                (
-                  of_any (codes "remove") remove_line remove_line-spelled,
-                  (
-                    of_any (codes "baseline") baseline_line baseline_line-spelled,
-                    (
-                      of_any (codes "player") player_line player_line-spelled,
-                      (
-                        of_any (codes "area") area_line area_line-spelled,
-                        (
-                          of_any (codes "time") time_line time_line-spelled,
-                          (
-                            config_line-spelled,
-                            (
-                              say_line-spelled,
-                              (
-                                type_line-spelled,
-                                (
-                                  of_any (codes "move") move_line move_line-spelled,
-                                  (
-                                    of_any (codes "serve") serve_line serve_line-spelled,
-                                    (
-                                      of_any (codes "send") send_line send_line-spelled,
-                                      (
-                                        of_any (codes "deliver") deliver_line deliver_line-spelled,
-                                        (
-                                          of_any (codes "show") show_line show_line-spelled,
-                                          (
-                                            of_any (codes "bytes") bytes_line bytes_line-spelled,
-                                            tt,
-                                          ),
-                                        ),
-                                      ),
-                                    ),
-                                  ),
-                                ),
-                              ),
-                            ),
-                          ),
-                        ),
-                      ),
-                    ),
-                  ),
-                ),
-              ),
-            ),
-          ),
-        ),
-      ),
-    ) left e
+others_spelled kind word others event left e = found (lines_taken kind) word others event (each_line kind) left e
+
+-- ---- an event's line
+
+-- its first word
+abbrev word_of : Event → List ℕ
+word_of (Client c challenge qport dup address) = codes "client"
+word_of (Port c port) = codes "port"
+word_of (Map id feed) = codes "map"
+word_of (Entity state) = codes "entity"
+word_of (Remove number) = codes "remove"
+word_of (Baseline state) = codes "baseline"
+word_of (Player c player) = codes "player"
+word_of (Area c area) = codes "area"
+word_of (Time time) = codes "time"
+word_of (Config index text) = codes "config"
+word_of (Say c text) = codes "say"
+word_of (TypeText c text) = codes "type"
+word_of (Move c one) = codes "move"
+word_of (Serve c) = codes "serve"
+word_of (Send c) = codes "send"
+word_of (Deliver datagram) = codes "deliver"
+word_of (Show c) = codes "show"
+word_of (Bytes datagram) = codes "bytes"
+word_of (Toclient c bytes) = codes "toclient"
+word_of (Toserver c bytes) = codes "toserver"
+word_of (At ms) = codes "at"
+word_of (End ms) = codes "end"
+
+-- and what reads the others
+abbrev line_of : Event → List (List ℕ) → Result Event LineCause
+line_of (Client c challenge qport dup address) = client_line
+line_of (Port c port) = port_line
+line_of (Map id feed) = map_line
+line_of (Entity state) = entity_line
+line_of (Remove number) = remove_line
+line_of (Baseline state) = baseline_line
+line_of (Player c player) = player_line
+line_of (Area c area) = area_line
+line_of (Time time) = time_line
+line_of (Config index text) = config_line
+line_of (Say c text) = say_line
+line_of (TypeText c text) = type_line
+line_of (Move c one) = move_line
+line_of (Serve c) = serve_line
+line_of (Send c) = send_line
+line_of (Deliver datagram) = deliver_line
+line_of (Show c) = show_line
+line_of (Bytes datagram) = bytes_line
+line_of (Toclient c bytes) = toclient_line
+line_of (Toserver c bytes) = toserver_line
+line_of (At ms) = at_line
+line_of (End ms) = end_line
+
+-- words that are such a line
+record Again (words : List (List ℕ)) (event : Event) : Type 0 where
+  others : List (List ℕ)
+  whole : words ≡ word_of event ∷ others
+  read : line_of event others ≡ Ok event
+
+-- what is spelled so is read
+again : (words : List (List ℕ)) (event : Event) → IsInRange event → HasWords words event → Again words event
+unfolding client_line port_line map_line entity_line remove_line baseline_line player_line area_line time_line config_line say_line type_line serve_line send_line deliver_line show_line bytes_line toclient_line toserver_line at_line end_line
+again words (Client c challenge qport dup address) is whole = record { others = decimal c ∷ decimal challenge ∷ decimal qport ∷ decimal dup ∷ whole.0 ∷ []; whole = whole.2; read = rw (number_word-again 0 last_client c (omega arith) (omega arith) (omega arith), number_word-again 0 4294967295 challenge (omega arith) (omega arith) (omega arith), number_word-again 0 65535 qport (omega arith) (omega arith) (omega arith), number_word-again 0 5 dup (omega arith) (omega arith) is.3, address_at-again whole.0 address whole.1 is.4 is.5) refl }
+again words (Port c port) is whole = record { others = decimal c ∷ decimal port ∷ []; whole = whole; read = rw (number_word-again 0 last_client c (omega arith) (omega arith) (omega arith), number_word-again 1 65535 port (omega arith) is.1 (omega arith)) refl }
+again words (Map id feed) is whole = record { others = decimal id ∷ decimal feed ∷ []; whole = whole; read = rw (number_word-again 1 2147483647 id (omega arith) is.0 (omega arith), number_word-again 0 4294967295 feed (omega arith) (omega arith) (omega arith)) refl }
+again words (Entity state) is whole = record { others = decimal state.number ∷ whole.0; whole = whole.2; read = rw (number_word-again 0 last_entity state.number (omega arith) (omega arith) is.0, entity_at-again whole.0 state whole.1) refl }
+again words (Remove number) is whole = record { others = decimal number ∷ []; whole = whole; read = rw (number_word-again 0 last_entity number (omega arith) (omega arith) is) refl }
+again words (Baseline state) is whole = record { others = decimal state.number ∷ whole.0; whole = whole.2; read = rw (number_word-again 1 last_entity state.number (omega arith) is.0 is.1, entity_at-again whole.0 state whole.1) refl }
+again words (Player c player) is whole = record { others = decimal c ∷ whole.0; whole = whole.2; read = rw (number_word-again 0 last_client c (omega arith) (omega arith) (omega arith), player_at-again whole.0 player whole.1) refl }
+again words (Area c area) is whole = record { others = decimal c ∷ whole.0 ∷ []; whole = whole.2; read = rw (number_word-again 0 last_client c (omega arith) (omega arith) (omega arith), area_at-again whole.0 area whole.1 is.1 is.2) refl }
+again words (Time time) is whole = record { others = decimal time ∷ []; whole = whole; read = rw (number_word-again 0 4294967295 time (omega arith) (omega arith) (omega arith)) refl }
+again words (Config index text) is whole = record { others = decimal index ∷ whole.0; whole = whole.2; read = rw (config_at-again index text whole.0 is.0 is.1 whole.1) refl }
+again words (Say c text) is whole = record { others = decimal c ∷ whole.0; whole = whole.2; read = rw (command_at-again c text whole.0 is.0 whole.1) refl }
+again words (TypeText c text) is whole = record { others = decimal c ∷ whole.0; whole = whole.2; read = rw (command_at-again c text whole.0 is.0 whole.1) refl }
+again words (Move c one) is whole = record { others = decimal c ∷ move_words one; whole = whole; read = move_line-again c one is.0 is.1 }
+again words (Serve c) is whole = record { others = decimal c ∷ []; whole = whole; read = rw (number_word-again 0 last_client c (omega arith) (omega arith) (omega arith)) refl }
+again words (Send c) is whole = record { others = decimal c ∷ []; whole = whole; read = rw (number_word-again 0 last_client c (omega arith) (omega arith) (omega arith)) refl }
+again words (Deliver datagram) is whole = record { others = decimal datagram ∷ []; whole = whole; read = rw (number_word-again 1 last_datagram datagram (omega arith) is.0 is.1) refl }
+again words (Show c) is whole = record { others = decimal c ∷ []; whole = whole; read = rw (number_word-again 0 last_client c (omega arith) (omega arith) (omega arith)) refl }
+again words (Bytes datagram) is whole = record { others = decimal datagram ∷ []; whole = whole; read = rw (number_word-again 1 last_datagram datagram (omega arith) is.0 is.1) refl }
+again words (Toclient c bytes) is whole = record { others = decimal c ∷ whole.0 ∷ []; whole = whole.2; read = rw (hand_at-again c bytes whole.0 is.0 is.1 is.2 whole.1) refl }
+again words (Toserver c bytes) is whole = record { others = decimal c ∷ whole.0 ∷ []; whole = whole.2; read = rw (hand_at-again c bytes whole.0 is.0 is.1 is.2 whole.1) refl }
+again words (At ms) is whole = record { others = decimal ms ∷ []; whole = whole; read = rw (number_word-again 0 last_time ms (omega arith) (omega arith) is) refl }
+again words (End ms) is whole = record { others = decimal ms ∷ []; whole = whole; read = rw (number_word-again 0 last_time ms (omega arith) (omega arith) is) refl }
+
+-- an event that scripts of a kind may have
+record IsTaken (kind : ScriptKind) (event : Event) : Type 0 where
+  is : IsInRange event → IsEventOf kind event
+  was : IsEventOf kind event → IsInRange event
+  reads : (others : List (List ℕ)) → line_at kind (word_of event ∷ others) ≡ line_of event others
+
+-- and one that they can't have
+record IsLacked (kind : ScriptKind) (event : Event) : Type 0 where
+  never : IsEventOf kind event → ⊥
+  refuses : (others : List (List ℕ)) → line_at kind (word_of event ∷ others) ≡ refuse causes.Word
+
+sorted : (kind : ScriptKind) (event : Event) → IsTaken kind event ⊎ IsLacked kind event
+unfolding line_at
+sorted kinds.Replay (Client c challenge qport dup address) = inl (record { is = λ r. r; was = λ r. r; reads = λ others. refl })
+sorted kinds.Replay (Port c port) = inl (record { is = λ r. r; was = λ r. r; reads = λ others. refl })
+sorted kinds.Replay (Map id feed) = inl (record { is = λ r. r; was = λ r. r; reads = λ others. refl })
+sorted kinds.Replay (Entity state) = inl (record { is = λ r. r; was = λ r. r; reads = λ others. refl })
+sorted kinds.Replay (Remove number) = inl (record { is = λ r. r; was = λ r. r; reads = λ others. refl })
+sorted kinds.Replay (Baseline state) = inl (record { is = λ r. r; was = λ r. r; reads = λ others. refl })
+sorted kinds.Replay (Player c player) = inl (record { is = λ r. r; was = λ r. r; reads = λ others. refl })
+sorted kinds.Replay (Area c area) = inl (record { is = λ r. r; was = λ r. r; reads = λ others. refl })
+sorted kinds.Replay (Time time) = inl (record { is = λ r. r; was = λ r. r; reads = λ others. refl })
+sorted kinds.Replay (Config index text) = inl (record { is = λ r. r; was = λ r. r; reads = λ others. refl })
+sorted kinds.Replay (Say c text) = inl (record { is = λ r. r; was = λ r. r; reads = λ others. refl })
+sorted kinds.Replay (TypeText c text) = inl (record { is = λ r. r; was = λ r. r; reads = λ others. refl })
+sorted kinds.Replay (Move c one) = inl (record { is = λ r. r; was = λ r. r; reads = λ others. refl })
+sorted kinds.Replay (Serve c) = inl (record { is = λ r. r; was = λ r. r; reads = λ others. refl })
+sorted kinds.Replay (Send c) = inl (record { is = λ r. r; was = λ r. r; reads = λ others. refl })
+sorted kinds.Replay (Deliver datagram) = inl (record { is = λ r. r; was = λ r. r; reads = λ others. refl })
+sorted kinds.Replay (Show c) = inl (record { is = λ r. r; was = λ r. r; reads = λ others. refl })
+sorted kinds.Replay (Bytes datagram) = inl (record { is = λ r. r; was = λ r. r; reads = λ others. refl })
+sorted kinds.Replay (Toclient c bytes) = inl (record { is = λ r. r; was = λ r. r; reads = λ others. refl })
+sorted kinds.Replay (Toserver c bytes) = inl (record { is = λ r. r; was = λ r. r; reads = λ others. refl })
+sorted kinds.Replay (At ms) = inr (record { never = λ r. r; refuses = λ others. refl })
+sorted kinds.Replay (End ms) = inr (record { never = λ r. r; refuses = λ others. refl })
+sorted kinds.Serve (Client c challenge qport dup address) = inl (record { is = λ r. r; was = λ r. r; reads = λ others. refl })
+sorted kinds.Serve (Port c port) = inr (record { never = λ r. r; refuses = λ others. refl })
+sorted kinds.Serve (Map id feed) = inl (record { is = λ r. r; was = λ r. r; reads = λ others. refl })
+sorted kinds.Serve (Entity state) = inl (record { is = λ r. r; was = λ r. r; reads = λ others. refl })
+sorted kinds.Serve (Remove number) = inl (record { is = λ r. r; was = λ r. r; reads = λ others. refl })
+sorted kinds.Serve (Baseline state) = inl (record { is = λ r. r; was = λ r. r; reads = λ others. refl })
+sorted kinds.Serve (Player c player) = inl (record { is = λ r. r; was = λ r. r; reads = λ others. refl })
+sorted kinds.Serve (Area c area) = inl (record { is = λ r. r; was = λ r. r; reads = λ others. refl })
+sorted kinds.Serve (Time time) = inl (record { is = λ r. r; was = λ r. r; reads = λ others. refl })
+sorted kinds.Serve (Config index text) = inl (record { is = λ r. r; was = λ r. r; reads = λ others. refl })
+sorted kinds.Serve (Say c text) = inl (record { is = λ r. r; was = λ r. r; reads = λ others. refl })
+sorted kinds.Serve (TypeText c text) = inr (record { never = λ r. r; refuses = λ others. refl })
+sorted kinds.Serve (Move c one) = inr (record { never = λ r. r; refuses = λ others. refl })
+sorted kinds.Serve (Serve c) = inl (record { is = λ r. r; was = λ r. r; reads = λ others. refl })
+sorted kinds.Serve (Send c) = inr (record { never = λ r. r; refuses = λ others. refl })
+sorted kinds.Serve (Deliver datagram) = inr (record { never = λ r. r; refuses = λ others. refl })
+sorted kinds.Serve (Show c) = inr (record { never = λ r. r; refuses = λ others. refl })
+sorted kinds.Serve (Bytes datagram) = inr (record { never = λ r. r; refuses = λ others. refl })
+sorted kinds.Serve (Toclient c bytes) = inr (record { never = λ r. r; refuses = λ others. refl })
+sorted kinds.Serve (Toserver c bytes) = inr (record { never = λ r. r; refuses = λ others. refl })
+sorted kinds.Serve (At ms) = inl (record { is = λ r. r; was = λ r. r; reads = λ others. refl })
+sorted kinds.Serve (End ms) = inl (record { is = λ r. r; was = λ r. r; reads = λ others. refl })
+sorted kinds.Join (Client c challenge qport dup address) = inl (record { is = λ r. r; was = λ r. r; reads = λ others. refl })
+sorted kinds.Join (Port c port) = inr (record { never = λ r. r; refuses = λ others. refl })
+sorted kinds.Join (Map id feed) = inr (record { never = λ r. r; refuses = λ others. refl })
+sorted kinds.Join (Entity state) = inr (record { never = λ r. r; refuses = λ others. refl })
+sorted kinds.Join (Remove number) = inr (record { never = λ r. r; refuses = λ others. refl })
+sorted kinds.Join (Baseline state) = inr (record { never = λ r. r; refuses = λ others. refl })
+sorted kinds.Join (Player c player) = inr (record { never = λ r. r; refuses = λ others. refl })
+sorted kinds.Join (Area c area) = inr (record { never = λ r. r; refuses = λ others. refl })
+sorted kinds.Join (Time time) = inr (record { never = λ r. r; refuses = λ others. refl })
+sorted kinds.Join (Config index text) = inr (record { never = λ r. r; refuses = λ others. refl })
+sorted kinds.Join (Say c text) = inr (record { never = λ r. r; refuses = λ others. refl })
+sorted kinds.Join (TypeText c text) = inl (record { is = λ r. r; was = λ r. r; reads = λ others. refl })
+sorted kinds.Join (Move c one) = inl (record { is = λ r. r; was = λ r. r; reads = λ others. refl })
+sorted kinds.Join (Serve c) = inr (record { never = λ r. r; refuses = λ others. refl })
+sorted kinds.Join (Send c) = inl (record { is = λ r. r; was = λ r. r; reads = λ others. refl })
+sorted kinds.Join (Deliver datagram) = inr (record { never = λ r. r; refuses = λ others. refl })
+sorted kinds.Join (Show c) = inl (record { is = λ r. r; was = λ r. r; reads = λ others. refl })
+sorted kinds.Join (Bytes datagram) = inr (record { never = λ r. r; refuses = λ others. refl })
+sorted kinds.Join (Toclient c bytes) = inr (record { never = λ r. r; refuses = λ others. refl })
+sorted kinds.Join (Toserver c bytes) = inr (record { never = λ r. r; refuses = λ others. refl })
+sorted kinds.Join (At ms) = inl (record { is = λ r. r; was = λ r. r; reads = λ others. refl })
+sorted kinds.Join (End ms) = inl (record { is = λ r. r; was = λ r. r; reads = λ others. refl })
+
+-- ---- whole lines
+
+-- what is read of words was spelled so
+words_spelled : (kind : ScriptKind) (words : List (List ℕ)) (event : Event) → IsLine words event → line_at kind words ≡ Ok event → SpellsEvent kind words event
+words_spelled kind words event line e =
+    elim (sorted kind event) [
+      | inl taken ↦ record { event_of = taken.is line.in_range; whole = line.whole }
+      | inr lacked ↦
+          let is = again words event line.in_range line.whole in
+          let none : refuse causes.Word ≡ done event = sym (lacked.refuses is.others) ∙ ap (line_at kind) (sym is.whole) ∙ e in
+          absurd cc
+    ]
 
 -- what is read of a line was spelled so
-pub line_at-spelled : (line : List ℕ) (event : Event) → line_at (words_of line) ≡ Ok event → SpellsEvent (words_of line) event
-line_at-spelled line event e =
+pub line_at-spelled : (kind : ScriptKind) (line : List ℕ) (event : Event) → line_at kind (words_of line) ≡ Ok event → SpellsEvent kind (words_of line) event
+line_at-spelled kind line event e =
     let cut = words_at_space line in
     let first = take (position_or_len is_space line) line in
     let rest = drop (position_or_len is_space line) line in
-    subst (λ (words : List (List ℕ)). SpellsEvent words event) (sym cut) (others_spelled first (words_left rest) event (rest, refl) (ap line_at (sym cut) ∙ e))
+    let is = subst (λ (words : List (List ℕ)). IsLine words event) (sym cut) (others_spelled kind first (words_left rest) event (rest, refl) (ap (line_at kind) (sym cut) ∙ e)) in
+    words_spelled kind (words_of line) event is e
 
 -- and what is spelled so is read
-pub line_at-again : (words : List (List ℕ)) (event : Event) → SpellsEvent words event → line_at words ≡ Ok event
-unfolding line_at client_line port_line map_line entity_line remove_line baseline_line player_line area_line time_line config_line say_line type_line serve_line send_line deliver_line show_line bytes_line toclient_line toserver_line
-line_at-again words (Client c challenge qport dup address) spelled =
-    let is = spelled.event_of_replay in
-    ap line_at spelled.whole.2 ∙ rw (
-      number_word-again 0 last_client c (omega arith) (omega arith) (omega arith),
-      number_word-again 0 4294967295 challenge (omega arith) (omega arith) (omega arith),
-      number_word-again 0 65535 qport (omega arith) (omega arith) (omega arith),
-      number_word-again 0 5 dup (omega arith) (omega arith) is.3,
-      address_at-again spelled.whole.0 address spelled.whole.1 is.4 is.5,
-    ) refl
-line_at-again words (Port c port) spelled =
-    let is = spelled.event_of_replay in
-    ap line_at spelled.whole ∙ rw (number_word-again 0 last_client c (omega arith) (omega arith) (omega arith), number_word-again 1 65535 port (omega arith) is.1 (omega arith)) refl
-line_at-again words (Map id feed) spelled =
-    let is = spelled.event_of_replay in
-    ap line_at spelled.whole ∙ rw (number_word-again 1 2147483647 id (omega arith) is.0 (omega arith), number_word-again 0 4294967295 feed (omega arith) (omega arith) (omega arith)) refl
-line_at-again words (Entity state) spelled =
-    let is = spelled.event_of_replay in
-    ap line_at spelled.whole.2 ∙ rw (number_word-again 0 last_entity state.number (omega arith) (omega arith) is.0, entity_at-again spelled.whole.0 state spelled.whole.1) refl
-line_at-again words (Remove number) spelled = let is = spelled.event_of_replay in ap line_at spelled.whole ∙ rw (number_word-again 0 last_entity number (omega arith) (omega arith) is) refl
-line_at-again words (Baseline state) spelled =
-    let is = spelled.event_of_replay in
-    ap line_at spelled.whole.2 ∙ rw (number_word-again 1 last_entity state.number (omega arith) is.0 is.1, entity_at-again spelled.whole.0 state spelled.whole.1) refl
-line_at-again words (Player c player) spelled =
-    let is = spelled.event_of_replay in
-    ap line_at spelled.whole.2 ∙ rw (number_word-again 0 last_client c (omega arith) (omega arith) (omega arith), player_at-again spelled.whole.0 player spelled.whole.1) refl
-line_at-again words (Area c area) spelled =
-    let is = spelled.event_of_replay in
-    ap line_at spelled.whole.2 ∙ rw (number_word-again 0 last_client c (omega arith) (omega arith) (omega arith), area_at-again spelled.whole.0 area spelled.whole.1 is.1 is.2) refl
-line_at-again words (Time time) spelled = let is = spelled.event_of_replay in ap line_at spelled.whole ∙ rw (number_word-again 0 4294967295 time (omega arith) (omega arith) (omega arith)) refl
-line_at-again words (Config index text) spelled =
-    let is = spelled.event_of_replay in
-    ap line_at spelled.whole.2 ∙ rw (config_at-again index text spelled.whole.0 is.0 is.1 spelled.whole.1) refl
-line_at-again words (Say c text) spelled = let is = spelled.event_of_replay in ap line_at spelled.whole.2 ∙ rw (command_at-again c text spelled.whole.0 is.0 spelled.whole.1) refl
-line_at-again words (TypeText c text) spelled = let is = spelled.event_of_replay in ap line_at spelled.whole.2 ∙ rw (command_at-again c text spelled.whole.0 is.0 spelled.whole.1) refl
-line_at-again words (Move c one) spelled = let is = spelled.event_of_replay in ap line_at spelled.whole ∙ move_line-again c one is.0 is.1
-line_at-again words (Serve c) spelled = let is = spelled.event_of_replay in ap line_at spelled.whole ∙ rw (number_word-again 0 last_client c (omega arith) (omega arith) (omega arith)) refl
-line_at-again words (Send c) spelled = let is = spelled.event_of_replay in ap line_at spelled.whole ∙ rw (number_word-again 0 last_client c (omega arith) (omega arith) (omega arith)) refl
-line_at-again words (Deliver datagram) spelled = let is = spelled.event_of_replay in ap line_at spelled.whole ∙ rw (number_word-again 1 last_datagram datagram (omega arith) is.0 is.1) refl
-line_at-again words (Show c) spelled = let is = spelled.event_of_replay in ap line_at spelled.whole ∙ rw (number_word-again 0 last_client c (omega arith) (omega arith) (omega arith)) refl
-line_at-again words (Bytes datagram) spelled = let is = spelled.event_of_replay in ap line_at spelled.whole ∙ rw (number_word-again 1 last_datagram datagram (omega arith) is.0 is.1) refl
-line_at-again words (Toclient c bytes) spelled = let is = spelled.event_of_replay in ap line_at spelled.whole.2 ∙ rw (hand_at-again c bytes spelled.whole.0 is.0 is.1 is.2 spelled.whole.1) refl
-line_at-again words (Toserver c bytes) spelled = let is = spelled.event_of_replay in ap line_at spelled.whole.2 ∙ rw (hand_at-again c bytes spelled.whole.0 is.0 is.1 is.2 spelled.whole.1) refl
+pub line_at-again : (kind : ScriptKind) (words : List (List ℕ)) (event : Event) → SpellsEvent kind words event → line_at kind words ≡ Ok event
+line_at-again kind words event spelled =
+    elim (sorted kind event) [
+      | inl taken ↦ let is = again words event (taken.was spelled.event_of) spelled.whole in ap (line_at kind) is.whole ∙ taken.reads is.others ∙ is.read
+      | inr lacked ↦ absurd (lacked.never spelled.event_of)
+    ]

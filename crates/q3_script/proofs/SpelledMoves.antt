@@ -9,7 +9,8 @@ use Rattle.q3_clmsg.specs.Report.{move_words}
 use Rattle.q3_script.specs.declared.event.Event.{Event}
 use Rattle.q3_script.specs.declared.event.Event.TheVariants.{Move}
 use Rattle.q3_script.specs.Lines.{last_client, number_word, client_word, signed_byte_word, angles_at, steps_at, move_with, move_line}
-use Rattle.q3_script.specs.Grammar.{IsSignedByte, IsHeldMove, SpellsEvent}
+use Rattle.q3_script.specs.Grammar.{IsSignedByte, IsHeldMove}
+use Rattle.q3_script.proofs.SpelledLines.{IsLine}
 use Rattle.q3_script.proofs.NumberWords.{ok_is, number_word-spelled, number_word-again, SpellsSignedByte, signed_byte_word-spelled, signed_byte_word-again}
 
 -- a number below 2^16
@@ -68,7 +69,7 @@ steps_at-spelled forward right up steps e =
 -- the words of a move, each read
 move_from : (c time pitch yaw roll forward right up buttons weapon : List ℕ) (c' time' : ℕ) (angles' : List ℕ) (steps' : ℤ × ℤ × ℤ) (buttons' weapon' : ℕ)
     → client_word c ≡ Ok c' → number_word 0 4294967295 time ≡ Ok time' → angles_at pitch yaw roll ≡ Ok angles' → steps_at forward right up ≡ Ok steps' → number_word 0 65535 buttons ≡ Ok buttons' → number_word 0 255 weapon ≡ Ok weapon'
-    → SpellsEvent (codes "move" ∷ c ∷ time ∷ pitch ∷ yaw ∷ roll ∷ forward ∷ right ∷ up ∷ buttons ∷ weapon ∷ []) (Move c' (move_with time' angles' steps' buttons' weapon'))
+    → IsLine (codes "move" ∷ c ∷ time ∷ pitch ∷ yaw ∷ roll ∷ forward ∷ right ∷ up ∷ buttons ∷ weapon ∷ []) (Move c' (move_with time' angles' steps' buttons' weapon'))
 move_from c time pitch yaw roll forward right up buttons weapon c' time' angles' steps' buttons' weapon' c_read time_read angles_read steps_read buttons_read weapon_read =
     let c_is = number_word-spelled 0 last_client c c' (omega arith) c_read in
     let time_is = number_word-spelled 0 4294967295 time time' (omega arith) time_read in
@@ -78,7 +79,7 @@ move_from c time pitch yaw roll forward right up buttons weapon c' time' angles'
     let weapon_is = number_word-spelled 0 255 weapon weapon' (omega arith) weapon_read in
     let back : List (List ℕ) = signed_decimal steps'.0 ∷ signed_decimal steps'.1 ∷ signed_decimal steps'.2 ∷ decimal buttons' ∷ decimal weapon' ∷ [] in
     record {
-      event_of_replay = (
+      in_range = (
         omega arith,
         record {
           time = omega arith;
@@ -96,7 +97,7 @@ move_from c time pitch yaw roll forward right up buttons weapon c' time' angles'
     }
 
 -- what is read of the line was spelled so
-pub move_line-spelled : (words : List (List ℕ)) (event : Event) → move_line words ≡ Ok event → SpellsEvent (codes "move" ∷ words) event
+pub move_line-spelled : (words : List (List ℕ)) (event : Event) → move_line words ≡ Ok event → IsLine (codes "move" ∷ words) event
 unfolding move_line
 move_line-spelled [] event e = absurd cc
 move_line-spelled (c ∷ []) event e = absurd cc
@@ -116,7 +117,7 @@ move_line-spelled (c ∷ time ∷ pitch ∷ yaw ∷ roll ∷ forward ∷ right �
     let buttons' = bind_ok (number_word 0 65535 buttons) (λ buttons'. number_word 0 255 weapon >>= λ weapon'. Ok (Move c'.0 (move_with time'.0 angles'.0 steps'.0 buttons' weapon'))) event steps'.2 in
     let weapon' = bind_ok (number_word 0 255 weapon) (λ weapon'. Ok (Move c'.0 (move_with time'.0 angles'.0 steps'.0 buttons'.0 weapon'))) event buttons'.2 in
     let value : Event = Move c'.0 (move_with time'.0 angles'.0 steps'.0 buttons'.0 weapon'.0) in
-    subst (λ (x : Event). SpellsEvent (codes "move" ∷ c ∷ time ∷ pitch ∷ yaw ∷ roll ∷ forward ∷ right ∷ up ∷ buttons ∷ weapon ∷ []) x) {x = value} (ok_is value event weapon'.2)
+    subst (λ (x : Event). IsLine (codes "move" ∷ c ∷ time ∷ pitch ∷ yaw ∷ roll ∷ forward ∷ right ∷ up ∷ buttons ∷ weapon ∷ []) x) {x = value} (ok_is value event weapon'.2)
     (move_from c time pitch yaw roll forward right up buttons weapon c'.0 time'.0 angles'.0 steps'.0 buttons'.0 weapon'.0 c'.1 time'.1 angles'.1 steps'.1 buttons'.1 weapon'.1)
 move_line-spelled (c ∷ time ∷ pitch ∷ yaw ∷ roll ∷ forward ∷ right ∷ up ∷ buttons ∷ weapon ∷ other ∷ others) event e = absurd cc
 

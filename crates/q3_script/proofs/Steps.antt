@@ -1,7 +1,7 @@
 -- Each line in the steps by which it is read.
 use Rattle.std.proofs.Common.{◌≡◌, ℕ, List, [], ◌∷◌, Ok, refl}
 use Rattle.std.specs.Option.{ok_or}
-use Rattle.q3_script.specs.declared.event.Event.TheVariants.{Client, Port, Map, Entity, Remove, Baseline, Player, Area, Time, Move, Serve, Send, Deliver, Show, Bytes}
+use Rattle.q3_script.specs.declared.event.Event.TheVariants.{Client, Port, Map, Entity, Remove, Baseline, Player, Area, Time, Move, Serve, Send, Deliver, Show, Bytes, At, End}
 use Rattle.q3_script.specs.declared.cause.LineCause.TheVariants.{Address, Count, Number}
 use Rattle.q3_bits.specs.ResultBind.{◌>>=◌}
 use Rattle.q3_script.specs.Words.{next_of, three_of, only_of, text_from}
@@ -9,7 +9,7 @@ use Rattle.q3_script.specs.Addresses.{address_at}
 use Rattle.q3_script.specs.Hex.{area_at, handed_at}
 use Rattle.q3_script.specs.Quotes.{bytes_word, text_word}
 use Rattle.q3_script.specs.Fields.{entity_at, player_at}
-use Rattle.q3_script.specs.Lines.{last_datagram, last_entity, most_config, number_word, entity_word, client_word, angles_at, steps_at, move_with, client_line, port_line, map_line, entity_line, remove_line, baseline_line, player_line, area_line, time_line, config_at, command_at, move_line, serve_line, send_line, deliver_line, show_line, bytes_line, hand_at}
+use Rattle.q3_script.specs.Lines.{last_datagram, last_time, last_entity, most_config, number_word, entity_word, client_word, angles_at, steps_at, move_with, client_line, port_line, map_line, entity_line, remove_line, baseline_line, player_line, area_line, time_line, config_at, command_at, move_line, serve_line, send_line, deliver_line, show_line, bytes_line, hand_at, at_line, end_line}
 
 -- a client: four words and the last, then each of them
 pub client_steps : (words : List (List ℕ)) → client_line words ≡ (ok_or (next_of words) Count >>= λ c. ok_or (next_of c.1) Count >>= λ challenge. ok_or (next_of challenge.1) Count >>= λ qport. ok_or (next_of qport.1) Count >>= λ dup. ok_or (only_of dup.1) Count >>= λ address.
@@ -154,3 +154,17 @@ hand_steps [] = refl
 hand_steps (c ∷ []) = refl
 hand_steps (c ∷ bytes ∷ []) = refl
 hand_steps (c ∷ bytes ∷ other ∷ others) = refl
+
+-- the time of the lines behind: the only word is a number
+pub at_steps : (words : List (List ℕ)) → at_line words ≡ (ok_or (only_of words) Count >>= λ word. number_word 0 last_time word >>= λ ms. Ok (At ms))
+unfolding at_line
+at_steps [] = refl
+at_steps (ms ∷ []) = refl
+at_steps (ms ∷ other ∷ others) = refl
+
+-- the end: the only word is a number
+pub end_steps : (words : List (List ℕ)) → end_line words ≡ (ok_or (only_of words) Count >>= λ word. number_word 0 last_time word >>= λ ms. Ok (End ms))
+unfolding end_line
+end_steps [] = refl
+end_steps (ms ∷ []) = refl
+end_steps (ms ∷ other ∷ others) = refl

@@ -1,7 +1,7 @@
 -- The events that a script spells, or its first bad line.
-use Rattle.std.specs.Prelude.{◌≡◌, ℕ, ◌+◌, ◌==◌, ◌||◌, if◌then◌else◌, Bool, true, false, List, [], ◌∷◌, Option, Some, None, length, nat_lt, nat_le, slice_index, Result, Ok, Err}
+use Rattle.std.specs.Prelude.{◌≡◌, ℕ, ◌+◌, ◌==◌, ◌||◌, if◌then◌else◌, Bool, true, false, List, [], ◌∷◌, Option, Some, None, length, codes, eqb, nat_lt, nat_le, slice_index, Result, Ok, Err}
 use Rattle.std.specs.Result.{result_map_both}
-use Rattle.std.specs.List.{slice_split, last_or}
+use Rattle.std.specs.List.{slice_split, ends_with}
 use Rattle.std.specs.Global.{Vec}
 use Rattle.q3_script.specs.declared.event.Event.{Event}
 use Rattle.q3_script.specs.declared.event.Event.TheVariants as events
@@ -91,7 +91,7 @@ is_complete Join course = course.ended
 
 -- the number behind that of the last line: what stands behind the last newline is a line unless it is empty
 abbrev pub line_behind : List ℕ → ℕ
-line_behind bytes = if last_or 10 bytes == 10 then length (lines_of bytes) else length (lines_of bytes) + 1
+line_behind bytes = if (length bytes == 0) || ends_with eqb bytes (codes "\n") then length (lines_of bytes) else length (lines_of bytes) + 1
 
 -- an answer, where a cause is that of this line
 abbrev pub in_line : {A : Type 0} → ℕ → Result A LineCause → Result A BadLine

@@ -1,10 +1,11 @@
-//! The script language, this project's own: each line of a script is an event of a replay.
+//! The script language, this project's own: each line of a script is an event of a replay, of a server or of a client.
 #![tactic(auto)]
 
 mod address;
 mod area;
 pub mod bytes;
 pub mod cause;
+mod course;
 pub mod event;
 mod fields;
 pub mod laws;

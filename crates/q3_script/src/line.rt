@@ -1,13 +1,13 @@
-//! Reads one line of a script.
+//! Reads one line of a script, by the lines that its kind has.
 
 ghost use Rattle.std.specs.Prelude.{◌≡◌, ◌∷◌, IfOk};
 ghost use Rattle.q3_script.specs.Words.{words_of, words_left};
-ghost use Rattle.q3_script.specs.Lines.{client_line, port_line, map_line, entity_line, remove_line, baseline_line, player_line, area_line, time_line, config_at, config_line, command_at, say_line, type_line, serve_line, send_line, deliver_line, show_line, bytes_line, hand_at, toclient_line, toserver_line, line_at};
+ghost use Rattle.q3_script.specs.Lines.{client_line, port_line, map_line, entity_line, remove_line, baseline_line, player_line, area_line, time_line, config_at, config_line, command_at, say_line, type_line, serve_line, send_line, deliver_line, show_line, bytes_line, hand_at, toclient_line, toserver_line, at_line, end_line, line_at};
 
 use crate::address::address;
 use crate::area::{area_bytes, handed_bytes};
 use crate::bytes::Bytes;
-use crate::cause::LineCause;
+use crate::cause::{LineCause, ScriptKind};
 use crate::event::Event;
 use crate::fields::{entity_state, player_state};
 use crate::moves::move_line;
@@ -17,6 +17,9 @@ use crate::words::{first_word, is, next_word, only_word, text_left};
 use q3_bits::NoMemory;
 use q3_text::Text;
 use std::alloc::Global;
+
+/// The latest time of a node's script, in milliseconds.
+const LAST_TIME: u32 = 3_600_000;
 
 #[tactic(auto, using(crate::proofs::Steps::client_steps))]
 fn client(left: &[u8]) -> Result<Event, LineCause>
@@ -279,10 +282,34 @@ fn toserver(alloc: Global, left: &[u8]) -> Result<Result<Event, LineCause>, NoMe
     }
 }
 
-/// The event of the line that begins with this word. `Err` is want of memory.
+#[tactic(auto, using(crate::proofs::Steps::at_steps))]
+fn at(left: &[u8]) -> Result<Event, LineCause>
+    ensures { result ≡ at_line (words_left left.now) }
+{
+    let word = only_word(left).ok_or(LineCause::Count)?;
+    Ok(Event::At {
+        ms: number_word(word, 0, LAST_TIME)?,
+    })
+}
+
+#[tactic(auto, using(crate::proofs::Steps::end_steps))]
+fn end(left: &[u8]) -> Result<Event, LineCause>
+    ensures { result ≡ end_line (words_left left.now) }
+{
+    let word = only_word(left).ok_or(LineCause::Count)?;
+    Ok(Event::End {
+        ms: number_word(word, 0, LAST_TIME)?,
+    })
+}
+
+/// The event of a replay's line that begins with this word. `Err` is want of memory.
 #[tactic(auto, unfolding(crate::specs::Lines::line_at))]
-fn event(alloc: Global, word: &[u8], left: &[u8]) -> Result<Result<Event, LineCause>, NoMemory>
-    ensures { IfOk result (λ answer. answer ≡ line_at (word.now ∷ words_left left.now)) }
+fn replay_line(
+    alloc: Global,
+    word: &[u8],
+    left: &[u8],
+) -> Result<Result<Event, LineCause>, NoMemory>
+    ensures { IfOk result (λ answer. answer ≡ line_at ScriptKind.Replay (word.now ∷ words_left left.now)) }
 {
     if is(word, b"client") {
         Ok(client(left))
@@ -329,10 +356,80 @@ fn event(alloc: Global, word: &[u8], left: &[u8]) -> Result<Result<Event, LineCa
     }
 }
 
-/// The event that a line spells, or the first cause for which it is refused. `Err` is want of memory.
-pub fn read_line(alloc: Global, line: &[u8]) -> Result<Result<Event, LineCause>, NoMemory>
-    ensures { IfOk result (λ answer. answer ≡ line_at (words_of line.now)) }
+/// The event of a line of a server's script that begins with this word. `Err` is want of memory.
+#[tactic(auto, unfolding(crate::specs::Lines::line_at))]
+#[inline(never)]
+fn serve_line(alloc: Global, word: &[u8], left: &[u8]) -> Result<Result<Event, LineCause>, NoMemory>
+    ensures { IfOk result (λ answer. answer ≡ line_at ScriptKind.Serve (word.now ∷ words_left left.now)) }
+{
+    if is(word, b"client") {
+        Ok(client(left))
+    } else if is(word, b"map") {
+        Ok(map(left))
+    } else if is(word, b"entity") {
+        Ok(entity(left))
+    } else if is(word, b"remove") {
+        Ok(remove(left))
+    } else if is(word, b"baseline") {
+        Ok(baseline(left))
+    } else if is(word, b"player") {
+        Ok(player(left))
+    } else if is(word, b"area") {
+        Ok(area(left))
+    } else if is(word, b"time") {
+        Ok(time(left))
+    } else if is(word, b"config") {
+        config(alloc, left)
+    } else if is(word, b"say") {
+        Ok(say(left))
+    } else if is(word, b"serve") {
+        Ok(serve(left))
+    } else if is(word, b"at") {
+        Ok(at(left))
+    } else if is(word, b"end") {
+        Ok(end(left))
+    } else {
+        Ok(Err(LineCause::Word))
+    }
+}
+
+/// The event of a line of a client's script that begins with this word.
+#[tactic(auto, unfolding(crate::specs::Lines::line_at))]
+#[inline(never)]
+fn join_line(word: &[u8], left: &[u8]) -> Result<Event, LineCause>
+    ensures { result ≡ line_at ScriptKind.Join (word.now ∷ words_left left.now) }
+{
+    if is(word, b"client") {
+        client(left)
+    } else if is(word, b"type") {
+        type_text(left)
+    } else if is(word, b"move") {
+        move_line(left)
+    } else if is(word, b"send") {
+        send(left)
+    } else if is(word, b"show") {
+        show(left)
+    } else if is(word, b"at") {
+        at(left)
+    } else if is(word, b"end") {
+        end(left)
+    } else {
+        Err(LineCause::Word)
+    }
+}
+
+/// The event that a line of a script of this kind spells, or the first cause for which it is refused. `Err` is want of memory.
+pub fn read_line(
+    alloc: Global,
+    kind: ScriptKind,
+    line: &[u8],
+) -> Result<Result<Event, LineCause>, NoMemory>
+    ensures { IfOk result (λ answer. answer ≡ line_at kind (words_of line.now)) }
 {
     let (word, left) = first_word(line);
-    event(alloc, word, left)
+    match kind {
+        ScriptKind::Replay => replay_line(alloc, word, left),
+        ScriptKind::Serve => serve_line(alloc, word, left),
+        ScriptKind::Join => Ok(join_line(word, left)),
+    }
 }
