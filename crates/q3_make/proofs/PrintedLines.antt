@@ -24,7 +24,8 @@ use Rattle.q3_player.proofs.Kept.{patterns-kept, kept-fits, shorts-back, length-
 use Rattle.q3_text.specs.Texts.{IsTextByte, IsText}
 use Rattle.q3_text.proofs.Translation.{stays}
 use Rattle.q3_script.specs.declared.event.Event.{Event}
-use Rattle.q3_script.specs.declared.event.Event.TheVariants.{Client, Port, Map, Entity, Remove, Baseline, Player, Area, Time, Config, Say, TypeText, Move, Serve, Send, Deliver, Show, Bytes, Toclient, Toserver}
+use Rattle.q3_script.specs.declared.event.Event.TheVariants.{Client, Port, Map, Entity, Remove, Baseline, Player, Area, Time, Config, Say, TypeText, Move, Serve, Send, Deliver, Show, Bytes, Toclient, Toserver, At, End}
+use Rattle.q3_script.specs.declared.cause.ScriptKind.TheVariants.{Replay}
 use Rattle.q3_script.specs.Words.{words_of}
 use Rattle.q3_io.specs.Print.{hex_word}
 use Rattle.q3_script.specs.Script.{longest_script, most_events, lines_of, is_passed_over}
@@ -287,6 +288,8 @@ is_printed (Show c) is = record { words = codes "show" ∷ decimal c ∷ []; pri
 is_printed (Bytes datagram) is = record { words = codes "bytes" ∷ decimal datagram ∷ []; prints = row (codes "bytes") (decimal datagram ∷ []) (record { no_space = refl; no_newline = refl }) (number_row datagram (omega arith)); has = refl }
 is_printed (Toclient c bytes) is = record { words = codes "toclient" ∷ decimal c ∷ hex_word bytes ∷ []; prints = before (codes "toclient") _ _ (record { no_space = refl; no_newline = refl }) (hex_prints c bytes (omega arith) is.2); has = (hex_word bytes, refl, refl) }
 is_printed (Toserver c bytes) is = record { words = codes "toserver" ∷ decimal c ∷ hex_word bytes ∷ []; prints = before (codes "toserver") _ _ (record { no_space = refl; no_newline = refl }) (hex_prints c bytes (omega arith) is.2); has = (hex_word bytes, refl, refl) }
+is_printed (At ms) is = absurd is
+is_printed (End ms) is = absurd is
 
 -- a line whose first byte is no `#` isn't passed over
 first_other : (text : List ℕ) (first : ℕ) (rest : List ℕ) → text ≡ first ∷ rest → eqb first 35 ≡ false → is_passed_over text ≡ false
@@ -316,6 +319,8 @@ is_read (Show c) = first_other (event_text (Show c)) _ _ refl refl
 is_read (Bytes datagram) = first_other (event_text (Bytes datagram)) _ _ refl refl
 is_read (Toclient c bytes) = first_other (event_text (Toclient c bytes)) _ _ refl refl
 is_read (Toserver c bytes) = first_other (event_text (Toserver c bytes)) _ _ refl refl
+is_read (At ms) = first_other (event_text (At ms)) _ _ refl refl
+is_read (End ms) = first_other (event_text (End ms)) _ _ refl refl
 
 -- ---- lines
 
@@ -325,19 +330,19 @@ lines_are event events printed =
     ap lines_of (append_assoc (event_text event) (codes "\n") (script_text events))
     ∙ slice_split_at (λ x. eqb x 10) (event_text event) 10 (script_text events) (without 10 (event_text event) printed.prints.one_line) refl
 
-spelled_by : (line : List ℕ) (lines : List (List ℕ)) (event : Event) (events : List Event) → is_passed_over line ≡ false → SpellsEvent (words_of line) event → SpellEvents lines events → SpellEvents (line ∷ lines) (event ∷ events)
+spelled_by : (line : List ℕ) (lines : List (List ℕ)) (event : Event) (events : List Event) → is_passed_over line ≡ false → SpellsEvent Replay (words_of line) event → SpellEvents Replay lines events → SpellEvents Replay (line ∷ lines) (event ∷ events)
 spelled_by line lines event events read spelled others = rw read (spelled, others)
 
-lines_spell : (events : List Event) → All IsReplayEvent events → SpellEvents (lines_of (script_text events)) events
+lines_spell : (events : List Event) → All IsReplayEvent events → SpellEvents Replay (lines_of (script_text events)) events
 lines_spell [] each = refl
 lines_spell (event ∷ events) each =
     let is = All-head IsReplayEvent event events each in
     let printed = is_printed event is in
     let others = lines_spell events (All-tail IsReplayEvent event events each) in
-    subst (λ (lines : List (List ℕ)). SpellEvents lines (event ∷ events)) (sym (lines_are event events printed))
+    subst (λ (lines : List (List ℕ)). SpellEvents Replay lines (event ∷ events)) (sym (lines_are event events printed))
     (spelled_by (event_text event) (lines_of (script_text events)) event events (is_read event)
-    (record { event_of_replay = is; whole = subst (λ (words : List (List ℕ)). HasWords words event) (sym printed.prints.cut) printed.has }) others)
+    (record { event_of = is; whole = subst (λ (words : List (List ℕ)). HasWords words event) (sym printed.prints.cut) printed.has }) others)
 
 -- what is printed spells the same events
-pub printed_is_spelled : (events : List Event) → All IsReplayEvent events → length events ≤ most_events → length (script_text events) ≤ longest_script → SpellsScript (script_text events) events
-printed_is_spelled events each few small = record { small = small; few = few; spelled = lines_spell events each }
+pub printed_is_spelled : (events : List Event) → All IsReplayEvent events → length events ≤ most_events → length (script_text events) ≤ longest_script → SpellsScript Replay (script_text events) events
+printed_is_spelled events each few small = record { small = small; few = few; spelled = lines_spell events each; ordered = tt }

@@ -6,8 +6,9 @@ use Rattle.q3_clmsg.specs.Report.{move_words, spaced}
 use Rattle.q3_entity.specs.Report.{fields_text}
 use Rattle.q3_player.specs.Report.{player_text}
 use Rattle.q3_script.specs.declared.event.Event.{Event}
-use Rattle.q3_script.specs.declared.event.Event.TheVariants.{Client, Port, Map, Entity, Remove, Baseline, Player, Area, Time, Config, Say, TypeText, Move, Serve, Send, Deliver, Show, Bytes, Toclient, Toserver}
+use Rattle.q3_script.specs.declared.event.Event.TheVariants.{Client, Port, Map, Entity, Remove, Baseline, Player, Area, Time, Config, Say, TypeText, Move, Serve, Send, Deliver, Show, Bytes, Toclient, Toserver, At, End}
 use Rattle.q3_io.specs.Print.{hex_word}
+use Rattle.q3_script.specs.declared.cause.ScriptKind.TheVariants.{Replay}
 use Rattle.q3_script.specs.Script.{longest_script, most_events}
 use Rattle.q3_script.specs.Grammar.{IsReplayEvent, SpellsScript}
 
@@ -52,6 +53,8 @@ event_text (Show c) = number_text (codes "show ") c
 event_text (Bytes datagram) = number_text (codes "bytes ") datagram
 event_text (Toclient c bytes) = bytes_text (codes "toclient ") c bytes
 event_text (Toserver c bytes) = bytes_text (codes "toserver ") c bytes
+event_text (At ms) = number_text (codes "at ") ms
+event_text (End ms) = number_text (codes "end ") ms
 
 -- a line for each event
 abbrev pub event_line : Event → List ℕ
@@ -60,6 +63,6 @@ event_line event = event_text event ++ codes "\n"
 abbrev pub script_text : List Event → List ℕ
 script_text events = flat_map event_line events
 
--- what is printed spells the same events, if it isn't too long
+-- what is printed of a replay's events spells them, if it isn't too long
 abbrev pub PrintedIsSpelled : Type 0
-PrintedIsSpelled = (events : List Event) → All IsReplayEvent events → length events ≤ most_events → length (script_text events) ≤ longest_script → SpellsScript (script_text events) events
+PrintedIsSpelled = (events : List Event) → All IsReplayEvent events → length events ≤ most_events → length (script_text events) ≤ longest_script → SpellsScript Replay (script_text events) events

@@ -16,9 +16,9 @@ use q3_clmsg::Move;
 use q3_entity::EntityState;
 use q3_io::{Address, Failed, Piece, Sink, laws, print_all, print_hex_word};
 use q3_player::PlayerState;
-use q3_script::Event;
+use q3_script::{Event, ScriptKind};
 
-/// Prints a script of these events. What is printed reads back as them. `Failed` comes where the sink failed, behind a
+/// Prints a replay's script of these events. What is printed reads back as them. `Failed` comes where the sink failed, behind a
 /// front of the script.
 pub fn print_script<O: Sink>(events: &[Event], out: &mut O) -> Result<(), Failed>
     requires each { All IsReplayEvent events.now }
@@ -26,7 +26,7 @@ pub fn print_script<O: Sink>(events: &[Event], out: &mut O) -> Result<(), Failed
     requires small { length (script_text events.now) ≤ longest_script }
     ensures adds { Adds (O.written out.old) (O.written out.new) (script_text events.now) result }
     ensures cause { HasCause (O.faults out.old) (O.faults out.new) result }
-    ensures spells { SpellsScript (script_text events.now) events.now }
+    ensures spells { SpellsScript ScriptKind.Replay (script_text events.now) events.now }
 {
     crate::laws::printed_is_spelled();
     print_events(events, out)
@@ -86,6 +86,8 @@ fn print_event<O: Sink>(event: &Event, out: &mut O) -> Result<(), Failed>
         Event::Bytes { datagram } => print_number(b"bytes ", *datagram, out),
         Event::Toclient { c, bytes } => print_bytes(b"toclient ", *c, bytes.bytes(), out),
         Event::Toserver { c, bytes } => print_bytes(b"toserver ", *c, bytes.bytes(), out),
+        Event::At { ms } => print_number(b"at ", *ms, out),
+        Event::End { ms } => print_number(b"end ", *ms, out),
     }
 }
 
