@@ -89,8 +89,7 @@ fn events(alloc: Global, kind: ScriptKind, bytes: &[u8]) -> Result<Vec<Event>, S
     Ok(events)
 }
 
-/// The events that a script of a kind spells. `Line` is its first bad line, with the first cause for which it is refused;
-/// `NoMemory` is want of memory.
+/// The events of a script of a kind, or why it is refused.
 #[tactic(auto, unfolding(crate::specs::Script::script_at))]
 fn read(alloc: Global, kind: ScriptKind, bytes: &[u8]) -> Result<Vec<Event>, ScriptError>
     ensures { Reads (with_items result) (script_at kind bytes.now) }
