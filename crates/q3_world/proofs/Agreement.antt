@@ -71,6 +71,8 @@ steps_agree profile whole (events.Show c) cited is own holds = record { same = r
 steps_agree profile whole (events.Bytes number) cited is own holds = record { same = rw (bytes_seen whole.sent number) refl; holds = holds }
 steps_agree profile whole (events.Toclient c bytes) cited is own holds = absurd own
 steps_agree profile whole (events.Toserver c bytes) cited is own holds = absurd own
+steps_agree profile whole (events.At ms) cited is own holds = absurd is
+steps_agree profile whole (events.End ms) cited is own holds = absurd is
 
 -- ---- what stands for a whole
 

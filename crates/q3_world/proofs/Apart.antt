@@ -110,3 +110,5 @@ slots_apart laws kept (events.Show c) d ne = nothing d kept.ends
 slots_apart laws kept (events.Bytes number) d ne = nothing d kept.ends
 slots_apart laws kept (events.Toclient c bytes) d ne = takes kept.ends c d (fronts.Toclient c) bytes (place_at kept.ends c) ne
 slots_apart laws kept (events.Toserver c bytes) d other = hands_server laws kept.ends c d bytes (place_at kept.ends c) other
+slots_apart laws kept (events.At ms) d ne = nothing d kept.ends
+slots_apart laws kept (events.End ms) d ne = nothing d kept.ends
