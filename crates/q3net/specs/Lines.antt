@@ -8,7 +8,7 @@ use Rattle.q3_profile.specs.declared.error.ProfileError.{ProfileError}
 use Rattle.q3_profile.specs.declared.error.ProfileError.TheVariants as profile
 use Rattle.q3_profile.specs.Document.{key_name}
 use Rattle.q3_script.specs.declared.cause.LineCause.{LineCause}
-use Rattle.q3_script.specs.declared.cause.LineCause.TheVariants.{Large, Many, Word, Count, Number, Fields, Text, Address}
+use Rattle.q3_script.specs.declared.cause.LineCause.TheVariants.{Large, Many, Word, Count, Number, Fields, Text, Address, Order}
 use Rattle.std.specs.List.{concat}
 use Rattle.q3net.specs.declared.fault.Fault.{Fault}
 use Rattle.q3net.specs.declared.fault.Fault.TheVariants.{NoMemory, Usage, Read, Write, FileWrite, Profile, Script}
@@ -28,6 +28,7 @@ cause_word Number = codes "number"
 cause_word Fields = codes "fields"
 cause_word Text = codes "text"
 cause_word Address = codes "address"
+cause_word Order = codes "order"
 
 -- want of memory, wherever it is noticed
 abbrev pub no_memory_line : List ℕ

@@ -168,6 +168,7 @@ fn word(cause: LineCause) -> &'static [u8]
         LineCause::Fields => b"fields",
         LineCause::Text => b"text",
         LineCause::Address => b"address",
+        LineCause::Order => b"order",
     }
 }
 
