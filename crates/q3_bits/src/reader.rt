@@ -56,6 +56,7 @@ impl<'a> Reader<'a> {
     /// Reads a field of `width` bits, 1 to 32.
     /// `End` comes exactly where the bits end in the field or in one of its words, `NoWord` exactly where
     /// those of a word begin no word, the first in reading order; the reader then stays as it was.
+    /// It serves any width, and the words of a field are read by a function that isn't inlined.
     #[inline]
     pub fn get(&mut self, width: u32) -> Result<u32, ReadError>
         requires some { 1 ≤ width }
@@ -96,7 +97,8 @@ impl<'a> Reader<'a> {
         Ok(byte)
     }
 
-    /// Reads a field as `get` does, where the caller names the width: its words are then read with no loop.
+    /// Reads a field as `get` does, with one call exchanged: the words of the field are read where this is called. The caller
+    /// gives the width as a literal or a constant, and so the loop over them falls away.
     #[inline(always)]
     pub fn get_fixed(&mut self, width: u32) -> Result<u32, ReadError>
         requires some { 1 ≤ width }
@@ -156,14 +158,15 @@ impl<'a> Reader<'a> {
             + (8 * gathered - ahead.count) as usize
     }
 
-    /// Gathers more.
+    /// Gathers more. What it calls isn't inlined: `gather` is the half that is.
     fn refill(&mut self)
         ensures { self.new ≡ self.old }
     {
         self.ahead.refill();
     }
 
-    /// Gathers more where eight bytes are left.
+    /// Gathers more where eight bytes are left: the half of `refill` that is inlined, for `get_byte`. Fewer are left to
+    /// `byte_apart`.
     #[inline]
     fn gather(&mut self)
         ensures { self.new ≡ self.old }
@@ -224,7 +227,8 @@ impl<'a> Reader<'a> {
         Some(value)
     }
 
-    /// The same of a field that has some.
+    /// The same of a field that has some. It is `spelled_gathered` as one function for all calls of `get`, which isn't inlined: its
+    /// loop would grow each of them.
     #[inline(never)]
     fn words_gathered(&mut self, raw: u32, bytes: u32) -> Option<u32>
         requires raw { raw < 8 }
@@ -236,7 +240,7 @@ impl<'a> Reader<'a> {
         self.spelled_gathered(raw, bytes)
     }
 
-    /// The same, where the widths are known.
+    /// The same, inlined in `words_gathered` and in `get_fixed`, where the widths are known.
     #[inline]
     fn spelled_gathered(&mut self, raw: u32, bytes: u32) -> Option<u32>
         requires raw { raw < 8 }

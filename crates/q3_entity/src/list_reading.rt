@@ -20,6 +20,9 @@ use crate::state::{EntityState, List, Run};
 use q3_bits::{ReadError, Reader, laws};
 use q3_fields::Table;
 
+/// How many bits a number of an entity has in the real game.
+const USUAL_BITS: u32 = 10;
+
 /// Where a list stands: the number that comes next, the entities of the base from it on, and how many the list has so
 /// far. What `into` holds behind these is of no account.
 #[derive(Clone, Copy)]
@@ -215,7 +218,7 @@ fn read_number(r: &mut Reader, table: &Table, least: u16) -> Result<u16, EntityE
     Ok(number)
 }
 
-/// Reads the bits of a number. Those of the real game, ten, are read with no loop.
+/// Reads the bits of a number. Those of the real game are read with no loop.
 #[inline(always)]
 fn get_number(r: &mut Reader, bits: u32) -> Result<u32, ReadError>
     requires some { 1 ≤ bits }
@@ -224,8 +227,9 @@ fn get_number(r: &mut Reader, bits: u32) -> Result<u32, ReadError>
     ensures fits { IfOk result (λ number. number < 2 ^ bits) }
     ensures code { IsCode r.old.words }
 {
-    if bits == 10 {
-        return r.get_fixed(bits);
+    if bits == USUAL_BITS {
+        // the constant, so that no loop is left
+        return r.get_fixed(USUAL_BITS);
     }
     r.get(bits)
 }

@@ -64,7 +64,8 @@ fn read_unsigned(r: &mut Reader, width: u8) -> Result<u32, ReadError>
 {
     let width = u32::from(width);
     if width == 32 {
-        return r.get_fixed(width);
+        // the literal, so that no loop is left
+        return r.get_fixed(32);
     }
     r.get(width)
 }
