@@ -37,6 +37,9 @@ least_number_bits = 10
 abbrev pub most_number_bits : ℕ
 most_number_bits = 10
 
+abbrev pub HasNumberBits : ℕ → Type 0
+HasNumberBits bits = (least_number_bits ≤ bits) × (bits ≤ most_number_bits)
+
 -- a table: the kinds of its fields, and how many bits a number of an entity has
 pub record Layout : Type 0 where
   pub kinds : List Kind

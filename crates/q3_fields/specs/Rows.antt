@@ -1,7 +1,7 @@
 -- How a table lies in its array.
-use Rattle.std.specs.Prelude.{◌≡◌, ◌≤◌, length, take}
+use Rattle.std.specs.Prelude.{◌≡◌, length, take}
 use Rattle.q3_fields.specs.declared.table.Table.TheInside.{Inside}
-use Rattle.q3_fields.specs.Kinds.{Layout, IsTable, least_number_bits, most_number_bits}
+use Rattle.q3_fields.specs.Kinds.{Layout, IsTable, HasNumberBits}
 
 -- the first kinds, so many
 abbrev pub layout_of : Inside → Layout
@@ -12,4 +12,4 @@ pub record IsFilled (t : Inside) : Type 0 where
   pub places : length t.kinds ≡ 64
   pub count : t.count ≡ length (take t.count t.kinds)
   pub table : IsTable (layout_of t)
-  pub numbers : (least_number_bits ≤ t.number_bits) × (t.number_bits ≤ most_number_bits)
+  pub numbers : HasNumberBits t.number_bits

@@ -1,7 +1,7 @@
 //! Tables of fields. Keeps the rule "field tables", the engine's `entityStateFields` and `playerStateFields`.
 
 ghost use Rattle.std.specs.Prelude.{◌≡◌, ◌≤◌, length, slice_get, IfOk, IfSome};
-ghost use Rattle.q3_fields.specs.Kinds.{IsKind, IsTable, kind_of, table_of, end_mark, least_number_bits, most_number_bits, least_end, most_end};
+ghost use Rattle.q3_fields.specs.Kinds.{HasNumberBits, IsKind, IsTable, kind_of, table_of, end_mark, least_number_bits, most_number_bits, least_end, most_end};
 
 use crate::kind::Kind;
 use std::marker::Model;
@@ -73,7 +73,7 @@ impl Table {
     pub fn copy(&self) -> Table
         ensures copy { result ≡ self.now }
         ensures is_table { IsTable self.now }
-        ensures numbers { (least_number_bits ≤ self.now.number_bits) × (self.now.number_bits ≤ most_number_bits) }
+        ensures numbers { HasNumberBits self.now.number_bits }
     {
         Table {
             count: self.count,
