@@ -92,7 +92,7 @@ impl Frames {
         laws::placed_is_there();
         laws::others_stay();
         // a slot that comes again begins another round
-        let first = place(&mut self.ring, entities, self.changed || slot == self.last);
+        let first = place_or_share(&mut self.ring, entities, self.changed || slot == self.last);
         self.slots[slot as usize].keep(head, first, entities.len(), self.placed);
         self.placed += entities.len() as u64;
         self.changed = self.changed && entities.is_empty();
@@ -129,9 +129,9 @@ impl Frames {
     }
 }
 
-/// Places entities in a ring, and answers how many were placed before them. Those that aren't fresh are compared with those that
-/// were placed last, and the same lie there once.
-fn place(ring: &mut Ring, entities: &[EntityState], fresh: bool) -> u64
+/// Places entities in a ring, or lets them share the places of those that were placed last, if these are the same, and answers how
+/// many were placed before them. Fresh ones are placed with no comparison.
+fn place_or_share(ring: &mut Ring, entities: &[EntityState], fresh: bool) -> u64
     requires few { length entities.now ≤ length ring.old.recent }
     requires count { ring.old.placed + length entities.now < 2 ^ 64 }
     ensures { PlacesOnce ring.old ring.new entities.now result }

@@ -55,16 +55,16 @@ module _ (words : List (List Bool)) (code : IsCode words) (put : PutIsRead) wher
   row-last value width rest fits = row-first value width [] rest fits
 
 -- the operations of a message, part by part, with what is behind them
-pub operations-parts : (words : List (List Bool)) (command last : ℕ) (commands : List Command) (section bits rest : List Bool) (is : SpellsOperations words command last commands section bits)
-    → bits ++ rest ≡ is.text ++ (is.nops ++ (section ++ (is.of_ending.0 ++ (row_bits words ((last, 8) ∷ []) ++ rest))))
-operations-parts words command last commands section bits rest is =
+pub operations-parts : (words : List (List Bool)) (command end : ℕ) (commands : List Command) (section bits rest : List Bool) (is : SpellsOperations words command end commands section bits)
+    → bits ++ rest ≡ is.text ++ (is.nops ++ (section ++ (is.of_ending.0 ++ (row_bits words ((end, 8) ∷ []) ++ rest))))
+operations-parts words command end commands section bits rest is =
     let text = is.text in
     let nops = is.nops in
     let behind = is.of_ending.0 in
-    let end = row_bits words ((last, 8) ∷ []) in
+    let field = row_bits words ((end, 8) ∷ []) in
     ap (λ (bits : List Bool). bits ++ rest) is.whole
     ∙ append_assoc (text ++ nops ++ section) is.ending rest
     ∙ append_assoc (text ++ nops) section (is.ending ++ rest)
     ∙ append_assoc text nops (section ++ (is.ending ++ rest))
     ∙ ap (λ (ending : List Bool). text ++ (nops ++ (section ++ (ending ++ rest)))) is.of_ending.2
-    ∙ ap (λ (left : List Bool). text ++ (nops ++ (section ++ left))) (append_assoc behind end rest)
+    ∙ ap (λ (left : List Bool). text ++ (nops ++ (section ++ left))) (append_assoc behind field rest)

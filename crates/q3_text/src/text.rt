@@ -73,7 +73,7 @@ impl Default for Text {
 
 /// Whether a text has a `.` in place of this byte.
 #[inline]
-fn is_hidden(byte: u8) -> bool
+fn is_dotted(byte: u8) -> bool
     ensures { result ≡ nat_lt 127 byte || byte == 37 }
 {
     byte > 127 || byte == b'%'
@@ -83,7 +83,7 @@ fn is_hidden(byte: u8) -> bool
 pub fn translate(byte: u8) -> u8
     ensures { result ≡ translated byte }
 {
-    if is_hidden(byte) { b'.' } else { byte }
+    if is_dotted(byte) { b'.' } else { byte }
 }
 
 impl Text {
@@ -127,7 +127,7 @@ impl Text {
         requires some { 0 < byte }
         ensures { self.new ≡ self.old ++ translated byte ∷ [] }
     {
-        if is_hidden(byte) {
+        if is_dotted(byte) {
             self.push_dot();
             return;
         }
