@@ -9,6 +9,7 @@ ghost use Rattle.q3_client.specs.Moves.{most_moves, is_issuable, is_carried, car
 use arrayvec::ArrayVec;
 use circular_buffer::HeapCircularBuffer;
 use q3_clmsg::Move;
+use q3_clmsg::laws::is_held_move;
 
 /// How many of the newest moves a client keeps, and how many a message may carry.
 pub(crate) const MOST_MOVES: usize = 32;
@@ -29,7 +30,7 @@ pub(crate) fn is_issuable(one: &Move) -> bool
     if one.forward == -128 || one.right == -128 || one.up == -128 || one.time >= 1 << 31 {
         return false;
     }
-    one.stand();
+    is_held_move(one);
     true
 }
 

@@ -12,6 +12,21 @@ use Rattle.q3_clmsg.specs.declared.moves.Move.{Move}
 abbrev pub no_move : Move
 no_move = record { time = 0; angles = 0 ∷ 0 ∷ 0 ∷ []; forward = pos 0; right = pos 0; up = pos 0; buttons = 0; weapon = 0 }
 
+-- a signed value of 8 bits
+abbrev pub IsSignedByte : ℤ → Type 0
+IsSignedByte value = (neg_ℤ (pos 128) ≤ℤ value) × (value ≤ℤ pos 127)
+
+-- a move as the program's type holds it
+pub record IsHeldMove (one : Move) : Type 0 where
+  pub time : one.time < 2 ^ 32
+  pub three : length one.angles ≡ 3
+  pub angles : All (λ angle. angle < 2 ^ 16) one.angles
+  pub forward : IsSignedByte one.forward
+  pub right : IsSignedByte one.right
+  pub up : IsSignedByte one.up
+  pub buttons : one.buttons < 2 ^ 16
+  pub weapon : one.weapon < 2 ^ 8
+
 -- a signed value of 8 bits other than -128
 abbrev pub IsStep : ℤ → Type 0
 IsStep value = (neg_ℤ (pos 127) ≤ℤ value) × (value ≤ℤ pos 127)

@@ -1,9 +1,33 @@
-//! Laws of client messages, each the contract of a call that does nothing but cite the laws below it.
+//! Laws of moves and of client messages, each the contract of a call that does nothing but cite the laws below it.
 
 ghost use Rattle.q3_clmsg.specs.Laws.{WrittenIsSpelled, ReadIsSpelled, SpelledIsRead, WrittenIsRead, HeadsAreRead};
+ghost use Rattle.q3_clmsg.specs.Moves.{IsHeldMove, IsMove};
+ghost use Rattle.std.specs.Prelude.{◌≢◌, ◌<◌, ◌^◌, All, pos, neg_ℤ};
 
+use crate::moves::Move;
 use q3_bits::laws as bits;
 use q3_strings::laws as strings;
+
+/// What the types of its fields tell of a move: it is one that the program's type holds, and an end may send it, unless forward,
+/// right or up is -128.
+pub fn is_held_move(one: &Move)
+    ensures held { IsHeldMove one.now }
+    ensures sent { one.now.forward ≢ neg_ℤ (pos 128) → one.now.right ≢ neg_ℤ (pos 128) → one.now.up ≢ neg_ℤ (pos 128) → IsMove one.now }
+{
+    numbers_fit(*one);
+}
+
+/// The same of a move that is passed by value: only of such a one the prover learns the ranges of all fields.
+fn numbers_fit(one: Move)
+    ensures { IsHeldMove one }
+{
+    angles_fit(&one.angles);
+}
+
+/// Angles have 16 bits, as their type tells.
+fn angles_fit(angles: &[u16])
+    ensures { All (λ angle. angle < 2 ^ 16) angles.now }
+{}
 
 /// What is written of a message spells it by the same key.
 pub fn written_is_spelled()

@@ -2,10 +2,10 @@
 //! Keeps the rules "move section", "move delta" and "move key and text hash", the engine's `MSG_WriteDeltaUsercmdKey`
 //! and `MSG_ReadDeltaUsercmdKey` (msg.c).
 
-ghost use Rattle.std.specs.Prelude.{◌≡◌, ◌≢◌, ◌≤◌, ◌<◌, ◌^◌, All, IfOk, pos, neg_ℤ};
+ghost use Rattle.std.specs.Prelude.{◌≡◌, ◌≤◌, ◌<◌, ◌^◌, IfOk};
 ghost use Rattle.std.specs.Int.{w8, cast_unsigned};
 ghost use Rattle.q3_bits.specs.Streams.{Reads, Writes, holding};
-ghost use Rattle.q3_clmsg.specs.Moves.{IsMove, message_key as key_of_message, AreFields, move_widths, no_move, fields_of, move_of, step_of, hidden as hidden_by, time_bits, field_delta, changed_bits, fields_bits, move_delta, moves_bits, time_at, field_over, fields_at, move_at, moves_at};
+ghost use Rattle.q3_clmsg.specs.Moves.{message_key as key_of_message, AreFields, move_widths, no_move, fields_of, move_of, step_of, hidden as hidden_by, time_bits, field_delta, changed_bits, fields_bits, move_delta, moves_bits, time_at, field_over, fields_at, move_at, moves_at};
 
 use arrayvec::ArrayVec;
 use q3_bits::{Overflow, ReadError, Reader, Writer, laws};
@@ -37,13 +37,6 @@ pub struct Move {
 }
 
 impl Move {
-    /// What the types of its fields tell of a move: an end may send it, unless forward, right or up is -128.
-    pub fn stand(self)
-        ensures { self.forward ≢ neg_ℤ (pos 128) → self.right ≢ neg_ℤ (pos 128) → self.up ≢ neg_ℤ (pos 128) → IsMove self }
-    {
-        angles_fit(&self.angles);
-    }
-
     /// The move with nothing in it.
     pub fn none() -> Move
         ensures { result ≡ no_move }
@@ -59,11 +52,6 @@ impl Move {
         }
     }
 }
-
-/// Angles have 16 bits, as their type tells.
-fn angles_fit(angles: &[u16])
-    ensures { All (λ angle. angle < 2 ^ 16) angles.now }
-{}
 
 /// The key of a message's moves, without their times: the map's checksum feed, the number of the newest server message
 /// that came whole, and the hash of the text of the newest server command.

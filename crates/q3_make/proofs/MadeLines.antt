@@ -13,6 +13,7 @@ use Rattle.rand_pcg.specs.Pcg.{pcg32}
 use Rattle.q3_io.specs.Print.{words_text}
 use Rattle.q3_fields.specs.States.{AreWords}
 use Rattle.q3_clmsg.specs.declared.moves.Move.{Move as MoveValue}
+use Rattle.q3_clmsg.specs.Moves.{IsHeldMove}
 use Rattle.q3_clmsg.specs.Report.{move_words, spaced}
 use Rattle.q3_entity.specs.Entities.{zero_entity}
 use Rattle.q3_entity.specs.Report.{fields_text}
@@ -25,7 +26,7 @@ use Rattle.q3_text.proofs.Numerals.{own}
 use Rattle.q3_script.specs.declared.event.Event.{Event}
 use Rattle.q3_script.specs.declared.event.Event.TheVariants.{Client, Map, Entity, Remove, Baseline, Player, Time, Config, Say, TypeText, Move, Serve, Send, Deliver, Show}
 use Rattle.q3_script.specs.Addresses.{host_of}
-use Rattle.q3_script.specs.Grammar.{IsHeldMove, IsReplayEvent}
+use Rattle.q3_script.specs.Grammar.{IsReplayEvent}
 use Rattle.q3_make.specs.Printed.{number_text, event_text, event_line}
 use Rattle.q3_make.specs.Generated.{draw, entity_with, player_with, walking, still, joins, time_at, entity_line, player_line, move_line, deliver_line, config_line, line_of, drawn_line}
 use Rattle.q3_make.proofs.Lengths.{ten, with_newline, number_short, numbers_short, quoted_short, spaced_short, words_short, zeros_none}

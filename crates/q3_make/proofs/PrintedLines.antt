@@ -12,6 +12,7 @@ use Rattle.std.proofs.lemmas.List.Splits.{slice_split_at}
 use Rattle.q3_io.specs.Quoted.{quoted}
 use Rattle.q3_io.specs.declared.address.Address.{Address}
 use Rattle.q3_clmsg.specs.declared.moves.Move.{Move as MoveValue}
+use Rattle.q3_clmsg.specs.Moves.{IsSignedByte, IsHeldMove}
 use Rattle.q3_clmsg.specs.Report.{move_words, spaced}
 use Rattle.q3_fields.specs.States.{AreWords}
 use Rattle.q3_fields.specs.declared.kind.Kind.TheVariants.{Signed}
@@ -29,7 +30,7 @@ use Rattle.q3_script.specs.declared.cause.ScriptKind.TheVariants.{Replay}
 use Rattle.q3_script.specs.Words.{words_of}
 use Rattle.q3_io.specs.Print.{hex_word}
 use Rattle.q3_script.specs.Script.{longest_script, most_events, lines_of, is_passed_over}
-use Rattle.q3_script.specs.Grammar.{IsSignedByte, IsHeldMove, IsReplayEvent, field_words, SpellsAddress, SpellsEntity, SpellsPlayer, SpellsText, HasWords, SpellsEvent, SpellEvents, SpellsScript}
+use Rattle.q3_script.specs.Grammar.{IsReplayEvent, field_words, SpellsAddress, SpellsEntity, SpellsPlayer, SpellsText, HasWords, SpellsEvent, SpellEvents, SpellsScript}
 use Rattle.q3_make.specs.Printed.{event_text, script_text}
 use Rattle.q3_make.proofs.PrintedWords.{without, IsWord, word_and, decimal_word, AreLineWords, words_and, Prints, only, before, row, hex_text_is_word, quoted_prints, fields_are_words, HasFields, fields_of}
 

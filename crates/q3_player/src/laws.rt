@@ -1,6 +1,26 @@
-//! Laws of the player delta, each the contract of a call that does nothing but cite the laws below it.
+//! Laws of players and of their delta, each the contract of a call that does nothing but cite the laws below it.
 
 ghost use Rattle.q3_player.specs.Laws.{NormalIsNormal, WrittenIsSpelled, ReadIsSpelled, SpelledIsRead, WrittenIsRead, ZeroIsNormal, PlayersEndAlike};
+ghost use Rattle.q3_player.specs.State.{IsState, AreShorts};
+
+use crate::state::PlayerState;
+use q3_fields::laws::are_words;
+
+/// What the types of its fields tell of a player: it is a state.
+pub fn is_state(player: &PlayerState)
+    ensures { IsState player.now }
+{
+    are_words(&player.words);
+    are_shorts(player.stats);
+    are_shorts(player.persistant);
+    are_shorts(player.ammo);
+    are_words(&player.powerups);
+}
+
+/// The same of an array of signed values. The prover learns their ranges from an array that is passed by value alone.
+fn are_shorts(values: [i16; 16])
+    ensures { AreShorts values }
+{}
 
 /// The normal form of a state is a state, in normal form.
 pub fn normal_is_normal()

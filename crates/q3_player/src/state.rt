@@ -3,7 +3,6 @@
 ghost use Rattle.std.specs.Prelude.{◌≡◌, length};
 ghost use Rattle.q3_player.specs.State.{patterns_of, shorts_of};
 
-use q3_fields::laws::are_words;
 use q3_fields::{Table, normalize};
 
 /// A player as the game hands it in and as a snapshot carries it: the words of the table's fields,
@@ -23,7 +22,7 @@ pub struct PlayerState {
 }
 
 impl PlayerState {
-    ghost use Rattle.q3_player.specs.State.{IsState, zero_player, normal_player};
+    ghost use Rattle.q3_player.specs.State.{zero_player, normal_player};
 
     /// The state with nothing in it.
     #[tactic(auto, unfolding(crate::specs::State::zero_player))]
@@ -37,14 +36,6 @@ impl PlayerState {
             ammo: [0; 16],
             powerups: [0; 16],
         }
-    }
-
-    /// What the types of its fields tell of a state.
-    pub fn stand(self)
-        ensures { IsState self }
-    {
-        are_words(&self.words);
-        are_words(&self.powerups);
     }
 
     /// The normal form: each word in that of its field, and the words behind the table's fields 0.

@@ -12,7 +12,7 @@ use Rattle.q3_text.proofs.Cuts.{lacks}
 use Rattle.q3_text.proofs.Numerals.{number_at-spelled, number_at-again, lacks-decimal}
 use Rattle.q3_script.specs.Words.{behind}
 use Rattle.q3_script.specs.Lines.{number_word, signed_byte_at, signed_byte_word}
-use Rattle.q3_script.specs.Grammar.{IsSignedByte}
+use Rattle.q3_clmsg.specs.Moves.{IsSignedByte}
 use Rattle.q3_script.proofs.Prefixes.{behind-spelled, behind-again}
 
 -- an answer

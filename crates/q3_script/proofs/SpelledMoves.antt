@@ -5,11 +5,11 @@ use Rattle.std.specs.Fmt.{decimal, signed_decimal}
 use Rattle.std.proofs.lemmas.List.Elements.{All-head, All-tail, All-from_recursion}
 use Rattle.q3_bits.specs.ResultBind.{◌>>=◌, bind_ok}
 use Rattle.q3_clmsg.specs.declared.moves.Move.{Move as MoveValue}
+use Rattle.q3_clmsg.specs.Moves.{IsSignedByte, IsHeldMove}
 use Rattle.q3_clmsg.specs.Report.{move_words}
 use Rattle.q3_script.specs.declared.event.Event.{Event}
 use Rattle.q3_script.specs.declared.event.Event.TheVariants.{Move}
 use Rattle.q3_script.specs.Lines.{last_client, number_word, client_word, signed_byte_word, angles_at, steps_at, move_with, move_line}
-use Rattle.q3_script.specs.Grammar.{IsSignedByte, IsHeldMove}
 use Rattle.q3_script.proofs.SpelledLines.{IsLine}
 use Rattle.q3_script.proofs.NumberWords.{ok_is, number_word-spelled, number_word-again, SpellsSignedByte, signed_byte_word-spelled, signed_byte_word-again}
 

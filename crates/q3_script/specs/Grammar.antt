@@ -1,9 +1,10 @@
 -- The grammar of a script: which words spell which event, and which lines which events.
-use Rattle.std.specs.Prelude.{◌≡◌, ℕ, ◌^◌, ◌<◌, ◌≤◌, ℤ, pos, neg_ℤ, ◌≤ℤ◌, Bool, true, false, List, [], ◌∷◌, ◌++◌, length, map, codes, decimal, All, Ok}
+use Rattle.std.specs.Prelude.{◌≡◌, ℕ, ◌^◌, ◌<◌, ◌≤◌, Bool, true, false, List, [], ◌∷◌, ◌++◌, length, map, codes, decimal, All, Ok}
 use Rattle.std.specs.List.{AllByRecursion}
 use Rattle.q3_fields.specs.Places.{Change, AreRising}
 use Rattle.q3_fields.specs.States.{AreWords}
 use Rattle.q3_clmsg.specs.declared.moves.Move.{Move as MoveValue}
+use Rattle.q3_clmsg.specs.Moves.{IsHeldMove}
 use Rattle.q3_clmsg.specs.Report.{move_words}
 use Rattle.q3_entity.specs.declared.state.EntityState.{EntityState}
 use Rattle.q3_player.specs.State.{IsState}
@@ -23,21 +24,6 @@ use Rattle.q3_script.specs.Hex.{most_area, most_handed}
 use Rattle.q3_script.specs.Fields.{values_of, player_of}
 use Rattle.q3_script.specs.Lines.{last_client, last_entity, last_datagram, last_time, most_config}
 use Rattle.q3_script.specs.Script.{is_passed_over, lines_of, longest_script, most_events}
-
--- a signed value of 8 bits
-abbrev pub IsSignedByte : ℤ → Type 0
-IsSignedByte value = (neg_ℤ (pos 128) ≤ℤ value) × (value ≤ℤ pos 127)
-
--- a move as the program's type holds it
-pub record IsHeldMove (one : MoveValue) : Type 0 where
-  pub time : one.time < 2 ^ 32
-  pub three : length one.angles ≡ 3
-  pub angles : All (λ angle. angle < 2 ^ 16) one.angles
-  pub forward : IsSignedByte one.forward
-  pub right : IsSignedByte one.right
-  pub up : IsSignedByte one.up
-  pub buttons : one.buttons < 2 ^ 16
-  pub weapon : one.weapon < 2 ^ 8
 
 -- an event whose numbers and bytes are within their ranges
 abbrev pub IsInRange : Event → Type 0
@@ -65,7 +51,7 @@ IsInRange (Toserver c bytes) = (c ≤ last_client) × (length bytes ≤ most_han
 IsInRange (At ms) = ms ≤ last_time
 IsInRange (End ms) = ms ≤ last_time
 
--- an event that a replay's script may have: any but a time
+-- an event that a replay's script may have: any but `at` and `end`
 abbrev pub IsReplayEvent : Event → Type 0
 IsReplayEvent (At ms) = ⊥
 IsReplayEvent (End ms) = ⊥

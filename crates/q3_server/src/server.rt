@@ -26,6 +26,7 @@ use q3_fields::laws::are_words;
 use q3_frames::Frames;
 use q3_io::Address;
 use q3_map::{Late, Map, NotLater};
+use q3_player::laws::is_state;
 use q3_player::{PlayerState, SnapHead};
 use q3_profile::Profile;
 use q3_slot::laws::nothing_is_listed;
@@ -252,7 +253,7 @@ impl Server {
         ensures { set_player_at self.old slot player.now ≡ record { server = self.new; answer = result } }
     {
         below();
-        player.stand();
+        is_state(player);
         if !self.has(slot) {
             return Err(NoClient);
         }

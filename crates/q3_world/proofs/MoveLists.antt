@@ -8,8 +8,7 @@ use Rattle.std.proofs.lemmas.Bool.Decides.{Decides-int_eq}
 use Rattle.std.proofs.lemmas.Int.{ints}
 use Rattle.circular_buffer.specs.Buffer.{keep_last}
 use Rattle.q3_clmsg.specs.declared.moves.Move.{Move}
-use Rattle.q3_script.specs.Grammar.{IsSignedByte, IsHeldMove}
-use Rattle.q3_clmsg.specs.Moves.{IsStep, IsMove}
+use Rattle.q3_clmsg.specs.Moves.{IsSignedByte, IsHeldMove, IsStep, IsMove}
 use Rattle.q3_slot.specs.Taking.{runs, last_time}
 use Rattle.q3_client.specs.declared.moves.Issued.{Issued}
 use Rattle.q3_client.specs.Moves.{most_moves, is_step, is_issuable, is_carried, carried}
