@@ -121,12 +121,9 @@ abbrev pub receive_by : AppliedState → OutgoingState → ℕ → ℕ → List 
 receive_by state issued challenge number bytes = do
   ack ← fault_as causes.Bits (ack_at state.profile.code (bits_of bytes))
   taken ← ack_taken ack.0 (acknowledge_at issued ack.0).answer
-  application ← apply_at state number (cleared challenge number (text_at issued ack.0) bytes)
-  Ok (record {
-    message = cleared challenge number (text_at issued ack.0) bytes;
-    issued = (acknowledge_at issued ack.0).window;
-    application = application;
-  })
+  let plain = cleared challenge number (text_at issued ack.0) bytes in do
+    application ← apply_at state number plain
+    Ok (record { message = plain; issued = (acknowledge_at issued ack.0).window; application = application })
 
 -- and to a client
 abbrev pub receive_bytes : ClientState → ℕ → List ℕ → Result Reception cause.Illegible

@@ -39,6 +39,6 @@ heard_received (Ok received) = received.application.heard
 heard_received (Err e) = []
 
 -- and the bytes of the message, cleared
-abbrev pub message_received : List ℕ → Result Reception Illegible → List ℕ
-message_received bytes (Ok received) = received.message
-message_received bytes (Err e) = bytes
+abbrev pub message_received : Result Reception Illegible → List ℕ
+message_received (Ok received) = received.message
+message_received (Err e) = []

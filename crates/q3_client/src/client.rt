@@ -15,7 +15,7 @@ ghost use Rattle.q3_client.specs.Moves.{add_move_at};
 ghost use Rattle.q3_client.specs.Sending.{emit_at, emit_new, IsSaid};
 
 use crate::moves::{Issued, MOST_MOVES, carry, is_issuable};
-use crate::receiving::{gather, receive_front};
+use crate::receiving::{gather, receive};
 use crate::saying::{is_unclear, write_scrambled};
 use arrayvec::ArrayVec;
 use circular_buffer::HeapCircularBuffer;
@@ -86,8 +86,9 @@ pub enum Sent {
 }
 
 /// A client: what the messages that were applied left, with a copy of the profile, and the bytes of the last, cleared; what it
-/// gathers, a place for the bytes of a message that came whole, whether the newest message's snapshot was accepted, what it sends, the commands and the moves that
-/// it issued, and places for the moves and the bytes of a message. After `new` no call takes memory.
+/// gathers, a place for the bytes of a message that came whole, whether the newest message's snapshot was accepted, what it
+/// sends, the commands and the moves that it issued, and places for the moves and the bytes of a message. After `new` no call
+/// takes memory.
 #[derive(Drop)]
 pub struct Client {
     state: ClState,
@@ -201,7 +202,7 @@ impl Client {
             Gathered::Runt => return ClientTook::Runt,
             Gathered::Connectionless => return ClientTook::Connectionless,
         };
-        match receive_front(
+        match receive(
             &mut self.state,
             &mut self.outgoing,
             self.challenge,

@@ -15,7 +15,8 @@ use q3_svmsg::{Illegible, read_ack};
 use q3_text::Text;
 use q3_window::Outgoing;
 
-/// Takes a datagram. A message that it completes stands at the front of `whole`.
+/// Takes a datagram. A message that it completes stands at the front of `whole`. It takes the `Vec` whole for the prover: by its
+/// clauses the caller knows the bytes, and their length, without the slice that is lent here.
 pub(crate) fn gather(gatherer: &mut Gatherer, datagram: &[u8], whole: &mut Vec<u8>) -> Gathered
     requires { length whole.old.items ≡ longest_message }
     ensures gathering { gatherer.new ≡ (gathered gatherer.old datagram.now).gathering }
@@ -26,8 +27,10 @@ pub(crate) fn gather(gatherer: &mut Gatherer, datagram: &[u8], whole: &mut Vec<u
     gatherer.take(datagram, whole)
 }
 
-/// Receives the message of a number that stands in the first bytes of `whole`, so many, where it is cleared.
-pub(crate) fn receive_front(
+/// Receives the message of a number that stands in the first bytes of `whole`, so many: its acknowledgement is read, they are
+/// cleared by the text of the command that it acknowledges, what they say is applied, and only then the acknowledgement is taken.
+/// `Err` is why it isn't legible; nothing changes then but the bytes.
+pub(crate) fn receive(
     state: &mut ClState,
     outgoing: &mut Outgoing,
     challenge: u32,
@@ -42,56 +45,30 @@ pub(crate) fn receive_front(
     ensures issued { outgoing.new ≡ issued_received outgoing.old (receive_by state.old outgoing.old challenge number (take count whole.old.items)) }
     ensures answer { result ≡ answer_received (receive_by state.old outgoing.old challenge number (take count whole.old.items)) }
     ensures log { log.new.commands ≡ heard_received (receive_by state.old outgoing.old challenge number (take count whole.old.items)) }
-    ensures message { IfOk result (λ applied. take count whole.new.items ≡ message_received [] (receive_by state.old outgoing.old challenge number (take count whole.old.items))) }
+    ensures message { IfOk result (λ applied. take count whole.new.items ≡ message_received (receive_by state.old outgoing.old challenge number (take count whole.old.items))) }
     ensures room { length whole.new.items ≡ length whole.old.items }
 {
-    receive(
-        state,
-        outgoing,
-        challenge,
-        number,
+    let ack = acknowledged_by(&state.profile().code, outgoing, &whole[..count])?;
+    clear_front(
         whole.as_mut_slice(),
         count,
-        log,
-    )
-}
-
-/// Receives the message of a number that stands in the first of these bytes, so many: its acknowledgement is read, they are
-/// cleared by the text of the command that it acknowledges, what they say is applied, and only then the acknowledgement is taken.
-/// `Err` is why it isn't legible; nothing changes then but the bytes.
-fn receive(
-    state: &mut ClState,
-    outgoing: &mut Outgoing,
-    challenge: u32,
-    number: u32,
-    bytes: &mut [u8],
-    count: usize,
-    log: &mut Log,
-) -> Result<Applied, Illegible>
-    requires within { count ≤ length bytes.old }
-    requires empty { log.old.commands ≡ [] }
-    ensures state { state.new ≡ state_received state.old (receive_by state.old outgoing.old challenge number (take count bytes.old)) }
-    ensures issued { outgoing.new ≡ issued_received outgoing.old (receive_by state.old outgoing.old challenge number (take count bytes.old)) }
-    ensures answer { result ≡ answer_received (receive_by state.old outgoing.old challenge number (take count bytes.old)) }
-    ensures log { log.new.commands ≡ heard_received (receive_by state.old outgoing.old challenge number (take count bytes.old)) }
-    ensures message { IfOk result (λ applied. take count bytes.new ≡ message_received [] (receive_by state.old outgoing.old challenge number (take count bytes.old))) }
-    ensures long { length bytes.new ≡ length bytes.old }
-{
-    let ack = acknowledged_by(&state.profile().code, outgoing, &bytes[..count])?;
-    clear_front(bytes, count, challenge, number, outgoing.text(ack));
-    let applied = state.apply(number, &bytes[..count], log)?;
+        challenge,
+        number,
+        outgoing.text(ack),
+    );
+    let applied = state.apply(number, &whole[..count], log)?;
     let _ = outgoing.acknowledge(ack);
     Ok(applied)
 }
 
-/// Clears the message that stands in the first of these bytes.
+/// Clears the message that stands in the first of these bytes, so many. It is apart since its `cleared` tells the caller of the front
+/// what a slice that the caller itself lends for the call leaves unknown.
 fn clear_front(bytes: &mut [u8], count: usize, challenge: u32, number: u32, text: &Text)
     requires { count ≤ length bytes.old }
     ensures cleared { take count bytes.new ≡ cleared challenge number text.now (take count bytes.old) }
     ensures long { length bytes.new ≡ length bytes.old }
 {
-    let front = &mut bytes[..count];
-    scramble_server(front, challenge, number, text);
+    scramble_server(&mut bytes[..count], challenge, number, text);
 }
 
 /// The number of the command that a message acknowledges. `Err` where its bits don't read, or with `Ack` where the window
