@@ -227,7 +227,7 @@ impl<'a> Reader<'a> {
         Some(value)
     }
 
-    /// The same of a field that has some. It is `spelled_gathered` as one function for all calls of `get`, which isn't inlined: its
+    /// The same of a field that has some: `spelled_gathered`, as one function for all calls of `get`. It isn't inlined, since its
     /// loop would grow each of them.
     #[inline(never)]
     fn words_gathered(&mut self, raw: u32, bytes: u32) -> Option<u32>

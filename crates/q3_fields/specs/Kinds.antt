@@ -37,6 +37,7 @@ least_number_bits = 10
 abbrev pub most_number_bits : ℕ
 most_number_bits = 10
 
+-- so many bits are in that range
 abbrev pub HasNumberBits : ℕ → Type 0
 HasNumberBits bits = (least_number_bits ≤ bits) × (bits ≤ most_number_bits)
 
