@@ -1,5 +1,7 @@
 //! Wires and clocks, in memory and of the system.
 
+ghost use Rattle.std.specs.Prelude.{◌≡◌, true};
+
 use q3_io::{Address, Clock, Failed, HostClock, UdpWire, Wire};
 use q3_memory::{MemClock, MemWire};
 use std::test::*;
@@ -46,6 +48,20 @@ const OTHER: u16 = 21_969;
 
 const NOBODYS: u16 = 21_970;
 
+/// Whether forty receives, one after the other, find nothing.
+fn nothing_comes<W: Wire>(wire: &mut W) -> bool
+    requires { W.bound wire.old ≡ true }
+    ensures { W.bound wire.new ≡ true }
+{
+    let mut into = [0; 2];
+    for _ in 0..40 {
+        if wire.receive(&mut into) != Ok(None) {
+            return false;
+        }
+    }
+    true
+}
+
 #[test]
 fn sockets_of_the_system_send_and_receive(rt: HostRuntime) {
     let mut one = UdpWire::new(&rt);
@@ -55,12 +71,11 @@ fn sockets_of_the_system_send_and_receive(rt: HostRuntime) {
     assert_eq!(rt; one.bind(here(ONE)), Ok(()));
     assert_eq!(rt; other.bind(here(OTHER)), Ok(()));
     let first = clock.now();
-    assert_eq!(rt; other.receive(&mut into), Ok(None));
-    assert_eq!(rt; other.receive(&mut into), Ok(None));
-    // each waits a millisecond, and no second
+    assert!(rt; nothing_comes(&mut other));
+    // each of the forty waits a millisecond, and no second: a machine that stalls for some seconds passes
     let last = clock.now();
     assert!(rt; last > first);
-    assert!(rt; last - first < 2_000);
+    assert!(rt; last - first < 30_000);
     assert_eq!(rt; one.send(here(OTHER), b"abc"), Ok(()));
     assert_eq!(rt; other.receive(&mut into), Ok(Some((here(ONE), 2))));
     assert_eq!(rt; into, *b"ab");
