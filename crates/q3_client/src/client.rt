@@ -153,13 +153,11 @@ impl Client {
         ensures { IfOk result (λ client. client ≡ new_client profile.now challenge qport dup) }
     {
         let state = ClState::new(alloc, profile)?;
-        let message = vec![in alloc; 0; LONGEST_MESSAGE]?;
+        let (message, whole, buffer) = buffers(alloc)?;
         let gatherer = Gatherer::new(alloc, Side::Server)?;
-        let whole = vec![in alloc; 0; LONGEST_MESSAGE]?;
         let sender = Sender::new(alloc, Side::Client, qport)?;
         let outgoing = Outgoing::new(alloc)?;
         let moves = HeapCircularBuffer::with_capacity(alloc, MOST_MOVES)?;
-        let buffer = vec![in alloc; 0; LONGEST_MESSAGE]?;
         Ok(Client {
             state,
             message,
@@ -362,4 +360,14 @@ fn is_accepted(outcome: SnapOutcome) -> bool
     ensures { result ≡ is_accepted outcome }
 {
     matches!(outcome, SnapOutcome::Accepted { .. })
+}
+
+/// Room for the last message that was applied, for one that came whole and for one that is written.
+fn buffers(alloc: Global) -> Result<(Vec<u8>, Vec<u8>, Vec<u8>), NoMemory>
+    ensures { IfOk result (λ made. (length made.0.items ≡ longest_message) × (length made.1.items ≡ longest_message) × (length made.2.items ≡ longest_message)) }
+{
+    let message = vec![in alloc; 0; LONGEST_MESSAGE]?;
+    let whole = vec![in alloc; 0; LONGEST_MESSAGE]?;
+    let written = vec![in alloc; 0; LONGEST_MESSAGE]?;
+    Ok((message, whole, written))
 }
