@@ -1,7 +1,7 @@
 //! The lines of a script that are the game's, at a server, and the bytes that a server takes.
 
 ghost use Rattle.std.specs.Prelude.{◌≡◌, option_map};
-ghost use Rattle.q3_script.specs.Grammar.{IsReplayEvent};
+ghost use Rattle.q3_script.specs.Grammar.{IsInRange};
 ghost use Rattle.q3_server.specs.Taking.{take_at};
 ghost use Rattle.q3_report.specs.Tellings.{answered_of};
 ghost use Rattle.q3_ends.specs.AtServer.{server_line, server_behind, taken_by_server};
@@ -14,7 +14,7 @@ use q3_server::{Heard, Server};
 /// Hands in to a server what a line of the game says. `None` comes exactly where the line is another one, and nothing changes then.
 #[tactic(auto, unfolding(crate::specs::AtServer::server_line))]
 pub fn server_line(server: &mut Server, event: &Event) -> Option<HandedIn>
-    requires { IsReplayEvent event.now }
+    requires { IsInRange event.now }
     ensures server { server.new ≡ server_behind server.old (server_line server.old event.now) }
     ensures answer { result ≡ option_map (λ step. step.answer) (server_line server.old event.now) }
 {

@@ -1,5 +1,5 @@
 -- The lines of an event's answer.
-use Rattle.std.specs.Prelude.{ℕ, List, [], ◌∷◌, codes, decimal, Option, Some, None, Result, Ok, Err}
+use Rattle.std.specs.Prelude.{ℕ, List, [], ◌∷◌, ◌++◌, codes, decimal, Option, Some, None, Result, Ok, Err}
 use Rattle.std.specs.List.{concat}
 use Rattle.q3_io.specs.Print.{hex_word}
 use Rattle.q3_clstate.specs.Report.{snapshot_text}
@@ -9,6 +9,8 @@ use Rattle.q3_report.specs.declared.answer.MoveRefused.{MoveRefused}
 use Rattle.q3_report.specs.declared.answer.MoveRefused.TheVariants as refused
 use Rattle.q3_report.specs.declared.answer.TypeRefused.{TypeRefused}
 use Rattle.q3_report.specs.declared.answer.TypeRefused.TheVariants as untyped
+use Rattle.q3_report.specs.declared.answer.TakeRefused.{TakeRefused}
+use Rattle.q3_report.specs.declared.answer.TakeRefused.TheVariants as untaken
 use Rattle.q3_report.specs.declared.answer.HandedIn.{HandedIn}
 use Rattle.q3_report.specs.declared.answer.HandedIn.TheVariants as handed
 use Rattle.q3_report.specs.declared.answer.Front.{Front}
@@ -51,21 +53,18 @@ handed_lines (handed.Say c outcome) = concat (codes "say " ∷ decimal c ∷ iss
 handed_lines (handed.TypeText c outcome) = concat (codes "type " ∷ decimal c ∷ issued_text type_refused_text outcome ∷ [])
 handed_lines (handed.Move c outcome) = concat (codes "move " ∷ decimal c ∷ handed_in_text move_refused_text outcome ∷ [])
 
--- the word and the number in front of what an end made of bytes, and what stands behind both where nobody took them
-abbrev pub front_word : Front → List ℕ
-front_word (fronts.Deliver datagram) = codes "deliver "
-front_word (fronts.Toclient c) = codes "toclient "
-front_word (fronts.Toserver c) = codes "toserver "
+-- what stands in front of what an end made of bytes
+abbrev pub front_text : Front → List ℕ
+front_text (fronts.Deliver datagram) = concat (codes "deliver " ∷ decimal datagram ∷ [])
+front_text (fronts.Toclient c) = concat (codes "toclient " ∷ decimal c ∷ [])
+front_text (fronts.Toserver c) = concat (codes "toserver " ∷ decimal c ∷ [])
+front_text fronts.Arrive = codes "arrive"
 
-abbrev pub front_number : Front → ℕ
-front_number (fronts.Deliver datagram) = datagram
-front_number (fronts.Toclient c) = c
-front_number (fronts.Toserver c) = c
-
-abbrev pub untaken_text : Front → List ℕ
-untaken_text (fronts.Deliver datagram) = codes " unknown\n"
-untaken_text (fronts.Toclient c) = codes " noclient\n"
-untaken_text (fronts.Toserver c) = codes " noclient\n"
+-- what stands behind it where nobody took them
+abbrev pub untaken_text : TakeRefused → List ℕ
+untaken_text untaken.Unknown = codes " unknown\n"
+untaken_text untaken.NoClient = codes " noclient\n"
+untaken_text (untaken.Stranger c) = concat (codes " client " ∷ decimal c ∷ codes " stranger\n" ∷ [])
 
 -- what an end made of bytes, to the end of that line and with the lines under it
 abbrev pub taking_text : Taking → List ℕ
@@ -89,7 +88,7 @@ lines_of (Given handed) = handed_lines handed
 lines_of (Served c emission datagram) = serve_text c emission datagram
 lines_of (SentOut c (Ok sent) datagram) = send_text c sent datagram
 lines_of (SentOut c (Err e) datagram) = concat (codes "send " ∷ decimal c ∷ codes " noclient\n" ∷ [])
-lines_of (Took front taking) = concat (front_word front ∷ decimal (front_number front) ∷ taking_text taking ∷ [])
-lines_of (Untaken front) = concat (front_word front ∷ decimal (front_number front) ∷ untaken_text front ∷ [])
+lines_of (Took front taking) = front_text front ++ taking_text taking
+lines_of (Untaken front cause) = front_text front ++ untaken_text cause
 lines_of (Shown c showing) = concat (codes "show " ∷ decimal c ∷ showing_text showing ∷ [])
 lines_of (Bytes datagram bytes) = concat (codes "bytes " ∷ decimal datagram ∷ bytes_text bytes ∷ [])

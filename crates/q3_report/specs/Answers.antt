@@ -11,6 +11,7 @@ use Rattle.q3_client.specs.declared.client.Sent.{Sent}
 use Rattle.q3_lines.specs.ServerLines.{Run, ran_nothing}
 use Rattle.q3_report.specs.declared.answer.HandedIn.{HandedIn}
 use Rattle.q3_report.specs.declared.answer.Front.{Front}
+use Rattle.q3_report.specs.declared.answer.TakeRefused.{TakeRefused}
 
 -- an end that took bytes, and what it made of them: a client with what it has then and the commands that it executed, or the server with
 -- what it ran
@@ -31,7 +32,7 @@ pub data Answered : Type 0 where
   Served : ℕ → Emitted → ℕ → Answered
   SentOut : ℕ → Result Sent NoClient → ℕ → Answered
   Took : Front → Taking → Answered
-  Untaken : Front → Answered
+  Untaken : Front → TakeRefused → Answered
   Shown : ℕ → Showing → Answered
   Bytes : ℕ → Option (List ℕ) → Answered
 

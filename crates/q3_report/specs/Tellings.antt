@@ -24,6 +24,6 @@ answered_of (answers.HandedIn handed) = Given handed
 answered_of (answers.Serve c emitted datagram) = Served c emitted datagram
 answered_of (answers.Send c sent datagram) = SentOut c sent datagram
 answered_of (answers.Took front taker) = Took front (taking_of taker)
-answered_of (answers.Untaken front) = Untaken front
+answered_of (answers.Untaken front cause) = Untaken front cause
 answered_of (answers.Show c what) = Shown c (showing_of what)
 answered_of (answers.Bytes datagram bytes) = Bytes datagram (option_map (λ bytes. bytes.now) bytes)

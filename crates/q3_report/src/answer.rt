@@ -1,8 +1,5 @@
 //! What each event answered, as values: all that stands in the lines of the report, with what the ends lend to be printed.
 
-ghost use Rattle.std.specs.Prelude.{◌≡◌};
-ghost use Rattle.q3_report.specs.AnswerLines.{front_word, front_number, untaken_text};
-
 use q3_client::{Client, ClientTook, MoveError, Sent};
 use q3_clstate::Log;
 use q3_map::{Late, NotLater};
@@ -97,6 +94,19 @@ pub enum Front {
     Toclient { c: u8 },
     /// A line of the script handed them to the server, from this client's address.
     Toserver { c: u8 },
+    /// They arrived over a wire.
+    Arrive,
+}
+
+/// Why nobody took bytes.
+#[derive(Clone, Copy, Debug, PartialEq, Eq)]
+pub enum TakeRefused {
+    /// No datagram of the number was made.
+    Unknown,
+    /// No such client was added.
+    NoClient,
+    /// They come from another address than that of this client's server.
+    Stranger { c: u8 },
 }
 
 /// The end that took bytes, what it made of them, and what is printed under that.
@@ -149,9 +159,10 @@ pub enum Answer<'a> {
         front: Front,
         taker: Taker<'a>,
     },
-    /// Nobody took any: no such datagram was made, or no such client was added.
+    /// Nobody took any.
     Untaken {
         front: Front,
+        cause: TakeRefused,
     },
     /// A client was shown.
     Show {
@@ -163,37 +174,4 @@ pub enum Answer<'a> {
         datagram: u32,
         bytes: Option<&'a [u8]>,
     },
-}
-
-impl Front {
-    /// The word in front of a number.
-    pub(crate) fn word(&self) -> &'static [u8]
-        ensures { result.now ≡ front_word self.now }
-    {
-        match self {
-            Front::Deliver { .. } => b"deliver ",
-            Front::Toclient { .. } => b"toclient ",
-            Front::Toserver { .. } => b"toserver ",
-        }
-    }
-
-    /// The number behind it.
-    pub(crate) fn number(&self) -> u32
-        ensures { result ≡ front_number self.now }
-    {
-        match self {
-            Front::Deliver { datagram } => *datagram,
-            Front::Toclient { c } | Front::Toserver { c } => u32::from(*c),
-        }
-    }
-
-    /// What stands behind both where nobody took the bytes.
-    pub(crate) fn untaken(&self) -> &'static [u8]
-        ensures { result.now ≡ untaken_text self.now }
-    {
-        match self {
-            Front::Deliver { .. } => b" unknown\n",
-            Front::Toclient { .. } | Front::Toserver { .. } => b" noclient\n",
-        }
-    }
 }

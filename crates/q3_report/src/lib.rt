@@ -6,5 +6,5 @@ pub mod answer;
 mod refusals;
 mod report;
 
-pub use answer::{Answer, Front, HandedIn, MoveRefused, Shown, Taker, TypeRefused};
+pub use answer::{Answer, Front, HandedIn, MoveRefused, Shown, TakeRefused, Taker, TypeRefused};
 pub use report::print_answer;

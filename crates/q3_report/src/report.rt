@@ -1,17 +1,17 @@
 //! Prints the lines of an answer, those of `lines_of` to the letter, and hands them on behind the last: one write, where a line buffer
 //! has room for them.
 
-ghost use Rattle.std.specs.Prelude.{[], ◌∷◌, codes, decimal, option_map, OnOk};
+ghost use Rattle.std.specs.Prelude.{[], ◌∷◌, ◌++◌, codes, decimal, option_map, OnOk};
 ghost use Rattle.std.specs.List.{concat};
 ghost use Rattle.q3_io.specs.Faults.{HasCause};
 ghost use Rattle.q3_io.specs.Print.{hex_word};
 ghost use Rattle.q3_io.specs.Written.{Adds, NothingWaits};
 ghost use Rattle.q3_clstate.specs.Report.{snapshot_text};
 ghost use Rattle.q3_rings.specs.Loans.{snapshot_of};
-ghost use Rattle.q3_report.specs.AnswerLines.{lines_of, handed_lines, front_word, front_number, taking_text, handed_in_text, issued_text, bytes_text, showing_text};
+ghost use Rattle.q3_report.specs.AnswerLines.{lines_of, handed_lines, front_text, untaken_text, taking_text, handed_in_text, issued_text, bytes_text, showing_text};
 ghost use Rattle.q3_report.specs.Tellings.{answered_of, taking_of, showing_of};
 
-use crate::answer::{Answer, Front, HandedIn, Shown, Taker};
+use crate::answer::{Answer, Front, HandedIn, Shown, TakeRefused, Taker};
 use crate::refusals::Refusal;
 use q3_clstate::print_snapshot;
 use q3_io::{Failed, Piece, Sink, laws, print_all, print_hex_word};
@@ -56,9 +56,7 @@ fn print_lines<O: Sink>(answer: &Answer, out: &mut O) -> Result<(), Failed>
             ..
         } => print_line(b"send ", u32::from(*c), b" noclient\n", out),
         Answer::Took { front, taker } => print_taken(front, taker, out),
-        Answer::Untaken { front } => {
-            print_line(front.word(), front.number(), front.untaken(), out)
-        }
+        Answer::Untaken { front, cause } => print_untaken(front, cause, out),
         Answer::Show { c, shown } => print_shown(*c, *shown, out),
         Answer::Bytes { datagram, bytes } => print_bytes(*datagram, *bytes, out),
     }
@@ -178,12 +176,49 @@ fn print_refused<E: Refusal, O: Sink>(
 /// Prints the lines of bytes that an end took.
 fn print_taken<O: Sink>(front: &Front, taker: &Taker, out: &mut O) -> Result<(), Failed>
     ensures adds { Adds (O.written out.old) (O.written out.new)
-        (concat (front_word front.now ∷ decimal (front_number front.now) ∷ taking_text (taking_of taker.now) ∷ [])) result }
+        (front_text front.now ++ taking_text (taking_of taker.now)) result }
     ensures cause { HasCause (O.faults out.old) (O.faults out.new) result }
 {
     laws::texts_follow();
-    print_front(front.word(), front.number(), out)?;
+    print_front(front, out)?;
     print_taking(taker, out)
+}
+
+/// Prints the line of bytes that nobody took.
+fn print_untaken<O: Sink>(front: &Front, cause: &TakeRefused, out: &mut O) -> Result<(), Failed>
+    ensures adds { Adds (O.written out.old) (O.written out.new) (front_text front.now ++ untaken_text cause.now) result }
+    ensures cause { HasCause (O.faults out.old) (O.faults out.new) result }
+{
+    laws::texts_follow();
+    print_front(front, out)?;
+    print_cause(cause, out)
+}
+
+/// Prints what stands in front of what an end made of bytes.
+fn print_front<O: Sink>(front: &Front, out: &mut O) -> Result<(), Failed>
+    ensures adds { Adds (O.written out.old) (O.written out.new) (front_text front.now) result }
+    ensures cause { HasCause (O.faults out.old) (O.faults out.new) result }
+{
+    match front {
+        Front::Deliver { datagram } => print_numbered(b"deliver ", *datagram, out),
+        Front::Toclient { c } => print_numbered(b"toclient ", u32::from(*c), out),
+        Front::Toserver { c } => print_numbered(b"toserver ", u32::from(*c), out),
+        Front::Arrive => out.write_all(b"arrive"),
+    }
+}
+
+/// Prints why nobody took bytes, to the end of the line.
+fn print_cause<O: Sink>(cause: &TakeRefused, out: &mut O) -> Result<(), Failed>
+    ensures adds { Adds (O.written out.old) (O.written out.new) (untaken_text cause.now) result }
+    ensures cause { HasCause (O.faults out.old) (O.faults out.new) result }
+{
+    match cause {
+        TakeRefused::Unknown => out.write_all(b" unknown\n"),
+        TakeRefused::NoClient => out.write_all(b" noclient\n"),
+        TakeRefused::Stranger { c } => {
+            print_line(b" client ", u32::from(*c), b" stranger\n", out)
+        }
+    }
 }
 
 /// Prints what an end made of bytes: the rest of that line, and the lines under it.
@@ -203,7 +238,7 @@ fn print_taking<O: Sink>(taker: &Taker, out: &mut O) -> Result<(), Failed>
 }
 
 /// Prints a word, and the number of what the line is about.
-fn print_front<O: Sink>(word: &[u8], number: u32, out: &mut O) -> Result<(), Failed>
+fn print_numbered<O: Sink>(word: &[u8], number: u32, out: &mut O) -> Result<(), Failed>
     ensures adds { Adds (O.written out.old) (O.written out.new) (concat (word.now ∷ decimal number ∷ [])) result }
     ensures cause { HasCause (O.faults out.old) (O.faults out.new) result }
 {
@@ -252,6 +287,6 @@ fn print_newest<O: Sink>(c: u8, snapshot: SnapView, out: &mut O) -> Result<(), F
     ensures cause { HasCause (O.faults out.old) (O.faults out.new) result }
 {
     laws::texts_follow();
-    print_front(b"show ", u32::from(c), out)?;
+    print_numbered(b"show ", u32::from(c), out)?;
     print_snapshot(snapshot, out)
 }

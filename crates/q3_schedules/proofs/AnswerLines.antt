@@ -1,7 +1,7 @@
 -- The lines of each answer, and how many there are of each kind.
 use Rattle.std.proofs.Common.{◌≡◌, ℕ, ◌+◌, Bool, true, false, cond, List, [], ◌∷◌, ◌++◌, length, Option, Some, None, Result, Ok, Err, codes, decimal, bytes_eq, refl, sym, ap, ap₂, subst, ◌∙◌, append_assoc, arith}
 use Rattle.std.specs.Prelude.{slice_index_or}
-use Rattle.std.specs.List.{list_all, flat_map}
+use Rattle.std.specs.List.{list_all, flat_map, concat}
 use Rattle.q3_io.specs.Print.{hex_word, words_text}
 use Rattle.q3_entity.specs.declared.state.EntityState.{EntityState}
 use Rattle.q3_entity.specs.Report.{fields_text}
@@ -22,8 +22,10 @@ use Rattle.q3_report.specs.declared.answer.HandedIn.{HandedIn}
 use Rattle.q3_report.specs.declared.answer.HandedIn.TheVariants as handed
 use Rattle.q3_report.specs.declared.answer.Front.{Front}
 use Rattle.q3_report.specs.declared.answer.Front.TheVariants as fronts
+use Rattle.q3_report.specs.declared.answer.TakeRefused.{TakeRefused}
+use Rattle.q3_report.specs.declared.answer.TakeRefused.TheVariants as refused
 use Rattle.q3_report.specs.Answers.{Taking, Showing, ShowsNobody, ShowsNothing, ShowsNewest, Answered, Given, Served, SentOut, Took, Untaken, Shown, Bytes}
-use Rattle.q3_report.specs.AnswerLines.{handed_in_text, issued_text, type_refused_text, move_refused_text, handed_lines, front_word, front_number, untaken_text, taking_text, showing_text, bytes_text, lines_of}
+use Rattle.q3_report.specs.AnswerLines.{handed_in_text, issued_text, type_refused_text, move_refused_text, handed_lines, front_text, untaken_text, taking_text, showing_text, bytes_text, lines_of}
 use Rattle.q3_script.specs.Words.{words_of}
 use Rattle.q3_world.specs.declared.counts.Counts.{Counts}
 use Rattle.q3_world.specs.Counts.{no_counts, one_event, made_served, made_sent, lines_in}
@@ -227,53 +229,61 @@ sent_is c (Err e) datagram =
 
 -- ---- what was taken
 
--- the words in front of what an end made of bytes
+-- what stands in front of what an end made of bytes
 pub record FrontIs (way : Front) : Type 0 where
-  pub plain : lacks 10 (front_word way) ≡ true
-  pub starts : (line : List ℕ) → is_under (front_word way ++ line) ≡ false
-  pub named : (line : List ℕ) → has_datagram (front_word way ++ line) ≡ false
-  pub next : (line : List ℕ) → slice_index_or (words_of (front_word way ++ line)) 2 [] ≡ slice_index_or (words_of line) 1 []
+  pub plain : lacks 10 (front_text way) ≡ true
+  pub starts : (line : List ℕ) → is_under (front_text way ++ line) ≡ false
+  pub named : (line : List ℕ) → has_datagram (front_text way ++ line) ≡ false
+  pub taker : (rest end : List ℕ) → taken_by end (front_text way ++ (32 ∷ rest)) ≡ next_is end rest
+
+-- a word with a number behind it
+numbered : (word : List ℕ) (n : ℕ) (rest : List ℕ) → concat (word ∷ decimal n ∷ []) ++ (32 ∷ rest) ≡ word ++ (decimal n ++ (32 ∷ rest))
+numbered word n rest = simp (append_assoc, append-nil) refl
+
+third : (word : List ℕ) → ((end line : List ℕ) → taken_by end (word ++ line) ≡ bytes_eq end (slice_index_or (words_of line) 1 []))
+    → (n : ℕ) (rest end : List ℕ) → taken_by end (concat (word ∷ decimal n ∷ []) ++ (32 ∷ rest)) ≡ next_is end rest
+third word next n rest end =
+    ap (λ (line : List ℕ). taken_by end line) (numbered word n rest)
+        ∙ next end (decimal n ++ (32 ∷ rest))
+        ∙ ap (λ (words : List (List ℕ)). bytes_eq end (slice_index_or words 1 [])) (next_word (decimal n) rest (lacks-decimal 32 n (λ d small same. omega arith)))
+
+word_plain : (word : List ℕ) (n : ℕ) → lacks 10 word ≡ true → lacks 10 (concat (word ∷ decimal n ∷ [])) ≡ true
+word_plain word n plain = lacks_both 10 word (decimal n ++ []) plain (lacks_both 10 (decimal n) [] (number n) refl)
 
 front_is : (way : Front) → FrontIs way
-front_is (fronts.Deliver datagram) = record { plain = refl; starts = λ line. refl; named = λ line. refl; next = λ line. refl }
-front_is (fronts.Toclient c) = record { plain = refl; starts = λ line. refl; named = λ line. refl; next = λ line. refl }
-front_is (fronts.Toserver c) = record { plain = refl; starts = λ line. refl; named = λ line. refl; next = λ line. refl }
-
-third : (way : Front) (n : ℕ) (rest end : List ℕ) → taken_by end (front_word way ++ (decimal n ++ (32 ∷ rest))) ≡ next_is end rest
-third way n rest end = ap (λ (word : List ℕ). bytes_eq end word)
-    ((front_is way).next (decimal n ++ (32 ∷ rest)) ∙ ap (λ (words : List (List ℕ)). slice_index_or words 1 []) (next_word (decimal n) rest (lacks-decimal 32 n (λ d small same. omega arith))))
+front_is (fronts.Deliver datagram) = record { plain = word_plain (codes "deliver ") datagram refl; starts = λ line. refl; named = λ line. refl; taker = third (codes "deliver ") (λ end line. refl) datagram }
+front_is (fronts.Toclient c) = record { plain = word_plain (codes "toclient ") c refl; starts = λ line. refl; named = λ line. refl; taker = third (codes "toclient ") (λ end line. refl) c }
+front_is (fronts.Toserver c) = record { plain = word_plain (codes "toserver ") c refl; starts = λ line. refl; named = λ line. refl; taker = third (codes "toserver ") (λ end line. refl) c }
+front_is fronts.Arrive = record { plain = refl; starts = λ line. refl; named = λ line. refl; taker = λ rest end. refl }
 
 took_is : (way : Front) (taking : Taking) → AnswerIs (Took way taking)
 unfolding lines_of
 took_is way taking =
     let is = front_is way in
     let lines = taking_lines taking in
-    let line : List ℕ = decimal (front_number way) ++ (32 ∷ lines.rest) in
-    let first : List ℕ = front_word way ++ line in
-    let text : List ℕ = taking_text taking in
+    let first : List ℕ = front_text way ++ (32 ∷ lines.rest) in
     record {
       first = first;
       others = lines.others;
-      spelled = in_front (front_word way) (decimal (front_number way) ++ (text ++ [])) line lines.others is.plain
-          (in_front (decimal (front_number way)) (text ++ []) (32 ∷ lines.rest) lines.others (number (front_number way)) (last text ((32 ∷ lines.rest) ∷ lines.others) lines.spelled));
-      starts = is.starts line;
+      spelled = in_front (front_text way) (taking_text taking) (32 ∷ lines.rest) lines.others is.plain lines.spelled;
+      starts = is.starts (32 ∷ lines.rest);
       under = lines.under;
       counts = λ kind. tally-append kind first (first ∷ []) lines.others
-          ∙ ap (λ (n : ℕ). n + tally kind first lines.others) (tally_first first false (is.starts line) (is.named line) kind)
-          ∙ lines.counted first (third way (front_number way) lines.rest) kind;
+          ∙ ap (λ (n : ℕ). n + tally kind first lines.others) (tally_first first false (is.starts (32 ∷ lines.rest)) (is.named (32 ∷ lines.rest)) kind)
+          ∙ lines.counted first (is.taker lines.rest) kind;
     }
 
-untaken : (way : Front) → OneLine (untaken_text way)
-untaken (fronts.Deliver datagram) = whole (codes " unknown") refl
-untaken (fronts.Toclient c) = whole (codes " noclient") refl
-untaken (fronts.Toserver c) = whole (codes " noclient") refl
+untaken : (cause : TakeRefused) → OneLine (untaken_text cause)
+untaken refused.Unknown = whole (codes " unknown") refl
+untaken refused.NoClient = whole (codes " noclient") refl
+untaken (refused.Stranger c) = behind (codes " client ") (decimal c ++ (codes " stranger\n" ++ [])) refl (counted c (codes " stranger\n") (whole (codes " stranger") refl))
 
-untaken_is : (way : Front) → AnswerIs (Untaken way)
+untaken_is : (way : Front) (cause : TakeRefused) → AnswerIs (Untaken way cause)
 unfolding lines_of
-untaken_is way =
+untaken_is way cause =
     let is = front_is way in
-    let one = behind (front_word way) (decimal (front_number way) ++ (untaken_text way ++ [])) is.plain (counted (front_number way) (untaken_text way) (untaken way)) in
-    alone (Untaken way) one.line false one.spelled (is.starts (decimal (front_number way) ++ (untaken way).line)) (is.named (decimal (front_number way) ++ (untaken way).line)) refl
+    let one = behind (front_text way) (untaken_text cause) is.plain (untaken cause) in
+    alone (Untaken way cause) one.line false one.spelled (is.starts (untaken cause).line) (is.named (untaken cause).line) refl
 
 -- ---- what is shown
 
@@ -384,6 +394,6 @@ answer_is (Given given) = given_is given
 answer_is (Served c emission datagram) = served_is c emission datagram
 answer_is (SentOut c outcome datagram) = sent_is c outcome datagram
 answer_is (Took way taking) = took_is way taking
-answer_is (Untaken way) = untaken_is way
+answer_is (Untaken way cause) = untaken_is way cause
 answer_is (Shown c showing) = shown_is c showing
 answer_is (Bytes datagram bytes) = bytes_is datagram bytes

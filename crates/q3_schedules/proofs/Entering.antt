@@ -64,6 +64,7 @@ use Rattle.q3_report.specs.declared.answer.HandedIn.TheVariants as handed
 use Rattle.q3_report.specs.declared.answer.MoveRefused.TheVariants as unmoving
 use Rattle.q3_report.specs.declared.answer.TypeRefused.TheVariants as untyped
 use Rattle.q3_report.specs.declared.answer.Front.TheVariants as fronts
+use Rattle.q3_report.specs.declared.answer.TakeRefused.{TakeRefused}
 use Rattle.q3_report.specs.Answers.{ByClient, ByServer, Given, Took, Untaken}
 use Rattle.q3_ends.specs.AtServer.{ran_of, server_line}
 use Rattle.q3_ends.specs.AtClient.{add_move, moved, type_text, typed}
@@ -597,8 +598,8 @@ not_by_client : (number : ℕ) (c : ℕ) (client : ClientTook) (state : AppliedS
     → ServerTookSo (Took (fronts.Deliver number) (ByClient c client state commands)) number answer run → ⊥
 not_by_client number c client state commands answer run e = absurd cc
 
-not_untaken : (number : ℕ) (answer : ServerTook) (run : Run) → ServerTookSo (Untaken (fronts.Deliver number)) number answer run → ⊥
-not_untaken number answer run e = absurd cc
+not_untaken : {cause : TakeRefused} (number : ℕ) (answer : ServerTook) (run : Run) → ServerTookSo (Untaken (fronts.Deliver number) cause) number answer run → ⊥
+not_untaken {cause} number answer run e = absurd cc
 
 enters_client : (profile : Profile) (whole : Whole) (number c n time : ℕ) (tag : Tag) (found : Option Place) → EntersWith whole number c n time (to_client profile whole number tag found)
 enters_client profile whole number c n time tag None run answered entered = absurd (not_untaken number (took.Ran c n) run answered)

@@ -31,6 +31,7 @@ use Rattle.q3_slot.specs.declared.taking.ServerTook.TheVariants.{Stranger}
 use Rattle.q3_io.specs.declared.address.Address.{Address}
 use Rattle.q3_text.specs.declared.text.Command.{Command}
 use Rattle.q3_report.specs.declared.answer.Front.TheVariants as fronts
+use Rattle.q3_report.specs.declared.answer.TakeRefused.{TakeRefused}
 use Rattle.q3_report.specs.Answers.{Answered, ByClient, ByServer, Shown, Took, Untaken, snapshot_in}
 use Rattle.q3_ends.specs.AtClient.{newest_of, showing_newest, taken_by_client}
 use Rattle.q3_world.specs.declared.made.Direction.{Direction}
@@ -348,8 +349,8 @@ not_by_server : (number : ℕ) (took : ServerTook) (ran : Run) (c : ℕ) (took' 
     → ClientTookSo (Took (fronts.Deliver number) (ByServer took ran)) number c took' commands → ⊥
 not_by_server number took ran c took' commands so = let e = so.1 in absurd cc
 
-not_untaken : (number c : ℕ) (took : ClientTook) (commands : List Command) → ClientTookSo (Untaken (fronts.Deliver number)) number c took commands → ⊥
-not_untaken number c took commands so = let e = so.1 in absurd cc
+not_untaken : {cause : TakeRefused} (number c : ℕ) (took : ClientTook) (commands : List Command) → ClientTookSo (Untaken (fronts.Deliver number) cause) number c took commands → ⊥
+not_untaken {cause} number c took commands so = let e = so.1 in absurd cc
 
 -- what a delivery answers as applied
 abbrev Applies : Profile → List Tag → ℕ → Ends → Ends → ℕ → AppliedSo → History → Type 0

@@ -9,6 +9,7 @@ use Rattle.q3_text.specs.declared.text.Command.{Command}
 use Rattle.q3_slot.specs.declared.taking.ServerTook.{ServerTook}
 use Rattle.q3_client.specs.declared.client.ClientTook.{ClientTook}
 use Rattle.q3_report.specs.declared.answer.Front.TheVariants as fronts
+use Rattle.q3_report.specs.declared.answer.TakeRefused.TheVariants as refused
 use Rattle.q3_report.specs.Answers.{ByClient, ByServer, Took, Untaken}
 use Rattle.q3_world.specs.declared.made.Direction.{Direction}
 use Rattle.q3_world.specs.declared.made.Direction.TheVariants.{ToClient, ToServer}
@@ -25,15 +26,15 @@ use Rattle.q3_clstate.specs.State.{AppliedState}
 use Rattle.q3_lines.specs.ServerLines.{Run}
 use Rattle.q3_schedules.proofs.Stood.{Stood, delivers_same, holds_of, step_own, stood}
 
-not_delivered : (number c : ℕ) (state : AppliedState) (took : ClientTook) (commands : List Command) → Took (fronts.Deliver number) (ByClient c took state commands) ≡ Untaken (fronts.Deliver number) → ⊥
+not_delivered : (number c : ℕ) (state : AppliedState) (took : ClientTook) (commands : List Command) → Took (fronts.Deliver number) (ByClient c took state commands) ≡ Untaken (fronts.Deliver number) refused.Unknown → ⊥
 not_delivered number c state took commands e = absurd cc
 
-not_ran : (number : ℕ) (took : ServerTook) (ran : Run) → Took (fronts.Deliver number) (ByServer took ran) ≡ Untaken (fronts.Deliver number) → ⊥
+not_ran : (number : ℕ) (took : ServerTook) (ran : Run) → Took (fronts.Deliver number) (ByServer took ran) ≡ Untaken (fronts.Deliver number) refused.Unknown → ⊥
 not_ran number took ran e = absurd cc
 
 -- a datagram that was made is known
 known : (profile : Profile) (whole : Whole) (number : ℕ) (tag : Tag) (direction : Direction) → tag.direction ≡ direction → IsSent profile whole.histories tag → Holds profile whole
-    → (arrive profile whole number tag direction).answer ≡ Untaken (fronts.Deliver number) → ⊥
+    → (arrive profile whole number tag direction).answer ≡ Untaken (fronts.Deliver number) refused.Unknown → ⊥
 known profile whole number tag ToClient way is holds =
     let found = client_of_tag profile whole tag (is_for profile whole tag way is) holds in
     rw found.1 (λ e. not_delivered number tag.client _ _ _ e)
@@ -43,15 +44,15 @@ known profile whole number tag (ToServer from) way is holds =
 
 -- by tags
 unknown_tag : (profile : Profile) (whole : Whole) (number : ℕ) (found : Option Tag) → slice_get whole.sent (number - 1) ≡ found → Holds profile whole
-    → ((deliver profile whole number found).answer ≡ Untaken (fronts.Deliver number)) ↔ (option_map bytes_of found ≡ None)
+    → ((deliver profile whole number found).answer ≡ Untaken (fronts.Deliver number) refused.Unknown) ↔ (option_map bytes_of found ≡ None)
 unknown_tag profile whole number None at holds = (λ e. refl, λ e. refl)
 unknown_tag profile whole number (Some tag) at holds =
     (λ e. absurd (known profile whole number tag tag.direction refl (is_sent profile whole (number - 1) tag at holds) holds e), λ e. absurd cc)
 
 unknown_step : (profile : Profile) (whole : Whole) (number : ℕ) → Holds profile whole
-    → ((step profile whole (events.Deliver number)).answer ≡ Untaken (fronts.Deliver number)) ↔ (option_map bytes_of (slice_get whole.sent (number - 1)) ≡ None)
+    → ((step profile whole (events.Deliver number)).answer ≡ Untaken (fronts.Deliver number) refused.Unknown) ↔ (option_map bytes_of (slice_get whole.sent (number - 1)) ≡ None)
 unknown_step profile whole number holds =
-    subst (λ (s : Step). (s.answer ≡ Untaken (fronts.Deliver number)) ↔ (option_map bytes_of (slice_get whole.sent (number - 1)) ≡ None)) (sym (step_own profile whole number holds.own))
+    subst (λ (s : Step). (s.answer ≡ Untaken (fronts.Deliver number) refused.Unknown) ↔ (option_map bytes_of (slice_get whole.sent (number - 1)) ≡ None)) (sym (step_own profile whole number holds.own))
     (unknown_tag profile whole number (slice_get whole.sent (number - 1)) refl holds)
 
 -- and by bytes

@@ -32,9 +32,13 @@ names_datagram words = bytes_eq (codes "datagram") (slice_index_or (reverse word
 abbrev pub has_datagram : List ℕ → Bool
 has_datagram line = (begins (codes "serve ") line || begins (codes "send ") line) && names_datagram (words_of line)
 
--- whether it is of an end that took bytes: `client` or `server` is its third word
+-- the word that tells the end that took bytes: the second behind `arrive`, the third behind any other word and its number
+abbrev pub taker_of : List (List ℕ) → List ℕ
+taker_of words = slice_index_or words (if bytes_eq (slice_index_or words 0 []) (codes "arrive") then 1 else 2) []
+
+-- whether a line is of that end
 abbrev pub taken_by : List ℕ → List ℕ → Bool
-taken_by end line = bytes_eq end (slice_index_or (words_of line) 2 [])
+taken_by end line = bytes_eq end (taker_of (words_of line))
 
 -- a line, and the one that it stands under, or itself
 pub record Placed : Type 0 where

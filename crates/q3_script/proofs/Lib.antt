@@ -18,3 +18,4 @@ pub mod SpelledEvents
 pub mod Ordered
 pub mod SpelledScripts
 pub mod PlayerParts
+pub mod InRange

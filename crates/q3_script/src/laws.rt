@@ -1,6 +1,6 @@
 //! Laws of scripts, each the contract of a call that does nothing.
 
-ghost use Rattle.q3_script.specs.Laws.{ReadIsSpelled, BadIsNotSpelled};
+ghost use Rattle.q3_script.specs.Laws.{ReadIsSpelled, BadIsNotSpelled, EventsAreInRange};
 
 /// What is read of a script is what it spells, and what it spells is read.
 pub fn read_is_spelled()
@@ -13,3 +13,8 @@ pub fn bad_is_not_spelled()
 {
     read_is_spelled();
 }
+
+/// An event that a script may have is within its ranges.
+pub fn events_are_in_range()
+    ensures { EventsAreInRange }
+{}

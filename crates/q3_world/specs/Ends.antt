@@ -18,6 +18,7 @@ use Rattle.q3_report.specs.declared.answer.MoveRefused.TheVariants as refused
 use Rattle.q3_report.specs.declared.answer.TypeRefused.TheVariants as untyped
 use Rattle.q3_report.specs.declared.answer.Front.{Front}
 use Rattle.q3_report.specs.declared.answer.Front.TheVariants.{Toclient, Toserver}
+use Rattle.q3_report.specs.declared.answer.TakeRefused.TheVariants.{NoClient}
 use Rattle.q3_report.specs.Answers.{Answered, Given, Untaken, Shown, Showing, ShowsNobody}
 use Rattle.q3_ends.specs.AtServer.{ServerStep, server_line, taken_by_server}
 use Rattle.q3_ends.specs.AtClient as at_client
@@ -120,7 +121,7 @@ client_took ends c front place taken = record { ends = with_client ends c place 
 
 -- the client at a place, if there is one, takes bytes
 abbrev pub client_takes : Ends → ℕ → Front → List ℕ → Option Place → EndsStep
-client_takes ends c front bytes None = record { ends = ends; answer = Untaken front }
+client_takes ends c front bytes None = record { ends = ends; answer = Untaken front NoClient }
 client_takes ends c front bytes (Some place) = client_took ends c front place (takes.take_at place.client bytes)
 
 -- the server took something
@@ -137,7 +138,7 @@ hand_client ends c bytes = client_takes ends c (Toclient c) bytes (place_at ends
 
 -- bytes are handed to the server from the address of a client, if there is one
 abbrev pub hand_server_of : Ends → ℕ → List ℕ → Option Place → EndsStep
-hand_server_of ends c bytes None = record { ends = ends; answer = Untaken (Toserver c) }
+hand_server_of ends c bytes None = record { ends = ends; answer = Untaken (Toserver c) NoClient }
 hand_server_of ends c bytes (Some place) = server_takes ends (Toserver c) place.address bytes
 
 abbrev pub hand_server : Ends → ℕ → List ℕ → EndsStep

@@ -6,6 +6,7 @@ use Rattle.q3_chan.specs.Sending.{Piece}
 use Rattle.q3_server.specs.Server.{Emission, emit_at}
 use Rattle.q3_client.specs.Sending as speaks
 use Rattle.q3_report.specs.declared.answer.Front.TheVariants as fronts
+use Rattle.q3_report.specs.declared.answer.TakeRefused.TheVariants as refused
 use Rattle.q3_report.specs.Answers.{Answered, Served, SentOut, Untaken, Bytes}
 use Rattle.q3_world.specs.declared.made.Direction.{Direction}
 use Rattle.q3_world.specs.declared.made.Direction.TheVariants.{ToClient, ToServer}
@@ -80,7 +81,7 @@ arrive_at ends number sent (ToServer from) = server_takes ends (fronts.Deliver n
 
 -- the datagram of a number, if it was made, arrives
 abbrev pub deliver_at : Ends → ℕ → Option SentBytes → EndsStep
-deliver_at ends number None = record { ends = ends; answer = Untaken (fronts.Deliver number) }
+deliver_at ends number None = record { ends = ends; answer = Untaken (fronts.Deliver number) refused.Unknown }
 deliver_at ends number (Some sent) = arrive_at ends number sent sent.direction
 
 -- the bytes of the datagram of a number, if it was made

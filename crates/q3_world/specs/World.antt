@@ -34,6 +34,7 @@ use Rattle.q3_server.specs.Server.{ServerState, Emission, places, slot_at, emit_
 use Rattle.q3_server.specs.Taking as hears
 use Rattle.q3_report.specs.declared.answer.HandedIn.TheVariants as handed
 use Rattle.q3_report.specs.declared.answer.Front.TheVariants as fronts
+use Rattle.q3_report.specs.declared.answer.TakeRefused.TheVariants as refused
 use Rattle.q3_report.specs.Answers.{Answered, Given, Served, SentOut, Untaken, Bytes}
 use Rattle.q3_ends.specs.AtServer.{ran_of}
 use Rattle.q3_world.specs.declared.made.Direction.{Direction}
@@ -296,7 +297,7 @@ client_took whole datagram c place number section taken =
 -- a datagram arrives at its client, by its tag: the number and the piece decide what it does, and of a message that comes
 -- whole the client applies the value that was built
 abbrev pub to_client : Profile → Whole → ℕ → Tag → Option Place → Step
-to_client profile whole datagram tag None = record { whole = whole; answer = Untaken (fronts.Deliver datagram) }
+to_client profile whole datagram tag None = record { whole = whole; answer = Untaken (fronts.Deliver datagram) refused.NoClient }
 to_client profile whole datagram tag (Some place) =
     client_took whole datagram tag.client place tag.number (named whole.histories tag).message.section
     (take_gathered place.client (tagged place.client.gathering tag.number (built_bytes profile (named whole.histories tag)) tag.index)
@@ -330,7 +331,7 @@ arrive profile whole number tag (ToServer from) = to_server profile whole number
 
 -- the datagram of a number, if it was made, arrives
 abbrev pub deliver : Profile → Whole → ℕ → Option Tag → Step
-deliver profile whole number None = record { whole = whole; answer = Untaken (fronts.Deliver number) }
+deliver profile whole number None = record { whole = whole; answer = Untaken (fronts.Deliver number) refused.Unknown }
 deliver profile whole number (Some tag) = arrive profile whole number tag tag.direction
 
 -- ---- bytes arrive

@@ -21,8 +21,9 @@ use q3_ends::client::show;
 use q3_ends::server::{server_line, server_takes};
 use q3_io::{Address, Sink};
 use q3_profile::Profile;
-use q3_report::{Answer, Front, HandedIn, MoveRefused, Shown, TypeRefused};
+use q3_report::{Answer, Front, HandedIn, MoveRefused, Shown, TakeRefused, TypeRefused};
 use q3_script::Event;
+use q3_script::laws::events_are_in_range;
 use q3_server::{Heard, MOST_SLOTS, NoClient, Server};
 use q3_text::Text;
 use std::alloc::Global;
@@ -178,6 +179,7 @@ impl Ends {
         ensures told { Tells counts.old counts.new (O.written out.old) (O.written out.new) (O.faults out.old) (O.faults out.new)
             (game_step self.old (server_line self.old.server event.now)).answer result }
     {
+        events_are_in_range();
         let handed = server_line(&mut self.server, event).unwrap();
         tell(&Answer::HandedIn(handed), counts, out)
     }
@@ -238,7 +240,10 @@ impl Ends {
             (client_takes self.old c front bytes.now (place_at self.old c)).answer result }
     {
         match &mut self.clients[c as usize] {
-            None => tell(&Answer::Untaken { front }, counts, out),
+            None => {
+                let cause = TakeRefused::NoClient;
+                tell(&Answer::Untaken { front, cause }, counts, out)
+            }
             Some(place) => place.take(front, c, bytes, log, counts, out),
         }
     }
@@ -259,7 +264,8 @@ impl Ends {
     {
         let front = Front::Toserver { c };
         let Some(place) = &self.clients[c as usize] else {
-            return tell(&Answer::Untaken { front }, counts, out);
+            let cause = TakeRefused::NoClient;
+            return tell(&Answer::Untaken { front, cause }, counts, out);
         };
         let from = place.address;
         self.server_takes(front, from, bytes, heard, counts, out)
@@ -303,7 +309,8 @@ impl Ends {
     {
         let front = Front::Deliver { datagram: number };
         let Some(sent) = datagrams.get(number as usize - 1) else {
-            return tell(&Answer::Untaken { front }, counts, out);
+            let cause = TakeRefused::Unknown;
+            return tell(&Answer::Untaken { front, cause }, counts, out);
         };
         match sent.direction {
             Direction::ToServer { from } => {
