@@ -6,9 +6,9 @@ ghost use Rattle.q3_script.specs.Addresses.{address_at};
 use q3_io::Address;
 use q3_text::{cut_at, decimal_within};
 
-/// The address that a word spells.
+/// The address that a word spells: `a.b.c.d:port`, four numbers up to 255, and a port from 1 on.
 #[tactic(auto, unfolding(crate::specs::Addresses::address_at))]
-pub fn address(word: &[u8]) -> Option<Address>
+pub fn read_address(word: &[u8]) -> Option<Address>
     ensures { result ≡ address_at word.now }
 {
     let (host, port) = cut_at(word, b':')?;

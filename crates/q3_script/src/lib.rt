@@ -1,7 +1,7 @@
 //! The script language, this project's own: each line of a script is an event of a replay, of a server or of a client.
 #![tactic(auto)]
 
-mod address;
+pub mod address;
 mod area;
 pub mod bytes;
 pub mod cause;
@@ -16,6 +16,7 @@ mod quotes;
 mod script;
 mod words;
 
+pub use address::read_address;
 pub use bytes::Bytes;
 pub use cause::{LineCause, ScriptError, ScriptKind};
 pub use event::Event;

@@ -4,7 +4,7 @@ ghost use Rattle.std.specs.Prelude.{◌≡◌, ◌∷◌, IfOk};
 ghost use Rattle.q3_script.specs.Words.{words_of, words_left};
 ghost use Rattle.q3_script.specs.Lines.{client_line, port_line, map_line, entity_line, remove_line, baseline_line, player_line, area_line, time_line, config_at, config_line, command_at, say_line, type_line, serve_line, send_line, deliver_line, show_line, bytes_line, hand_at, toclient_line, toserver_line, at_line, end_line, line_at};
 
-use crate::address::address;
+use crate::address::read_address;
 use crate::area::{area_bytes, handed_bytes};
 use crate::bytes::Bytes;
 use crate::cause::{LineCause, ScriptKind};
@@ -35,7 +35,7 @@ fn client(left: &[u8]) -> Result<Event, LineCause>
         challenge: number_word(challenge, 0, u32::MAX)?,
         qport: number_word(qport, 0, 65_535)? as u16,
         dup: number_word(dup, 0, 5)? as u8,
-        address: address(host).ok_or(LineCause::Address)?,
+        address: read_address(host).ok_or(LineCause::Address)?,
     })
 }
 

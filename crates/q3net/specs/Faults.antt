@@ -8,9 +8,11 @@ use Rattle.q3_script.specs.declared.cause.ScriptError.{ScriptError}
 use Rattle.q3_script.specs.declared.cause.ScriptError.TheVariants as script
 use Rattle.q3_world.specs.declared.told.StepError.{StepError}
 use Rattle.q3_world.specs.declared.told.StepError.TheVariants as step
+use Rattle.q3_node.specs.declared.error.NodeError.{NodeError}
+use Rattle.q3_node.specs.declared.error.NodeError.TheVariants as node
 use Rattle.q3_io.specs.Faults.{Rose}
 use Rattle.q3net.specs.declared.fault.Fault.{Fault}
-use Rattle.q3net.specs.declared.fault.Fault.TheVariants.{NoMemory, Usage, Read, Write, FileWrite, Profile, Script}
+use Rattle.q3net.specs.declared.fault.Fault.TheVariants.{NoMemory, Usage, Read, Write, FileWrite, Profile, Script, Wire, Turns}
 
 abbrev pub profile_fault : ProfileError → Fault
 profile_fault profile.NoMemory = NoMemory
@@ -19,6 +21,12 @@ profile_fault e = Profile e
 abbrev pub script_fault : ScriptError → Fault
 script_fault script.NoMemory = NoMemory
 script_fault (script.Line line cause) = Script line cause
+
+abbrev pub node_fault : NodeError → Fault
+node_fault node.NoMemory = NoMemory
+node_fault node.WireFault = Wire
+node_fault node.WriteFault = Write
+node_fault node.Turns = Turns
 
 abbrev pub step_fault : StepError → Fault
 step_fault step.NoMemory = NoMemory
@@ -37,12 +45,13 @@ IsWordsFault fault = (fault ≡ NoMemory) ⊎ (fault ≡ Usage)
 abbrev pub Gets : {A : Type 0} → Result A Fault → Result A Fault → Type 0
 Gets said got = (got ≡ said) ⊎ ((got ≡ Err NoMemory) ⊎ (got ≡ Err Read))
 
--- what comes from outside: want of memory, a read that fails, and a write that does
+-- what comes from outside: want of memory, a read that fails, a write that does, and a wire that does
 abbrev pub IsOutside : Fault → Type 0
 IsOutside NoMemory = Unit {0}
 IsOutside Read = Unit {0}
 IsOutside Write = Unit {0}
 IsOutside FileWrite = Unit {0}
+IsOutside Wire = Unit {0}
 IsOutside other = ⊥
 
 -- something from outside ended a part early
@@ -51,7 +60,7 @@ IsEarly (Ok x) = ⊥
 IsEarly (Err e) = IsOutside e
 
 -- a fault of reading comes only where the files' count rose, one of writing only where the sink's did, one of a file's write only where
--- the files' count of these did, and no fault is passed over
+-- the files' count of these did, one of the wire only where the wire's did, and no fault is passed over
 abbrev pub ReadCause : {T : Type 0} → ℕ → ℕ → Result T Fault → Type 0
 ReadCause before now (Err Read) = (before ≤ now) × Rose before now
 ReadCause before now other = now ≡ before
@@ -63,3 +72,7 @@ WriteCause before now other = now ≡ before
 abbrev pub FileCause : ℕ → ℕ → Result (Unit {0}) Fault → Type 0
 FileCause before now (Err FileWrite) = (before ≤ now) × Rose before now
 FileCause before now other = now ≡ before
+
+abbrev pub WireCause : ℕ → ℕ → Result (Unit {0}) Fault → Type 0
+WireCause before now (Err Wire) = (before ≤ now) × Rose before now
+WireCause before now other = now ≡ before

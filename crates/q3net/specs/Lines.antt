@@ -11,10 +11,10 @@ use Rattle.q3_script.specs.declared.cause.LineCause.{LineCause}
 use Rattle.q3_script.specs.declared.cause.LineCause.TheVariants.{Large, Many, Word, Count, Number, Fields, Text, Address, Order}
 use Rattle.std.specs.List.{concat}
 use Rattle.q3net.specs.declared.fault.Fault.{Fault}
-use Rattle.q3net.specs.declared.fault.Fault.TheVariants.{NoMemory, Usage, Read, Write, FileWrite, Profile, Script}
+use Rattle.q3net.specs.declared.fault.Fault.TheVariants.{NoMemory, Usage, Read, Write, FileWrite, Profile, Script, Wire, Turns}
 
 unfoldable pub help_text : List ℕ
-help_text = codes "q3net replays schedules of Quake III's connected protocol 68\n\nq3net replay PROFILE SCRIPT        replays the schedule of the script by the profile, and prints its report\nq3net make NUMBER SEED             prints a generated script, of which so many events are drawn from the seed\nq3net trial PROFILE NUMBER SEED    replays that script by the profile, and prints what the report counts\nq3net --help                       prints this text\nq3net --version                    prints the version\n"
+help_text = codes "q3net replays schedules of Quake III's connected protocol 68, and serves and joins by it over UDP\n\nq3net replay PROFILE SCRIPT                replays the schedule of the script by the profile, and prints its report\nq3net serve PROFILE SCRIPT ADDRESS         is a server at the address, by the script whose lines are done when they are due\nq3net join PROFILE SCRIPT ADDRESS SERVER   is a client at the address, of the server at that one, likewise\nq3net make NUMBER SEED                     prints a generated script, of which so many events are drawn from the seed\nq3net trial PROFILE NUMBER SEED            replays that script by the profile, and prints what the report counts\nq3net --help                               prints this text\nq3net --version                            prints the version\n"
 
 unfoldable pub version_text : List ℕ
 version_text = codes "q3net 0.1.0\n"
@@ -70,6 +70,8 @@ fault_line Read = codes "read fault\n"
 fault_line Write = []
 fault_line FileWrite = codes "write fault\n"
 fault_line (Profile e) = profile_line e
+fault_line Wire = codes "wire fault\n"
+fault_line Turns = codes "turns spent\n"
 fault_line (Script line cause) = concat (codes "script: line " ∷ decimal line ∷ codes ": " ∷ cause_word cause ∷ codes "\n" ∷ [])
 
 abbrev pub fault_status : Fault → ℕ
@@ -80,6 +82,8 @@ fault_status Write = 4
 fault_status FileWrite = 4
 fault_status (Profile e) = 5
 fault_status (Script line cause) = 6
+fault_status Wire = 9
+fault_status Turns = 11
 
 abbrev pub ending_line : Result (Unit {0}) Fault → List ℕ
 ending_line (Ok x) = []

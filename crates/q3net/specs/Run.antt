@@ -1,20 +1,24 @@
 -- How a run goes: as its verdict says, or something from outside ends it early.
-use Rattle.std.specs.Prelude.{◌≡◌, ◌⊎◌, ℕ, ◌≤◌, true, false, List, [], ◌++◌, map, take, Option, Result, Ok, Err}
+use Rattle.std.specs.Prelude.{◌≡◌, ◌⊎◌, ℕ, ◌≤◌, true, false, List, [], ◌++◌, map, take, Option, Some, None, IsSome, Result, Ok, Err}
 use Rattle.std.specs.List.{flat_map}
 use Rattle.q3_io.specs.Faults.{Rose}
+use Rattle.q3_io.specs.declared.address.Address.{Address}
 use Rattle.q3_io.specs.Told.{Told}
+use Rattle.q3_io.specs.Traffic.{Traffic}
+use Rattle.q3_node.specs.Node.{Turn}
+use Rattle.q3_node.specs.Running.{wire_behind, at_bound}
 use Rattle.q3_io.specs.Written.{Written, Wrote, NothingWaits}
 use Rattle.q3_report.specs.Answers.{Answered}
 use Rattle.q3_report.specs.AnswerLines.{lines_of}
 use Rattle.q3_world.specs.declared.told.StepError.{StepError}
 use Rattle.q3_world.specs.declared.told.StepError.TheVariants as step
 use Rattle.q3net.specs.Command.{Command, files_of}
-use Rattle.q3net.specs.Faults.{IsOutside, FileCause}
+use Rattle.q3net.specs.Faults.{IsOutside, IsEarly, FileCause}
 use Rattle.q3net.specs.Input.{IsFront, looked_up, created, LeavesTold, LeavesFirst, Touches}
 use Rattle.q3net.specs.Lines.{fault_status, ending_line, ending_status}
-use Rattle.q3net.specs.Verdict.{Place, Nowhere, First, Anywhere, Stops, Verdict, IsVerdict}
+use Rattle.q3net.specs.Verdict.{Place, Nowhere, First, Anywhere, Stops, Verdict, Outside, IsVerdict}
 use Rattle.q3net.specs.declared.fault.Fault.{Fault}
-use Rattle.q3net.specs.declared.fault.Fault.TheVariants.{NoMemory, Read, Write, FileWrite}
+use Rattle.q3net.specs.declared.fault.Fault.TheVariants.{NoMemory, Read, Write, FileWrite, Wire}
 
 -- all that waited in the sink was handed on, and the text behind it
 abbrev pub HandsOn : Option Written → Option Written → List ℕ → Type 0
@@ -38,6 +42,7 @@ abbrev pub place_of : Stops → Fault → Place
 place_of stops NoMemory = stops.memory
 place_of stops Read = stops.reads
 place_of stops FileWrite = stops.writes
+place_of stops Wire = stops.wire
 place_of stops other = Nowhere
 
 -- how a command ends, and what it printed before any fault line: as its verdict says, or stopped early
@@ -47,15 +52,15 @@ Ends verdict ended printed =
     ⊎ ((fault : Fault) × (ended ≡ Err fault) × ComesBehind (place_of verdict.stops fault) printed verdict.text)
 
 -- what the sink took of a command by then; where it failed, a front of the verdict's text
-abbrev pub Executes : Option Command → Option Told → Option Written → Option Written → Result (Unit {0}) Fault → Type 0
+abbrev pub Executes : Option Command → Outside → Option Written → Option Written → Result (Unit {0}) Fault → Type 0
 Executes command told old now ended =
     (verdict : Verdict) × IsVerdict told command verdict
     × (((printed : List ℕ) × Ends verdict ended printed × Wrote old now printed true)
     ⊎ ((ended ≡ Err Write) × Wrote old now verdict.text false))
 
 -- what a command has done with the files by then: as its verdict says, or the first of it
-abbrev pub LeavesFiles : Option Command → Option Told → Option Told → Result (Unit {0}) Fault → Type 0
-LeavesFiles command told now ended = (verdict : Verdict) × IsVerdict told command verdict × Touches ended verdict.named verdict.made told now
+abbrev pub LeavesFiles : Option Command → Outside → Option Told → Result (Unit {0}) Fault → Type 0
+LeavesFiles command told now ended = (verdict : Verdict) × IsVerdict told command verdict × Touches ended verdict.named verdict.made told.files now
 
 -- a text of the program's own
 abbrev pub PrintsAll : List ℕ → Option Written → Option Written → Result (Unit {0}) Fault → Type 0
@@ -69,19 +74,19 @@ Took ended text old now status = ((status ≡ ending_status ended) × HandsOn ol
 
 -- a run prints what its command prints, and behind that the fault line, if any, which is that of a file's write exactly where the files'
 -- count of these changed; or the sink failed before, and took a front of the text
-abbrev pub Prints : Option Command → Option Told → ℕ → ℕ → Option Written → Option Written → ℕ → Type 0
+abbrev pub Prints : Option Command → Outside → ℕ → ℕ → Option Written → Option Written → ℕ → Type 0
 Prints command told before after old now status =
     (verdict : Verdict) × IsVerdict told command verdict × (ended : Result (Unit {0}) Fault) × FileCause before after ended
     × (((printed : List ℕ) × Ends verdict ended printed × Took ended (printed ++ ending_line ended) old now status)
     ⊎ ((ended ≡ Err Write) × (status ≡ 4) × Wrote old now verdict.text false))
 
 -- the verdict is that the command is done, and its whole text was printed
-abbrev pub Reports : Option Command → Option Told → Option Written → Option Written → Type 0
+abbrev pub Reports : Option Command → Outside → Option Written → Option Written → Type 0
 Reports command told old now =
     (verdict : Verdict) × IsVerdict told command verdict × (verdict.ending ≡ Ok tt) × HandsOn old now verdict.text
 
 -- a write of the files failed, in a command that makes some
-abbrev pub FilesFail : Option Command → Option Told → ℕ → ℕ → Type 0
+abbrev pub FilesFail : Option Command → Outside → ℕ → ℕ → Type 0
 FilesFail command told before after =
     (verdict : Verdict) × IsVerdict told command verdict × Comes verdict.stops.writes × (before ≤ after) × Rose before after
 
@@ -90,12 +95,12 @@ abbrev pub IsEarlyStatus : Stops → ℕ → Type 0
 IsEarlyStatus stops status = (status ≡ 4) ⊎ ((fault : Fault) × Comes (place_of stops fault) × (status ≡ fault_status fault))
 
 -- the status is the verdict's, unless something from outside ended the run early
-abbrev pub IsDecided : Option Command → Option Told → ℕ → Type 0
+abbrev pub IsDecided : Option Command → Outside → ℕ → Type 0
 IsDecided command told status =
     (verdict : Verdict) × IsVerdict told command verdict × ((status ≡ ending_status verdict.ending) ⊎ IsEarlyStatus verdict.stops status)
 
 -- the status is the verdict's, unless memory ran out
-abbrev pub IsComplete : Option Command → Option Told → ℕ → Type 0
+abbrev pub IsComplete : Option Command → Outside → ℕ → Type 0
 IsComplete command told status =
     (verdict : Verdict) × IsVerdict told command verdict × ((status ≡ ending_status verdict.ending) ⊎ (status ≡ 1))
 
@@ -105,17 +110,43 @@ Settles (Ok status) before now settled = (settled ≡ status) × (now ≡ before
 Settles (Err fault) before now settled = ((settled ≡ fault_status fault) × (now ≡ before)) ⊎ ((settled ≡ 4) × Rose before now)
 
 -- what the run did with the files is what its verdict says, or the first of it, where something from outside ended it early
-abbrev pub HasLeft : Option Command → Option Told → Option Told → ℕ → Type 0
+abbrev pub HasLeft : Option Command → Outside → Option Told → ℕ → Type 0
 HasLeft command told now status =
     (verdict : Verdict) × IsVerdict told command verdict
-    × (LeavesTold told now verdict.named verdict.made
-    ⊎ ((fault : Fault) × IsOutside fault × (status ≡ fault_status fault) × LeavesFirst told now verdict.named verdict.made))
+    × (LeavesTold told.files now verdict.named verdict.made
+    ⊎ ((fault : Fault) × IsOutside fault × (status ≡ fault_status fault) × LeavesFirst told.files now verdict.named verdict.made))
 
 -- the names of the command's words are looked up, once each and in this order, and then the files that the verdict makes are created, or
 -- the first of these; of each file that is made there is a front, and every other stays
-abbrev pub Touched : Option Command → Option Told → Option Told → Type 0
+abbrev pub Touched : Option Command → Outside → Option Told → Type 0
 Touched command told now =
-    (verdict : Verdict) × IsVerdict told command verdict × LeavesFirst told now (map looked_up (files_of command) ++ map created verdict.made) verdict.made
+    (verdict : Verdict) × IsVerdict told command verdict × LeavesFirst told.files now (map looked_up (files_of command) ++ map created verdict.made) verdict.made
+
+-- ---- the wire
+
+-- what is told of the wire where a verdict's turns were had at its address, or these of them; without an address it stays
+abbrev pub wire_by : Option Traffic → Option Address → List Turn → Option Traffic
+wire_by told None turns = told
+wire_by told (Some at) turns = wire_behind (at_bound told at) turns
+
+-- all of them, or, where something from outside ended it early, the first of them, or nothing was bound
+abbrev pub Wires : Verdict → Result (Unit {0}) Fault → Option Traffic → Option Traffic → Type 0
+Wires verdict ended told now =
+    (now ≡ wire_by told verdict.at verdict.turns)
+    ⊎ (IsEarly ended × ((now ≡ told) ⊎ ((first : List Turn) × IsFront first verdict.turns × (now ≡ wire_by told verdict.at first))))
+
+-- what a command has done with the wire by then
+abbrev pub LeavesWire : Option Command → Outside → Option Traffic → Result (Unit {0}) Fault → Type 0
+LeavesWire command told now ended = (verdict : Verdict) × IsVerdict told command verdict × Wires verdict ended told.wire now
+
+-- and a run
+abbrev pub HasWired : Option Command → Outside → Option Traffic → ℕ → Type 0
+HasWired command told now status =
+    (ended : Result (Unit {0}) Fault) × LeavesWire command told now ended × ((status ≡ ending_status ended) ⊎ (status ≡ 4))
+
+-- an address is bound only by a command that binds one
+abbrev pub MayBind : Option Command → Outside → Type 0
+MayBind command told = (verdict : Verdict) × IsVerdict told command verdict × IsSome verdict.at
 
 -- ---- of the steps
 

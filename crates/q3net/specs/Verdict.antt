@@ -1,27 +1,35 @@
 -- What the input of a run decides: what is printed, and how the run ends.
-use Rattle.std.specs.Prelude.{◌≡◌, ℕ, List, [], ◌∷◌, map, Option, Some, None, Result, Ok, Err, ok_or}
+use Rattle.std.specs.Prelude.{◌≡◌, ℕ, if◌then◌else◌, List, [], ◌∷◌, map, Option, Some, None, Result, Ok, Err, ok_or}
 use Rattle.std.specs.Result.{result_map_both}
 use Rattle.std.specs.Global.{Vec}
 use Rattle.q3_profile.specs.declared.profile.Profile.{Profile as ProfileValue}
 use Rattle.q3_bits.specs.ResultBind.{◌>>=◌}
 use Rattle.q3_profile.specs.Profile.{checked}
 use Rattle.q3_script.specs.declared.event.Event.{Event}
+use Rattle.q3_script.specs.declared.cause.ScriptKind.{ScriptKind}
 use Rattle.q3_script.specs.declared.cause.ScriptKind.TheVariants as kinds
 use Rattle.q3_script.specs.Script.{BadLine, script_at}
+use Rattle.q3_io.specs.declared.address.Address.{Address}
 use Rattle.q3_io.specs.Told.{Told, File, Named}
+use Rattle.q3_io.specs.Traffic.{Parcel, Traffic}
+use Rattle.q3_server.specs.Server.{places, new_server}
+use Rattle.q3_node.specs.Node.{Turn, most_turns, new_node, turns_of, did_end, text_of}
+use Rattle.q3_node.specs.AtServer.{server_rules}
+use Rattle.q3_node.specs.AtClient.{ClientEnd, client_of, client_rules}
+use Rattle.q3_node.specs.Running.{ToRead, ToArrive}
 use Rattle.q3_make.specs.Printed.{script_text}
 use Rattle.q3_make.specs.Generated.{generated}
 use Rattle.q3_world.specs.World.{opening, answers}
 use Rattle.q3_world.specs.Report.{report}
 use Rattle.q3_world.specs.Counts.{counts_of}
 use Rattle.q3net.specs.declared.command.Draws.{Draws}
-use Rattle.q3net.specs.Command.{Command, Help, Version, Replay, Make, Trial}
+use Rattle.q3net.specs.Command.{Command, Help, Version, Replay, Make, Trial, Serve, Join}
 use Rattle.q3net.specs.Faults.{Gets}
 use Rattle.q3net.specs.Input.{Holds, looked_up}
 use Rattle.q3net.specs.Lines.{help_text, version_text}
 use Rattle.q3net.specs.Summary.{summary_text}
 use Rattle.q3net.specs.declared.fault.Fault.{Fault}
-use Rattle.q3net.specs.declared.fault.Fault.TheVariants.{Usage, Read, Profile, Script}
+use Rattle.q3net.specs.declared.fault.Fault.TheVariants.{Usage, Read, Profile, Script, Turns}
 
 -- where something from outside may stop a command: nowhere, before its first line alone, or anywhere in its text
 pub data Place : Type 0 where
@@ -29,24 +37,28 @@ pub data Place : Type 0 where
   First : Place
   Anywhere : Place
 
--- where it may want memory, where a read may fail, and where a write of a file that it makes may
+-- where it may want memory, where a read may fail, where a write of a file that it makes may, and where the wire may
 pub record Stops : Type 0 where
   pub memory : Place
   pub reads : Place
   pub writes : Place
+  pub wire : Place
 
 -- what a command prints before any fault line; how it ends, done or by the first cause that its input decides; the names that it gives,
--- each with its call; the files that it makes, with their bytes; and what may stop it early
+-- each with its call; the files that it makes, with their bytes; the address that it binds, if it binds one, and the turns that it has then;
+-- and what may stop it early
 pub record Verdict : Type 0 where
   pub text : List ℕ
   pub ending : Result (Unit {0}) Fault
   pub named : List Named
   pub made : List File
+  pub at : Option Address
+  pub turns : List Turn
   pub stops : Stops
 
 -- what neither reads nor takes memory; what takes memory; and what also reads files, all of them before its first line
 abbrev pub stops_nowhere : Stops
-stops_nowhere = record { memory = Nowhere; reads = Nowhere; writes = Nowhere }
+stops_nowhere = record { memory = Nowhere; reads = Nowhere; writes = Nowhere; wire = Nowhere }
 
 abbrev pub takes_memory : Stops
 takes_memory = record stops_nowhere { memory = Anywhere }
@@ -54,9 +66,13 @@ takes_memory = record stops_nowhere { memory = Anywhere }
 abbrev pub reads_first : Stops
 reads_first = record takes_memory { reads = First }
 
+-- and what has all its memory before its first line, and goes on over a wire
+abbrev pub goes_on_wire : Stops
+goes_on_wire = record { memory = First; reads = First; writes = Nowhere; wire = Anywhere }
+
 -- of a command that makes no file: it looks up these names, and prints a text, and behind it may come a cause
 abbrev pub printing : Stops → List (List ℕ) → List ℕ → Result (Unit {0}) Fault → Verdict
-printing stops names text ending = record { text = text; ending = ending; named = map looked_up names; made = []; stops = stops }
+printing stops names text ending = record { text = text; ending = ending; named = map looked_up names; made = []; at = None; turns = []; stops = stops }
 
 -- of one that has all its input before its first line: a text and nothing more, or a cause and no text
 abbrev pub settled : Stops → List (List ℕ) → Result (List ℕ) Fault → Verdict
@@ -69,17 +85,17 @@ profile_in file = do
   bytes ← ok_or file Read
   result_map_both (λ profile. profile) Profile (checked bytes)
 
--- the events that a file spells, or its first bad line
-abbrev pub events_in : Option (List ℕ) → Result (List Event) Fault
-events_in file = do
+-- the events of a script of a kind that a file spells, or its first bad line
+abbrev pub events_in : ScriptKind → Option (List ℕ) → Result (List Event) Fault
+events_in kind file = do
   bytes ← ok_or file Read
-  result_map_both (λ events. events) (λ (bad : BadLine). Script bad.line bad.cause) (script_at kinds.Replay bytes)
+  result_map_both (λ events. events) (λ (bad : BadLine). Script bad.line bad.cause) (script_at kind bytes)
 
 -- a replay of the script in one file by the profile in another
 abbrev pub replayed : Option (List ℕ) → Option (List ℕ) → Result (List ℕ) Fault
 replayed profile script = do
   by ← profile_in profile
-  events ← events_in script
+  events ← events_in kinds.Replay script
   Ok (report by events)
 
 -- the names that a replay gives: its script's only where the profile passed
@@ -97,17 +113,61 @@ tried profile draws = do
   by ← profile_in profile
   Ok (summary by (generated draws.number draws.seed))
 
--- the verdict of a command, by what the files hold that it names
-abbrev pub IsVerdict : Option Told → Option Command → Verdict → Type 0
+-- of a node at an address with these turns: it did `end`, or its turns are spent; of none, by a cause
+abbrev pub noded : List (List ℕ) → Address → Result (List Turn) Fault → Verdict
+noded names at (Ok turns) = record (printing goes_on_wire names (text_of turns) (if did_end turns then Ok tt else Err Turns)) { at = Some at; turns = turns }
+noded names at (Err cause) = printing goes_on_wire names [] (Err cause)
+
+-- the turns of a server by the script in one file and the profile in another, where these readings and arrivals are to come
+abbrev pub served : Option (List ℕ) → Option (List ℕ) → List ℕ → List (Option Parcel) → Result (List Turn) Fault
+served profile script readings arrivals = do
+  by ← profile_in profile
+  events ← events_in kinds.Serve script
+  Ok (turns_of most_turns server_rules (new_node (new_server by places) events) readings arrivals)
+
+-- and those of a client of the server at an address
+abbrev pub client_turns : Option ClientEnd → List Event → List ℕ → List (Option Parcel) → List Turn
+client_turns None events readings arrivals = []
+client_turns (Some end) events readings arrivals = turns_of most_turns client_rules (new_node end events) readings arrivals
+
+abbrev pub joined : Address → Option (List ℕ) → Option (List ℕ) → List ℕ → List (Option Parcel) → Result (List Turn) Fault
+joined server profile script readings arrivals = do
+  by ← profile_in profile
+  events ← events_in kinds.Join script
+  Ok (client_turns (client_of by server events) events readings arrivals)
+
+-- what is told of the outside: of the files, of the wire, and of the clock
+pub record Outside : Type 0 where
+  pub files : Option Told
+  pub wire : Option Traffic
+  pub clock : Option (List ℕ)
+
+abbrev pub outside : Option Told → Option Traffic → Option (List ℕ) → Outside
+outside files wire clock = record { files = files; wire = wire; clock = clock }
+
+-- where the files alone matter
+abbrev pub of_files : Option Told → Outside
+of_files files = outside files None None
+
+-- the verdict of a command, by what the files hold that it names, and by what is to come over the wire and of the clock
+abbrev pub IsVerdict : Outside → Option Command → Verdict → Type 0
 IsVerdict told None verdict = verdict ≡ settled stops_nowhere [] (Err Usage)
 IsVerdict told (Some Help) verdict = verdict ≡ settled stops_nowhere [] (Ok help_text)
 IsVerdict told (Some Version) verdict = verdict ≡ settled stops_nowhere [] (Ok version_text)
 IsVerdict told (Some (Replay profile script)) verdict =
-    (of_profile : Option (List ℕ)) × (of_script : Option (List ℕ)) × Holds told profile of_profile × Holds told script of_script
+    (of_profile : Option (List ℕ)) × (of_script : Option (List ℕ)) × Holds told.files profile of_profile × Holds told.files script of_script
     × (verdict ≡ settled reads_first (names_by (profile_in of_profile) profile script) (replayed of_profile of_script))
 IsVerdict told (Some (Make draws)) verdict = verdict ≡ settled takes_memory [] (Ok (script_text (generated draws.number draws.seed)))
 IsVerdict told (Some (Trial profile draws)) verdict =
-    (of_profile : Option (List ℕ)) × Holds told profile of_profile × (verdict ≡ settled reads_first (profile ∷ []) (tried of_profile draws))
+    (of_profile : Option (List ℕ)) × Holds told.files profile of_profile × (verdict ≡ settled reads_first (profile ∷ []) (tried of_profile draws))
+IsVerdict told (Some (Serve profile script at)) verdict =
+    (of_profile : Option (List ℕ)) × (of_script : Option (List ℕ)) × Holds told.files profile of_profile × Holds told.files script of_script
+    × (readings : List ℕ) × ToRead told.clock readings × (arrivals : List (Option Parcel)) × ToArrive told.wire arrivals
+    × (verdict ≡ noded (names_by (profile_in of_profile) profile script) at (served of_profile of_script readings arrivals))
+IsVerdict told (Some (Join profile script at server)) verdict =
+    (of_profile : Option (List ℕ)) × (of_script : Option (List ℕ)) × Holds told.files profile of_profile × Holds told.files script of_script
+    × (readings : List ℕ) × ToRead told.clock readings × (arrivals : List (Option Parcel)) × ToArrive told.wire arrivals
+    × (verdict ≡ noded (names_by (profile_in of_profile) profile script) at (joined server of_profile of_script readings arrivals))
 
 -- what a part of a run answers by the file of a name
 abbrev pub GetsFrom : {A : Type 0} → (Option (List ℕ) → Result A Fault) → Option Told → List ℕ → Result A Fault → Type 0

@@ -3,8 +3,10 @@
 ghost use Rattle.std.specs.Prelude.{◌≡◌, ◌-◌, ◌^◌, map, option_map, IfSome};
 ghost use Rattle.std.specs.String.{string_bytes};
 ghost use Rattle.q3_text.specs.Decimals.{number_at};
-ghost use Rattle.q3net.specs.Command.{AreDraws, MayDraw, command_of, command_value, draws_at};
+ghost use Rattle.q3net.specs.Command.{AreDraws, MayDraw, command_of, command_value, draws_at, serve_at, join_at};
 
+use q3_io::Address;
+use q3_script::read_address;
 use q3_text::decimal_within;
 
 /// How many events the generator may draw.
@@ -30,6 +32,19 @@ pub enum Command<'a> {
     Make(Draws),
     /// Replays a generated script by the profile in this file, and prints what it counted.
     Trial { profile: &'a str, draws: Draws },
+    /// Is a server at an address, by a profile and a script.
+    Serve {
+        profile: &'a str,
+        script: &'a str,
+        at: Address,
+    },
+    /// Is a client at an address, of the server at another, by a profile and a script.
+    Join {
+        profile: &'a str,
+        script: &'a str,
+        at: Address,
+        server: Address,
+    },
 }
 
 /// The command that the words are, or `None` where they are no command line.
@@ -50,6 +65,17 @@ pub fn parse(words: &[String]) -> Option<Command<'_>>
         [word, profile, number, seed] if word.as_str() == "trial" => Some(Command::Trial {
             profile: profile.as_str(),
             draws: draws_of(number.as_str(), seed.as_str())?,
+        }),
+        [word, profile, script, at] if word.as_str() == "serve" => Some(Command::Serve {
+            profile: profile.as_str(),
+            script: script.as_str(),
+            at: read_address(at.as_bytes())?,
+        }),
+        [word, profile, script, at, server] if word.as_str() == "join" => Some(Command::Join {
+            profile: profile.as_str(),
+            script: script.as_str(),
+            at: read_address(at.as_bytes())?,
+            server: read_address(server.as_bytes())?,
         }),
         _ => None,
     }

@@ -7,6 +7,7 @@ ghost use Rattle.q3net.specs.Lines.{fault_line, fault_status, cause_word, key_li
 
 use q3_bits::{CodeError, NoMemory};
 use q3_io::{Failed, Piece, Sink, print_all};
+use q3_node::NodeError;
 use q3_profile::{Key, ProfileError};
 use q3_script::{LineCause, ScriptError};
 use q3_world::StepError;
@@ -28,6 +29,10 @@ pub enum Fault {
     Profile(ProfileError),
     /// The script's first bad line, counted from 1, 0 for the whole file, and its first cause.
     Script { line: u32, cause: LineCause },
+    /// The wire's count of faults rose in this run.
+    Wire,
+    /// A node's turns are spent, and none of them did `end`.
+    Turns,
 }
 
 impl Fault {
@@ -43,6 +48,8 @@ impl Fault {
             Fault::FileWrite => 4,
             Fault::Profile(_) => 5,
             Fault::Script { .. } => 6,
+            Fault::Wire => 9,
+            Fault::Turns => 11,
         }
     }
 
@@ -57,6 +64,8 @@ impl Fault {
             Fault::Read => print_all(&[Piece::Text(b"read fault\n")], out),
             Fault::Write => Ok(()),
             Fault::FileWrite => print_all(&[Piece::Text(b"write fault\n")], out),
+            Fault::Wire => print_all(&[Piece::Text(b"wire fault\n")], out),
+            Fault::Turns => print_all(&[Piece::Text(b"turns spent\n")], out),
             Fault::Profile(e) => print_profile(e, out),
             Fault::Script { line, cause } => print_all(
                 &[
@@ -217,6 +226,21 @@ impl From<StepError> for Fault {
         match e {
             StepError::NoMemory => Fault::NoMemory,
             StepError::WriteFault => Fault::Write,
+        }
+    }
+}
+
+impl From<NodeError> for Fault {
+    ghost use Rattle.q3net.specs.Faults.{node_fault};
+
+    ghost from_gives = { λ e f. f ≡ node_fault e };
+
+    fn from(e: NodeError) -> Fault {
+        match e {
+            NodeError::NoMemory => Fault::NoMemory,
+            NodeError::WireFault => Fault::Wire,
+            NodeError::WriteFault => Fault::Write,
+            NodeError::Turns => Fault::Turns,
         }
     }
 }

@@ -4,7 +4,7 @@ ghost use Rattle.std.specs.Prelude.{◌≡◌, [], ◌∷◌, ◌+◌, ◌<◌, 
 ghost use Rattle.q3_profile.specs.declared.profile.Profile.{Profile as ProfileValue};
 ghost use Rattle.q3_profile.specs.Profile.{IsProfile};
 ghost use Rattle.q3_script.specs.Script.{most_events};
-ghost use Rattle.q3_script.specs.Grammar.{IsReplayEvent};
+ghost use Rattle.q3_script.specs.Grammar.{IsReplayEvent, IsEventOf, AreOrdered};
 ghost use Rattle.q3_world.specs.Outcome.{HasStepCause};
 ghost use Rattle.q3_world.specs.Kept.{most_datagrams};
 ghost use Rattle.q3_world.specs.World.{Whole, answers};
@@ -12,7 +12,7 @@ ghost use Rattle.q3_world.specs.StandsFor.{StandsFor};
 ghost use Rattle.q3net.specs.Command.{Replay};
 ghost use Rattle.q3net.specs.Faults.{ReadCause, WriteCause};
 ghost use Rattle.q3net.specs.Input.{Gives};
-ghost use Rattle.q3net.specs.Verdict.{GetsFrom, profile_in, events_in, with_events};
+ghost use Rattle.q3net.specs.Verdict.{GetsFrom, of_files, profile_in, events_in, with_events};
 ghost use Rattle.q3net.specs.Run.{Executes, LeavesFiles, AddsLines};
 
 use crate::fault::Fault;
@@ -37,15 +37,15 @@ pub fn replay<F: Files, O: Sink>(
     files: &mut F,
     out: &mut O,
 ) -> Result<(), Fault>
-    ensures executes { Executes (Some (Replay profile.now script.now)) (F.told files.old) (O.written out.old) (O.written out.new) result }
-    ensures gives { LeavesFiles (Some (Replay profile.now script.now)) (F.told files.old) (F.told files.new) result }
+    ensures executes { Executes (Some (Replay profile.now script.now)) (of_files (F.told files.old)) (O.written out.old) (O.written out.new) result }
+    ensures gives { LeavesFiles (Some (Replay profile.now script.now)) (of_files (F.told files.old)) (F.told files.new) result }
     ensures writes { F.write_faults files.new ≡ F.write_faults files.old }
     ensures read_cause { ReadCause (F.faults files.old) (F.faults files.new) result }
     ensures write_cause { WriteCause (O.faults out.old) (O.faults out.new) result }
 {
     q3_io::laws::texts_follow();
     let profile = load_profile(alloc, profile, files)?;
-    let events = load_events(alloc, script, files)?;
+    let events = load_events(alloc, ScriptKind::Replay, script, files)?;
     let mut world = World::new(alloc, &profile)?;
     step_all(&mut world, &events, files, out)?;
     Ok(())
@@ -63,17 +63,23 @@ pub fn load_profile<F: Files>(alloc: Global, name: &str, files: &mut F) -> Resul
     Ok(read_profile(alloc, &bytes)?)
 }
 
-/// Reads the script of this name: the events of a replay.
-fn load_events<F: Files>(alloc: Global, name: &str, files: &mut F) -> Result<Vec<Event>, Fault>
-    ensures gets { GetsFrom events_in (F.told files.old) name.now (with_events result) }
-    ensures each { IfOk result (λ events. All IsReplayEvent events.items) }
+/// Reads the script of this name, of a kind.
+pub fn load_events<F: Files>(
+    alloc: Global,
+    kind: ScriptKind,
+    name: &str,
+    files: &mut F,
+) -> Result<Vec<Event>, Fault>
+    ensures gets { GetsFrom (events_in kind) (F.told files.old) name.now (with_events result) }
+    ensures each { IfOk result (λ events. All (IsEventOf kind) events.items) }
+    ensures ordered { IfOk result (λ events. AreOrdered kind events.items) }
     ensures few { IfOk result (λ events. length events.items ≤ most_events) }
     ensures gives { Gives result (name.now ∷ []) (F.told files.old) (F.told files.new) }
     ensures writes { F.write_faults files.new ≡ F.write_faults files.old }
     ensures read_cause { ReadCause (F.faults files.old) (F.faults files.new) result }
 {
     let bytes = read_file(alloc, name, LONGEST_SCRIPT, files)?;
-    Ok(read_script(alloc, ScriptKind::Replay, &bytes)?)
+    Ok(read_script(alloc, kind, &bytes)?)
 }
 
 /// Steps over the events, and prints their lines.

@@ -1,82 +1,108 @@
 //! The top call: does all that the program does.
 
-ghost use Rattle.std.specs.Prelude.{◌≡◌, ◌⊎◌, ◌≤◌, map, Err, IfErr, IsNone, IsOk, OnOk};
+ghost use Rattle.std.specs.Prelude.{◌≡◌, ◌⊎◌, ◌≤◌, true, false, map, Err, IfErr, IsNone, IsOk, OnOk};
 ghost use Rattle.std.specs.String.{string_bytes};
 ghost use Rattle.q3_io.specs.Faults.{HasCause, Rose};
 ghost use Rattle.q3_io.specs.Written.{Adds, NothingWaits};
 ghost use Rattle.q3net.specs.Command.{command_of};
-ghost use Rattle.q3net.specs.Faults.{ReadCause, WriteCause, FileCause};
+ghost use Rattle.q3net.specs.Faults.{ReadCause, WriteCause, FileCause, WireCause};
 ghost use Rattle.q3net.specs.Lines.{fault_line, ending_line, ending_status};
-ghost use Rattle.q3net.specs.Run.{PrintsAll, Executes, Took, Prints, Reports, FilesFail, IsDecided, IsComplete, HasLeft, Touched, LeavesFiles, Settles};
+ghost use Rattle.q3net.specs.Verdict.{outside};
+ghost use Rattle.q3net.specs.Run.{PrintsAll, Executes, Took, Prints, Reports, FilesFail, IsDecided, IsComplete, HasLeft, Touched, LeavesFiles, LeavesWire, HasWired, MayBind, Settles};
 
 use crate::command::{Command, parse};
 use crate::fault::Fault;
 use crate::generated::{make, trial};
+use crate::nodes::{join, serve};
 use crate::replay::replay;
-use q3_io::{Failed, Files, Sink};
+use q3_io::{Clock, Failed, Files, Sink, Wire};
 use std::alloc::Global;
 
 const HELP: &[u8] =
-    b"q3net replays schedules of Quake III's connected protocol 68\n\nq3net replay PROFILE SCRIPT        replays the schedule of the script by the profile, and prints its report\nq3net make NUMBER SEED             prints a generated script, of which so many events are drawn from the seed\nq3net trial PROFILE NUMBER SEED    replays that script by the profile, and prints what the report counts\nq3net --help                       prints this text\nq3net --version                    prints the version\n";
+    b"q3net replays schedules of Quake III's connected protocol 68, and serves and joins by it over UDP\n\nq3net replay PROFILE SCRIPT                replays the schedule of the script by the profile, and prints its report\nq3net serve PROFILE SCRIPT ADDRESS         is a server at the address, by the script whose lines are done when they are due\nq3net join PROFILE SCRIPT ADDRESS SERVER   is a client at the address, of the server at that one, likewise\nq3net make NUMBER SEED                     prints a generated script, of which so many events are drawn from the seed\nq3net trial PROFILE NUMBER SEED            replays that script by the profile, and prints what the report counts\nq3net --help                               prints this text\nq3net --version                            prints the version\n";
 
 const VERSION: &[u8] = b"q3net 0.1.0\n";
 
 /// Runs the command that the words after the program's name are, and answers its status:
-/// 0 done, 1 no memory, 2 usage, 3 read fault, 4 write fault, 5 bad profile, 6 bad script.
+/// 0 done, 1 no memory, 2 usage, 3 read fault, 4 write fault, 5 bad profile, 6 bad script, 9 wire fault, 11 turns spent.
 /// Want of memory may come at any point after usage, and no clause ties it to anything.
 #[tactic(auto, using(crate::proofs::Outside::four_fails, crate::proofs::Outside::completes))]
-pub fn run<F: Files, O: Sink>(alloc: Global, words: &[String], files: &mut F, out: &mut O) -> u8
+pub fn run<F: Files, W: Wire, C: Clock, O: Sink>(
+    alloc: Global,
+    words: &[String],
+    files: &mut F,
+    wire: &mut W,
+    clock: &mut C,
+    out: &mut O,
+) -> u8
+    requires unbound { W.bound wire.old ≡ false }
+
     // Where 0 is answered, what was written is the text of the verdict: the report, by the profile that the one
     // file's bytes spell, of the events that the other's spell; the generated script; what the report of its replay
-    // counts; or the text that was asked for.
-    ensures report { result ≡ 0 → Reports (command_of (map string_bytes words.now)) (F.told files.old) (O.written out.old) (O.written out.new) }
+    // counts; the lines of a node's turns, by the readings of the clock and the arrivals that were to come; or the text that was asked for.
+    ensures report { result ≡ 0 → Reports (command_of (map string_bytes words.now)) (outside (F.told files.old) (W.told wire.old) (C.readings clock.old)) (O.written out.old) (O.written out.new) }
     // Ended early, it is a front of that, and the fault line, `write fault` exactly where a write of the files failed;
     // where the sink failed, a front of both.
-    ensures prints { Prints (command_of (map string_bytes words.now)) (F.told files.old) (F.write_faults files.old) (F.write_faults files.new) (O.written out.old) (O.written out.new) result }
+    ensures prints { Prints (command_of (map string_bytes words.now)) (outside (F.told files.old) (W.told wire.old) (C.readings clock.old)) (F.write_faults files.old) (F.write_faults files.new) (O.written out.old) (O.written out.new) result }
 
     // The words that name files are given to `lookup`, once each and in the order in which they are read, and then the files
     // that the verdict makes are created, or the first of these where the run ends early; every other file stays. What is
     // done with the files is what the verdict says, or the first of it. A write of them fails only in a command that makes some.
-    ensures touches { Touched (command_of (map string_bytes words.now)) (F.told files.old) (F.told files.new) }
-    ensures leaves { HasLeft (command_of (map string_bytes words.now)) (F.told files.old) (F.told files.new) result }
+    ensures touches { Touched (command_of (map string_bytes words.now)) (outside (F.told files.old) (W.told wire.old) (C.readings clock.old)) (F.told files.new) }
+    ensures leaves { HasLeft (command_of (map string_bytes words.now)) (outside (F.told files.old) (W.told wire.old) (C.readings clock.old)) (F.told files.new) result }
     ensures writes { (F.write_faults files.new ≡ F.write_faults files.old)
-        ⊎ FilesFail (command_of (map string_bytes words.now)) (F.told files.old) (F.write_faults files.old) (F.write_faults files.new) }
+        ⊎ FilesFail (command_of (map string_bytes words.now)) (outside (F.told files.old) (W.told wire.old) (C.readings clock.old)) (F.write_faults files.old) (F.write_faults files.new) }
 
-    // When each status comes: it is that of the verdict, or 1, 3 or 4 by something from outside.
-    ensures statuses { result ≤ 6 }
-    ensures decided { IsDecided (command_of (map string_bytes words.now)) (F.told files.old) result }
+    // What is told of the wire: a node's turns at its address, all of them, or, ended early, the first of them, or nothing. An address is bound
+    // only by a command that has one, and the clock is read behind that alone.
+    ensures wires { HasWired (command_of (map string_bytes words.now)) (outside (F.told files.old) (W.told wire.old) (C.readings clock.old)) (W.told wire.new) result }
+    ensures binds { W.bound wire.new ≡ true → MayBind (command_of (map string_bytes words.now)) (outside (F.told files.old) (W.told wire.old) (C.readings clock.old)) }
+    ensures unbound { W.bound wire.new ≡ false → clock.new ≡ clock.old }
+
+    // When each status comes: it is that of the verdict, or 1, 3, 4 or 9 by something from outside.
+    ensures statuses { (result ≤ 6) ⊎ ((result ≡ 9) ⊎ (result ≡ 11)) }
+    ensures decided { IsDecided (command_of (map string_bytes words.now)) (outside (F.told files.old) (W.told wire.old) (C.readings clock.old)) result }
     ensures usage { result ≡ 2 → IsNone (command_of (map string_bytes words.now)) }
     ensures no_command { IsNone (command_of (map string_bytes words.now)) → (result ≡ 2) ⊎ (result ≡ 4) }
     ensures read_fault { result ≡ 3 → Rose (F.faults files.old) (F.faults files.new) }
     ensures write_fault { result ≡ 4 → Rose (O.faults out.old) (O.faults out.new)
-        ⊎ FilesFail (command_of (map string_bytes words.now)) (F.told files.old) (F.write_faults files.old) (F.write_faults files.new) }
+        ⊎ FilesFail (command_of (map string_bytes words.now)) (outside (F.told files.old) (W.told wire.old) (C.readings clock.old)) (F.write_faults files.old) (F.write_faults files.new) }
+    ensures wire_fault { result ≡ 9 → Rose (W.faults wire.old) (W.faults wire.new) }
     // No fault is passed over: where the sink's count changed, or the files' one of failed writes, the status is 4, and where
-    // the files' one of failed reads did, 3 or 4.
+    // the files' one of failed reads did, 3 or 4, and where the wire's did, 9 or 4.
     ensures no_read_fault_passed { (F.faults files.new ≡ F.faults files.old) ⊎ ((result ≡ 3) ⊎ (result ≡ 4)) }
     ensures no_write_fault_passed { ((O.faults out.new ≡ O.faults out.old) × (F.write_faults files.new ≡ F.write_faults files.old)) ⊎ (result ≡ 4) }
+    ensures no_wire_fault_passed { (W.faults wire.new ≡ W.faults wire.old) ⊎ ((result ≡ 9) ⊎ (result ≡ 4)) }
     // Where no count rises, the run ends as its verdict says, unless memory runs out.
-    ensures complete { ¬ Rose (F.faults files.old) (F.faults files.new) → ¬ Rose (O.faults out.old) (O.faults out.new)
-        → ¬ FilesFail (command_of (map string_bytes words.now)) (F.told files.old) (F.write_faults files.old) (F.write_faults files.new)
-        → IsComplete (command_of (map string_bytes words.now)) (F.told files.old) result }
+    ensures complete { ¬ Rose (F.faults files.old) (F.faults files.new) → ¬ Rose (O.faults out.old) (O.faults out.new) → ¬ Rose (W.faults wire.old) (W.faults wire.new)
+        → ¬ FilesFail (command_of (map string_bytes words.now)) (outside (F.told files.old) (W.told wire.old) (C.readings clock.old)) (F.write_faults files.old) (F.write_faults files.new)
+        → IsComplete (command_of (map string_bytes words.now)) (outside (F.told files.old) (W.told wire.old) (C.readings clock.old)) result }
 {
     q3_io::laws::texts_follow();
-    let ended = execute(alloc, words, files, out);
+    let ended = execute(alloc, words, files, wire, clock, out);
     end(ended, out)
 }
 
 /// Runs a command, without the fault line.
 #[tactic(auto, unfolding(crate::specs::Lines::help_text, crate::specs::Lines::version_text))]
-fn execute<F: Files, O: Sink>(
+fn execute<F: Files, W: Wire, C: Clock, O: Sink>(
     alloc: Global,
     words: &[String],
     files: &mut F,
+    wire: &mut W,
+    clock: &mut C,
     out: &mut O,
 ) -> Result<(), Fault>
-    ensures executes { Executes (command_of (map string_bytes words.now)) (F.told files.old) (O.written out.old) (O.written out.new) result }
-    ensures gives { LeavesFiles (command_of (map string_bytes words.now)) (F.told files.old) (F.told files.new) result }
+    requires unbound { W.bound wire.old ≡ false }
+    ensures executes { Executes (command_of (map string_bytes words.now)) (outside (F.told files.old) (W.told wire.old) (C.readings clock.old)) (O.written out.old) (O.written out.new) result }
+    ensures gives { LeavesFiles (command_of (map string_bytes words.now)) (outside (F.told files.old) (W.told wire.old) (C.readings clock.old)) (F.told files.new) result }
     ensures file_cause { FileCause (F.write_faults files.old) (F.write_faults files.new) result }
     ensures read_cause { ReadCause (F.faults files.old) (F.faults files.new) result }
     ensures write_cause { WriteCause (O.faults out.old) (O.faults out.new) result }
+    ensures wires { LeavesWire (command_of (map string_bytes words.now)) (outside (F.told files.old) (W.told wire.old) (C.readings clock.old)) (W.told wire.new) result }
+    ensures binds { W.bound wire.new ≡ true → MayBind (command_of (map string_bytes words.now)) (outside (F.told files.old) (W.told wire.old) (C.readings clock.old)) }
+    ensures unbound { W.bound wire.new ≡ false → clock.new ≡ clock.old }
+    ensures wire_cause { WireCause (W.faults wire.old) (W.faults wire.new) result }
 {
     q3_io::laws::texts_follow();
     match parse(words) {
@@ -86,6 +112,17 @@ fn execute<F: Files, O: Sink>(
         Some(Command::Replay { profile, script }) => replay(alloc, profile, script, files, out),
         Some(Command::Make(draws)) => make(alloc, draws, out),
         Some(Command::Trial { profile, draws }) => trial(alloc, profile, draws, files, out),
+        Some(Command::Serve {
+            profile,
+            script,
+            at,
+        }) => serve(alloc, profile, script, at, files, wire, clock, out),
+        Some(Command::Join {
+            profile,
+            script,
+            at,
+            server,
+        }) => join(alloc, profile, script, at, server, files, wire, clock, out),
     }
 }
 

@@ -1,0 +1,218 @@
+-- The parts of a turn: a line that is done, and a receive.
+use Rattle.std.proofs.Common.{◌≡◌, ℕ, ◌+◌, ◌-◌, ◌<◌, ◌≤◌, Bool, true, false, if◌then◌else◌, List, [], ◌∷◌, ◌++◌, length, take, drop, min, Option, Some, None, option_map, is_some, Result, Ok, Err, ◌⊎◌, inl, inr, refl, sym, ap, ap₂, subst, ◌∙◌, true≢false, arith}
+use Rattle.std.proofs.lemmas.List.{append-nil, drop-drop, take_all, length-take}
+use Rattle.std.proofs.lemmas.Bool.{cases_lt}
+use Rattle.q3_io.specs.declared.address.Address.{Address}
+use Rattle.q3_io.specs.declared.sink.Failed.{Failed}
+use Rattle.q3_io.specs.Readings.{Reads}
+use Rattle.q3_io.specs.Traffic.{Parcel, Traffic, next_of, after_receive, Receives, Fills}
+use Rattle.q3_io.specs.Written.{Written, Wrote}
+use Rattle.q3_io.specs.Laws.{TextsFollow}
+use Rattle.q3_script.specs.declared.event.Event.{Event}
+use Rattle.q3_report.specs.AnswerLines.{lines_of}
+use Rattle.q3_node.specs.declared.error.NodeError.{NodeError}
+use Rattle.q3_node.specs.declared.error.NodeError.TheVariants.{WireFault, WriteFault}
+use Rattle.q3_node.specs.declared.turns.Course.{Course}
+use Rattle.q3_node.specs.Node.{Rules, Node, Turn, Turned, receive_room, cut_to_room, time_behind, is_end, start_at, made_with, due, line_turn, receive_turn, turn_of, turn_at, answer_text, text_of}
+use Rattle.q3_node.specs.Running.{Leaves, wire_behind, sent_on, DoesLine, Finds, DoesTurn, TakesTurn, node_of}
+
+-- ---- what one turn leaves
+
+one_text : (now : Turn) → text_of (now ∷ []) ≡ answer_text now.answer
+one_text now = append-nil (answer_text now.answer)
+
+-- of a turn that doesn't receive
+wire_line : (told : Option Traffic) (now : Turn) (sends : Option Parcel) → now.received ≡ false → now.sends ≡ sends → sent_on told sends ≡ wire_behind told (now ∷ [])
+wire_line None now None not_received is = refl
+wire_line None now (Some parcel) not_received is = refl
+wire_line (Some traffic) now None not_received is = rw (not_received, is) (ap (λ (sent : List Parcel). Some (record traffic { sent = sent })) (sym (append-nil traffic.sent)))
+wire_line (Some traffic) now (Some parcel) not_received is = rw (not_received, is) refl
+
+line_leaves : (now : Turn) (all : Bool) (before after : Option Written) (were are : Option Traffic) → now.received ≡ false
+    → Wrote before after (answer_text now.answer) all → are ≡ sent_on were now.sends → Leaves (now ∷ []) all before after were are
+line_leaves now all before after were are not_received printed sent = record {
+  printed = rw (one_text now) printed;
+  wire = sent ∙ wire_line were now now.sends not_received refl;
+}
+
+-- of one that does
+wire_receive : (told : Option Traffic) (now : Turn) → now.received ≡ true → now.sends ≡ None → option_map after_receive told ≡ wire_behind told (now ∷ [])
+wire_receive None now received nothing = refl
+wire_receive (Some traffic) now received nothing = rw (received, nothing) (ap (λ (sent : List Parcel). Some (record traffic { arrivals = drop 1 traffic.arrivals; sent = sent })) (sym (append-nil traffic.sent)))
+
+receive_leaves : (now : Turn) (all : Bool) (before after : Option Written) (were are : Option Traffic) → now.received ≡ true → now.sends ≡ None
+    → Wrote before after (answer_text now.answer) all → are ≡ option_map after_receive were → Leaves (now ∷ []) all before after were are
+receive_leaves now all before after were are received nothing printed came = record {
+  printed = rw (one_text now) printed;
+  wire = came ∙ wire_receive were now received nothing;
+}
+
+-- ---- a line
+
+-- the course behind a line
+abbrev pub gone_on : Course → Event → Bool → Course
+gone_on course event made = record course { next = course.next + 1; time = time_behind course.time event; made = if made then course.made + 1 else course.made }
+
+made_same : (before : ℕ) (sends : Option Parcel) (made : Bool) → made ≡ is_some sends → (if made then before + 1 else before) ≡ made_with before sends
+made_same before None made is = rw is refl
+made_same before (Some parcel) made is = rw is refl
+
+finds_nothing : (now : Turn) (were : Option Traffic) (found : Option Parcel) → now.received ≡ false → Finds now were found
+finds_nothing now None found not_received = tt
+finds_nothing now (Some traffic) found not_received = λ received. absurd (true≢false (sym received ∙ not_received))
+
+pub line_done_so : {S : Type 0} (rules : Rules S) (end new : S) (events : List Event) (course : Course) (event : Event) (found : Option Parcel) (made : Bool)
+    (before after : Option Written) (were are : Option Traffic)
+    → DoesLine (rules.line end event (course.made + 1)) new before after were are (Ok made)
+    → DoesTurn (line_turn rules (node_of end events course) event) found (node_of new events (gone_on course event made)) before after were are (Ok (is_end event))
+line_done_so {S} rules end new events course event found made before after were are does =
+    let now : Turned S = line_turn rules (node_of end events course) event in
+    (refl,
+    rw (does.end, sym (drop-drop 1 course.next events), made_same course.made now.turn.sends made does.told.0) refl,
+    finds_nothing now.turn were found refl,
+    line_leaves now.turn true before after were are refl does.told.1 does.told.2)
+
+pub line_stopped : {S : Type 0} (rules : Rules S) (end new : S) (events : List Event) (course after_course : Course) (event : Event) (found : Option Parcel)
+    (before after : Option Written) (were are : Option Traffic)
+    → DoesLine (rules.line end event (course.made + 1)) new before after were are (Err WriteFault)
+    → DoesTurn (line_turn rules (node_of end events course) event) found (node_of new events after_course) before after were are (Err WriteFault)
+line_stopped {S} rules end new events course after_course event found before after were are does =
+    let now : Turned S = line_turn rules (node_of end events course) event in
+    (finds_nothing now.turn were found refl, line_leaves now.turn false before after were are refl does.told.0 does.told.1)
+
+-- ---- a receive
+
+take_least : {A : Type 0} (n : ℕ) (bytes : List A) → (length bytes < n) ⊎ (n ≤ length bytes) → take (min (length bytes) n) bytes ≡ take n bytes
+take_least n bytes (inl few) =
+    let least : min (length bytes) n ≡ length bytes = omega (arith, few) in
+    rw least (take_all (length bytes) bytes (omega arith) ∙ sym (take_all n bytes (omega (arith, few))))
+take_least n bytes (inr many) =
+    let least : min (length bytes) n ≡ n = omega (arith, many) in
+    rw least refl
+
+take_min : {A : Type 0} (n : ℕ) (bytes : List A) → take (min (length bytes) n) bytes ≡ take n bytes
+take_min n bytes = take_least n bytes (cases_lt (length bytes) n)
+
+-- what is told to come next
+abbrev found_next : Option Traffic → Option Parcel
+found_next None = None
+found_next (Some traffic) = next_of traffic.arrivals
+
+few_taken : (count : ℕ) (bytes : List ℕ) (room : ℕ) → count ≤ room → length (take count bytes) ≤ room
+few_taken count bytes room few = rw (length-take count bytes) (omega (arith, few))
+
+-- what came, and the bytes that were handed over are those of it, cut
+pub record Came (were are : Option Traffic) (from : Address) (bytes : List ℕ) : Type 0 where
+  pub parcel : Parcel
+  pub cut : cut_to_room parcel ≡ record { address = from; bytes = bytes }
+  pub finds : (traffic : Traffic) → were ≡ Some traffic → next_of traffic.arrivals ≡ Some parcel
+  pub gone : are ≡ option_map after_receive were
+
+took : (parcel : Parcel) (old new : List ℕ) (from : Address) (count : ℕ) → Fills parcel old new from count → length old ≡ receive_room
+    → cut_to_room parcel ≡ record { address = from; bytes = take count new }
+took parcel old new from count fills room =
+    ap₂ (λ (a : Address) (bytes : List ℕ). record { address = a; bytes = bytes }) (sym fills.from_is)
+    (sym (fills.bytes ∙ ap (λ (n : ℕ). take n parcel.bytes) (fills.count_is ∙ ap (λ (n : ℕ). min (length parcel.bytes) n) room) ∙ take_min receive_room parcel.bytes))
+
+came_told : (traffic : Traffic) (are : Option Traffic) (old new : List ℕ) (from : Address) (count : ℕ) → length old ≡ receive_room
+    → Receives (Some traffic) are old new (Ok (Some (from, count))) → Came (Some traffic) are from (take count new)
+came_told traffic are old new from count room receives = record {
+  parcel = receives.1;
+  cut = took receives.1 old new from count receives.3 room;
+  finds = λ t same. ap (λ (x : Option Traffic). found_next x) (sym same) ∙ receives.2;
+  gone = receives.0;
+}
+
+pub came : (were are : Option Traffic) (old new : List ℕ) (from : Address) (count : ℕ) → length old ≡ receive_room → count ≤ length old → length new ≡ length old
+    → Receives were are old new (Ok (Some (from, count))) → Came were are from (take count new)
+came None are old new from count room few same receives = record {
+  parcel = record { address = from; bytes = take count new };
+  cut = ap (λ (bytes : List ℕ). record { address = from; bytes = bytes }) (take_all receive_room (take count new) (few_taken count new receive_room (omega (arith, room, few))));
+  finds = λ traffic is. absurd cc;
+  gone = receives;
+}
+came (Some traffic) are old new from count room few same receives = came_told traffic are old new from count room receives
+
+finds_next : (now : Turn) (were : Option Traffic) (found : Option Parcel) → ((traffic : Traffic) → were ≡ Some traffic → next_of traffic.arrivals ≡ found) → Finds now were found
+finds_next now None found finds = tt
+finds_next now (Some traffic) found finds = λ received. finds traffic refl
+
+came_nothing : (were are : Option Traffic) (old new : List ℕ) → Receives were are old new (Ok None) → are ≡ option_map after_receive were
+came_nothing None are old new receives = receives
+came_nothing (Some traffic) are old new receives = receives.0
+
+finds_none : (were are : Option Traffic) (old new : List ℕ) → Receives were are old new (Ok None) → (traffic : Traffic) → were ≡ Some traffic → next_of traffic.arrivals ≡ None
+finds_none None are old new receives traffic is = absurd cc
+finds_none (Some told) are old new receives traffic is = ap (λ (x : Option Traffic). found_next x) (sym is) ∙ receives.1
+
+-- nothing was there
+pub received_nothing : {S : Type 0} (law : TextsFollow) (rules : Rules S) (end : S) (events : List Event) (course : Course) (written : Option Written) (were are : Option Traffic) (old new : List ℕ)
+    → Receives were are old new (Ok None)
+    → DoesTurn (receive_turn rules (node_of end events course) None) None (node_of end events course) written written were are (Ok false)
+received_nothing {S} law rules end events course written were are old new receives =
+    let now : Turned S = receive_turn rules (node_of end events course) None in
+    (refl, refl, finds_next now.turn were None (finds_none were are old new receives), receive_leaves now.turn true written written were are refl refl law.none (came_nothing were are old new receives))
+
+-- an arrival was taken
+pub received_arrival : {S : Type 0} (rules : Rules S) (end new : S) (events : List Event) (course : Course) (before after : Option Written) (were are : Option Traffic) (from : Address) (bytes : List ℕ)
+    → (one : Came were are from bytes) → new ≡ (rules.arrives end (record { address = from; bytes = bytes })).end
+    → Wrote before after (lines_of (rules.arrives end (record { address = from; bytes = bytes })).answer) true
+    → DoesTurn (receive_turn rules (node_of end events course) (Some one.parcel)) (Some one.parcel) (node_of new events course) before after were are (Ok false)
+received_arrival {S} rules end new events course before after were are from bytes one is printed =
+    let now : Turned S = receive_turn rules (node_of end events course) (Some one.parcel) in
+    (refl,
+    rw (is, sym one.cut) refl,
+    finds_next now.turn were (Some one.parcel) one.finds,
+    receive_leaves now.turn true before after were are refl refl (rw one.cut printed) one.gone)
+
+pub received_stopped : {S : Type 0} (rules : Rules S) (end new : S) (events : List Event) (course : Course) (before after : Option Written) (were are : Option Traffic) (from : Address) (bytes : List ℕ)
+    → (one : Came were are from bytes)
+    → Wrote before after (lines_of (rules.arrives end (record { address = from; bytes = bytes })).answer) false
+    → DoesTurn (receive_turn rules (node_of end events course) (Some one.parcel)) (Some one.parcel) (node_of new events course) before after were are (Err WriteFault)
+received_stopped {S} rules end new events course before after were are from bytes one printed =
+    let now : Turned S = receive_turn rules (node_of end events course) (Some one.parcel) in
+    (finds_next now.turn were (Some one.parcel) one.finds, receive_leaves now.turn false before after were are refl refl (rw one.cut printed) one.gone)
+
+-- the wire failed
+pub receive_failed : (were are : Option Traffic) (old new : List ℕ) → Receives were are old new (Err (record {})) → are ≡ were
+receive_failed None are old new receives = receives
+receive_failed (Some traffic) are old new receives = receives
+
+-- ---- a turn
+
+-- a line is due, and was done
+pub takes_line : {S : Type 0} (rules : Rules S) (end new : S) (events : List Event) (course begun behind : Course) (event : Event) (reading ms : ℕ) (clock clock' : Option (List ℕ))
+    (before after : Option Written) (were are : Option Traffic) (result : Result Bool NodeError)
+    → Reads clock clock' reading → begun ≡ record course { start = Some (start_at course.start reading) } → ms ≡ reading - start_at course.start reading
+    → Some event ≡ due begun.time ms (drop begun.next events)
+    → DoesTurn (line_turn rules (node_of end events begun) event) None (node_of new events behind) before after were are result
+    → TakesTurn rules (node_of end events course) (node_of new events behind) clock clock' before after were are result
+takes_line {S} rules end new events course begun behind event reading ms clock clock' before after were are result read is time here does =
+    let line : Some event ≡ due course.time (reading - start_at course.start reading) (drop course.next events) = rw (is, time) at here in
+    record {
+      reading = reading;
+      found = None;
+      read = read;
+      done = subst (λ (now : Turned S). DoesTurn now None (node_of new events behind) before after were are result)
+          (ap (λ (one : Option Event). turn_of rules (node_of end events (record course { start = Some (start_at course.start reading) })) one None) line)
+          (rw is at does);
+    }
+
+-- none is, and there was a receive
+pub takes_receive : {S : Type 0} (rules : Rules S) (end new : S) (events : List Event) (course begun : Course) (found : Option Parcel) (reading ms : ℕ) (clock clock' : Option (List ℕ))
+    (before after : Option Written) (were are : Option Traffic) (result : Result Bool NodeError)
+    → Reads clock clock' reading → begun ≡ record course { start = Some (start_at course.start reading) } → ms ≡ reading - start_at course.start reading
+    → None ≡ due begun.time ms (drop begun.next events)
+    → DoesTurn (receive_turn rules (node_of end events begun) found) found (node_of new events begun) before after were are result
+    → TakesTurn rules (node_of end events course) (node_of new events begun) clock clock' before after were are result
+takes_receive {S} rules end new events course begun found reading ms clock clock' before after were are result read is time here does =
+    let start : ℕ = start_at course.start reading in
+    let line : None ≡ due course.time (reading - start) (drop course.next events) = rw (is, time) at here in
+    rw is (record {
+      reading = reading;
+      found = found;
+      read = read;
+      done = subst (λ (now : Turned S). DoesTurn now found (node_of new events (record course { start = Some start })) before after were are result)
+          (ap (λ (one : Option Event). turn_of rules (node_of end events (record course { start = Some start })) one found) line)
+          (rw is at does);
+    })

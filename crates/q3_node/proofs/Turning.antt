@@ -1,0 +1,288 @@
+-- A node goes on turn by turn, and how it ends.
+use Rattle.std.proofs.Common.{◌≡◌, ℕ, zero, suc, ◌+◌, ◌-◌, ◌<◌, ◌≤◌, Bool, true, false, if◌then◌else◌, cond, List, [], ◌∷◌, ◌++◌, length, drop, Option, Some, None, Ok, Err, refl, sym, ap, ap₂, subst, ◌∙◌, append_assoc, arith, ◌||◌}
+use Rattle.std.specs.List.{flat_map, list_any, count_by}
+use Rattle.std.specs.Option.{option_to_list}
+use Rattle.std.proofs.lemmas.List.{append-nil, drop-drop}
+use Rattle.std.proofs.lemmas.List.Sums.{sum_by-append}
+use Rattle.std.proofs.lemmas.List.Folds.{list_any-append}
+use Rattle.std.proofs.lemmas.Grind.{flat_map-append}
+use Rattle.q3_io.specs.Readings.{Reads, reading_of, readings_after}
+use Rattle.q3_io.specs.Traffic.{Parcel, Traffic, next_of}
+use Rattle.q3_io.specs.Written.{Written, Wrote}
+use Rattle.q3_io.specs.Laws.{TextsFollow}
+use Rattle.q3_script.specs.declared.event.Event.{Event}
+use Rattle.q3_node.specs.declared.error.NodeError.{NodeError}
+use Rattle.q3_node.specs.declared.error.NodeError.TheVariants.{NoMemory, WireFault, WriteFault, Turns}
+use Rattle.q3_node.specs.Node.{Rules, Node, Turn, Turned, due, start_at, turn_of, turn_at, most_turns, turns_of, arrivals_after, did_end, answer_text, text_of, parcels_of}
+use Rattle.q3_node.specs.Running.{ToArrive, ToRead, wire_behind, traffic_behind, Leaves, LeavesFirst, Ran, RanNode, Finds, DoesTurn, TakesTurn}
+
+-- ---- what is still to come, before a turn
+
+-- readings that a reading leaves so
+pub record BackRead (clock : Option (List ℕ)) (reading : ℕ) (readings : List ℕ) : Type 0 where
+  pub all : List ℕ
+  pub to_read : ToRead clock all
+  pub first : reading_of all ≡ reading
+  pub others : readings_after all ≡ readings
+
+untold_read : (new : Option (List ℕ)) (reading : ℕ) (readings : List ℕ) → new ≡ None → ToRead new readings → BackRead None reading readings
+untold_read None reading (next ∷ others) same to = record { all = reading ∷ next ∷ others; to_read = omega arith; first = refl; others = refl }
+untold_read None reading [] same to = absurd (omega (arith, to))
+untold_read (Some told) reading readings same to = absurd cc
+
+back_read : (clock new : Option (List ℕ)) (reading : ℕ) (readings : List ℕ) → Reads clock new reading → ToRead new readings → BackRead clock reading readings
+back_read None new reading readings read to = untold_read new reading readings read to
+back_read (Some told) new reading readings read to = record {
+  all = told;
+  to_read = refl;
+  first = sym read.0;
+  others = sym (subst (λ (n : Option (List ℕ)). ToRead n readings) read.1 to);
+}
+
+-- some readings are still to come
+some_read : (clock : Option (List ℕ)) → (readings : List ℕ) × ToRead clock readings
+some_read None = (0 ∷ [], omega arith)
+some_read (Some told) = (told, refl)
+
+-- arrivals that a turn leaves so
+pub record BackArrive (are : Option Traffic) (now : Turn) (found : Option Parcel) (arrivals : List (Option Parcel)) : Type 0 where
+  pub all : List (Option Parcel)
+  pub to_arrive : ToArrive are all
+  pub first : now.received ≡ true → next_of all ≡ found
+  pub others : arrivals_after now all ≡ arrivals
+
+untold_arrive : (now : Turn) (found : Option Parcel) (arrivals : List (Option Parcel)) (received : Bool) → now.received ≡ received → BackArrive None now found arrivals
+untold_arrive now found arrivals true e = record { all = found ∷ arrivals; to_arrive = tt; first = λ is. refl; others = rw e refl }
+untold_arrive now found arrivals false e = record { all = arrivals; to_arrive = tt; first = λ is. absurd cc; others = rw e refl }
+
+told_arrive : (now : Turn) (traffic : Traffic) (arrivals : List (Option Parcel)) (received : Bool) → now.received ≡ received
+    → arrivals ≡ (traffic_behind traffic (now ∷ [])).arrivals → arrivals_after now traffic.arrivals ≡ arrivals
+told_arrive now traffic arrivals true e to = rw (to, e) refl
+told_arrive now traffic arrivals false e to = rw (to, e) refl
+
+back_arrive : (now : Turn) (are new : Option Traffic) (found : Option Parcel) (arrivals : List (Option Parcel)) → new ≡ wire_behind are (now ∷ [])
+    → Finds now are found → ToArrive new arrivals → BackArrive are now found arrivals
+back_arrive now None new found arrivals same finds to = untold_arrive now found arrivals now.received refl
+back_arrive now (Some traffic) new found arrivals same finds to = record {
+  all = traffic.arrivals;
+  to_arrive = refl;
+  first = finds;
+  others = told_arrive now traffic arrivals now.received refl (subst (λ (n : Option Traffic). ToArrive n arrivals) same to);
+}
+
+-- something, or nothing, is still to arrive
+some_arrive : (told : Option Traffic) → (arrivals : List (Option Parcel)) × ToArrive told arrivals
+some_arrive None = ([], tt)
+some_arrive (Some traffic) = (traffic.arrivals, refl)
+
+-- ---- what turns leave
+
+wire_none : (told : Option Traffic) → told ≡ wire_behind told []
+wire_none None = refl
+wire_none (Some traffic) = ap (λ (sent : List Parcel). Some (record traffic { sent = sent })) (sym (append-nil traffic.sent))
+
+behind_both : (traffic : Traffic) (turns more : List Turn) → traffic_behind (traffic_behind traffic turns) more ≡ traffic_behind traffic (turns ++ more)
+behind_both traffic turns more =
+    ap₂ (λ (arrivals : List (Option Parcel)) (sent : List Parcel). record traffic { arrivals = arrivals; sent = sent })
+    (drop-drop (count_by (λ (t : Turn). t.received) more) (count_by (λ (t : Turn). t.received) turns) traffic.arrivals
+        ∙ ap (λ (n : ℕ). drop n traffic.arrivals) (sym (sum_by-append (λ (t : Turn). cond t.received 1 0) turns more)))
+    (append_assoc traffic.sent (parcels_of turns) (parcels_of more) ∙ ap (λ (sent : List Parcel). traffic.sent ++ sent) (sym (flat_map-append (λ (t : Turn). option_to_list t.sends) turns more)))
+
+wire_both : (told : Option Traffic) (turns more : List Turn) → wire_behind (wire_behind told turns) more ≡ wire_behind told (turns ++ more)
+wire_both None turns more = refl
+wire_both (Some traffic) turns more = ap Some (behind_both traffic turns more)
+
+leaves_none : (law : TextsFollow) (written : Option Written) (told : Option Traffic) → Leaves [] true written written told told
+leaves_none law written told = record { printed = law.none; wire = wire_none told }
+
+leaves_both : (law : TextsFollow) (turns more : List Turn) (all : Bool) (before mid after : Option Written) (were mids are : Option Traffic)
+    → Leaves turns true before mid were mids → Leaves more all mid after mids are → Leaves (turns ++ more) all before after were are
+leaves_both law turns more all before mid after were mids are first behind = record {
+  printed = law.more first.printed behind.printed (flat_map-append (λ (t : Turn). answer_text t.answer) turns more);
+  wire = behind.wire ∙ ap (λ (w : Option Traffic). wire_behind w more) first.wire ∙ wire_both were turns more;
+}
+
+-- ---- a turn
+
+-- a turn that does a line is the same whatever comes
+same_turn_of : {S : Type 0} (rules : Rules S) (node : Node S) (line : Option Event) (found other : Option Parcel)
+    → ((turn_of rules node line found).turn.received ≡ true → other ≡ found) → turn_of rules node line other ≡ turn_of rules node line found
+same_turn_of rules node (Some event) found other same = refl
+same_turn_of rules node None None other same = ap (λ (o : Option Parcel). turn_of rules node None o) (same refl)
+same_turn_of rules node None (Some parcel) other same = ap (λ (o : Option Parcel). turn_of rules node None o) (same refl)
+
+same_turn : {S : Type 0} (rules : Rules S) (node : Node S) (reading : ℕ) (found other : Option Parcel)
+    → ((turn_at rules node reading found).turn.received ≡ true → other ≡ found) → turn_at rules node reading other ≡ turn_at rules node reading found
+same_turn rules node reading found other same =
+    same_turn_of rules (record node { start = Some (start_at node.start reading) }) (due node.time (reading - start_at node.start reading) node.left) found other same
+
+-- the turns from here on: this one, and those behind it
+first_turn : {S : Type 0} (count : ℕ) (rules : Rules S) (node : Node S) (readings : List ℕ) (arrivals : List (Option Parcel)) (reading : ℕ) (found : Option Parcel)
+    → reading_of readings ≡ reading → ((turn_at rules node reading found).turn.received ≡ true → next_of arrivals ≡ found)
+    → turns_of (suc count) rules node readings arrivals
+        ≡ (turn_at rules node reading found).turn ∷ (if (turn_at rules node reading found).turn.ended then []
+        else turns_of count rules (turn_at rules node reading found).node (readings_after readings) (arrivals_after (turn_at rules node reading found).turn arrivals))
+unfolding turns_of
+first_turn {S} count rules node readings arrivals reading found is finds =
+    ap (λ (t : Turned S). t.turn ∷ (if t.turn.ended then [] else turns_of count rules t.node (readings_after readings) (arrivals_after t.turn arrivals)))
+    (ap (λ (r : ℕ). turn_at rules node r (next_of arrivals)) is ∙ same_turn rules node reading found (next_of arrivals) finds)
+
+-- ---- a run
+
+-- turns so far, and what is left is left of all
+pub record Whole {S : Type 0} (rules : Rules S) (count : ℕ) (first now : Node S) (clock : Option (List ℕ)) (were : Option Traffic) (turns : List Turn) (rest : List Turn) : Type 0 where
+  pub readings : List ℕ
+  pub to_read : ToRead clock readings
+  pub arrivals : List (Option Parcel)
+  pub to_arrive : ToArrive were arrivals
+  pub same : turns_of most_turns rules first readings arrivals ≡ turns ++ rest
+
+pub record Going {S : Type 0} (rules : Rules S) (count : ℕ) (first now : Node S) (started clock : Option (List ℕ)) (before after : Option Written) (were are : Option Traffic) : Type 0 where
+  pub turns : List Turn
+  pub leaves : Leaves turns true before after were are
+  pub unended : did_end turns ≡ false
+  pub whole : (readings : List ℕ) (arrivals : List (Option Parcel)) → ToRead clock readings → ToArrive are arrivals
+      → Whole rules count first now started were turns (turns_of count rules now readings arrivals)
+
+pub begins : {S : Type 0} (law : TextsFollow) (rules : Rules S) (node : Node S) (clock : Option (List ℕ)) (written : Option Written) (told : Option Traffic)
+    → Going rules most_turns node node clock clock written written told told
+begins {S} law rules node clock written told = record {
+  turns = [];
+  leaves = leaves_none law written told;
+  unended = refl;
+  whole = λ readings arrivals to_read to_arrive. record { readings = readings; to_read = to_read; arrivals = arrivals; to_arrive = to_arrive; same = refl };
+}
+
+-- one more turn, which isn't the last
+goes_whole : {S : Type 0} (rules : Rules S) (count : ℕ) (first now : Node S) (started clock new : Option (List ℕ)) (before mid : Option Written) (were mids are : Option Traffic)
+    → (going : Going rules (suc count) first now started clock before mid were mids) → (reading : ℕ) (found : Option Parcel) → Reads clock new reading
+    → are ≡ wire_behind mids ((turn_at rules now reading found).turn ∷ []) → Finds (turn_at rules now reading found).turn mids found
+    → (readings : List ℕ) (arrivals : List (Option Parcel)) → ToRead new readings → ToArrive are arrivals
+    → Whole rules count first now started were (going.turns ++ ((turn_at rules now reading found).turn ∷ []))
+        (if (turn_at rules now reading found).turn.ended then [] else turns_of count rules (turn_at rules now reading found).node readings arrivals)
+goes_whole {S} rules count first now started clock new before mid were mids are going reading found read wire finds readings arrivals to_read to_arrive =
+    let t : Turned S = turn_at rules now reading found in
+    let r = back_read clock new reading readings read to_read in
+    let a = back_arrive t.turn mids are found arrivals wire finds to_arrive in
+    let whole = going.whole r.all a.all r.to_read a.to_arrive in
+    let behind : List Turn = if t.turn.ended then [] else turns_of count rules t.node readings arrivals in
+    record {
+      readings = whole.readings;
+      to_read = whole.to_read;
+      arrivals = whole.arrivals;
+      to_arrive = whole.to_arrive;
+      same = whole.same
+          ∙ ap (λ (ts : List Turn). going.turns ++ ts) (first_turn count rules now r.all a.all reading found r.first a.first)
+          ∙ ap₂ (λ (rs : List ℕ) (more : List (Option Parcel)). going.turns ++ (t.turn ∷ (if t.turn.ended then [] else turns_of count rules t.node rs more))) r.others a.others
+          ∙ sym (append_assoc going.turns (t.turn ∷ []) behind);
+    }
+
+goes_on : {S : Type 0} (law : TextsFollow) (rules : Rules S) (count : ℕ) (first now next : Node S) (started clock new : Option (List ℕ)) (before mid after : Option Written) (were mids are : Option Traffic)
+    → Going rules (suc count) first now started clock before mid were mids → TakesTurn rules now next clock new mid after mids are (Ok false)
+    → Going rules count first next started new before after were are
+goes_on {S} law rules count first now next started clock new before mid after were mids are going takes =
+    let t : Turned S = turn_at rules now takes.reading takes.found in
+    let d = takes.done in
+    record {
+      turns = going.turns ++ (t.turn ∷ []);
+      leaves = leaves_both law going.turns (t.turn ∷ []) true before mid after were mids are going.leaves d.3;
+      unended = list_any-append (λ (x : Turn). x.ended) going.turns (t.turn ∷ []) ∙ rw (going.unended, sym d.0) refl;
+      whole = λ readings arrivals to_read to_arrive.
+          let w = goes_whole rules count first now started clock new before mid were mids are going takes.reading takes.found takes.read d.3.wire d.2 readings arrivals to_read to_arrive in
+          record {
+            readings = w.readings;
+            to_read = w.to_read;
+            arrivals = w.arrivals;
+            to_arrive = w.to_arrive;
+            same = w.same ∙ ap (λ (ts : List Turn). (going.turns ++ (t.turn ∷ [])) ++ ts)
+                (rw (sym d.0) refl ∙ ap (λ (n : Node S). turns_of count rules n readings arrivals) (sym d.1));
+          };
+    }
+
+-- it did `end`
+ends : {S : Type 0} (law : TextsFollow) (rules : Rules S) (count : ℕ) (first now next : Node S) (started clock new : Option (List ℕ)) (before mid after : Option Written) (were mids are : Option Traffic)
+    → Going rules (suc count) first now started clock before mid were mids → TakesTurn rules now next clock new mid after mids are (Ok true)
+    → RanNode rules first started before after were are (Ok tt)
+ends {S} law rules count first now next started clock new before mid after were mids are going takes =
+    let t : Turned S = turn_at rules now takes.reading takes.found in
+    let d = takes.done in
+    let readings = some_read new in
+    let arrivals = some_arrive are in
+    let w = goes_whole rules count first now started clock new before mid were mids are going takes.reading takes.found takes.read d.3.wire d.2 readings.0 arrivals.0 readings.1 arrivals.1 in
+    let same : turns_of most_turns rules first w.readings w.arrivals ≡ going.turns ++ (t.turn ∷ []) =
+    w.same ∙ ap (λ (ts : List Turn). (going.turns ++ (t.turn ∷ [])) ++ ts) (rw (sym d.0) refl) ∙ append-nil (going.turns ++ (t.turn ∷ [])) in
+    (w.readings, w.to_read, w.arrivals, w.to_arrive,
+    subst (λ (ts : List Turn). Ran ts before after were are (Ok tt)) (sym same)
+    (list_any-append (λ (x : Turn). x.ended) going.turns (t.turn ∷ []) ∙ rw (going.unended, sym d.0) refl,
+    leaves_both law going.turns (t.turn ∷ []) true before mid after were mids are going.leaves d.3))
+
+-- its turns are spent
+spent : {S : Type 0} (rules : Rules S) (first now : Node S) (started clock : Option (List ℕ)) (before after : Option Written) (were are : Option Traffic)
+    → Going rules zero first now started clock before after were are → RanNode rules first started before after were are (Err Turns)
+unfolding turns_of
+spent {S} rules first now started clock before after were are going =
+    let readings = some_read clock in
+    let arrivals = some_arrive are in
+    let w = going.whole readings.0 arrivals.0 readings.1 arrivals.1 in
+    (w.readings, w.to_read, w.arrivals, w.to_arrive,
+    subst (λ (ts : List Turn). Ran ts before after were are (Err Turns)) (sym (w.same ∙ append-nil going.turns)) (going.unended, going.leaves))
+
+-- the wire failed
+wire_failed : {S : Type 0} (rules : Rules S) (count : ℕ) (first now next : Node S) (started clock new : Option (List ℕ)) (before mid after : Option Written) (were mids are : Option Traffic)
+    → Going rules count first now started clock before mid were mids → TakesTurn rules now next clock new mid after mids are (Err WireFault)
+    → RanNode rules first started before after were are (Err WireFault)
+wire_failed {S} rules count first now next started clock new before mid after were mids are going takes =
+    let readings = some_read clock in
+    let arrivals = some_arrive mids in
+    let w = going.whole readings.0 arrivals.0 readings.1 arrivals.1 in
+    let d = takes.done in
+    (w.readings, w.to_read, w.arrivals, w.to_arrive,
+    (going.turns, turns_of count rules now readings.0 arrivals.0, w.same,
+    rw (d.0, d.1) going.leaves))
+
+-- the sink failed
+write_failed : {S : Type 0} (law : TextsFollow) (rules : Rules S) (count : ℕ) (first now next : Node S) (started clock new : Option (List ℕ)) (before mid after : Option Written) (were mids are : Option Traffic)
+    → Going rules (suc count) first now started clock before mid were mids → TakesTurn rules now next clock new mid after mids are (Err WriteFault)
+    → RanNode rules first started before after were are (Err WriteFault)
+write_failed {S} law rules count first now next started clock new before mid after were mids are going takes =
+    let t : Turned S = turn_at rules now takes.reading takes.found in
+    let d = takes.done in
+    let readings = some_read new in
+    let arrivals = some_arrive are in
+    let w = goes_whole rules count first now started clock new before mid were mids are going takes.reading takes.found takes.read d.1.wire d.0 readings.0 arrivals.0 readings.1 arrivals.1 in
+    (w.readings, w.to_read, w.arrivals, w.to_arrive,
+    (going.turns ++ (t.turn ∷ []), _, w.same,
+    leaves_both law going.turns (t.turn ∷ []) false before mid after were mids are going.leaves d.1))
+
+-- ---- by the turns that were taken
+
+one_left : (taken : ℕ) → taken < most_turns → most_turns - taken ≡ suc (most_turns - (taken + 1))
+one_left taken few = omega (arith, few)
+
+pub goes_on_by : {S : Type 0} (law : TextsFollow) (rules : Rules S) (taken : ℕ) (first now next : Node S) (started clock new : Option (List ℕ)) (before mid after : Option Written) (were mids are : Option Traffic)
+    → taken < most_turns → Going rules (most_turns - taken) first now started clock before mid were mids → TakesTurn rules now next clock new mid after mids are (Ok false)
+    → Going rules (most_turns - (taken + 1)) first next started new before after were are
+goes_on_by law rules taken first now next started clock new before mid after were mids are few going takes =
+    goes_on law rules (most_turns - (taken + 1)) first now next started clock new before mid after were mids are (rw (one_left taken few) at going) takes
+
+pub ends_by : {S : Type 0} (law : TextsFollow) (rules : Rules S) (taken : ℕ) (first now next : Node S) (started clock new : Option (List ℕ)) (before mid after : Option Written) (were mids are : Option Traffic)
+    → taken < most_turns → Going rules (most_turns - taken) first now started clock before mid were mids → TakesTurn rules now next clock new mid after mids are (Ok true)
+    → RanNode rules first started before after were are (Ok tt)
+ends_by law rules taken first now next started clock new before mid after were mids are few going takes =
+    ends law rules (most_turns - (taken + 1)) first now next started clock new before mid after were mids are (rw (one_left taken few) at going) takes
+
+pub spent_by : {S : Type 0} (rules : Rules S) (taken : ℕ) (first now : Node S) (started clock : Option (List ℕ)) (before after : Option Written) (were are : Option Traffic)
+    → most_turns ≤ taken → Going rules (most_turns - taken) first now started clock before after were are → RanNode rules first started before after were are (Err Turns)
+spent_by rules taken first now started clock before after were are all going =
+    let none : most_turns - taken ≡ 0 = omega (arith, all) in
+    spent rules first now started clock before after were are (rw none at going)
+
+pub fails_by : {S : Type 0} (law : TextsFollow) (rules : Rules S) (taken : ℕ) (first now next : Node S) (started clock new : Option (List ℕ)) (before mid after : Option Written) (were mids are : Option Traffic) (e : NodeError)
+    → taken < most_turns → Going rules (most_turns - taken) first now started clock before mid were mids → TakesTurn rules now next clock new mid after mids are (Err e)
+    → RanNode rules first started before after were are (Err e)
+fails_by law rules taken first now next started clock new before mid after were mids are NoMemory few going takes = absurd takes.done
+fails_by law rules taken first now next started clock new before mid after were mids are WireFault few going takes =
+    wire_failed rules (most_turns - taken) first now next started clock new before mid after were mids are going takes
+fails_by law rules taken first now next started clock new before mid after were mids are WriteFault few going takes =
+    write_failed law rules (most_turns - (taken + 1)) first now next started clock new before mid after were mids are (rw (one_left taken few) at going) takes
+fails_by law rules taken first now next started clock new before mid after were mids are Turns few going takes = absurd takes.done

@@ -1,0 +1,64 @@
+-- What a client does at a line of its script, and at an arrival.
+use Rattle.std.specs.Prelude.{ℕ, ◌==◌, ◌&&◌, if◌then◌else◌, Bool, List, [], ◌∷◌, Option, Some, None, Ok}
+use Rattle.q3_io.specs.declared.address.Address.{Address}
+use Rattle.q3_io.specs.Traffic.{Parcel}
+use Rattle.q3_profile.specs.declared.profile.Profile.{Profile}
+use Rattle.q3_script.specs.declared.event.Event.{Event}
+use Rattle.q3_script.specs.declared.event.Event.TheVariants as events
+use Rattle.q3_client.specs.Client.{ClientState, new_client, take_at}
+use Rattle.q3_client.specs.Sending.{emit_at}
+use Rattle.q3_report.specs.declared.answer.HandedIn.TheVariants as handed
+use Rattle.q3_report.specs.declared.answer.Front.TheVariants.{Arrive}
+use Rattle.q3_report.specs.declared.answer.TakeRefused.TheVariants.{Stranger}
+use Rattle.q3_report.specs.Answers.{Answered, Given, SentOut, Untaken, Shown}
+use Rattle.q3_ends.specs.AtClient.{ClientStep, type_text, add_move, showing, taken_by_client}
+use Rattle.q3_node.specs.Node.{LineDone, Arrived, Rules, parcel_to}
+
+-- a client, its number in its script, and the address of its server
+pub record ClientEnd : Type 0 where
+  pub c : ℕ
+  pub client : ClientState
+  pub server : Address
+
+-- the client of a script, which its first line joins
+abbrev pub client_of : Profile → Address → List Event → Option ClientEnd
+client_of profile server (events.Client c challenge qport dup address ∷ others) = Some (record { c = c; client = new_client profile challenge qport dup; server = server })
+client_of profile server other = None
+
+abbrev pub answers : ClientEnd → Answered → LineDone ClientEnd
+answers end answer = record { end = end; answer = Some answer; sends = None }
+
+-- a command or a move is issued
+abbrev pub issued : ClientEnd → ClientStep → LineDone ClientEnd
+issued end step = answers (record end { client = step.client }) (Given step.answer)
+
+-- a datagram is made, and sent to the server
+abbrev pub send : ClientEnd → ℕ → ℕ → LineDone ClientEnd
+send end c number =
+    let emission = emit_at end.client in
+    record { end = record end { client = emission.client }; answer = Some (SentOut c (Ok emission.answer) number); sends = parcel_to (Some end.server) emission.piece }
+
+-- a line of a client's script; any other does nothing
+abbrev pub line_done : ClientEnd → Event → ℕ → LineDone ClientEnd
+line_done end (events.Client c challenge qport dup address) number = answers end (Given (handed.Client c (Ok tt)))
+line_done end (events.TypeText c text) number = issued end (type_text end.client c text)
+line_done end (events.Move c one) number = issued end (add_move end.client c one)
+line_done end (events.Send c) number = send end c number
+line_done end (events.Show c) number = answers end (Shown c (showing end.client))
+line_done end other number = record { end = end; answer = None; sends = None }
+
+abbrev pub is_address : Address → Address → Bool
+is_address one other = (one.host == other.host) && (one.port == other.port)
+
+-- an arrival from the server is taken; one from anywhere else isn't, and changes nothing
+abbrev pub took : ClientEnd → List ℕ → Arrived ClientEnd
+took end bytes =
+    let taken = take_at end.client bytes in
+    record { end = record end { client = taken.client }; answer = taken_by_client Arrive end.c taken }
+
+abbrev pub arrived : ClientEnd → Parcel → Arrived ClientEnd
+arrived end parcel =
+    if is_address parcel.address end.server then took end parcel.bytes else record { end = end; answer = Untaken Arrive (Stranger end.c) }
+
+abbrev pub client_rules : Rules ClientEnd
+client_rules = record { line = line_done; arrives = arrived }

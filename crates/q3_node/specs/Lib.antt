@@ -1,0 +1,4 @@
+pub mod Node
+pub mod AtServer
+pub mod AtClient
+pub mod Running

@@ -1,0 +1,117 @@
+//! A server's loop, and a client's.
+
+ghost use Rattle.std.specs.Prelude.{◌≡◌, ◌≤◌, Bool, true, false, length, All, Some, IsErrOf};
+ghost use Rattle.q3_profile.specs.Profile.{IsProfile};
+ghost use Rattle.q3_script.specs.declared.cause.ScriptKind.TheVariants as kinds;
+ghost use Rattle.q3_script.specs.Grammar.{IsEventOf, IsInRange, IsOneClient};
+ghost use Rattle.q3_script.specs.Script.{most_events};
+ghost use Rattle.q3_server.specs.Server.{places, new_server};
+ghost use Rattle.q3_node.specs.Node.{new_node};
+ghost use Rattle.q3_node.specs.AtServer.{server_rules};
+ghost use Rattle.q3_node.specs.AtClient.{ClientEnd as EndValue, client_rules, client_of};
+ghost use Rattle.q3_node.specs.Running.{RanBound, WireCause, WriteCause};
+
+use crate::client::ClientEnd;
+use crate::end::End;
+use crate::error::NodeError;
+use crate::server::ServerEnd;
+use crate::turns::{RECEIVE_ROOM, run_turns};
+use q3_io::{Address, Clock, Sink, Wire};
+use q3_profile::Profile;
+use q3_script::Event;
+use q3_script::laws::events_are_in_range;
+use std::alloc::Global;
+
+/// Runs a server by the lines of its script, each when it is due, in milliseconds since the first reading of the clock; what arrives
+/// meanwhile is taken. The wire is bound to `at` once, behind the memory and before the first reading. Each turn takes one reading and
+/// does one thing, and its lines are handed on at once. `Ok` comes where `end` was done.
+pub fn serve_loop<W: Wire, C: Clock, O: Sink>(
+    alloc: Global,
+    profile: &Profile,
+    events: &[Event],
+    at: Address,
+    wire: &mut W,
+    clock: &mut C,
+    out: &mut O,
+) -> Result<(), NodeError>
+    requires profile { IsProfile profile.now }
+    requires events { All (IsEventOf kinds.Serve) events.now }
+    requires few { length events.now ≤ most_events }
+    requires unbound { W.bound wire.old ≡ false }
+    ensures ran { RanBound (W.bound wire.new) server_rules (new_node (new_server profile.now places) events.now) at (C.readings clock.old)
+        (O.written out.old) (O.written out.new) (W.told wire.old) (W.told wire.new) result }
+    ensures unbound { W.bound wire.new ≡ false → (clock.new ≡ clock.old) × (out.new ≡ out.old) }
+    ensures no_memory { IsErrOf result NodeError.NoMemory → wire.new ≡ wire.old }
+    ensures wire_cause { WireCause (W.faults wire.old) (W.faults wire.new) result }
+    ensures write_cause { WriteCause (O.faults out.old) (O.faults out.new) result }
+{
+    events_are_in_range();
+    let mut end = ServerEnd::new(alloc, profile)?;
+    run(alloc, &mut end, events, at, wire, clock, out)
+}
+
+/// Runs a client of the server at `server`, likewise. The client is that of the first line. An arrival from another address isn't taken.
+pub fn join_loop<W: Wire, C: Clock, O: Sink>(
+    alloc: Global,
+    profile: &Profile,
+    events: &[Event],
+    at: Address,
+    server: Address,
+    wire: &mut W,
+    clock: &mut C,
+    out: &mut O,
+) -> Result<(), NodeError>
+    requires profile { IsProfile profile.now }
+    requires events { All (IsEventOf kinds.Join) events.now }
+    requires client { IsOneClient events.now }
+    requires few { length events.now ≤ most_events }
+    requires unbound { W.bound wire.old ≡ false }
+    ensures ran { (end : EndValue) × (client_of profile.now server events.now ≡ Some end)
+        × RanBound (W.bound wire.new) client_rules (new_node end events.now) at (C.readings clock.old)
+        (O.written out.old) (O.written out.new) (W.told wire.old) (W.told wire.new) result }
+    ensures unbound { W.bound wire.new ≡ false → (clock.new ≡ clock.old) × (out.new ≡ out.old) }
+    ensures no_memory { IsErrOf result NodeError.NoMemory → wire.new ≡ wire.old }
+    ensures wire_cause { WireCause (W.faults wire.old) (W.faults wire.new) result }
+    ensures write_cause { WriteCause (O.faults out.old) (O.faults out.new) result }
+{
+    events_are_in_range();
+    let Some(Event::Client {
+        c,
+        challenge,
+        qport,
+        dup,
+        ..
+    }) = events.first()
+    else {
+        unreachable!()
+    };
+    let mut end = ClientEnd::new(alloc, profile, *c, *challenge, *qport, *dup, server)?;
+    run(alloc, &mut end, events, at, wire, clock, out)
+}
+
+/// Takes room for arrivals, binds the wire, and runs the node of an end.
+fn run<E: End, W: Wire, C: Clock, O: Sink>(
+    alloc: Global,
+    end: &mut E,
+    events: &[Event],
+    at: Address,
+    wire: &mut W,
+    clock: &mut C,
+    out: &mut O,
+) -> Result<(), NodeError>
+    requires lines { All IsInRange events.now }
+    requires few { length events.now ≤ most_events }
+    requires unbound { W.bound wire.old ≡ false }
+    ensures ran { RanBound (W.bound wire.new) E.rules (new_node end.old events.now) at (C.readings clock.old)
+        (O.written out.old) (O.written out.new) (W.told wire.old) (W.told wire.new) result }
+    ensures unbound { W.bound wire.new ≡ false → (clock.new ≡ clock.old) × (out.new ≡ out.old) }
+    ensures no_memory { IsErrOf result NodeError.NoMemory → wire.new ≡ wire.old }
+    ensures wire_cause { WireCause (W.faults wire.old) (W.faults wire.new) result }
+    ensures write_cause { WriteCause (O.faults out.old) (O.faults out.new) result }
+{
+    let mut buffer = vec![in alloc; 0; RECEIVE_ROOM]?;
+    if wire.bind(at).is_err() {
+        return Err(NodeError::WireFault);
+    }
+    run_turns(end, events, &mut buffer, wire, clock, out)
+}

@@ -1,0 +1,116 @@
+//! A server at its end of a wire.
+
+ghost use Rattle.std.specs.Prelude.{◌≡◌, IfOk};
+ghost use Rattle.q3_profile.specs.Profile.{IsProfile};
+ghost use Rattle.q3_server.specs.Server.{places, new_server};
+ghost use Rattle.q3_node.specs.Node.{LineDone};
+ghost use Rattle.q3_node.specs.Running.{DoesLine, WireCause, WriteCause};
+ghost use Rattle.q3_node.specs.AtServer.{server_rules, serve};
+
+use crate::end::{End, hand_over, tell};
+use crate::error::NodeError;
+use q3_bits::NoMemory;
+use q3_chan::Datagram;
+use q3_ends::server::{server_line, server_takes};
+use q3_io::{Address, Failed, Sink, Wire};
+use q3_profile::Profile;
+use q3_report::{Answer, Front, HandedIn, print_answer};
+use q3_script::Event;
+use q3_server::{Heard, MOST_SLOTS, Server};
+use std::alloc::Global;
+use std::marker::Model;
+
+/// A server, and what it executed and ran last.
+#[derive(Drop)]
+pub(crate) struct ServerEnd {
+    server: Server,
+    heard: Box<Heard>,
+}
+
+impl Model for ServerEnd {
+    ghost use Rattle.q3_server.specs.Server.{ServerState};
+
+    ghost Value = { ServerState };
+
+    ghost view = { λ e. e.server };
+}
+
+impl ServerEnd {
+    ghost use Rattle.std.specs.Prelude.{true, OnOk};
+    ghost use Rattle.q3_io.specs.Written.{NothingWaits};
+
+    /// A server by this profile, with no client. `Err` is want of memory.
+    pub(crate) fn new(alloc: Global, profile: &Profile) -> Result<ServerEnd, NoMemory>
+        requires { IsProfile profile.now }
+        ensures { IfOk result (λ made. made ≡ new_server profile.now places) }
+    {
+        let server = Server::new(alloc, profile, MOST_SLOTS)?;
+        let heard = Heard::new(alloc)?;
+        let heard = Box::new(alloc, heard)?;
+        Ok(ServerEnd { server, heard })
+    }
+
+    /// Makes a datagram for a client, and sends it to the client's address.
+    fn serve<W: Wire, O: Sink>(
+        &mut self,
+        c: u8,
+        number: u32,
+        wire: &mut W,
+        out: &mut O,
+    ) -> Result<bool, NodeError>
+        requires bound { W.bound wire.old ≡ true }
+        ensures bound { W.bound wire.new ≡ true }
+        ensures does { DoesLine (serve self.old c number) self.new (O.written out.old) (O.written out.new) (W.told wire.old) (W.told wire.new) result }
+        ensures flushed { OnOk result (NothingWaits (O.written out.new)) }
+        ensures wire_cause { WireCause (W.faults wire.old) (W.faults wire.new) result }
+        ensures write_cause { WriteCause (O.faults out.old) (O.faults out.new) result }
+    {
+        let to = self.server.address(c);
+        let mut made = Datagram::new();
+        let emitted = self.server.emit(c, &mut made);
+        let answer = Answer::Serve {
+            c,
+            emitted,
+            datagram: number,
+        };
+        hand_over(to, &made, &answer, wire, out)
+    }
+}
+
+impl End for ServerEnd {
+    ghost rules = { server_rules };
+
+    fn line<W: Wire, O: Sink>(
+        &mut self,
+        event: &Event,
+        number: u32,
+        wire: &mut W,
+        out: &mut O,
+    ) -> Result<bool, NodeError> {
+        match event {
+            Event::Client {
+                c,
+                challenge,
+                qport,
+                address,
+                ..
+            } => {
+                let outcome = self.server.add_client(*c, *challenge, *qport, *address);
+                tell(&Answer::HandedIn(HandedIn::Client { c: *c, outcome }), out)?;
+                Ok(false)
+            }
+            Event::Serve { c } => self.serve(*c, number, wire, out),
+            _ => {
+                if let Some(handed) = server_line(&mut self.server, event) {
+                    tell(&Answer::HandedIn(handed), out)?;
+                }
+                Ok(false)
+            }
+        }
+    }
+
+    fn arrive<O: Sink>(&mut self, from: Address, bytes: &[u8], out: &mut O) -> Result<(), Failed> {
+        let answer = server_takes(&mut self.server, Front::Arrive, from, bytes, &mut self.heard);
+        print_answer(&answer, out)
+    }
+}

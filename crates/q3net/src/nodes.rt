@@ -1,0 +1,73 @@
+//! A server, and a client, over a wire.
+
+ghost use Rattle.std.specs.Prelude.{◌≡◌, Some, false};
+ghost use Rattle.q3net.specs.Command.{Serve, Join};
+ghost use Rattle.q3net.specs.Faults.{ReadCause, WriteCause, WireCause};
+ghost use Rattle.q3net.specs.Verdict.{outside};
+ghost use Rattle.q3net.specs.Run.{Executes, LeavesFiles, LeavesWire};
+
+use crate::fault::Fault;
+use crate::replay::{load_events, load_profile};
+use q3_io::{Address, Clock, Files, Sink, Wire};
+use q3_node::{join_loop, serve_loop};
+use q3_script::ScriptKind;
+use std::alloc::Global;
+
+/// Is a server at an address, by the profile and the script of these names, and prints its lines.
+pub fn serve<F: Files, W: Wire, C: Clock, O: Sink>(
+    alloc: Global,
+    profile: &str,
+    script: &str,
+    at: Address,
+    files: &mut F,
+    wire: &mut W,
+    clock: &mut C,
+    out: &mut O,
+) -> Result<(), Fault>
+    requires unbound { W.bound wire.old ≡ false }
+    ensures executes { Executes (Some (Serve profile.now script.now at)) (outside (F.told files.old) (W.told wire.old) (C.readings clock.old))
+        (O.written out.old) (O.written out.new) result }
+    ensures gives { LeavesFiles (Some (Serve profile.now script.now at)) (outside (F.told files.old) (W.told wire.old) (C.readings clock.old)) (F.told files.new) result }
+    ensures wires { LeavesWire (Some (Serve profile.now script.now at)) (outside (F.told files.old) (W.told wire.old) (C.readings clock.old)) (W.told wire.new) result }
+    ensures unbound { W.bound wire.new ≡ false → clock.new ≡ clock.old }
+    ensures writes { F.write_faults files.new ≡ F.write_faults files.old }
+    ensures read_cause { ReadCause (F.faults files.old) (F.faults files.new) result }
+    ensures write_cause { WriteCause (O.faults out.old) (O.faults out.new) result }
+    ensures wire_cause { WireCause (W.faults wire.old) (W.faults wire.new) result }
+{
+    q3_io::laws::texts_follow();
+    let profile = load_profile(alloc, profile, files)?;
+    let events = load_events(alloc, ScriptKind::Serve, script, files)?;
+    serve_loop(alloc, &profile, &events, at, wire, clock, out)?;
+    Ok(())
+}
+
+/// Is a client at an address, of the server at another, likewise.
+pub fn join<F: Files, W: Wire, C: Clock, O: Sink>(
+    alloc: Global,
+    profile: &str,
+    script: &str,
+    at: Address,
+    server: Address,
+    files: &mut F,
+    wire: &mut W,
+    clock: &mut C,
+    out: &mut O,
+) -> Result<(), Fault>
+    requires unbound { W.bound wire.old ≡ false }
+    ensures executes { Executes (Some (Join profile.now script.now at server)) (outside (F.told files.old) (W.told wire.old) (C.readings clock.old))
+        (O.written out.old) (O.written out.new) result }
+    ensures gives { LeavesFiles (Some (Join profile.now script.now at server)) (outside (F.told files.old) (W.told wire.old) (C.readings clock.old)) (F.told files.new) result }
+    ensures wires { LeavesWire (Some (Join profile.now script.now at server)) (outside (F.told files.old) (W.told wire.old) (C.readings clock.old)) (W.told wire.new) result }
+    ensures unbound { W.bound wire.new ≡ false → clock.new ≡ clock.old }
+    ensures writes { F.write_faults files.new ≡ F.write_faults files.old }
+    ensures read_cause { ReadCause (F.faults files.old) (F.faults files.new) result }
+    ensures write_cause { WriteCause (O.faults out.old) (O.faults out.new) result }
+    ensures wire_cause { WireCause (W.faults wire.old) (W.faults wire.new) result }
+{
+    q3_io::laws::texts_follow();
+    let profile = load_profile(alloc, profile, files)?;
+    let events = load_events(alloc, ScriptKind::Join, script, files)?;
+    join_loop(alloc, &profile, &events, at, server, wire, clock, out)?;
+    Ok(())
+}
