@@ -5,7 +5,7 @@ use Rattle.std.proofs.lemmas.Bool.{cases_lt}
 use Rattle.q3_io.specs.declared.address.Address.{Address}
 use Rattle.q3_io.specs.declared.sink.Failed.{Failed}
 use Rattle.q3_io.specs.Readings.{Reads}
-use Rattle.q3_io.specs.Traffic.{Parcel, Traffic, next_of, after_receive, Receives, Fills}
+use Rattle.q3_io.specs.Traffic.{Parcel, Traffic, next_of, after_receive, Binds, Receives, Fills}
 use Rattle.q3_io.specs.Written.{Written, Wrote}
 use Rattle.q3_io.specs.Laws.{TextsFollow}
 use Rattle.q3_script.specs.declared.event.Event.{Event}
@@ -14,7 +14,7 @@ use Rattle.q3_node.specs.declared.error.NodeError.{NodeError}
 use Rattle.q3_node.specs.declared.error.NodeError.TheVariants.{WireFault, WriteFault}
 use Rattle.q3_node.specs.declared.turns.Course.{Course}
 use Rattle.q3_node.specs.Node.{Rules, Node, Turn, Turned, receive_room, cut_to_room, time_behind, is_end, start_at, made_with, due, line_turn, receive_turn, turn_of, turn_at, answer_text, text_of}
-use Rattle.q3_node.specs.Running.{Leaves, wire_behind, sent_on, DoesLine, Finds, DoesTurn, TakesTurn, node_of}
+use Rattle.q3_node.specs.Running.{at_bound, Leaves, wire_behind, sent_on, DoesLine, Finds, DoesTurn, TakesTurn, node_of}
 
 -- ---- what one turn leaves
 
@@ -66,11 +66,12 @@ pub line_done_so : {S : Type 0} (rules : Rules S) (end new : S) (events : List E
     → DoesLine (rules.line end event (course.made + 1)) new before after were are (Ok made)
     → DoesTurn (line_turn rules (node_of end events course) event) found (node_of new events (gone_on course event made)) before after were are (Ok (is_end event))
 line_done_so {S} rules end new events course event found made before after were are does =
-    let now : Turned S = line_turn rules (node_of end events course) event in
-    (refl,
-    rw (does.end, sym (drop-drop 1 course.next events), made_same course.made now.turn.sends made does.told.0) refl,
-    finds_nothing now.turn were found refl,
-    line_leaves now.turn true before after were are refl does.told.1 does.told.2)
+    let now : Turned S = line_turn rules (node_of end events course) event in (
+      refl,
+      rw (does.end, sym (drop-drop 1 course.next events), made_same course.made now.turn.sends made does.told.0) refl,
+      finds_nothing now.turn were found refl,
+      line_leaves now.turn true before after were are refl does.told.1 does.told.2,
+    )
 
 pub line_stopped : {S : Type 0} (rules : Rules S) (end new : S) (events : List Event) (course after_course : Course) (event : Event) (found : Option Parcel)
     (before after : Option Written) (were are : Option Traffic)
@@ -159,11 +160,12 @@ pub received_arrival : {S : Type 0} (rules : Rules S) (end new : S) (events : Li
     → Wrote before after (lines_of (rules.arrives end (record { address = from; bytes = bytes })).answer) true
     → DoesTurn (receive_turn rules (node_of end events course) (Some one.parcel)) (Some one.parcel) (node_of new events course) before after were are (Ok false)
 received_arrival {S} rules end new events course before after were are from bytes one is printed =
-    let now : Turned S = receive_turn rules (node_of end events course) (Some one.parcel) in
-    (refl,
-    rw (is, sym one.cut) refl,
-    finds_next now.turn were (Some one.parcel) one.finds,
-    receive_leaves now.turn true before after were are refl refl (rw one.cut printed) one.gone)
+    let now : Turned S = receive_turn rules (node_of end events course) (Some one.parcel) in (
+      refl,
+      rw (is, sym one.cut) refl,
+      finds_next now.turn were (Some one.parcel) one.finds,
+      receive_leaves now.turn true before after were are refl refl (rw one.cut printed) one.gone,
+    )
 
 pub received_stopped : {S : Type 0} (rules : Rules S) (end new : S) (events : List Event) (course : Course) (before after : Option Written) (were are : Option Traffic) (from : Address) (bytes : List ℕ)
     → (one : Came were are from bytes)
@@ -216,3 +218,13 @@ takes_receive {S} rules end new events course begun found reading ms clock clock
           (ap (λ (one : Option Event). turn_of rules (node_of end events (record course { start = Some start })) one found) line)
           (rw is at does);
     })
+
+-- ---- an address
+
+pub bound_so : (told now : Option Traffic) (at : Address) → Binds told now at (Ok tt) → now ≡ at_bound told at
+bound_so None now at binds = binds
+bound_so (Some traffic) now at binds = binds
+
+pub unbound_so : (told now : Option Traffic) (at : Address) → Binds told now at (Err (record {})) → now ≡ told
+unbound_so None now at binds = binds
+unbound_so (Some traffic) now at binds = binds

@@ -85,7 +85,7 @@ behind_both : (traffic : Traffic) (turns more : List Turn) → traffic_behind (t
 behind_both traffic turns more =
     ap₂ (λ (arrivals : List (Option Parcel)) (sent : List Parcel). record traffic { arrivals = arrivals; sent = sent })
     (drop-drop (count_by (λ (t : Turn). t.received) more) (count_by (λ (t : Turn). t.received) turns) traffic.arrivals
-        ∙ ap (λ (n : ℕ). drop n traffic.arrivals) (sym (sum_by-append (λ (t : Turn). cond t.received 1 0) turns more)))
+    ∙ ap (λ (n : ℕ). drop n traffic.arrivals) (sym (sum_by-append (λ (t : Turn). cond t.received 1 0) turns more)))
     (append_assoc traffic.sent (parcels_of turns) (parcels_of more) ∙ ap (λ (sent : List Parcel). traffic.sent ++ sent) (sym (flat_map-append (λ (t : Turn). option_to_list t.sends) turns more)))
 
 wire_both : (told : Option Traffic) (turns more : List Turn) → wire_behind (wire_behind told turns) more ≡ wire_behind told (turns ++ more)
@@ -120,8 +120,8 @@ same_turn rules node reading found other same =
 first_turn : {S : Type 0} (count : ℕ) (rules : Rules S) (node : Node S) (readings : List ℕ) (arrivals : List (Option Parcel)) (reading : ℕ) (found : Option Parcel)
     → reading_of readings ≡ reading → ((turn_at rules node reading found).turn.received ≡ true → next_of arrivals ≡ found)
     → turns_of (suc count) rules node readings arrivals
-        ≡ (turn_at rules node reading found).turn ∷ (if (turn_at rules node reading found).turn.ended then []
-        else turns_of count rules (turn_at rules node reading found).node (readings_after readings) (arrivals_after (turn_at rules node reading found).turn arrivals))
+    ≡ (turn_at rules node reading found).turn ∷ (if (turn_at rules node reading found).turn.ended then []
+    else turns_of count rules (turn_at rules node reading found).node (readings_after readings) (arrivals_after (turn_at rules node reading found).turn arrivals))
 unfolding turns_of
 first_turn {S} count rules node readings arrivals reading found is finds =
     ap (λ (t : Turned S). t.turn ∷ (if t.turn.ended then [] else turns_of count rules t.node (readings_after readings) (arrivals_after t.turn arrivals)))
@@ -159,7 +159,7 @@ goes_whole : {S : Type 0} (rules : Rules S) (count : ℕ) (first now : Node S) (
     → are ≡ wire_behind mids ((turn_at rules now reading found).turn ∷ []) → Finds (turn_at rules now reading found).turn mids found
     → (readings : List ℕ) (arrivals : List (Option Parcel)) → ToRead new readings → ToArrive are arrivals
     → Whole rules count first now started were (going.turns ++ ((turn_at rules now reading found).turn ∷ []))
-        (if (turn_at rules now reading found).turn.ended then [] else turns_of count rules (turn_at rules now reading found).node readings arrivals)
+    (if (turn_at rules now reading found).turn.ended then [] else turns_of count rules (turn_at rules now reading found).node readings arrivals)
 goes_whole {S} rules count first now started clock new before mid were mids are going reading found read wire finds readings arrivals to_read to_arrive =
     let t : Turned S = turn_at rules now reading found in
     let r = back_read clock new reading readings read to_read in
@@ -210,11 +210,16 @@ ends {S} law rules count first now next started clock new before mid after were 
     let arrivals = some_arrive are in
     let w = goes_whole rules count first now started clock new before mid were mids are going takes.reading takes.found takes.read d.3.wire d.2 readings.0 arrivals.0 readings.1 arrivals.1 in
     let same : turns_of most_turns rules first w.readings w.arrivals ≡ going.turns ++ (t.turn ∷ []) =
-    w.same ∙ ap (λ (ts : List Turn). (going.turns ++ (t.turn ∷ [])) ++ ts) (rw (sym d.0) refl) ∙ append-nil (going.turns ++ (t.turn ∷ [])) in
-    (w.readings, w.to_read, w.arrivals, w.to_arrive,
-    subst (λ (ts : List Turn). Ran ts before after were are (Ok tt)) (sym same)
-    (list_any-append (λ (x : Turn). x.ended) going.turns (t.turn ∷ []) ∙ rw (going.unended, sym d.0) refl,
-    leaves_both law going.turns (t.turn ∷ []) true before mid after were mids are going.leaves d.3))
+    w.same ∙ ap (λ (ts : List Turn). (going.turns ++ (t.turn ∷ [])) ++ ts) (rw (sym d.0) refl) ∙ append-nil (going.turns ++ (t.turn ∷ [])) in (
+      w.readings,
+      w.to_read,
+      w.arrivals,
+      w.to_arrive,
+      subst (λ (ts : List Turn). Ran ts before after were are (Ok tt)) (sym same) (
+        list_any-append (λ (x : Turn). x.ended) going.turns (t.turn ∷ []) ∙ rw (going.unended, sym d.0) refl,
+        leaves_both law going.turns (t.turn ∷ []) true before mid after were mids are going.leaves d.3,
+      ),
+    )
 
 -- its turns are spent
 spent : {S : Type 0} (rules : Rules S) (first now : Node S) (started clock : Option (List ℕ)) (before after : Option Written) (were are : Option Traffic)
@@ -223,9 +228,13 @@ unfolding turns_of
 spent {S} rules first now started clock before after were are going =
     let readings = some_read clock in
     let arrivals = some_arrive are in
-    let w = going.whole readings.0 arrivals.0 readings.1 arrivals.1 in
-    (w.readings, w.to_read, w.arrivals, w.to_arrive,
-    subst (λ (ts : List Turn). Ran ts before after were are (Err Turns)) (sym (w.same ∙ append-nil going.turns)) (going.unended, going.leaves))
+    let w = going.whole readings.0 arrivals.0 readings.1 arrivals.1 in (
+      w.readings,
+      w.to_read,
+      w.arrivals,
+      w.to_arrive,
+      subst (λ (ts : List Turn). Ran ts before after were are (Err Turns)) (sym (w.same ∙ append-nil going.turns)) (going.unended, going.leaves),
+    )
 
 -- the wire failed
 wire_failed : {S : Type 0} (rules : Rules S) (count : ℕ) (first now next : Node S) (started clock new : Option (List ℕ)) (before mid after : Option Written) (were mids are : Option Traffic)
@@ -235,10 +244,18 @@ wire_failed {S} rules count first now next started clock new before mid after we
     let readings = some_read clock in
     let arrivals = some_arrive mids in
     let w = going.whole readings.0 arrivals.0 readings.1 arrivals.1 in
-    let d = takes.done in
-    (w.readings, w.to_read, w.arrivals, w.to_arrive,
-    (going.turns, turns_of count rules now readings.0 arrivals.0, w.same,
-    rw (d.0, d.1) going.leaves))
+    let d = takes.done in (
+      w.readings,
+      w.to_read,
+      w.arrivals,
+      w.to_arrive,
+      (
+        going.turns,
+        turns_of count rules now readings.0 arrivals.0,
+        w.same,
+        rw (d.0, d.1) going.leaves,
+      ),
+    )
 
 -- the sink failed
 write_failed : {S : Type 0} (law : TextsFollow) (rules : Rules S) (count : ℕ) (first now next : Node S) (started clock new : Option (List ℕ)) (before mid after : Option Written) (were mids are : Option Traffic)
@@ -249,10 +266,18 @@ write_failed {S} law rules count first now next started clock new before mid aft
     let d = takes.done in
     let readings = some_read new in
     let arrivals = some_arrive are in
-    let w = goes_whole rules count first now started clock new before mid were mids are going takes.reading takes.found takes.read d.1.wire d.0 readings.0 arrivals.0 readings.1 arrivals.1 in
-    (w.readings, w.to_read, w.arrivals, w.to_arrive,
-    (going.turns ++ (t.turn ∷ []), _, w.same,
-    leaves_both law going.turns (t.turn ∷ []) false before mid after were mids are going.leaves d.1))
+    let w = goes_whole rules count first now started clock new before mid were mids are going takes.reading takes.found takes.read d.1.wire d.0 readings.0 arrivals.0 readings.1 arrivals.1 in (
+      w.readings,
+      w.to_read,
+      w.arrivals,
+      w.to_arrive,
+      (
+        going.turns ++ (t.turn ∷ []),
+        _,
+        w.same,
+        leaves_both law going.turns (t.turn ∷ []) false before mid after were mids are going.leaves d.1,
+      ),
+    )
 
 -- ---- by the turns that were taken
 

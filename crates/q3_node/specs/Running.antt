@@ -66,6 +66,11 @@ RanNode rules node clock before after were are result =
 abbrev pub at_bound : Option Traffic → Address → Option Traffic
 at_bound told at = option_map (λ traffic. after_bind traffic at) told
 
+-- an address is bound, unless that failed
+abbrev pub BindsAt : Option Traffic → Option Traffic → Address → Result (Unit {0}) NodeError → Type 0
+BindsAt told now at (Ok x) = now ≡ at_bound told at
+BindsAt told now at (Err e) = now ≡ told
+
 abbrev pub RanBound : {S : Type 0} → Bool → Rules S → Node S → Address → Option (List ℕ) → Option Written → Option Written → Option Traffic → Option Traffic → Result (Unit {0}) NodeError → Type 0
 RanBound true rules node at clock before after were are result = RanNode rules node clock before after (at_bound were at) are result
 RanBound false rules node at clock before after were are result = (after ≡ before) × (are ≡ were)

@@ -1,6 +1,6 @@
 //! A server's loop, and a client's.
 
-ghost use Rattle.std.specs.Prelude.{◌≡◌, ◌≤◌, Bool, true, false, length, All, Some, IsErrOf};
+ghost use Rattle.std.specs.Prelude.{◌≡◌, ◌≤◌, Bool, true, false, length, All, Some, IsErrOf, IfErr, is_ok};
 ghost use Rattle.q3_profile.specs.Profile.{IsProfile};
 ghost use Rattle.q3_script.specs.declared.cause.ScriptKind.TheVariants as kinds;
 ghost use Rattle.q3_script.specs.Grammar.{IsEventOf, IsInRange, IsOneClient};
@@ -9,14 +9,14 @@ ghost use Rattle.q3_server.specs.Server.{places, new_server};
 ghost use Rattle.q3_node.specs.Node.{new_node};
 ghost use Rattle.q3_node.specs.AtServer.{server_rules};
 ghost use Rattle.q3_node.specs.AtClient.{ClientEnd as EndValue, client_rules, client_of};
-ghost use Rattle.q3_node.specs.Running.{RanBound, WireCause, WriteCause};
+ghost use Rattle.q3_node.specs.Running.{BindsAt, RanBound, WireCause, WriteCause};
 
 use crate::client::ClientEnd;
 use crate::end::End;
 use crate::error::NodeError;
 use crate::server::ServerEnd;
 use crate::turns::{RECEIVE_ROOM, run_turns};
-use q3_io::{Address, Clock, Sink, Wire};
+use q3_io::{Address, Clock, Failed, Sink, Wire};
 use q3_profile::Profile;
 use q3_script::Event;
 use q3_script::laws::events_are_in_range;
@@ -66,8 +66,8 @@ pub fn join_loop<W: Wire, C: Clock, O: Sink>(
     requires client { IsOneClient events.now }
     requires few { length events.now ≤ most_events }
     requires unbound { W.bound wire.old ≡ false }
-    ensures ran { (end : EndValue) × (client_of profile.now server events.now ≡ Some end)
-        × RanBound (W.bound wire.new) client_rules (new_node end events.now) at (C.readings clock.old)
+    ensures ran { (end : EndValue) → client_of profile.now server events.now ≡ Some end
+        → RanBound (W.bound wire.new) client_rules (new_node end events.now) at (C.readings clock.old)
         (O.written out.old) (O.written out.new) (W.told wire.old) (W.told wire.new) result }
     ensures unbound { W.bound wire.new ≡ false → (clock.new ≡ clock.old) × (out.new ≡ out.old) }
     ensures no_memory { IsErrOf result NodeError.NoMemory → wire.new ≡ wire.old }
@@ -75,13 +75,16 @@ pub fn join_loop<W: Wire, C: Clock, O: Sink>(
     ensures write_cause { WriteCause (O.faults out.old) (O.faults out.new) result }
 {
     events_are_in_range();
-    let Some(Event::Client {
-        c,
-        challenge,
-        qport,
-        dup,
+    let [
+        Event::Client {
+            c,
+            challenge,
+            qport,
+            dup,
+            ..
+        },
         ..
-    }) = events.first()
+    ] = events
     else {
         unreachable!()
     };
@@ -110,8 +113,21 @@ fn run<E: End, W: Wire, C: Clock, O: Sink>(
     ensures write_cause { WriteCause (O.faults out.old) (O.faults out.new) result }
 {
     let mut buffer = vec![in alloc; 0; RECEIVE_ROOM]?;
-    if wire.bind(at).is_err() {
-        return Err(NodeError::WireFault);
-    }
+    bind(at, wire)?;
     run_turns(end, events, &mut buffer, wire, clock, out)
+}
+
+/// Binds the wire to an address.
+#[tactic(auto, using(crate::proofs::Parts::bound_so, crate::proofs::Parts::unbound_so))]
+fn bind<W: Wire>(at: Address, wire: &mut W) -> Result<(), NodeError>
+    requires unbound { W.bound wire.old ≡ false }
+    ensures bound { W.bound wire.new ≡ is_ok result }
+    ensures only { IfErr result (λ e. e ≡ NodeError.WireFault) }
+    ensures told { BindsAt (W.told wire.old) (W.told wire.new) at result }
+    ensures cause { WireCause (W.faults wire.old) (W.faults wire.new) result }
+{
+    match wire.bind(at) {
+        Ok(()) => Ok(()),
+        Err(Failed) => Err(NodeError::WireFault),
+    }
 }

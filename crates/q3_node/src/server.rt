@@ -110,7 +110,13 @@ impl End for ServerEnd {
     }
 
     fn arrive<O: Sink>(&mut self, from: Address, bytes: &[u8], out: &mut O) -> Result<(), Failed> {
-        let answer = server_takes(&mut self.server, Front::Arrive, from, bytes, &mut self.heard);
+        let answer = server_takes(
+            &mut self.server,
+            Front::Arrive,
+            from,
+            bytes,
+            &mut self.heard,
+        );
         print_answer(&answer, out)
     }
 }

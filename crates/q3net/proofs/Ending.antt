@@ -3,14 +3,13 @@ use Rattle.std.proofs.Common.{◌≡◌, ℕ, Bool, true, false, List, [], ◌�
 use Rattle.std.specs.Prelude.{if◌then◌else◌}
 use Rattle.std.proofs.lemmas.List.{append-nil}
 use Rattle.q3_io.specs.Laws.{TextsFollow}
-use Rattle.q3_io.specs.Told.{Told}
 use Rattle.q3_io.specs.Written.{Written, Wrote}
 use Rattle.q3net.specs.declared.fault.Fault.{Fault}
 use Rattle.q3net.specs.declared.fault.Fault.TheVariants as faults
 use Rattle.q3net.specs.Command.{Command}
 use Rattle.q3net.specs.Lines.{ending_status, ending_line}
 use Rattle.q3net.specs.Faults.{Gets, FileCause}
-use Rattle.q3net.specs.Verdict.{Place, Nowhere, First, Anywhere, Stops, Verdict, IsVerdict, stops_nowhere, settled}
+use Rattle.q3net.specs.Verdict.{Place, Nowhere, First, Anywhere, Stops, Verdict, Outside, IsVerdict, stops_nowhere, settled}
 use Rattle.q3net.specs.Run.{Comes, ComesBehind, Executes, PrintsAll, Took, Prints}
 
 -- ---- where something may stop a command
@@ -40,13 +39,17 @@ pub settled_writes : (stops : Stops) (names : List (List ℕ)) (answer : Result 
 settled_writes stops names (Ok text) comes = comes
 settled_writes stops names (Err e) comes = comes
 
+pub settled_wire : (stops : Stops) (names : List (List ℕ)) (answer : Result (List ℕ) Fault) → Comes (settled stops names answer).stops.wire → Comes stops.wire
+settled_wire stops names (Ok text) comes = comes
+settled_wire stops names (Err e) comes = comes
+
 -- ---- a command that reads nothing
 
-pub none_executes : (follow : TextsFollow) (told : Option Told) (old : Option Written) → Executes None told old old (Err faults.Usage)
+pub none_executes : (follow : TextsFollow) (told : Outside) (old : Option Written) → Executes None told old old (Err faults.Usage)
 none_executes follow told old = (settled stops_nowhere [] (Err faults.Usage), refl, inl ([], inl (refl, refl), follow.none))
 
 -- a text of one write
-pub text_executes : (command : Option Command) (told : Option Told) (old now : Option Written) (stops : Stops) (names : List (List ℕ)) (text : List ℕ) (ended : Result (Unit {0}) Fault)
+pub text_executes : (command : Option Command) (told : Outside) (old now : Option Written) (stops : Stops) (names : List (List ℕ)) (text : List ℕ) (ended : Result (Unit {0}) Fault)
     → IsVerdict told command (settled stops names (Ok text)) → PrintsAll text old now ended → Executes command told old now ended
 text_executes command told old now stops names text ended is prints =
     elim prints [
@@ -56,25 +59,30 @@ text_executes command told old now stops names text ended is prints =
 
 -- ---- a command that ends before it has printed anything
 
+-- by its verdict
+pub refused_so : (follow : TextsFollow) (command : Option Command) (told : Outside) (old : Option Written) (verdict : Verdict) (e : Fault)
+    → IsVerdict told command verdict → verdict.ending ≡ Err e → verdict.text ≡ [] → Executes command told old old (Err e)
+refused_so follow command told old verdict e is ends nothing = (verdict, is, inl ([], inl (sym ends, sym nothing), follow.none))
+
 -- its input ended it
-pub refused : (follow : TextsFollow) (command : Option Command) (told : Option Told) (old : Option Written) (stops : Stops) (names : List (List ℕ)) (e : Fault)
+pub refused : (follow : TextsFollow) (command : Option Command) (told : Outside) (old : Option Written) (stops : Stops) (names : List (List ℕ)) (e : Fault)
     → IsVerdict told command (settled stops names (Err e)) → Executes command told old old (Err e)
 refused follow command told old stops names e is = (settled stops names (Err e), is, inl ([], inl (refl, refl), follow.none))
 
 -- memory ran out
-pub wants_memory : (follow : TextsFollow) (command : Option Command) (told : Option Told) (old : Option Written) (verdict : Verdict)
+pub wants_memory : (follow : TextsFollow) (command : Option Command) (told : Outside) (old : Option Written) (verdict : Verdict)
     → IsVerdict told command verdict → Comes verdict.stops.memory → Executes command told old old (Err faults.NoMemory)
 wants_memory follow command told old verdict is may =
     (verdict, is, inl ([], inr (faults.NoMemory, refl, comes_first verdict.stops.memory verdict.text may), follow.none))
 
 -- a read failed
-fails_reading : (follow : TextsFollow) (command : Option Command) (told : Option Told) (old : Option Written) (verdict : Verdict)
+pub fails_reading : (follow : TextsFollow) (command : Option Command) (told : Outside) (old : Option Written) (verdict : Verdict)
     → IsVerdict told command verdict → Comes verdict.stops.reads → Executes command told old old (Err faults.Read)
 fails_reading follow command told old verdict is may =
     (verdict, is, inl ([], inr (faults.Read, refl, comes_first verdict.stops.reads verdict.text may), follow.none))
 
 -- a part that reads a file ended it
-pub part_ended : {A : Type 0} (follow : TextsFollow) (command : Option Command) (told : Option Told) (old : Option Written) (stops : Stops) (names : List (List ℕ)) (answer : Result (List ℕ) Fault)
+pub part_ended : {A : Type 0} (follow : TextsFollow) (command : Option Command) (told : Outside) (old : Option Written) (stops : Stops) (names : List (List ℕ)) (answer : Result (List ℕ) Fault)
     (said : Result A Fault) (e : Fault) → IsVerdict told command (settled stops names answer) → Comes stops.memory → Comes stops.reads
     → (said ≡ Err e → answer ≡ Err e) → Gets said (Err e) → Executes command told old old (Err e)
 part_ended follow command told old stops names answer said e is may reads so gets =
@@ -140,7 +148,7 @@ failed old mid now text ended status is front took =
       | inr more ↦ (more.0, nothing_more old mid now text false front (subst (λ (z : List ℕ). Wrote mid now z false) none more.1))
     ]
 
-pub prints : (follow : TextsFollow) (command : Option Command) (told : Option Told) (before after : ℕ) (old mid now : Option Written) (ended : Result (Unit {0}) Fault) (status : ℕ)
+pub prints : (follow : TextsFollow) (command : Option Command) (told : Outside) (before after : ℕ) (old mid now : Option Written) (ended : Result (Unit {0}) Fault) (status : ℕ)
     → Executes command told old mid ended → FileCause before after ended → Took ended (ending_line ended) mid now status → Prints command told before after old now status
 prints follow command told before after old mid now ended status executes cause took =
     let verdict = executes.0 in

@@ -9,7 +9,7 @@ use Rattle.q3_profile.specs.declared.error.ProfileError.{ProfileError}
 use Rattle.q3_profile.specs.declared.error.ProfileError.TheVariants as profile
 use Rattle.q3_profile.specs.Profile.{longest_profile, checked}
 use Rattle.q3_script.specs.declared.event.Event.{Event}
-use Rattle.q3_script.specs.declared.cause.ScriptKind.TheVariants as kinds
+use Rattle.q3_script.specs.declared.cause.ScriptKind.{ScriptKind}
 use Rattle.q3_script.specs.declared.cause.ScriptError.{ScriptError}
 use Rattle.q3_script.specs.declared.cause.ScriptError.TheVariants as script
 use Rattle.q3_script.specs.Script.{BadLine, Reads, script_at, longest_script}
@@ -45,9 +45,9 @@ long_profile : (a b : List ℕ) → longest_profile < length a → longest_profi
 unfolding checked
 long_profile a b long longer = rw (lt-ltb longest_profile (length a) long, lt-ltb longest_profile (length b) longer) refl
 
-long_script : (a b : List ℕ) → longest_script < length a → longest_script < length b → script_at kinds.Replay a ≡ script_at kinds.Replay b
+long_script : (kind : ScriptKind) (a b : List ℕ) → longest_script < length a → longest_script < length b → script_at kind a ≡ script_at kind b
 unfolding script_at
-long_script a b long longer = rw (lt-ltb longest_script (length a) long, lt-ltb longest_script (length b) longer) refl
+long_script kind a b long longer = rw (lt-ltb longest_script (length a) long, lt-ltb longest_script (length b) longer) refl
 
 -- ---- a profile
 
@@ -89,9 +89,9 @@ profile_passed told name bytes by reads passes =
 script_as : Result (List Event) BadLine → Result (List Event) Fault
 script_as says = result_map_both (λ events. events) (λ (bad : BadLine). faults.Script bad.line bad.cause) says
 
-pub script_refused : (told : Option Told) (name bytes : List ℕ) (e : ScriptError) → ReadsFile longest_script name told (Ok bytes)
-    → Reads (Err e) (script_at kinds.Replay bytes) → GetsFrom events_in told name (Err (script_fault e))
+pub script_refused : (kind : ScriptKind) (told : Option Told) (name bytes : List ℕ) (e : ScriptError) → ReadsFile longest_script name told (Ok bytes)
+    → Reads (Err e) (script_at kind bytes) → GetsFrom (events_in kind) told name (Err (script_fault e))
 unfolding script_as
-script_refused told name bytes script.NoMemory reads says = (Some reads.0, reads.1, inr (inl refl))
-script_refused told name bytes (script.Line line cause) reads says =
-    (Some reads.0, reads.1, inl (ap script_as (sym says ∙ front_says longest_script (script_at kinds.Replay) long_script reads.0 bytes reads.2)))
+script_refused kind told name bytes script.NoMemory reads says = (Some reads.0, reads.1, inr (inl refl))
+script_refused kind told name bytes (script.Line line cause) reads says =
+    (Some reads.0, reads.1, inl (ap script_as (sym says ∙ front_says longest_script (script_at kind) (long_script kind) reads.0 bytes reads.2)))

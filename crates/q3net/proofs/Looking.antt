@@ -3,17 +3,19 @@ use Rattle.std.proofs.Common.{◌≡◌, ℕ, List, [], ◌∷◌, ◌++◌, map
 use Rattle.std.specs.Prelude.{◌⊎◌}
 use Rattle.std.proofs.lemmas.List.{append-nil}
 use Rattle.q3_profile.specs.declared.profile.Profile.{Profile}
+use Rattle.q3_io.specs.declared.address.Address.{Address}
 use Rattle.q3_io.specs.Told.{Told, File, Named}
+use Rattle.q3_node.specs.Node.{Turn}
 use Rattle.q3net.specs.declared.fault.Fault.{Fault}
 use Rattle.q3net.specs.declared.fault.Fault.TheVariants as faults
 use Rattle.q3net.specs.declared.command.Draws.{Draws}
-use Rattle.q3net.specs.Command.{Command, Help, Version, Replay, Make, Trial, files_of}
+use Rattle.q3net.specs.Command.{Command, Help, Version, Replay, Make, Trial, Serve, Join, files_of}
 use Rattle.q3net.specs.Faults.{Gets, IsOutside, IsEarly}
 use Rattle.q3net.specs.Input.{Holds, looked_up, created, with_files, Leaves, LeavesTold, AreBegun, LeavesFirst, Touches, LooksUpTold, LooksUpFirst, Gives}
 use Rattle.q3_make.specs.Printed.{script_text}
 use Rattle.q3_make.specs.Generated.{generated}
 use Rattle.q3net.specs.Lines.{help_text, version_text, fault_status, ending_status}
-use Rattle.q3net.specs.Verdict.{Stops, Verdict, IsVerdict, stops_nowhere, takes_memory, reads_first, settled, names_by, replayed, tried, profile_in, GetsFrom}
+use Rattle.q3net.specs.Verdict.{Stops, Verdict, Outside, of_files, IsVerdict, stops_nowhere, takes_memory, reads_first, settled, names_by, replayed, tried, noded, served, joined, profile_in, GetsFrom}
 use Rattle.q3net.specs.Run.{LeavesFiles, HasLeft, Touched}
 use Rattle.q3net.proofs.Loading.{held}
 
@@ -30,14 +32,14 @@ leaves_two told mid now one others made first second =
       named = second.named ∙ (ap (λ (given : List Named). given ++ others) first.named ∙ append_assoc told.named (one ∷ []) others);
     }
 
-leaves_then : (told mid now : Option Told) (one : Named) (others : List Named) (made : List File) → LeavesTold told mid (one ∷ []) [] → LeavesTold mid now others made
+pub leaves_then : (told mid now : Option Told) (one : Named) (others : List Named) (made : List File) → LeavesTold told mid (one ∷ []) [] → LeavesTold mid now others made
     → LeavesTold told now (one ∷ others) made
 leaves_then None mid now one others made first second = subst (λ (m : Option Told). LeavesTold m now others made) first second
 leaves_then (Some told) mid now one others made first second =
     let then = subst (λ (m : Option Told). LeavesTold m now others made) first.1 second in
     (then.0, then.1, leaves_two told first.0 then.0 one others made first.2 then.2)
 
-first_then : (told mid now : Option Told) (one : Named) (others : List Named) (made : List File) → LeavesTold told mid (one ∷ []) [] → LeavesFirst mid now others made
+pub first_then : (told mid now : Option Told) (one : Named) (others : List Named) (made : List File) → LeavesTold told mid (one ∷ []) [] → LeavesFirst mid now others made
     → LeavesFirst told now (one ∷ others) made
 first_then told mid now one others made first second = (
   one ∷ second.0,
@@ -77,7 +79,7 @@ left_first : {A : Type 0} (ended : Result A Fault) (named : List Named) (made : 
 left_first ended named made told now touched =
     elim touched [ inl all ↦ (named, made, ([], append-nil named), are_whole made, all) | inr early ↦ early.1 ]
 
-gave_first : {A : Type 0} (ended : Result A Fault) (names : List (List ℕ)) (told now : Option Told) → Gives ended names told now → LooksUpFirst told now names
+pub gave_first : {A : Type 0} (ended : Result A Fault) (names : List (List ℕ)) (told now : Option Told) → Gives ended names told now → LooksUpFirst told now names
 gave_first ended names told now gives = left_first ended (map looked_up names) [] told now gives
 
 -- a part that answered well answered what its input says
@@ -107,25 +109,38 @@ settled_named : (told now : Option Told) (command : Option Command) (stops : Sto
 settled_named told now command stops names (Ok text) so first = subst (λ (z : List Named). LeavesFirst told now z []) (sym (append-nil (map looked_up (files_of command)))) (so first)
 settled_named told now command stops names (Err cause) so first = subst (λ (z : List Named). LeavesFirst told now z []) (sym (append-nil (map looked_up (files_of command)))) (so first)
 
-verdict_named : (told now : Option Told) (command : Option Command) (verdict : Verdict) → IsVerdict told command verdict → IsNamed told now command verdict
-verdict_named told now None verdict is = subst (IsNamed told now None) (sym is) (settled_named told now None stops_nowhere [] (Err faults.Usage) (λ first. first))
-verdict_named told now (Some Help) verdict is = subst (IsNamed told now (Some Help)) (sym is) (settled_named told now (Some Help) stops_nowhere [] (Ok help_text) (λ first. first))
-verdict_named told now (Some Version) verdict is = subst (IsNamed told now (Some Version)) (sym is) (settled_named told now (Some Version) stops_nowhere [] (Ok version_text) (λ first. first))
+noded_named : (told now : Option Told) (command : Option Command) (names : List (List ℕ)) (at : Address) (answer : Result (List Turn) Fault)
+    → (LooksUpFirst told now names → LooksUpFirst told now (files_of command)) → IsNamed told now command (noded names at answer)
+noded_named told now command names at (Ok turns) so first = subst (λ (z : List Named). LeavesFirst told now z []) (sym (append-nil (map looked_up (files_of command)))) (so first)
+noded_named told now command names at (Err cause) so first = subst (λ (z : List Named). LeavesFirst told now z []) (sym (append-nil (map looked_up (files_of command)))) (so first)
+
+verdict_named : (told : Outside) (now : Option Told) (command : Option Command) (verdict : Verdict) → IsVerdict told command verdict → IsNamed told.files now command verdict
+verdict_named told now None verdict is = subst (IsNamed told.files now None) (sym is) (settled_named told.files now None stops_nowhere [] (Err faults.Usage) (λ first. first))
+verdict_named told now (Some Help) verdict is = subst (IsNamed told.files now (Some Help)) (sym is) (settled_named told.files now (Some Help) stops_nowhere [] (Ok help_text) (λ first. first))
+verdict_named told now (Some Version) verdict is = subst (IsNamed told.files now (Some Version)) (sym is) (settled_named told.files now (Some Version) stops_nowhere [] (Ok version_text) (λ first. first))
 verdict_named told now (Some (Replay profile script)) verdict is =
     let names = names_by (profile_in is.0) profile script in
-    subst (IsNamed told now (Some (Replay profile script))) (sym is.4)
-    (settled_named told now (Some (Replay profile script)) reads_first names (replayed is.0 is.1) (names_more (profile_in is.0) profile script told now))
+    subst (IsNamed told.files now (Some (Replay profile script))) (sym is.4)
+    (settled_named told.files now (Some (Replay profile script)) reads_first names (replayed is.0 is.1) (names_more (profile_in is.0) profile script told.files now))
 verdict_named told now (Some (Make draws)) verdict is =
-    subst (IsNamed told now (Some (Make draws))) (sym is)
-    (settled_named told now (Some (Make draws)) takes_memory [] (Ok (script_text (generated draws.number draws.seed))) (λ first. first))
+    subst (IsNamed told.files now (Some (Make draws))) (sym is)
+    (settled_named told.files now (Some (Make draws)) takes_memory [] (Ok (script_text (generated draws.number draws.seed))) (λ first. first))
 verdict_named told now (Some (Trial profile draws)) verdict is =
-    subst (IsNamed told now (Some (Trial profile draws))) (sym is.2)
-    (settled_named told now (Some (Trial profile draws)) reads_first (profile ∷ []) (tried is.0 draws) (λ first. first))
+    subst (IsNamed told.files now (Some (Trial profile draws))) (sym is.2)
+    (settled_named told.files now (Some (Trial profile draws)) reads_first (profile ∷ []) (tried is.0 draws) (λ first. first))
+verdict_named told now (Some (Serve profile script at)) verdict is =
+    let names = names_by (profile_in is.0) profile script in
+    subst (IsNamed told.files now (Some (Serve profile script at))) (sym is.8)
+    (noded_named told.files now (Some (Serve profile script at)) names at (served is.0 is.1 is.4 is.6) (names_more (profile_in is.0) profile script told.files now))
+verdict_named told now (Some (Join profile script at server)) verdict is =
+    let names = names_by (profile_in is.0) profile script in
+    subst (IsNamed told.files now (Some (Join profile script at server))) (sym is.8)
+    (noded_named told.files now (Some (Join profile script at server)) names at (joined server is.0 is.1 is.4 is.6) (names_more (profile_in is.0) profile script told.files now))
 
 -- the names that are given are the first of those that the command names, and of the files that its verdict makes
-pub touches : (command : Option Command) (told now : Option Told) (ended : Result (Unit {0}) Fault) → LeavesFiles command told now ended → Touched command told now
+pub touches : (command : Option Command) (told : Outside) (now : Option Told) (ended : Result (Unit {0}) Fault) → LeavesFiles command told now ended → Touched command told now
 touches command told now ended given =
-    (given.0, given.1, verdict_named told now command given.0 given.1 (left_first ended given.0.named given.0.made told now given.2))
+    (given.0, given.1, verdict_named told now command given.0 given.1 (left_first ended given.0.named given.0.made told.files now given.2))
 
 -- the fault of an early end
 early_is : (ended : Result (Unit {0}) Fault) → IsEarly ended → (fault : Fault) × IsOutside fault × (ended ≡ Err fault)
@@ -139,7 +154,7 @@ early_status ended status early is =
     let so = early_is ended early in
     elim is [ inl same ↦ (so.0, so.1, same ∙ ap ending_status so.2) | inr four ↦ (faults.Write, tt, four) ]
 
-pub has_left : (command : Option Command) (told now : Option Told) (ended : Result (Unit {0}) Fault) (status : ℕ) → LeavesFiles command told now ended
+pub has_left : (command : Option Command) (told : Outside) (now : Option Told) (ended : Result (Unit {0}) Fault) (status : ℕ) → LeavesFiles command told now ended
     → (status ≡ ending_status ended) ⊎ (status ≡ 4) → HasLeft command told now status
 has_left command told now ended status given is = (
   given.0,
@@ -154,16 +169,16 @@ has_left command told now ended status given is = (
 
 -- ---- of each command
 
-pub none_given : (told : Option Told) → LeavesFiles None told told (Err faults.Usage)
-none_given told = (settled stops_nowhere [] (Err faults.Usage), refl, inl (looks_none told))
+pub none_given : (told : Outside) → LeavesFiles None told told.files (Err faults.Usage)
+none_given told = (settled stops_nowhere [] (Err faults.Usage), refl, inl (looks_none told.files))
 
-pub text_given : (command : Option Command) (told : Option Told) (stops : Stops) (text : List ℕ) (ended : Result (Unit {0}) Fault)
-    → IsVerdict told command (settled stops [] (Ok text)) → LeavesFiles command told told ended
-text_given command told stops text ended is = (settled stops [] (Ok text), is, inl (looks_none told))
+pub text_given : (command : Option Command) (told : Outside) (stops : Stops) (text : List ℕ) (ended : Result (Unit {0}) Fault)
+    → IsVerdict told command (settled stops [] (Ok text)) → LeavesFiles command told told.files ended
+text_given command told stops text ended is = (settled stops [] (Ok text), is, inl (looks_none told.files))
 
 -- a profile was looked up, and nothing else
 pub trial_given : {A : Type 0} (told now : Option Told) (profile : List ℕ) (draws : Draws) (ended : Result (Unit {0}) Fault) (got : Result A Fault)
-    → (Gives got (profile ∷ []) told now → Gives ended (profile ∷ []) told now) → Gives got (profile ∷ []) told now → LeavesFiles (Some (Trial profile draws)) told now ended
+    → (Gives got (profile ∷ []) told now → Gives ended (profile ∷ []) told now) → Gives got (profile ∷ []) told now → LeavesFiles (Some (Trial profile draws)) (of_files told) now ended
 trial_given told now profile draws ended got so gives =
     let file = held told profile in (
       settled reads_first (profile ∷ []) (tried file.0 draws),
@@ -173,16 +188,16 @@ trial_given told now profile draws ended got so gives =
 
 -- none passed
 pub trial_gives : (told now : Option Told) (profile : List ℕ) (draws : Draws) (e : Fault) → Gives {A = Unit {0}} (Err e) (profile ∷ []) told now
-    → LeavesFiles (Some (Trial profile draws)) told now (Err e)
+    → LeavesFiles (Some (Trial profile draws)) (of_files told) now (Err e)
 trial_gives told now profile draws e gives = trial_given {A = Unit {0}} told now profile draws (Err e) (Err e) (λ all. all) gives
 
 -- one did
 pub trial_gave : {A : Type 0} (told now : Option Told) (profile : List ℕ) (draws : Draws) (by : A) (ended : Result (Unit {0}) Fault) → Gives (Ok by) (profile ∷ []) told now
-    → LeavesFiles (Some (Trial profile draws)) told now ended
+    → LeavesFiles (Some (Trial profile draws)) (of_files told) now ended
 trial_gave told now profile draws by ended gives = trial_given told now profile draws ended (Ok by) (λ all. inl (gave by (profile ∷ []) told now all)) gives
 
 replay_given : (told now : Option Told) (profile script : List ℕ) (file : Option (List ℕ)) (ended : Result (Unit {0}) Fault) → Holds told profile file
-    → Gives ended (names_by (profile_in file) profile script) told now → LeavesFiles (Some (Replay profile script)) told now ended
+    → Gives ended (names_by (profile_in file) profile script) told now → LeavesFiles (Some (Replay profile script)) (of_files told) now ended
 replay_given told now profile script file ended holds gives =
     let other = held told script in
     let names = names_by (profile_in file) profile script in (
@@ -192,7 +207,7 @@ replay_given told now profile script file ended holds gives =
     )
 
 -- a part that its input didn't end
-came_outside : {A : Type 0} (e : Fault) (got : Result A Fault) → got ≡ Err e → (got ≡ Err faults.NoMemory) ⊎ (got ≡ Err faults.Read) → IsOutside e
+pub came_outside : {A : Type 0} (e : Fault) (got : Result A Fault) → got ≡ Err e → (got ≡ Err faults.NoMemory) ⊎ (got ≡ Err faults.Read) → IsOutside e
 came_outside e got is outside =
     elim outside [
       | inl memory ↦ (let so : e ≡ faults.NoMemory = cc in subst IsOutside (sym so) tt)
@@ -204,7 +219,7 @@ first_names : (says : Result Profile Fault) (profile script : List ℕ) (told no
 first_names (Ok by) profile script told now first = first_more told now (looked_up profile ∷ []) (looked_up script ∷ []) [] first
 first_names (Err cause) profile script told now first = first
 
-profile_names : (file : Option (List ℕ)) (e : Fault) (profile script : List ℕ) (told now : Option Told) → Gets (profile_in file) (Err e)
+pub profile_names : (file : Option (List ℕ)) (e : Fault) (profile script : List ℕ) (told now : Option Told) → Gets (profile_in file) (Err e)
     → Gives {A = Profile} (Err e) (profile ∷ []) told now → Gives {A = Unit {0}} (Err e) (names_by (profile_in file) profile script) told now
 profile_names file e profile script told now gets gives =
     elim gets [
@@ -216,20 +231,20 @@ profile_names file e profile script told now gets gives =
     ]
 
 pub profile_gives : (told now : Option Told) (profile script : List ℕ) (e : Fault) → GetsFrom profile_in told profile (Err e)
-    → Gives {A = Profile} (Err e) (profile ∷ []) told now → LeavesFiles (Some (Replay profile script)) told now (Err e)
+    → Gives {A = Profile} (Err e) (profile ∷ []) told now → LeavesFiles (Some (Replay profile script)) (of_files told) now (Err e)
 profile_gives told now profile script e gets gives =
     replay_given told now profile script gets.0 (Err e) gets.1 (profile_names gets.0 e profile script told now gets.2 gives)
 
 -- a profile was read
 passed_given : (told now : Option Told) (profile script : List ℕ) (by : Profile) (ended : Result (Unit {0}) Fault) → GetsFrom profile_in told profile (Ok by)
-    → Gives ended (profile ∷ script ∷ []) told now → LeavesFiles (Some (Replay profile script)) told now ended
+    → Gives ended (profile ∷ script ∷ []) told now → LeavesFiles (Some (Replay profile script)) (of_files told) now ended
 passed_given told now profile script by ended passes gives =
     replay_given told now profile script passes.0 ended passes.1
     (subst (λ (says : Result Profile Fault). Gives ended (names_by says profile script) told now) (sym (got_ok (profile_in passes.0) by passes.2)) gives)
 
 -- and no script
 pub script_gives : (told mid now : Option Told) (profile script : List ℕ) (by : Profile) (e : Fault) → GetsFrom profile_in told profile (Ok by)
-    → Gives (Ok by) (profile ∷ []) told mid → Gives {A = Unit {0}} (Err e) (script ∷ []) mid now → LeavesFiles (Some (Replay profile script)) told now (Err e)
+    → Gives (Ok by) (profile ∷ []) told mid → Gives {A = Unit {0}} (Err e) (script ∷ []) mid now → LeavesFiles (Some (Replay profile script)) (of_files told) now (Err e)
 script_gives told mid now profile script by e passes first second =
     passed_given told now profile script by (Err e) passes (elim second [
       | inl all ↦ inl (leaves_then told mid now (looked_up profile) (looked_up script ∷ []) [] (gave by (profile ∷ []) told mid first) all)
@@ -239,7 +254,7 @@ script_gives told mid now profile script by e passes first second =
 -- and a script
 pub both_given : {B : Type 0} (told mid now : Option Told) (profile script : List ℕ) (by : Profile) (events : B) (ended : Result (Unit {0}) Fault)
     → GetsFrom profile_in told profile (Ok by) → Gives (Ok by) (profile ∷ []) told mid → Gives (Ok events) (script ∷ []) mid now
-    → LeavesFiles (Some (Replay profile script)) told now ended
+    → LeavesFiles (Some (Replay profile script)) (of_files told) now ended
 both_given told mid now profile script by events ended passes first second =
     passed_given told now profile script by ended passes
     (inl (leaves_then told mid now (looked_up profile) (looked_up script ∷ []) [] (gave by (profile ∷ []) told mid first) (gave events (script ∷ []) mid now second)))

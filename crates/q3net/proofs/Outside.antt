@@ -1,38 +1,45 @@
 -- What comes from outside: it ends a run only where the verdict says that it may come, and where its count rose.
-use Rattle.std.proofs.Common.{◌≡◌, ℕ, ◌<◌, ◌≤◌, List, [], ◌∷◌, Option, Some, None, Result, Ok, Err, refl, sym, ap, subst, ◌∙◌, inl, inr, arith}
+use Rattle.std.proofs.Common.{◌≡◌, ℕ, ◌<◌, ◌≤◌, Bool, true, false, if◌then◌else◌, List, [], ◌∷◌, Option, Some, None, Result, Ok, Err, refl, sym, ap, subst, ◌∙◌, inl, inr, arith}
 use Rattle.std.specs.Prelude.{◌⊎◌, IsNone}
 use Rattle.std.specs.Result.{result_map_both}
 use Rattle.q3_bits.specs.ResultBind.{◌>>=◌}
 use Rattle.std.proofs.lemmas.Bool.{cases_lt}
 use Rattle.q3_io.specs.Faults.{Rose, last_count}
-use Rattle.q3_io.specs.Told.{Told}
 use Rattle.q3_io.specs.Written.{Written}
+use Rattle.q3_io.specs.declared.address.Address.{Address}
+use Rattle.q3_io.specs.Traffic.{Parcel}
+use Rattle.q3_server.specs.Server.{places, new_server}
+use Rattle.q3_node.specs.Node.{Turn, most_turns, new_node, turns_of, did_end}
+use Rattle.q3_node.specs.AtServer.{server_rules}
+use Rattle.q3_node.specs.AtClient.{client_of}
 use Rattle.q3_make.specs.Generated.{generated}
 use Rattle.q3_make.specs.Printed.{script_text}
 use Rattle.q3_profile.specs.declared.profile.Profile.{Profile as ProfileValue}
 use Rattle.q3_profile.specs.declared.error.ProfileError.{ProfileError}
 use Rattle.q3_profile.specs.Profile.{checked}
 use Rattle.q3_script.specs.declared.event.Event.{Event}
+use Rattle.q3_script.specs.declared.cause.ScriptKind.{ScriptKind}
 use Rattle.q3_script.specs.declared.cause.ScriptKind.TheVariants as kinds
 use Rattle.q3_script.specs.Script.{BadLine, script_at}
 use Rattle.q3_world.specs.Report.{report}
 use Rattle.q3net.specs.declared.command.Draws.{Draws}
 use Rattle.q3net.specs.declared.fault.Fault.{Fault}
 use Rattle.q3net.specs.declared.fault.Fault.TheVariants as faults
-use Rattle.q3net.specs.Command.{Command, Help, Version, Replay, Make, Trial}
-use Rattle.q3net.specs.Faults.{ReadCause, WriteCause, FileCause}
+use Rattle.q3net.specs.Command.{Command, Help, Version, Replay, Make, Trial, Serve, Join}
+use Rattle.q3net.specs.Faults.{ReadCause, WriteCause, FileCause, WireCause}
 use Rattle.q3net.specs.Lines.{help_text, version_text, fault_status, ending_status}
-use Rattle.q3net.specs.Verdict.{Stops, Verdict, IsVerdict, stops_nowhere, takes_memory, reads_first, settled, profile_in, events_in, replayed, names_by, summary, tried}
+use Rattle.q3net.specs.Verdict.{Stops, Verdict, Outside, IsVerdict, stops_nowhere, takes_memory, reads_first, settled, profile_in, events_in, replayed, names_by, summary, tried, noded, served, client_turns, joined}
 use Rattle.q3net.specs.Run.{Comes, ComesBehind, place_of, Executes, FilesFail, IsComplete}
-use Rattle.q3net.proofs.Ending.{comes_behind, settled_writes}
+use Rattle.q3net.proofs.Ending.{comes_behind, settled_writes, settled_wire}
 
--- ---- what an input decides: no want of memory, no failed write, and not that the words are no command line
+-- ---- what an input decides: no want of memory, no failed write, no fault of the wire, and not that the words are no command line
 
 abbrev pub OfFault : Fault → Type 0
 OfFault faults.NoMemory = ⊥
 OfFault faults.Usage = ⊥
 OfFault faults.Write = ⊥
 OfFault faults.FileWrite = ⊥
+OfFault faults.Wire = ⊥
 OfFault other = Unit {0}
 
 abbrev pub OfInput : {A : Type 0} → Result A Fault → Type 0
@@ -55,14 +62,14 @@ script_of_input : (says : Result (List Event) BadLine) → OfInput (result_map_b
 script_of_input (Ok events) = tt
 script_of_input (Err bad) = tt
 
-events_of_input : (file : Option (List ℕ)) → OfInput (events_in file)
-events_of_input None = tt
-events_of_input (Some bytes) = script_of_input (script_at kinds.Replay bytes)
+events_of_input : (kind : ScriptKind) (file : Option (List ℕ)) → OfInput (events_in kind file)
+events_of_input kind None = tt
+events_of_input kind (Some bytes) = script_of_input (script_at kind bytes)
 
 replayed_of_input : (profile script : Option (List ℕ)) → OfInput (replayed profile script)
 replayed_of_input profile script =
-    bind_of_input (profile_in profile) (λ by. events_in script >>= (λ events. Ok (report by events))) (profile_of_input profile)
-    (λ by. bind_of_input (events_in script) (λ events. Ok (report by events)) (events_of_input script) (λ events. tt))
+    bind_of_input (profile_in profile) (λ by. events_in kinds.Replay script >>= (λ events. Ok (report by events))) (profile_of_input profile)
+    (λ by. bind_of_input (events_in kinds.Replay script) (λ events. Ok (report by events)) (events_of_input kinds.Replay script) (λ events. tt))
 
 tried_of_input : (profile : Option (List ℕ)) (draws : Draws) → OfInput (tried profile draws)
 tried_of_input profile draws =
@@ -75,30 +82,56 @@ settled_of_input stops names (Err e) so = so
 ending_of_input : (verdict : Verdict) (stops : Stops) (names : List (List ℕ)) (answer : Result (List ℕ) Fault) → verdict ≡ settled stops names answer → OfInput answer → OfInput verdict.ending
 ending_of_input verdict stops names answer is so = subst (λ (v : Verdict). OfInput v.ending) (sym is) (settled_of_input stops names answer so)
 
+-- and of a node
+served_of_input : (profile script : Option (List ℕ)) (readings : List ℕ) (arrivals : List (Option Parcel)) → OfInput (served profile script readings arrivals)
+served_of_input profile script readings arrivals =
+    bind_of_input (profile_in profile) (λ by. events_in kinds.Serve script >>= (λ events. Ok (turns_of most_turns server_rules (new_node (new_server by places) events) readings arrivals))) (profile_of_input profile)
+    (λ by. bind_of_input (events_in kinds.Serve script) (λ events. Ok (turns_of most_turns server_rules (new_node (new_server by places) events) readings arrivals)) (events_of_input kinds.Serve script) (λ events. tt))
+
+joined_of_input : (server : Address) (profile script : Option (List ℕ)) (readings : List ℕ) (arrivals : List (Option Parcel)) → OfInput (joined server profile script readings arrivals)
+joined_of_input server profile script readings arrivals =
+    bind_of_input (profile_in profile) (λ by. events_in kinds.Join script >>= (λ events. Ok (client_turns (client_of by server events) events readings arrivals))) (profile_of_input profile)
+    (λ by. bind_of_input (events_in kinds.Join script) (λ events. Ok (client_turns (client_of by server events) events readings arrivals)) (events_of_input kinds.Join script) (λ events. tt))
+
+ended_of_input : (ended : Bool) → OfInput {A = Unit {0}} (if ended then Ok tt else Err faults.Turns)
+ended_of_input true = tt
+ended_of_input false = tt
+
+noded_of_input : (names : List (List ℕ)) (at : Address) (answer : Result (List Turn) Fault) → OfInput answer → OfInput (noded names at answer).ending
+noded_of_input names at (Ok turns) so = ended_of_input (did_end turns)
+noded_of_input names at (Err e) so = so
+
+node_of_input : (verdict : Verdict) (names : List (List ℕ)) (at : Address) (answer : Result (List Turn) Fault) → verdict ≡ noded names at answer → OfInput answer → OfInput verdict.ending
+node_of_input verdict names at answer is so = subst (λ (v : Verdict). OfInput v.ending) (sym is) (noded_of_input names at answer so)
+
 -- the verdict of a command
-pub verdict_of_input : (told : Option Told) (command : Command) (verdict : Verdict) → IsVerdict told (Some command) verdict → OfInput verdict.ending
+pub verdict_of_input : (told : Outside) (command : Command) (verdict : Verdict) → IsVerdict told (Some command) verdict → OfInput verdict.ending
 verdict_of_input told Help verdict is = ending_of_input verdict stops_nowhere [] (Ok help_text) is tt
 verdict_of_input told Version verdict is = ending_of_input verdict stops_nowhere [] (Ok version_text) is tt
 verdict_of_input told (Replay profile script) verdict is =
     ending_of_input verdict reads_first (names_by (profile_in is.0) profile script) (replayed is.0 is.1) is.4 (replayed_of_input is.0 is.1)
 verdict_of_input told (Make draws) verdict is = ending_of_input verdict takes_memory [] (Ok (script_text (generated draws.number draws.seed))) is tt
 verdict_of_input told (Trial profile draws) verdict is = ending_of_input verdict reads_first (profile ∷ []) (tried is.0 draws) is.2 (tried_of_input is.0 draws)
+verdict_of_input told (Serve profile script at) verdict is =
+    node_of_input verdict (names_by (profile_in is.0) profile script) at (served is.0 is.1 is.4 is.6) is.8 (served_of_input is.0 is.1 is.4 is.6)
+verdict_of_input told (Join profile script at server) verdict is =
+    node_of_input verdict (names_by (profile_in is.0) profile script) at (joined server is.0 is.1 is.4 is.6) is.8 (joined_of_input server is.0 is.1 is.4 is.6)
 
 -- so a fault that no input decides isn't its ending
-not_decided : (told : Option Told) (command : Command) (verdict : Verdict) (fault : Fault) → IsVerdict told (Some command) verdict → (OfFault fault → ⊥) → verdict.ending ≡ Err fault → ⊥
+not_decided : (told : Outside) (command : Command) (verdict : Verdict) (fault : Fault) → IsVerdict told (Some command) verdict → (OfFault fault → ⊥) → verdict.ending ≡ Err fault → ⊥
 not_decided told command verdict fault is other ends = other (subst (λ (e : Result (Unit {0}) Fault). OfInput e) ends (verdict_of_input told command verdict is))
 
 -- ---- what doesn't come
 
 -- a fault that no input decides, and that may come nowhere
-abbrev pub Never : Option Command → Option Told → Fault → Type 0
+abbrev pub Never : Option Command → Outside → Fault → Type 0
 Never command told fault = (verdict : Verdict) → IsVerdict told command verdict → (verdict.ending ≡ Err fault → ⊥) × (Comes (place_of verdict.stops fault) → ⊥)
 
 same_fault : (ended : Result (Unit {0}) Fault) (a b : Fault) → ended ≡ Err a → ended ≡ Err b → a ≡ b
 same_fault ended a b first second = cc
 
 -- it didn't end the command
-never_ended : (command : Option Command) (told : Option Told) (old now : Option Written) (ended : Result (Unit {0}) Fault) (fault : Fault)
+never_ended : (command : Option Command) (told : Outside) (old now : Option Written) (ended : Result (Unit {0}) Fault) (fault : Fault)
     → (fault ≡ faults.Write → ⊥) → Never command told fault → Executes command told old now ended → ended ≡ Err fault → ⊥
 never_ended command told old now ended fault other never executes is =
     elim executes.2 [
@@ -111,17 +144,23 @@ never_ended command told old now ended fault other never executes is =
       | inr failed ↦ other (same_fault ended fault faults.Write is failed.0)
     ]
 
-pub no_file_fails : (command : Option Command) (told : Option Told) (old now : Option Written) (ended : Result (Unit {0}) Fault) (before after : ℕ)
+pub no_file_fails : (command : Option Command) (told : Outside) (old now : Option Written) (ended : Result (Unit {0}) Fault) (before after : ℕ)
     → Never command told faults.FileWrite → Executes command told old now ended → after ≡ before → FileCause before after ended
 no_file_fails command told old now (Err faults.FileWrite) before after never executes same =
     absurd (never_ended command told old now (Err faults.FileWrite) faults.FileWrite (λ is. cc) never executes refl)
 no_file_fails command told old now other before after never executes same = same
 
-pub no_read_fails : (command : Option Command) (told : Option Told) (old now : Option Written) (ended : Result (Unit {0}) Fault) (before after : ℕ)
+pub no_read_fails : (command : Option Command) (told : Outside) (old now : Option Written) (ended : Result (Unit {0}) Fault) (before after : ℕ)
     → Never command told faults.Read → Executes command told old now ended → after ≡ before → ReadCause before after ended
 no_read_fails command told old now (Err faults.Read) before after never executes same =
     absurd (never_ended command told old now (Err faults.Read) faults.Read (λ is. cc) never executes refl)
 no_read_fails command told old now other before after never executes same = same
+
+pub no_wire_fails : (command : Option Command) (told : Outside) (old now : Option Written) (ended : Result (Unit {0}) Fault) (before after : ℕ)
+    → Never command told faults.Wire → Executes command told old now ended → after ≡ before → WireCause before after ended
+no_wire_fails command told old now (Err faults.Wire) before after never executes same =
+    absurd (never_ended command told old now (Err faults.Wire) faults.Wire (λ is. cc) never executes refl)
+no_wire_fails command told old now other before after never executes same = same
 
 -- ---- of each command
 
@@ -130,29 +169,68 @@ no_writes : (verdict : Verdict) (stops : Stops) (names : List (List ℕ)) (answe
     → (Comes stops.writes → ⊥) → Comes verdict.stops.writes → ⊥
 no_writes verdict stops names answer is none comes = none (settled_writes stops names answer (subst (λ (v : Verdict). Comes v.stops.writes) is comes))
 
-pub replay_makes_nothing : (told : Option Told) (profile script : List ℕ) → Never (Some (Replay profile script)) told faults.FileWrite
+no_wire : (verdict : Verdict) (stops : Stops) (names : List (List ℕ)) (answer : Result (List ℕ) Fault) → verdict ≡ settled stops names answer
+    → (Comes stops.wire → ⊥) → Comes verdict.stops.wire → ⊥
+no_wire verdict stops names answer is none comes = none (settled_wire stops names answer (subst (λ (v : Verdict). Comes v.stops.wire) is comes))
+
+pub replay_makes_nothing : (told : Outside) (profile script : List ℕ) → Never (Some (Replay profile script)) told faults.FileWrite
 replay_makes_nothing told profile script verdict is = (
   not_decided told (Replay profile script) verdict faults.FileWrite is (λ none. none),
   no_writes verdict reads_first (names_by (profile_in is.0) profile script) (replayed is.0 is.1) is.4 (λ none. none),
 )
 
-pub make_makes_nothing : (told : Option Told) (draws : Draws) → Never (Some (Make draws)) told faults.FileWrite
+pub make_makes_nothing : (told : Outside) (draws : Draws) → Never (Some (Make draws)) told faults.FileWrite
 make_makes_nothing told draws verdict is = (
   not_decided told (Make draws) verdict faults.FileWrite is (λ none. none),
   no_writes verdict takes_memory [] (Ok (script_text (generated draws.number draws.seed))) is (λ none. none),
 )
 
-pub trial_makes_nothing : (told : Option Told) (profile : List ℕ) (draws : Draws) → Never (Some (Trial profile draws)) told faults.FileWrite
+pub trial_makes_nothing : (told : Outside) (profile : List ℕ) (draws : Draws) → Never (Some (Trial profile draws)) told faults.FileWrite
 trial_makes_nothing told profile draws verdict is = (
   not_decided told (Trial profile draws) verdict faults.FileWrite is (λ none. none),
   no_writes verdict reads_first (profile ∷ []) (tried is.0 draws) is.2 (λ none. none),
+)
+
+node_writes : (names : List (List ℕ)) (at : Address) (answer : Result (List Turn) Fault) → Comes (noded names at answer).stops.writes → ⊥
+node_writes names at (Ok turns) comes = comes
+node_writes names at (Err e) comes = comes
+
+pub serve_makes_nothing : (told : Outside) (profile script : List ℕ) (at : Address) → Never (Some (Serve profile script at)) told faults.FileWrite
+serve_makes_nothing told profile script at verdict is = (
+  not_decided told (Serve profile script at) verdict faults.FileWrite is (λ none. none),
+  λ comes. node_writes (names_by (profile_in is.0) profile script) at (served is.0 is.1 is.4 is.6) (subst (λ (v : Verdict). Comes v.stops.writes) is.8 comes),
+)
+
+pub join_makes_nothing : (told : Outside) (profile script : List ℕ) (at server : Address) → Never (Some (Join profile script at server)) told faults.FileWrite
+join_makes_nothing told profile script at server verdict is = (
+  not_decided told (Join profile script at server) verdict faults.FileWrite is (λ none. none),
+  λ comes. node_writes (names_by (profile_in is.0) profile script) at (joined server is.0 is.1 is.4 is.6) (subst (λ (v : Verdict). Comes v.stops.writes) is.8 comes),
+)
+
+-- they don't touch the wire
+pub replay_wires_nothing : (told : Outside) (profile script : List ℕ) → Never (Some (Replay profile script)) told faults.Wire
+replay_wires_nothing told profile script verdict is = (
+  not_decided told (Replay profile script) verdict faults.Wire is (λ none. none),
+  no_wire verdict reads_first (names_by (profile_in is.0) profile script) (replayed is.0 is.1) is.4 (λ none. none),
+)
+
+pub make_wires_nothing : (told : Outside) (draws : Draws) → Never (Some (Make draws)) told faults.Wire
+make_wires_nothing told draws verdict is = (
+  not_decided told (Make draws) verdict faults.Wire is (λ none. none),
+  no_wire verdict takes_memory [] (Ok (script_text (generated draws.number draws.seed))) is (λ none. none),
+)
+
+pub trial_wires_nothing : (told : Outside) (profile : List ℕ) (draws : Draws) → Never (Some (Trial profile draws)) told faults.Wire
+trial_wires_nothing told profile draws verdict is = (
+  not_decided told (Trial profile draws) verdict faults.Wire is (λ none. none),
+  no_wire verdict reads_first (profile ∷ []) (tried is.0 draws) is.2 (λ none. none),
 )
 
 -- and a script that is made reads none
 not_both : (ending : Result (Unit {0}) Fault) → ending ≡ Ok tt → ending ≡ Err faults.Read → ⊥
 not_both ending done read = cc
 
-pub make_reads_nothing : (told : Option Told) (draws : Draws) → Never (Some (Make draws)) told faults.Read
+pub make_reads_nothing : (told : Outside) (draws : Draws) → Never (Some (Make draws)) told faults.Read
 make_reads_nothing told draws verdict is = (
   not_both verdict.ending (ap (λ (v : Verdict). v.ending) is),
   λ comes. subst (λ (v : Verdict). Comes v.stops.reads) is comes,
@@ -163,12 +241,12 @@ make_reads_nothing told draws verdict is = (
 usage_alone : (ending : Result (Unit {0}) Fault) → ending ≡ Err faults.Usage → ending ≡ Err faults.FileWrite → ⊥
 usage_alone ending usage ends = cc
 
-no_verdict_fails : (told : Option Told) (command : Option Command) (verdict : Verdict) → IsVerdict told command verdict → verdict.ending ≡ Err faults.FileWrite → ⊥
+no_verdict_fails : (told : Outside) (command : Option Command) (verdict : Verdict) → IsVerdict told command verdict → verdict.ending ≡ Err faults.FileWrite → ⊥
 no_verdict_fails told None verdict is ends = usage_alone verdict.ending (ap (λ (v : Verdict). v.ending) is) ends
 no_verdict_fails told (Some command) verdict is ends = not_decided told command verdict faults.FileWrite is (λ none. none) ends
 
 -- a write of a file may fail
-files_come : (command : Option Command) (told : Option Told) (old now : Option Written) → Executes command told old now (Err faults.FileWrite)
+files_come : (command : Option Command) (told : Outside) (old now : Option Written) → Executes command told old now (Err faults.FileWrite)
     → (verdict : Verdict) × IsVerdict told command verdict × Comes verdict.stops.writes
 files_come command told old now executes = (
   executes.0,
@@ -183,7 +261,7 @@ files_come command told old now executes = (
   ],
 )
 
-pub files_failed : (command : Option Command) (told : Option Told) (old now : Option Written) (ended : Result (Unit {0}) Fault) (before after : ℕ)
+pub files_failed : (command : Option Command) (told : Outside) (old now : Option Written) (ended : Result (Unit {0}) Fault) (before after : ℕ)
     → Executes command told old now ended → FileCause before after ended → (after ≡ before) ⊎ FilesFail command told before after
 files_failed command told old now (Err faults.FileWrite) before after executes cause =
     let may = files_come command told old now executes in inr (may.0, may.1, may.2, cause.0, cause.1)
@@ -204,7 +282,7 @@ rose_since : (first mid last : ℕ) → first ≤ mid → mid ≤ last → Rose 
 rose_since first mid last le later rose = elim rose [ inl lt ↦ inl (omega (arith, le, lt)) | inr full ↦ rose_last first mid last le later full ]
 
 -- a run ended with 4, and the end itself did not fail
-four_ended : (command : Option Command) (told : Option Told) (old now : Option Written) (ended : Result (Unit {0}) Fault) (before after first mid : ℕ)
+four_ended : (command : Option Command) (told : Outside) (old now : Option Written) (ended : Result (Unit {0}) Fault) (before after first mid : ℕ)
     → Executes command told old now ended → FileCause before after ended → WriteCause first mid ended → ending_status ended ≡ 4
     → Rose first mid ⊎ FilesFail command told before after
 four_ended command told old now (Err faults.Write) before after first mid executes files writes four = inl writes.1
@@ -213,7 +291,7 @@ four_ended command told old now (Err faults.FileWrite) before after first mid ex
 four_ended command told old now other before after first mid executes files writes four = absurd (omega (arith, four))
 
 -- 4 comes of the sink or of the files
-pub four_fails : (command : Option Command) (told : Option Told) (old now : Option Written) (ended : Result (Unit {0}) Fault) (status before after first mid last : ℕ)
+pub four_fails : (command : Option Command) (told : Outside) (old now : Option Written) (ended : Result (Unit {0}) Fault) (status before after first mid last : ℕ)
     → Executes command told old now ended → FileCause before after ended → WriteCause first mid ended → EndsSo mid last ended status
     → status ≡ 4 → Rose first last ⊎ FilesFail command told before after
 four_fails command told old now ended status before after first mid last executes files writes ends four =
@@ -224,19 +302,20 @@ four_fails command told old now ended status before after first mid last execute
     ]
 
 -- where no count rose, only want of memory stops a command
-stopped_by : (stops : Stops) (fault : Fault) (printed text : List ℕ) (reads read before after : ℕ) → ComesBehind (place_of stops fault) printed text
-    → ReadCause {T = Unit {0}} reads read (Err fault) → FileCause before after (Err fault)
-    → (Rose reads read → ⊥) → (Comes stops.writes → before ≤ after → Rose before after → ⊥) → fault_status fault ≡ 1
-stopped_by stops faults.NoMemory printed text reads read before after behind causes files none_read none_made = refl
-stopped_by stops faults.Read printed text reads read before after behind causes files none_read none_made = absurd (none_read causes.1)
-stopped_by stops faults.FileWrite printed text reads read before after behind causes files none_read none_made =
+stopped_by : (stops : Stops) (fault : Fault) (printed text : List ℕ) (reads read before after wires wired : ℕ) → ComesBehind (place_of stops fault) printed text
+    → ReadCause {T = Unit {0}} reads read (Err fault) → FileCause before after (Err fault) → WireCause wires wired (Err fault)
+    → (Rose reads read → ⊥) → (Rose wires wired → ⊥) → (Comes stops.writes → before ≤ after → Rose before after → ⊥) → fault_status fault ≡ 1
+stopped_by stops faults.NoMemory printed text reads read before after wires wired behind causes files wire none_read none_wired none_made = refl
+stopped_by stops faults.Read printed text reads read before after wires wired behind causes files wire none_read none_wired none_made = absurd (none_read causes.1)
+stopped_by stops faults.FileWrite printed text reads read before after wires wired behind causes files wire none_read none_wired none_made =
     absurd (none_made (comes_behind stops.writes printed text behind) files.0 files.1)
-stopped_by stops other printed text reads read before after behind causes files none_read none_made = absurd behind
+stopped_by stops faults.Wire printed text reads read before after wires wired behind causes files wire none_read none_wired none_made = absurd (none_wired wire.1)
+stopped_by stops other printed text reads read before after wires wired behind causes files wire none_read none_wired none_made = absurd behind
 
-pub completes : (command : Option Command) (told : Option Told) (old now : Option Written) (ended : Result (Unit {0}) Fault) (status reads read before after first mid last : ℕ)
-    → Executes command told old now ended → ReadCause reads read ended → FileCause before after ended → WriteCause first mid ended → EndsSo mid last ended status
-    → (Rose reads read → ⊥) → (Rose first last → ⊥) → (FilesFail command told before after → ⊥) → IsComplete command told status
-completes command told old now ended status reads read before after first mid last executes causes files writes ends none_read none_written none_made = (
+pub completes : (command : Option Command) (told : Outside) (old now : Option Written) (ended : Result (Unit {0}) Fault) (status reads read before after first mid last wires wired : ℕ)
+    → Executes command told old now ended → ReadCause reads read ended → FileCause before after ended → WriteCause first mid ended → WireCause wires wired ended → EndsSo mid last ended status
+    → (Rose reads read → ⊥) → (Rose first last → ⊥) → (Rose wires wired → ⊥) → (FilesFail command told before after → ⊥) → IsComplete command told status
+completes command told old now ended status reads read before after first mid last wires wired executes causes files writes wire ends none_read none_written none_wired none_made = (
   executes.0,
   executes.1,
   elim ends [
@@ -245,10 +324,11 @@ completes command told old now ended status reads read before after first mid la
         | inl said ↦ inl (same.0 ∙ ap ending_status said.0)
         | inr stopped ↦ inr (
             same.0 ∙ (ap ending_status stopped.1
-            ∙ stopped_by executes.0.stops stopped.0 done.0 executes.0.text reads read before after stopped.2
+            ∙ stopped_by executes.0.stops stopped.0 done.0 executes.0.text reads read before after wires wired stopped.2
             (subst (λ (e : Result (Unit {0}) Fault). ReadCause reads read e) stopped.1 causes)
             (subst (λ (e : Result (Unit {0}) Fault). FileCause before after e) stopped.1 files)
-            none_read (λ may le rose. none_made (executes.0, executes.1, may, le, rose)))
+            (subst (λ (e : Result (Unit {0}) Fault). WireCause wires wired e) stopped.1 wire)
+            none_read none_wired (λ may le rose. none_made (executes.0, executes.1, may, le, rose)))
             )
       ]
       | inr failed ↦ absurd (none_written (subst (λ (n : ℕ). Rose first n) (sym same.1) (subst (λ (e : Result (Unit {0}) Fault). WriteCause first mid e) failed.0 writes).1))
@@ -262,7 +342,7 @@ two_is_usage : (ended : Result (Unit {0}) Fault) → ending_status ended ≡ 2 �
 two_is_usage (Err faults.Usage) two = refl
 two_is_usage other two = absurd (omega (arith, two))
 
-pub usage_of_none : (command : Option Command) (told : Option Told) (old now : Option Written) (ended : Result (Unit {0}) Fault) (status mid last : ℕ)
+pub usage_of_none : (command : Option Command) (told : Outside) (old now : Option Written) (ended : Result (Unit {0}) Fault) (status mid last : ℕ)
     → Executes command told old now ended → EndsSo mid last ended status → status ≡ 2 → IsNone command
 usage_of_none None told old now ended status mid last executes ends two = refl
 usage_of_none (Some command) told old now ended status mid last executes ends two =

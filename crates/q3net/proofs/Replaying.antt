@@ -3,6 +3,7 @@ use Rattle.std.proofs.Common.{◌≡◌, ℕ, List, [], ◌∷◌, length, take,
 use Rattle.q3_profile.specs.declared.profile.Profile.{Profile}
 use Rattle.q3_bits.specs.ResultBind.{◌>>=◌}
 use Rattle.q3_script.specs.declared.event.Event.{Event}
+use Rattle.q3_script.specs.declared.cause.ScriptKind.TheVariants as kinds
 use Rattle.q3_io.specs.Laws.{TextsFollow}
 use Rattle.q3_io.specs.Written.{Written}
 use Rattle.q3_io.specs.Told.{File, Told, contents_of}
@@ -18,7 +19,7 @@ use Rattle.q3net.specs.Command.{Replay}
 use Rattle.q3_world.specs.Outcome.{HasStepCause}
 use Rattle.q3net.specs.Faults.{step_fault, ReadCause, WriteCause}
 use Rattle.q3net.specs.Input.{IsFront, Holds, LooksUpTold, Gives}
-use Rattle.q3net.specs.Verdict.{IsVerdict, reads_first, settled, profile_in, events_in, replayed, names_by, GetsFrom}
+use Rattle.q3net.specs.Verdict.{of_files, IsVerdict, reads_first, settled, profile_in, events_in, replayed, names_by, GetsFrom}
 use Rattle.q3net.specs.Run.{AddsLines, Executes}
 use Rattle.q3net.proofs.Loading.{held}
 use Rattle.q3net.proofs.Looking.{got_ok, gave}
@@ -27,38 +28,38 @@ use Rattle.q3net.proofs.Ending.{part_ended, wants_memory}
 
 -- the first part that its input ends, or the text
 no_profile : (profile script : Option (List ℕ)) (e : Fault) → profile_in profile ≡ Err e → replayed profile script ≡ Err e
-no_profile profile script e is = ap (λ (says : Result Profile Fault). says >>= (λ by. events_in script >>= (λ events. Ok (report by events)))) is
+no_profile profile script e is = ap (λ (says : Result Profile Fault). says >>= (λ by. events_in kinds.Replay script >>= (λ events. Ok (report by events)))) is
 
-no_events : (profile script : Option (List ℕ)) (by : Profile) (e : Fault) → profile_in profile ≡ Ok by → events_in script ≡ Err e → replayed profile script ≡ Err e
+no_events : (profile script : Option (List ℕ)) (by : Profile) (e : Fault) → profile_in profile ≡ Ok by → events_in kinds.Replay script ≡ Err e → replayed profile script ≡ Err e
 no_events profile script by e passes is =
-    ap (λ (says : Result Profile Fault). says >>= (λ by. events_in script >>= (λ events. Ok (report by events)))) passes
+    ap (λ (says : Result Profile Fault). says >>= (λ by. events_in kinds.Replay script >>= (λ events. Ok (report by events)))) passes
     ∙ ap (λ (says : Result (List Event) Fault). says >>= (λ events. Ok (report by events))) is
 
-all_said : (profile script : Option (List ℕ)) (by : Profile) (events : List Event) → profile_in profile ≡ Ok by → events_in script ≡ Ok events
+all_said : (profile script : Option (List ℕ)) (by : Profile) (events : List Event) → profile_in profile ≡ Ok by → events_in kinds.Replay script ≡ Ok events
     → replayed profile script ≡ Ok (report by events)
 all_said profile script by events passes is =
-    ap (λ (says : Result Profile Fault). says >>= (λ by. events_in script >>= (λ events. Ok (report by events)))) passes
+    ap (λ (says : Result Profile Fault). says >>= (λ by. events_in kinds.Replay script >>= (λ events. Ok (report by events)))) passes
     ∙ ap (λ (says : Result (List Event) Fault). says >>= (λ events. Ok (report by events))) is
 
 pub profile_ended : (follow : TextsFollow) (told : Option Told) (profile script : List ℕ) (old : Option Written) (e : Fault) → GetsFrom profile_in told profile (Err e)
-    → Executes (Some (Replay profile script)) told old old (Err e)
+    → Executes (Some (Replay profile script)) (of_files told) old old (Err e)
 profile_ended follow told profile script old e gets =
     let s = held told script in
-    part_ended follow (Some (Replay profile script)) told old reads_first (names_by (profile_in gets.0) profile script) (replayed gets.0 s.0) (profile_in gets.0) e
+    part_ended follow (Some (Replay profile script)) (of_files told) old reads_first (names_by (profile_in gets.0) profile script) (replayed gets.0 s.0) (profile_in gets.0) e
     (gets.0, s.0, gets.1, s.1, refl) tt tt (no_profile gets.0 s.0 e) gets.2
 
 -- what the files hold isn't changed by a look
-same_held : (told mid : Option Told) (names : List (List ℕ)) (name : List ℕ) (file : Option (List ℕ)) → LooksUpTold told mid names → Holds mid name file → Holds told name file
+pub same_held : (told mid : Option Told) (names : List (List ℕ)) (name : List ℕ) (file : Option (List ℕ)) → LooksUpTold told mid names → Holds mid name file → Holds told name file
 same_held None mid names name file looks holds = tt
 same_held (Some told) mid names name file looks holds =
     let there = subst (λ (m : Option Told). Holds m name file) looks.1 holds in
     ap (λ (files : List File). contents_of files name) (sym looks.2.files) ∙ there
 
 pub events_ended : (follow : TextsFollow) (told mid : Option Told) (profile script : List ℕ) (by : Profile) (old : Option Written) (e : Fault) → GetsFrom profile_in told profile (Ok by)
-    → Gives (Ok by) (profile ∷ []) told mid → GetsFrom events_in mid script (Err e) → Executes (Some (Replay profile script)) told old old (Err e)
+    → Gives (Ok by) (profile ∷ []) told mid → GetsFrom (events_in kinds.Replay) mid script (Err e) → Executes (Some (Replay profile script)) (of_files told) old old (Err e)
 events_ended follow told mid profile script by old e passes gives gets =
     let of_script = same_held told mid (profile ∷ []) script gets.0 (gave by (profile ∷ []) told mid gives) gets.1 in
-    part_ended follow (Some (Replay profile script)) told old reads_first (names_by (profile_in passes.0) profile script) (replayed passes.0 gets.0) (events_in gets.0) e
+    part_ended follow (Some (Replay profile script)) (of_files told) old reads_first (names_by (profile_in passes.0) profile script) (replayed passes.0 gets.0) (events_in kinds.Replay gets.0) e
     (passes.0, gets.0, passes.1, of_script, refl) tt tt (no_events passes.0 gets.0 by e (got_ok (profile_in passes.0) by passes.2)) gets.2
 
 -- both files were read
@@ -71,19 +72,19 @@ pub record BothRead (told : Option Told) (profile script : List ℕ) (by : Profi
   pub names : names_by (profile_in of_profile) profile script ≡ profile ∷ script ∷ []
 
 pub both_read : (told mid : Option Told) (profile script : List ℕ) (by : Profile) (events : List Event) → GetsFrom profile_in told profile (Ok by)
-    → Gives (Ok by) (profile ∷ []) told mid → GetsFrom events_in mid script (Ok events) → BothRead told profile script by events
+    → Gives (Ok by) (profile ∷ []) told mid → GetsFrom (events_in kinds.Replay) mid script (Ok events) → BothRead told profile script by events
 both_read told mid profile script by events passes gives gets = record {
   of_profile = passes.0;
   of_script = gets.0;
   holds_profile = passes.1;
   holds_script = same_held told mid (profile ∷ []) script gets.0 (gave by (profile ∷ []) told mid gives) gets.1;
-  says = all_said passes.0 gets.0 by events (got_ok (profile_in passes.0) by passes.2) (got_ok (events_in gets.0) events gets.2);
+  says = all_said passes.0 gets.0 by events (got_ok (profile_in passes.0) by passes.2) (got_ok (events_in kinds.Replay gets.0) events gets.2);
   names = ap (λ (says : Result Profile Fault). names_by says profile script) (got_ok (profile_in passes.0) by passes.2);
 }
 
 -- the verdict of what was read
 verdict_of : (told : Option Told) (profile script : List ℕ) (by : Profile) (events : List Event) → BothRead told profile script by events
-    → IsVerdict told (Some (Replay profile script)) (settled reads_first (profile ∷ script ∷ []) (Ok (report by events)))
+    → IsVerdict (of_files told) (Some (Replay profile script)) (settled reads_first (profile ∷ script ∷ []) (Ok (report by events)))
 verdict_of told profile script by events read = (
   read.of_profile,
   read.of_script,
@@ -94,13 +95,13 @@ verdict_of told profile script by events read = (
 )
 
 pub memory_ended : (follow : TextsFollow) (told : Option Told) (profile script : List ℕ) (by : Profile) (events : List Event) (old : Option Written) → BothRead told profile script by events
-    → Executes (Some (Replay profile script)) told old old (Err faults.NoMemory)
+    → Executes (Some (Replay profile script)) (of_files told) old old (Err faults.NoMemory)
 memory_ended follow told profile script by events old read =
-    wants_memory follow (Some (Replay profile script)) told old (settled reads_first (profile ∷ script ∷ []) (Ok (report by events))) (verdict_of told profile script by events read) tt
+    wants_memory follow (Some (Replay profile script)) (of_files told) old (settled reads_first (profile ∷ script ∷ []) (Ok (report by events))) (verdict_of told profile script by events read) tt
 
 pub steps_ended : (told : Option Told) (profile script : List ℕ) (by : Profile) (events : List Event) (old now : Option Written) (e : StepError)
     → BothRead told profile script by events → AddsLines (answers by (opening by) events) old now (Err e)
-    → Executes (Some (Replay profile script)) told old now (Err (step_fault e))
+    → Executes (Some (Replay profile script)) (of_files told) old now (Err (step_fault e))
 unfolding report
 steps_ended told profile script by events old now step.NoMemory read adds =
     let all = answers by (opening by) events in
@@ -111,7 +112,7 @@ steps_ended told profile script by events old now step.WriteFault read adds =
 
 pub steps_done : (told : Option Told) (profile script : List ℕ) (by : Profile) (events : List Event) (old now : Option Written)
     → BothRead told profile script by events → AddsLines (answers by (opening by) events) old now (Ok tt)
-    → Executes (Some (Replay profile script)) told old now (Ok tt)
+    → Executes (Some (Replay profile script)) (of_files told) old now (Ok tt)
 unfolding report
 steps_done told profile script by events old now read adds =
     (settled reads_first (profile ∷ script ∷ []) (Ok (report by events)), verdict_of told profile script by events read, inl (report by events, inl (refl, refl), adds))

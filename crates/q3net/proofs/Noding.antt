@@ -1,0 +1,302 @@
+-- How a node ends: a server, or a client, over a wire.
+use Rattle.std.proofs.Common.{◌≡◌, ℕ, ◌<◌, Bool, true, false, List, [], ◌∷◌, ◌++◌, Option, Some, None, Result, Ok, Err, refl, sym, ap, subst, ◌∙◌, inl, inr, arith}
+use Rattle.std.specs.Prelude.{◌⊎◌, if◌then◌else◌, IsSome}
+use Rattle.std.specs.List.{flat_map}
+use Rattle.std.proofs.lemmas.Grind.{flat_map-append}
+use Rattle.q3_bits.specs.ResultBind.{◌>>=◌}
+use Rattle.q3_io.specs.declared.address.Address.{Address}
+use Rattle.q3_io.specs.Laws.{TextsFollow}
+use Rattle.q3_io.specs.Told.{Told}
+use Rattle.q3_io.specs.Traffic.{Parcel, Traffic}
+use Rattle.q3_io.specs.Written.{Written, Wrote}
+use Rattle.q3_profile.specs.declared.profile.Profile.{Profile}
+use Rattle.q3_script.specs.declared.event.Event.{Event}
+use Rattle.q3_script.specs.declared.event.Event.TheVariants as events
+use Rattle.q3_script.specs.declared.cause.ScriptKind.{ScriptKind}
+use Rattle.q3_script.specs.declared.cause.ScriptKind.TheVariants as kinds
+use Rattle.q3_script.specs.Grammar.{IsOneClient}
+use Rattle.q3_server.specs.Server.{places, new_server}
+use Rattle.q3_node.specs.declared.error.NodeError.{NodeError}
+use Rattle.q3_node.specs.declared.error.NodeError.TheVariants as node
+use Rattle.q3_node.specs.Node.{Turn, Node, Rules, most_turns, new_node, turns_of, did_end, answer_text, text_of}
+use Rattle.q3_node.specs.AtServer.{server_rules}
+use Rattle.q3_node.specs.AtClient.{ClientEnd, client_of, client_rules}
+use Rattle.q3_node.specs.Running.{ToArrive, ToRead, wire_behind, at_bound, Leaves, LeavesFirst, Ran, RanNode, RanBound, WireCause as NodeWireCause, WriteCause as NodeWriteCause}
+use Rattle.q3net.specs.declared.fault.Fault.{Fault}
+use Rattle.q3net.specs.declared.fault.Fault.TheVariants as faults
+use Rattle.q3net.specs.Command.{Command, Serve, Join}
+use Rattle.q3net.specs.Faults.{Gets, node_fault, ReadCause, WriteCause, FileCause, WireCause}
+use Rattle.q3net.specs.Input.{IsFront, Holds, looked_up, Touches, Gives}
+use Rattle.q3net.specs.Verdict.{Verdict, Outside, IsVerdict, names_by, profile_in, events_in, noded, served, client_turns, joined, GetsFrom}
+use Rattle.q3net.specs.Run.{Comes, Executes, LeavesFiles, wire_by, Wires, LeavesWire, MayBind}
+use Rattle.q3net.proofs.Loading.{held}
+use Rattle.q3net.proofs.Looking.{got_ok, gave, leaves_then, first_then, gave_first, profile_names}
+use Rattle.q3net.proofs.Replaying.{same_held}
+use Rattle.q3net.proofs.Ending.{refused_so, wants_memory, fails_reading}
+
+-- ---- what is still to come
+
+some_read : (clock : Option (List ℕ)) → (readings : List ℕ) × ToRead clock readings
+some_read None = (0 ∷ [], omega arith)
+some_read (Some told) = (told, refl)
+
+some_arrive : (told : Option Traffic) → (arrivals : List (Option Parcel)) × ToArrive told arrivals
+some_arrive None = ([], tt)
+some_arrive (Some traffic) = (traffic.arrivals, refl)
+
+-- ---- a node's command
+
+-- the turns of a node, by what its two files hold, and by what is to come
+abbrev TurnsBy : Type 0
+TurnsBy = Option (List ℕ) → Option (List ℕ) → List ℕ → List (Option Parcel) → Result (List Turn) Fault
+
+-- a command that is a node's at an address, by the profile and the script of these names
+pub record IsNodes (told : Outside) (command : Option Command) (kind : ScriptKind) (profile script : List ℕ) (at : Address) (turns : TurnsBy) : Type 0 where
+  pub verdict : (of_profile of_script : Option (List ℕ)) → Holds told.files profile of_profile → Holds told.files script of_script
+      → (readings : List ℕ) → ToRead told.clock readings → (arrivals : List (Option Parcel)) → ToArrive told.wire arrivals
+      → IsVerdict told command (noded (names_by (profile_in of_profile) profile script) at (turns of_profile of_script readings arrivals))
+  pub no_profile : (of_profile of_script : Option (List ℕ)) (readings : List ℕ) (arrivals : List (Option Parcel)) (e : Fault)
+      → profile_in of_profile ≡ Err e → turns of_profile of_script readings arrivals ≡ Err e
+  pub no_events : (of_profile of_script : Option (List ℕ)) (readings : List ℕ) (arrivals : List (Option Parcel)) (by : Profile) (e : Fault)
+      → profile_in of_profile ≡ Ok by → events_in kind of_script ≡ Err e → turns of_profile of_script readings arrivals ≡ Err e
+
+-- a server
+serve_turns : Profile → List ℕ → List (Option Parcel) → List Event → Result (List Turn) Fault
+serve_turns by readings arrivals events = Ok (turns_of most_turns server_rules (new_node (new_server by places) events) readings arrivals)
+
+pub serves : (told : Outside) (profile script : List ℕ) (at : Address) → IsNodes told (Some (Serve profile script at)) kinds.Serve profile script at served
+unfolding serve_turns
+serves told profile script at = record {
+  verdict = λ of_profile of_script holds holds_script readings to_read arrivals to_arrive. (of_profile, of_script, holds, holds_script, readings, to_read, arrivals, to_arrive, refl);
+  no_profile = λ of_profile of_script readings arrivals e is. ap (λ (says : Result Profile Fault). says >>= (λ by. events_in kinds.Serve of_script >>= serve_turns by readings arrivals)) is;
+  no_events = λ of_profile of_script readings arrivals by e passes is.
+      ap (λ (says : Result Profile Fault). says >>= (λ by. events_in kinds.Serve of_script >>= serve_turns by readings arrivals)) passes
+          ∙ ap (λ (says : Result (List Event) Fault). says >>= serve_turns by readings arrivals) is;
+}
+
+served_so : (of_profile of_script : Option (List ℕ)) (by : Profile) (events : List Event) (readings : List ℕ) (arrivals : List (Option Parcel))
+    → profile_in of_profile ≡ Ok by → events_in kinds.Serve of_script ≡ Ok events
+    → served of_profile of_script readings arrivals ≡ Ok (turns_of most_turns server_rules (new_node (new_server by places) events) readings arrivals)
+unfolding serve_turns
+served_so of_profile of_script by events readings arrivals passes is =
+    ap (λ (says : Result Profile Fault). says >>= (λ by. events_in kinds.Serve of_script >>= serve_turns by readings arrivals)) passes
+    ∙ ap (λ (says : Result (List Event) Fault). says >>= serve_turns by readings arrivals) is
+
+-- a client
+join_turns : Address → Profile → List ℕ → List (Option Parcel) → List Event → Result (List Turn) Fault
+join_turns server by readings arrivals events = Ok (client_turns (client_of by server events) events readings arrivals)
+
+pub joins : (told : Outside) (profile script : List ℕ) (at server : Address) → IsNodes told (Some (Join profile script at server)) kinds.Join profile script at (joined server)
+unfolding join_turns
+joins told profile script at server = record {
+  verdict = λ of_profile of_script holds holds_script readings to_read arrivals to_arrive. (of_profile, of_script, holds, holds_script, readings, to_read, arrivals, to_arrive, refl);
+  no_profile = λ of_profile of_script readings arrivals e is. ap (λ (says : Result Profile Fault). says >>= (λ by. events_in kinds.Join of_script >>= join_turns server by readings arrivals)) is;
+  no_events = λ of_profile of_script readings arrivals by e passes is.
+      ap (λ (says : Result Profile Fault). says >>= (λ by. events_in kinds.Join of_script >>= join_turns server by readings arrivals)) passes
+          ∙ ap (λ (says : Result (List Event) Fault). says >>= join_turns server by readings arrivals) is;
+}
+
+joined_so : (server : Address) (of_profile of_script : Option (List ℕ)) (by : Profile) (events : List Event) (readings : List ℕ) (arrivals : List (Option Parcel)) (end : ClientEnd)
+    → profile_in of_profile ≡ Ok by → events_in kinds.Join of_script ≡ Ok events → client_of by server events ≡ Some end
+    → joined server of_profile of_script readings arrivals ≡ Ok (turns_of most_turns client_rules (new_node end events) readings arrivals)
+unfolding join_turns
+joined_so server of_profile of_script by events readings arrivals end passes is client =
+    ap (λ (says : Result Profile Fault). says >>= (λ by. events_in kinds.Join of_script >>= join_turns server by readings arrivals)) passes
+    ∙ ap (λ (says : Result (List Event) Fault). says >>= join_turns server by readings arrivals) is
+    ∙ ap (λ (one : Option ClientEnd). Ok (client_turns one events readings arrivals)) client
+
+pub one_client : (profile : Profile) (server : Address) (all : List Event) → IsOneClient all → (end : ClientEnd) × (client_of profile server all ≡ Some end)
+one_client profile server (events.Client c challenge qport dup address ∷ others) is = (_, refl)
+one_client profile server other is = absurd is
+
+-- ---- before it ran
+
+noded_refused : (names : List (List ℕ)) (at : Address) (answer : Result (List Turn) Fault) (e : Fault) → answer ≡ Err e
+    → ((noded names at answer).ending ≡ Err e) × ((noded names at answer).text ≡ []) × ((noded names at answer).at ≡ None)
+noded_refused names at answer e is = rw is (refl, refl, refl)
+
+noded_memory : (names : List (List ℕ)) (at : Address) (answer : Result (List Turn) Fault) → Comes (noded names at answer).stops.memory
+noded_memory names at (Ok turns) = tt
+noded_memory names at (Err e) = tt
+
+noded_reads : (names : List (List ℕ)) (at : Address) (answer : Result (List Turn) Fault) → Comes (noded names at answer).stops.reads
+noded_reads names at (Ok turns) = tt
+noded_reads names at (Err e) = tt
+
+-- a part that reads a file ended it
+pub part_executes : {A : Type 0} (follow : TextsFollow) (command : Option Command) (told : Outside) (old : Option Written) (names : List (List ℕ)) (at : Address) (answer : Result (List Turn) Fault)
+    (said : Result A Fault) (e : Fault) → IsVerdict told command (noded names at answer) → (said ≡ Err e → answer ≡ Err e) → Gets said (Err e) → Executes command told old old (Err e)
+part_executes follow command told old names at answer said e is so gets =
+    elim gets [
+      | inl by_input ↦
+          let no = noded_refused names at answer e (so (sym by_input)) in
+          refused_so follow command told old (noded names at answer) e is no.0 no.1
+      | inr outside ↦ elim outside [
+        | inl memory ↦ (
+            let so : e ≡ faults.NoMemory = cc in
+            subst (λ (d : Fault). Executes command told old old (Err d)) (sym so) (wants_memory follow command told old (noded names at answer) is (noded_memory names at answer))
+            )
+        | inr read ↦ (
+            let so : e ≡ faults.Read = cc in
+            subst (λ (d : Fault). Executes command told old old (Err d)) (sym so) (fails_reading follow command told old (noded names at answer) is (noded_reads names at answer))
+            )
+      ]
+    ]
+
+-- and left the wire as it was
+part_wires : {A : Type 0} (command : Option Command) (told : Outside) (names : List (List ℕ)) (at : Address) (answer : Result (List Turn) Fault) (said : Result A Fault) (e : Fault)
+    → IsVerdict told command (noded names at answer) → (said ≡ Err e → answer ≡ Err e) → Gets said (Err e) → LeavesWire command told told.wire (Err e)
+part_wires command told names at answer said e is so gets = (
+  noded names at answer,
+  is,
+  elim gets [
+    | inl by_input ↦ inl (rw (noded_refused names at answer e (so (sym by_input))).2 refl)
+    | inr outside ↦ elim outside [
+      | inl memory ↦ inr ((let so : e ≡ faults.NoMemory = cc in rw so tt), inl refl)
+      | inr read ↦ inr ((let so : e ≡ faults.Read = cc in rw so tt), inl refl)
+    ]
+  ],
+)
+
+noded_touches : {A : Type 0} (ended : Result A Fault) (names : List (List ℕ)) (at : Address) (answer : Result (List Turn) Fault) (told now : Option Told) → Gives ended names told now
+    → Touches ended (noded names at answer).named (noded names at answer).made told now
+noded_touches ended names at (Ok turns) told now gives = gives
+noded_touches ended names at (Err cause) told now gives = gives
+
+-- what is left of the files, by the file that holds the profile
+node_given : (told : Outside) (command : Option Command) (kind : ScriptKind) (profile script : List ℕ) (at : Address) (turns : TurnsBy) (now : Option Told) (file : Option (List ℕ)) (ended : Result (Unit {0}) Fault)
+    → IsNodes told command kind profile script at turns → Holds told.files profile file → Gives ended (names_by (profile_in file) profile script) told.files now → LeavesFiles command told now ended
+node_given told command kind profile script at turns now file ended nodes holds gives =
+    let other = held told.files script in
+    let readings = some_read told.clock in
+    let arrivals = some_arrive told.wire in
+    let names = names_by (profile_in file) profile script in (
+      noded names at (turns file other.0 readings.0 arrivals.0),
+      nodes.verdict file other.0 holds other.1 readings.0 readings.1 arrivals.0 arrivals.1,
+      noded_touches ended names at (turns file other.0 readings.0 arrivals.0) told.files now gives,
+    )
+
+-- ---- without a profile
+
+pub no_profile_executes : (follow : TextsFollow) (told : Outside) (command : Option Command) (kind : ScriptKind) (profile script : List ℕ) (at : Address) (turns : TurnsBy) (old : Option Written) (e : Fault)
+    → IsNodes told command kind profile script at turns → GetsFrom profile_in told.files profile (Err e) → Executes command told old old (Err e)
+no_profile_executes follow told command kind profile script at turns old e nodes gets =
+    let s = held told.files script in
+    let readings = some_read told.clock in
+    let arrivals = some_arrive told.wire in
+    part_executes follow command told old (names_by (profile_in gets.0) profile script) at (turns gets.0 s.0 readings.0 arrivals.0) (profile_in gets.0) e
+    (nodes.verdict gets.0 s.0 gets.1 s.1 readings.0 readings.1 arrivals.0 arrivals.1) (nodes.no_profile gets.0 s.0 readings.0 arrivals.0 e) gets.2
+
+pub no_profile_wires : (told : Outside) (command : Option Command) (kind : ScriptKind) (profile script : List ℕ) (at : Address) (turns : TurnsBy) (e : Fault)
+    → IsNodes told command kind profile script at turns → GetsFrom profile_in told.files profile (Err e) → LeavesWire command told told.wire (Err e)
+no_profile_wires told command kind profile script at turns e nodes gets =
+    let s = held told.files script in
+    let readings = some_read told.clock in
+    let arrivals = some_arrive told.wire in
+    part_wires command told (names_by (profile_in gets.0) profile script) at (turns gets.0 s.0 readings.0 arrivals.0) (profile_in gets.0) e
+    (nodes.verdict gets.0 s.0 gets.1 s.1 readings.0 readings.1 arrivals.0 arrivals.1) (nodes.no_profile gets.0 s.0 readings.0 arrivals.0 e) gets.2
+
+pub no_profile_given : (told : Outside) (command : Option Command) (kind : ScriptKind) (profile script : List ℕ) (at : Address) (turns : TurnsBy) (now : Option Told) (e : Fault)
+    → IsNodes told command kind profile script at turns → GetsFrom profile_in told.files profile (Err e) → Gives {A = Profile} (Err e) (profile ∷ []) told.files now → LeavesFiles command told now (Err e)
+no_profile_given told command kind profile script at turns now e nodes gets gives =
+    node_given told command kind profile script at turns now gets.0 (Err e) nodes gets.1 (profile_names gets.0 e profile script told.files now gets.2 gives)
+
+-- ---- without a script
+
+pub no_script_executes : (follow : TextsFollow) (told : Outside) (command : Option Command) (kind : ScriptKind) (profile script : List ℕ) (at : Address) (turns : TurnsBy) (mid : Option Told) (by : Profile) (old : Option Written) (e : Fault)
+    → IsNodes told command kind profile script at turns → GetsFrom profile_in told.files profile (Ok by) → Gives (Ok by) (profile ∷ []) told.files mid → GetsFrom (events_in kind) mid script (Err e)
+    → Executes command told old old (Err e)
+no_script_executes follow told command kind profile script at turns mid by old e nodes passes gives gets =
+    let of_script = same_held told.files mid (profile ∷ []) script gets.0 (gave by (profile ∷ []) told.files mid gives) gets.1 in
+    let readings = some_read told.clock in
+    let arrivals = some_arrive told.wire in
+    part_executes follow command told old (names_by (profile_in passes.0) profile script) at (turns passes.0 gets.0 readings.0 arrivals.0) (events_in kind gets.0) e
+    (nodes.verdict passes.0 gets.0 passes.1 of_script readings.0 readings.1 arrivals.0 arrivals.1)
+    (nodes.no_events passes.0 gets.0 readings.0 arrivals.0 by e (got_ok (profile_in passes.0) by passes.2)) gets.2
+
+pub no_script_wires : (told : Outside) (command : Option Command) (kind : ScriptKind) (profile script : List ℕ) (at : Address) (turns : TurnsBy) (mid : Option Told) (by : Profile) (e : Fault)
+    → IsNodes told command kind profile script at turns → GetsFrom profile_in told.files profile (Ok by) → Gives (Ok by) (profile ∷ []) told.files mid → GetsFrom (events_in kind) mid script (Err e)
+    → LeavesWire command told told.wire (Err e)
+no_script_wires told command kind profile script at turns mid by e nodes passes gives gets =
+    let of_script = same_held told.files mid (profile ∷ []) script gets.0 (gave by (profile ∷ []) told.files mid gives) gets.1 in
+    let readings = some_read told.clock in
+    let arrivals = some_arrive told.wire in
+    part_wires command told (names_by (profile_in passes.0) profile script) at (turns passes.0 gets.0 readings.0 arrivals.0) (events_in kind gets.0) e
+    (nodes.verdict passes.0 gets.0 passes.1 of_script readings.0 readings.1 arrivals.0 arrivals.1)
+    (nodes.no_events passes.0 gets.0 readings.0 arrivals.0 by e (got_ok (profile_in passes.0) by passes.2)) gets.2
+
+passed_given : (told : Outside) (command : Option Command) (kind : ScriptKind) (profile script : List ℕ) (at : Address) (turns : TurnsBy) (now : Option Told) (by : Profile) (ended : Result (Unit {0}) Fault)
+    → IsNodes told command kind profile script at turns → GetsFrom profile_in told.files profile (Ok by) → Gives ended (profile ∷ script ∷ []) told.files now → LeavesFiles command told now ended
+passed_given told command kind profile script at turns now by ended nodes passes gives =
+    node_given told command kind profile script at turns now passes.0 ended nodes passes.1
+    (subst (λ (says : Result Profile Fault). Gives ended (names_by says profile script) told.files now) (sym (got_ok (profile_in passes.0) by passes.2)) gives)
+
+pub no_script_given : (told : Outside) (command : Option Command) (kind : ScriptKind) (profile script : List ℕ) (at : Address) (turns : TurnsBy) (mid now : Option Told) (by : Profile) (e : Fault)
+    → IsNodes told command kind profile script at turns → GetsFrom profile_in told.files profile (Ok by) → Gives (Ok by) (profile ∷ []) told.files mid → Gives {A = Unit {0}} (Err e) (script ∷ []) mid now
+    → LeavesFiles command told now (Err e)
+no_script_given told command kind profile script at turns mid now by e nodes passes first second =
+    passed_given told command kind profile script at turns now by (Err e) nodes passes (elim second [
+      | inl all ↦ inl (leaves_then told.files mid now (looked_up profile) (looked_up script ∷ []) [] (gave by (profile ∷ []) told.files mid first) all)
+      | inr early ↦ inr (early.0, first_then told.files mid now (looked_up profile) (looked_up script ∷ []) [] (gave by (profile ∷ []) told.files mid first) early.1)
+    ])
+
+-- ---- with both
+
+pub both_given : {B : Type 0} (told : Outside) (command : Option Command) (kind : ScriptKind) (profile script : List ℕ) (at : Address) (turns : TurnsBy) (mid now : Option Told) (by : Profile) (events : B) (ended : Result (Unit {0}) Fault)
+    → IsNodes told command kind profile script at turns → GetsFrom profile_in told.files profile (Ok by) → Gives (Ok by) (profile ∷ []) told.files mid → Gives (Ok events) (script ∷ []) mid now
+    → LeavesFiles command told now ended
+both_given told command kind profile script at turns mid now by events ended nodes passes first second =
+    passed_given told command kind profile script at turns now by ended nodes passes
+    (inl (leaves_then told.files mid now (looked_up profile) (looked_up script ∷ []) [] (gave by (profile ∷ []) told.files mid first) (gave events (script ∷ []) mid now second)))
+
+-- both were read: by what is to come, the verdict is that of these turns
+pub record Passed (told : Outside) (command : Option Command) (profile script : List ℕ) (at : Address) (turns : List ℕ → List (Option Parcel) → List Turn) : Type 0 where
+  pub is : (readings : List ℕ) → ToRead told.clock readings → (arrivals : List (Option Parcel)) → ToArrive told.wire arrivals
+      → IsVerdict told command (noded (profile ∷ script ∷ []) at (Ok (turns readings arrivals)))
+
+passed_so : (told : Outside) (command : Option Command) (kind : ScriptKind) (profile script : List ℕ) (at : Address) (turns : TurnsBy) (now_turns : List ℕ → List (Option Parcel) → List Turn)
+    (mid : Option Told) (by : Profile) (events : List Event)
+    → IsNodes told command kind profile script at turns → (passes : GetsFrom profile_in told.files profile (Ok by)) → Gives (Ok by) (profile ∷ []) told.files mid
+    → (gets : GetsFrom (events_in kind) mid script (Ok events))
+    → ((readings : List ℕ) (arrivals : List (Option Parcel)) → turns passes.0 gets.0 readings arrivals ≡ Ok (now_turns readings arrivals))
+    → Passed told command profile script at now_turns
+passed_so told command kind profile script at turns now_turns mid by events nodes passes gives gets same = record {
+  is = λ readings to_read arrivals to_arrive.
+      let of_script = same_held told.files mid (profile ∷ []) script gets.0 (gave by (profile ∷ []) told.files mid gives) gets.1 in
+      subst (λ (says : Result Profile Fault). IsVerdict told command (noded (names_by says profile script) at (Ok (now_turns readings arrivals)))) (got_ok (profile_in passes.0) by passes.2)
+      (subst (λ (answer : Result (List Turn) Fault). IsVerdict told command (noded (names_by (profile_in passes.0) profile script) at answer)) (same readings arrivals)
+      (nodes.verdict passes.0 gets.0 passes.1 of_script readings to_read arrivals to_arrive));
+}
+
+pub serve_passed : (told : Outside) (profile script : List ℕ) (at : Address) (mid : Option Told) (by : Profile) (events : List Event)
+    → GetsFrom profile_in told.files profile (Ok by) → Gives (Ok by) (profile ∷ []) told.files mid → GetsFrom (events_in kinds.Serve) mid script (Ok events)
+    → Passed told (Some (Serve profile script at)) profile script at (turns_of most_turns server_rules (new_node (new_server by places) events))
+serve_passed told profile script at mid by events passes gives gets =
+    passed_so told (Some (Serve profile script at)) kinds.Serve profile script at served (turns_of most_turns server_rules (new_node (new_server by places) events)) mid by events
+    (serves told profile script at) passes gives gets
+    (λ readings arrivals. served_so passes.0 gets.0 by events readings arrivals (got_ok (profile_in passes.0) by passes.2) (got_ok (events_in kinds.Serve gets.0) events gets.2))
+
+pub join_passed : (told : Outside) (profile script : List ℕ) (at server : Address) (mid : Option Told) (by : Profile) (events : List Event) (end : ClientEnd) → client_of by server events ≡ Some end
+    → GetsFrom profile_in told.files profile (Ok by) → Gives (Ok by) (profile ∷ []) told.files mid → GetsFrom (events_in kinds.Join) mid script (Ok events)
+    → Passed told (Some (Join profile script at server)) profile script at (turns_of most_turns client_rules (new_node end events))
+join_passed told profile script at server mid by events end client passes gives gets =
+    passed_so told (Some (Join profile script at server)) kinds.Join profile script at (joined server) (turns_of most_turns client_rules (new_node end events)) mid by events
+    (joins told profile script at server) passes gives gets
+    (λ readings arrivals. joined_so server passes.0 gets.0 by events readings arrivals end (got_ok (profile_in passes.0) by passes.2) (got_ok (events_in kinds.Join gets.0) events gets.2) client)
+
+-- ---- it ran
+
+text_front : (turns first rest : List Turn) → turns ≡ first ++ rest → IsFront (text_of first) (text_of turns)
+text_front turns first rest is = (text_of rest, sym (flat_map-append (λ (turn : Turn). answer_text turn.answer) first rest) ∙ ap text_of (sym is))
+
+ending_so : (turns : List Turn) (ended : Bool) → did_end turns ≡ ended → (if did_end turns then Ok tt else Err faults.Turns) ≡ (if ended then Ok tt else Err faults.Turns)
+ending_so turns ended is = rw is refl
+
+-- nothing was bound
+unbound_executes : (follow : TextsFollow) (told : Outside) (command : Option Command) (profile script : List ℕ) (at : Address) (turns : List ℕ → List (Option Parcel) → List Turn) (old now : Option Written)
+    (are : Option Traffic) (result : Result (Unit {0}) NodeError) → Passed told command profile script at turns → ((result ≡ Err node.NoMemory) ⊎ (result ≡ Err node.WireFault)) → now ≡ old → are ≡ told.wire
+    → Executes command told old now (Err faults.NoMemory)
+unbound_executes follow told command profile script at turns old now are result passed ended printed same =
+    let readings = some_read told.clock in
+    let arrivals = some_arrive told.wire in
+    rw printed (wants_memory follow command told old (noded (profile ∷ script ∷ []) at (Ok (turns readings.0 arrivals.0))) (passed.is readings.0 readings.1 arrivals.0 arrivals.1) tt)
