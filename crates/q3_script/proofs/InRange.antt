@@ -5,7 +5,7 @@ use Rattle.q3_script.specs.declared.cause.ScriptKind.{ScriptKind}
 use Rattle.q3_script.specs.declared.cause.ScriptKind.TheVariants as kinds
 use Rattle.q3_script.specs.Grammar.{IsInRange, IsReplayEvent, IsServeEvent, IsJoinEvent, IsEventOf}
 
-replay_in_range : (event : Event) → IsReplayEvent event → IsInRange event
+pub replay_in_range : (event : Event) → IsReplayEvent event → IsInRange event
 replay_in_range (Client c challenge qport dup address) is = is
 replay_in_range (Port c port) is = is
 replay_in_range (Map id feed) is = is

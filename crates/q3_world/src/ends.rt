@@ -23,7 +23,6 @@ use q3_io::{Address, Sink};
 use q3_profile::Profile;
 use q3_report::{Answer, Front, HandedIn, MoveRefused, Shown, TakeRefused, TypeRefused};
 use q3_script::Event;
-use q3_script::laws::events_are_in_range;
 use q3_server::{Heard, MOST_SLOTS, NoClient, Server};
 use q3_text::Text;
 use std::alloc::Global;
@@ -167,6 +166,7 @@ impl Ends {
     }
 
     /// A line of the game, at the server.
+    #[tactic(auto, using(q3_script::proofs::InRange::replay_in_range))]
     fn game_line<O: Sink>(
         &mut self,
         event: &Event,
@@ -179,7 +179,6 @@ impl Ends {
         ensures told { Tells counts.old counts.new (O.written out.old) (O.written out.new) (O.faults out.old) (O.faults out.new)
             (game_step self.old (server_line self.old.server event.now)).answer result }
     {
-        events_are_in_range();
         let handed = server_line(&mut self.server, event).unwrap();
         tell(&Answer::HandedIn(handed), counts, out)
     }
