@@ -62,6 +62,12 @@ RanNode rules node clock before after were are result =
     (readings : List ℕ) × ToRead clock readings × (arrivals : List (Option Parcel)) × ToArrive were arrivals
     × Ran (turns_of most_turns rules node readings arrivals) before after were are result
 
+-- memory ran out, or the wire failed, before the node ran
+abbrev pub IsBefore : Result (Unit {0}) NodeError → Type 0
+IsBefore (Err NoMemory) = Unit {0}
+IsBefore (Err WireFault) = Unit {0}
+IsBefore other = ⊥
+
 -- where an address is bound, the node ran from there; where none is, nothing was printed or sent
 abbrev pub at_bound : Option Traffic → Address → Option Traffic
 at_bound told at = option_map (λ traffic. after_bind traffic at) told
@@ -73,7 +79,7 @@ BindsAt told now at (Err e) = now ≡ told
 
 abbrev pub RanBound : {S : Type 0} → Bool → Rules S → Node S → Address → Option (List ℕ) → Option Written → Option Written → Option Traffic → Option Traffic → Result (Unit {0}) NodeError → Type 0
 RanBound true rules node at clock before after were are result = RanNode rules node clock before after (at_bound were at) are result
-RanBound false rules node at clock before after were are result = (after ≡ before) × (are ≡ were)
+RanBound false rules node at clock before after were are result = IsBefore result × (after ≡ before) × (are ≡ were)
 
 -- ---- parts of a turn
 

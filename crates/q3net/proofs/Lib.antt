@@ -7,3 +7,4 @@ pub mod Ending
 pub mod Outside
 pub mod Replaying
 pub mod Trying
+pub mod Noding

@@ -1,6 +1,6 @@
 -- How a node ends: a server, or a client, over a wire.
 use Rattle.std.proofs.Common.{◌≡◌, ℕ, ◌<◌, Bool, true, false, List, [], ◌∷◌, ◌++◌, Option, Some, None, Result, Ok, Err, refl, sym, ap, subst, ◌∙◌, inl, inr, arith}
-use Rattle.std.specs.Prelude.{◌⊎◌, if◌then◌else◌, IsSome}
+use Rattle.std.specs.Prelude.{◌⊎◌}
 use Rattle.std.specs.List.{flat_map}
 use Rattle.std.proofs.lemmas.Grind.{flat_map-append}
 use Rattle.q3_bits.specs.ResultBind.{◌>>=◌}
@@ -27,12 +27,13 @@ use Rattle.q3net.specs.declared.fault.Fault.TheVariants as faults
 use Rattle.q3net.specs.Command.{Command, Serve, Join}
 use Rattle.q3net.specs.Faults.{Gets, node_fault, ReadCause, WriteCause, FileCause, WireCause}
 use Rattle.q3net.specs.Input.{IsFront, Holds, looked_up, Touches, Gives}
-use Rattle.q3net.specs.Verdict.{Verdict, Outside, IsVerdict, names_by, profile_in, events_in, noded, served, client_turns, joined, GetsFrom}
+use Rattle.q3net.specs.Verdict.{Verdict, Outside, IsVerdict, names_by, profile_in, events_in, ending_of, noded, served, client_turns, joined, GetsFrom}
 use Rattle.q3net.specs.Run.{Comes, Executes, LeavesFiles, wire_by, Wires, LeavesWire, MayBind}
 use Rattle.q3net.proofs.Loading.{held}
 use Rattle.q3net.proofs.Looking.{got_ok, gave, leaves_then, first_then, gave_first, profile_names}
 use Rattle.q3net.proofs.Replaying.{same_held}
 use Rattle.q3net.proofs.Ending.{refused_so, wants_memory, fails_reading}
+use Rattle.q3net.proofs.Outside.{OfInput, profile_of_input, events_of_input}
 
 -- ---- what is still to come
 
@@ -289,14 +290,128 @@ join_passed told profile script at server mid by events end client passes gives 
 text_front : (turns first rest : List Turn) → turns ≡ first ++ rest → IsFront (text_of first) (text_of turns)
 text_front turns first rest is = (text_of rest, sym (flat_map-append (λ (turn : Turn). answer_text turn.answer) first rest) ∙ ap text_of (sym is))
 
-ending_so : (turns : List Turn) (ended : Bool) → did_end turns ≡ ended → (if did_end turns then Ok tt else Err faults.Turns) ≡ (if ended then Ok tt else Err faults.Turns)
-ending_so turns ended is = rw is refl
+ending_so : (turns : List Turn) (ended : Bool) → did_end turns ≡ ended → ending_of (did_end turns) ≡ ending_of ended
+ending_so turns ended is = ap ending_of is
 
--- nothing was bound
-unbound_executes : (follow : TextsFollow) (told : Outside) (command : Option Command) (profile script : List ℕ) (at : Address) (turns : List ℕ → List (Option Parcel) → List Turn) (old now : Option Written)
-    (are : Option Traffic) (result : Result (Unit {0}) NodeError) → Passed told command profile script at turns → ((result ≡ Err node.NoMemory) ⊎ (result ≡ Err node.WireFault)) → now ≡ old → are ≡ told.wire
-    → Executes command told old now (Err faults.NoMemory)
-unbound_executes follow told command profile script at turns old now are result passed ended printed same =
+-- what is to come stays where an address is bound
+arrive_bound : (told : Option Traffic) (at : Address) (arrivals : List (Option Parcel)) → ToArrive (at_bound told at) arrivals → ToArrive told arrivals
+arrive_bound None at arrivals to = tt
+arrive_bound (Some traffic) at arrivals to = to
+
+-- the verdict of a node that has these turns
+abbrev of_turns : List ℕ → List ℕ → Address → List Turn → Verdict
+of_turns profile script at turns = noded (profile ∷ script ∷ []) at (Ok turns)
+
+-- a node's loop ended early
+ran_failed : (follow : TextsFollow) (told : Outside) (command : Option Command) (profile script : List ℕ) (at : Address) (turns : List Turn) (old now : Option Written) (are : Option Traffic) (e : NodeError)
+    → IsVerdict told command (of_turns profile script at turns) → Ran turns old now (at_bound told.wire at) are (Err e) → Executes command told old now (Err (node_fault e))
+ran_failed follow told command profile script at turns old now are node.NoMemory is ran = absurd ran
+ran_failed follow told command profile script at turns old now are node.WireFault is ran =
+    (of_turns profile script at turns, is, inl (text_of ran.0, inr (faults.Wire, refl, text_front turns ran.0 ran.1 ran.2), ran.3.printed))
+ran_failed follow told command profile script at turns old now are node.WriteFault is ran =
+    let front = text_front turns ran.0 ran.1 ran.2 in
+    (of_turns profile script at turns, is, inr (refl, follow.early front.0 ran.3.printed (sym front.1)))
+ran_failed follow told command profile script at turns old now are node.Turns is ran =
+    (of_turns profile script at turns, is, inl (text_of turns, inl (sym (ending_so turns false ran.0), refl), ran.1.printed))
+
+pub loop_failed : {S : Type 0} (follow : TextsFollow) (told : Outside) (command : Option Command) (profile script : List ℕ) (at : Address) (rules : Rules S) (first : Node S) (bound : Bool)
+    (old now : Option Written) (are : Option Traffic) (e : NodeError) → Passed told command profile script at (turns_of most_turns rules first)
+    → RanBound bound rules first at told.clock old now told.wire are (Err e) → Executes command told old now (Err (node_fault e))
+loop_failed follow told command profile script at rules first true old now are e passed ran =
+    ran_failed follow told command profile script at (turns_of most_turns rules first ran.0 ran.2) old now are e (passed.is ran.0 ran.1 ran.2 (arrive_bound told.wire at ran.2 ran.3)) ran.4
+loop_failed follow told command profile script at rules first false old now are node.NoMemory passed ran =
     let readings = some_read told.clock in
     let arrivals = some_arrive told.wire in
-    rw printed (wants_memory follow command told old (noded (profile ∷ script ∷ []) at (Ok (turns readings.0 arrivals.0))) (passed.is readings.0 readings.1 arrivals.0 arrivals.1) tt)
+    rw ran.1
+    (wants_memory follow command told old (of_turns profile script at (turns_of most_turns rules first readings.0 arrivals.0)) (passed.is readings.0 readings.1 arrivals.0 arrivals.1) tt)
+loop_failed follow told command profile script at rules first false old now are node.WireFault passed ran =
+    let readings = some_read told.clock in
+    let arrivals = some_arrive told.wire in
+    let turns = turns_of most_turns rules first readings.0 arrivals.0 in
+    rw ran.1 (of_turns profile script at turns, passed.is readings.0 readings.1 arrivals.0 arrivals.1, inl ([], inr (faults.Wire, refl, (text_of turns, refl)), follow.none))
+loop_failed follow told command profile script at rules first false old now are node.WriteFault passed ran = absurd ran.0
+loop_failed follow told command profile script at rules first false old now are node.Turns passed ran = absurd ran.0
+
+-- or with `end`
+pub loop_done : {S : Type 0} (told : Outside) (command : Option Command) (profile script : List ℕ) (at : Address) (rules : Rules S) (first : Node S) (bound : Bool)
+    (old now : Option Written) (are : Option Traffic) → Passed told command profile script at (turns_of most_turns rules first)
+    → RanBound bound rules first at told.clock old now told.wire are (Ok tt) → Executes command told old now (Ok tt)
+loop_done told command profile script at rules first true old now are passed ran =
+    let turns = turns_of most_turns rules first ran.0 ran.2 in
+    (of_turns profile script at turns, passed.is ran.0 ran.1 ran.2 (arrive_bound told.wire at ran.2 ran.3), inl (text_of turns, inl (sym (ending_so turns true ran.4.0), refl), ran.4.1.printed))
+loop_done told command profile script at rules first false old now are passed ran = absurd ran.0
+
+-- and what it left of the wire
+wires_failed : (told : Outside) (command : Option Command) (profile script : List ℕ) (at : Address) (turns : List Turn) (old now : Option Written) (are : Option Traffic) (e : NodeError)
+    → IsVerdict told command (of_turns profile script at turns) → Ran turns old now (at_bound told.wire at) are (Err e) → LeavesWire command told are (Err (node_fault e))
+wires_failed told command profile script at turns old now are node.NoMemory is ran = absurd ran
+wires_failed told command profile script at turns old now are node.WireFault is ran = (of_turns profile script at turns, is, inr (tt, inr (ran.0, (ran.1, sym ran.2), ran.3.wire)))
+wires_failed told command profile script at turns old now are node.WriteFault is ran = (of_turns profile script at turns, is, inr (tt, inr (ran.0, (ran.1, sym ran.2), ran.3.wire)))
+wires_failed told command profile script at turns old now are node.Turns is ran = (of_turns profile script at turns, is, inl ran.1.wire)
+
+pub loop_failed_wires : {S : Type 0} (told : Outside) (command : Option Command) (profile script : List ℕ) (at : Address) (rules : Rules S) (first : Node S) (bound : Bool)
+    (old now : Option Written) (are : Option Traffic) (e : NodeError) → Passed told command profile script at (turns_of most_turns rules first)
+    → RanBound bound rules first at told.clock old now told.wire are (Err e) → LeavesWire command told are (Err (node_fault e))
+loop_failed_wires told command profile script at rules first true old now are e passed ran =
+    wires_failed told command profile script at (turns_of most_turns rules first ran.0 ran.2) old now are e (passed.is ran.0 ran.1 ran.2 (arrive_bound told.wire at ran.2 ran.3)) ran.4
+loop_failed_wires told command profile script at rules first false old now are node.NoMemory passed ran =
+    let readings = some_read told.clock in
+    let arrivals = some_arrive told.wire in
+    (of_turns profile script at (turns_of most_turns rules first readings.0 arrivals.0), passed.is readings.0 readings.1 arrivals.0 arrivals.1, inr (tt, inl ran.2))
+loop_failed_wires told command profile script at rules first false old now are node.WireFault passed ran =
+    let readings = some_read told.clock in
+    let arrivals = some_arrive told.wire in
+    (of_turns profile script at (turns_of most_turns rules first readings.0 arrivals.0), passed.is readings.0 readings.1 arrivals.0 arrivals.1, inr (tt, inl ran.2))
+loop_failed_wires told command profile script at rules first false old now are node.WriteFault passed ran = absurd ran.0
+loop_failed_wires told command profile script at rules first false old now are node.Turns passed ran = absurd ran.0
+
+pub loop_done_wires : {S : Type 0} (told : Outside) (command : Option Command) (profile script : List ℕ) (at : Address) (rules : Rules S) (first : Node S) (bound : Bool)
+    (old now : Option Written) (are : Option Traffic) → Passed told command profile script at (turns_of most_turns rules first)
+    → RanBound bound rules first at told.clock old now told.wire are (Ok tt) → LeavesWire command told are (Ok tt)
+loop_done_wires told command profile script at rules first true old now are passed ran =
+    let turns = turns_of most_turns rules first ran.0 ran.2 in
+    (of_turns profile script at turns, passed.is ran.0 ran.1 ran.2 (arrive_bound told.wire at ran.2 ran.3), inl ran.4.1.wire)
+loop_done_wires told command profile script at rules first false old now are passed ran = absurd ran.0
+
+-- its verdict binds an address
+pub passed_binds : (told : Outside) (command : Option Command) (profile script : List ℕ) (at : Address) (turns : List ℕ → List (Option Parcel) → List Turn) → Passed told command profile script at turns
+    → MayBind command told
+passed_binds told command profile script at turns passed =
+    let readings = some_read told.clock in
+    let arrivals = some_arrive told.wire in
+    (of_turns profile script at (turns readings.0 arrivals.0), passed.is readings.0 readings.1 arrivals.0 arrivals.1, at, refl)
+
+-- ---- causes
+
+pub node_read_cause : (before now : ℕ) (e : NodeError) → now ≡ before → ReadCause {T = Unit {0}} before now (Err (node_fault e))
+node_read_cause before now node.NoMemory same = same
+node_read_cause before now node.WireFault same = same
+node_read_cause before now node.WriteFault same = same
+node_read_cause before now node.Turns same = same
+
+pub node_write_cause : (before now : ℕ) (e : NodeError) → NodeWriteCause {T = Unit {0}} before now (Err e) → WriteCause before now (Err (node_fault e))
+node_write_cause before now node.NoMemory cause = cause
+node_write_cause before now node.WireFault cause = cause
+node_write_cause before now node.WriteFault cause = cause
+node_write_cause before now node.Turns cause = cause
+
+pub node_wire_cause : (before now : ℕ) (e : NodeError) → NodeWireCause {T = Unit {0}} before now (Err e) → WireCause before now (Err (node_fault e))
+node_wire_cause before now node.NoMemory cause = cause
+node_wire_cause before now node.WireFault cause = cause
+node_wire_cause before now node.WriteFault cause = cause
+node_wire_cause before now node.Turns cause = cause
+
+-- a part that reads a file fails by no wire
+pub part_wire_cause : {A : Type 0} (said : Result A Fault) (e : Fault) (before now : ℕ) → Gets said (Err e) → (said ≡ Err faults.Wire → ⊥) → now ≡ before → WireCause before now (Err e)
+part_wire_cause said faults.Wire before now gets never same =
+    absurd (elim gets [
+      | inl by_input ↦ never (sym by_input)
+      | inr outside ↦ elim outside [ inl memory ↦ (cc) | inr read ↦ (cc) ]
+    ])
+part_wire_cause said other before now gets never same = same
+
+pub no_profile_wire : (file : Option (List ℕ)) → profile_in file ≡ Err faults.Wire → ⊥
+no_profile_wire file is = subst (λ (answer : Result Profile Fault). OfInput answer) is (profile_of_input file)
+
+pub no_events_wire : (kind : ScriptKind) (file : Option (List ℕ)) → events_in kind file ≡ Err faults.Wire → ⊥
+no_events_wire kind file is = subst (λ (answer : Result (List Event) Fault). OfInput answer) is (events_of_input kind file)

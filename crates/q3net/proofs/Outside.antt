@@ -1,5 +1,5 @@
 -- What comes from outside: it ends a run only where the verdict says that it may come, and where its count rose.
-use Rattle.std.proofs.Common.{◌≡◌, ℕ, ◌<◌, ◌≤◌, Bool, true, false, if◌then◌else◌, List, [], ◌∷◌, Option, Some, None, Result, Ok, Err, refl, sym, ap, subst, ◌∙◌, inl, inr, arith}
+use Rattle.std.proofs.Common.{◌≡◌, ℕ, ◌<◌, ◌≤◌, Bool, true, false, List, [], ◌∷◌, Option, Some, None, Result, Ok, Err, refl, sym, ap, subst, ◌∙◌, inl, inr, arith}
 use Rattle.std.specs.Prelude.{◌⊎◌, IsNone}
 use Rattle.std.specs.Result.{result_map_both}
 use Rattle.q3_bits.specs.ResultBind.{◌>>=◌}
@@ -28,8 +28,8 @@ use Rattle.q3net.specs.declared.fault.Fault.TheVariants as faults
 use Rattle.q3net.specs.Command.{Command, Help, Version, Replay, Make, Trial, Serve, Join}
 use Rattle.q3net.specs.Faults.{ReadCause, WriteCause, FileCause, WireCause}
 use Rattle.q3net.specs.Lines.{help_text, version_text, fault_status, ending_status}
-use Rattle.q3net.specs.Verdict.{Stops, Verdict, Outside, IsVerdict, stops_nowhere, takes_memory, reads_first, settled, profile_in, events_in, replayed, names_by, summary, tried, noded, served, client_turns, joined}
-use Rattle.q3net.specs.Run.{Comes, ComesBehind, place_of, Executes, FilesFail, IsComplete}
+use Rattle.q3net.specs.Verdict.{Stops, Verdict, Outside, IsVerdict, stops_nowhere, takes_memory, reads_first, settled, profile_in, events_in, replayed, names_by, summary, tried, ending_of, noded, served, client_turns, joined}
+use Rattle.q3net.specs.Run.{Comes, ComesBehind, place_of, Executes, FilesFail, IsComplete, LeavesWire}
 use Rattle.q3net.proofs.Ending.{comes_behind, settled_writes, settled_wire}
 
 -- ---- what an input decides: no want of memory, no failed write, no fault of the wire, and not that the words are no command line
@@ -62,7 +62,7 @@ script_of_input : (says : Result (List Event) BadLine) → OfInput (result_map_b
 script_of_input (Ok events) = tt
 script_of_input (Err bad) = tt
 
-events_of_input : (kind : ScriptKind) (file : Option (List ℕ)) → OfInput (events_in kind file)
+pub events_of_input : (kind : ScriptKind) (file : Option (List ℕ)) → OfInput (events_in kind file)
 events_of_input kind None = tt
 events_of_input kind (Some bytes) = script_of_input (script_at kind bytes)
 
@@ -93,7 +93,7 @@ joined_of_input server profile script readings arrivals =
     bind_of_input (profile_in profile) (λ by. events_in kinds.Join script >>= (λ events. Ok (client_turns (client_of by server events) events readings arrivals))) (profile_of_input profile)
     (λ by. bind_of_input (events_in kinds.Join script) (λ events. Ok (client_turns (client_of by server events) events readings arrivals)) (events_of_input kinds.Join script) (λ events. tt))
 
-ended_of_input : (ended : Bool) → OfInput {A = Unit {0}} (if ended then Ok tt else Err faults.Turns)
+ended_of_input : (ended : Bool) → OfInput (ending_of ended)
 ended_of_input true = tt
 ended_of_input false = tt
 
@@ -351,3 +351,57 @@ usage_of_none (Some command) told old now ended status mid last executes ends tw
           (λ verdict is. (not_decided told command verdict faults.Usage is (λ none. none), λ comes. comes)) executes (two_is_usage ended (sym same.0 ∙ two))
       | inr failed ↦ omega (arith, failed.0, two)
     ])
+
+-- ---- the wire
+
+-- a command that has no node
+abbrev pub IsNodeless : Option Command → Type 0
+IsNodeless (Some (Serve profile script at)) = ⊥
+IsNodeless (Some (Join profile script at server)) = ⊥
+IsNodeless other = Unit {0}
+
+settled_nowhere : (verdict : Verdict) (stops : Stops) (names : List (List ℕ)) (answer : Result (List ℕ) Fault) → verdict ≡ settled stops names answer → verdict.at ≡ None
+settled_nowhere verdict stops names (Ok text) is = ap (λ (v : Verdict). v.at) is
+settled_nowhere verdict stops names (Err e) is = ap (λ (v : Verdict). v.at) is
+
+binds_nothing : (told : Outside) (command : Option Command) (verdict : Verdict) → IsNodeless command → IsVerdict told command verdict → verdict.at ≡ None
+binds_nothing told None verdict nodeless is = settled_nowhere verdict stops_nowhere [] (Err faults.Usage) is
+binds_nothing told (Some Help) verdict nodeless is = settled_nowhere verdict stops_nowhere [] (Ok help_text) is
+binds_nothing told (Some Version) verdict nodeless is = settled_nowhere verdict stops_nowhere [] (Ok version_text) is
+binds_nothing told (Some (Replay profile script)) verdict nodeless is =
+    settled_nowhere verdict reads_first (names_by (profile_in is.0) profile script) (replayed is.0 is.1) is.4
+binds_nothing told (Some (Make draws)) verdict nodeless is = settled_nowhere verdict takes_memory [] (Ok (script_text (generated draws.number draws.seed))) is
+binds_nothing told (Some (Trial profile draws)) verdict nodeless is = settled_nowhere verdict reads_first (profile ∷ []) (tried is.0 draws) is.2
+binds_nothing told (Some (Serve profile script at)) verdict nodeless is = absurd nodeless
+binds_nothing told (Some (Join profile script at server)) verdict nodeless is = absurd nodeless
+
+-- leaves the wire as it was
+pub wire_stays : (command : Option Command) (told : Outside) (old now : Option Written) (ended : Result (Unit {0}) Fault) → IsNodeless command → Executes command told old now ended
+    → LeavesWire command told told.wire ended
+wire_stays command told old now ended nodeless executes =
+    (executes.0, executes.1, inl (rw (binds_nothing told command executes.0 nodeless executes.1) refl))
+
+nine_of : (ended : Result (Unit {0}) Fault) (wires wired : ℕ) → WireCause wires wired ended → ending_status ended ≡ 9 → Rose wires wired
+nine_of (Err faults.Wire) wires wired cause nine = cause.1
+nine_of other wires wired cause nine = absurd (omega (arith, nine))
+
+pub nine_fails : (ended : Result (Unit {0}) Fault) (status mid last wires wired : ℕ) → WireCause wires wired ended → EndsSo mid last ended status → status ≡ 9 → Rose wires wired
+nine_fails ended status mid last wires wired cause ends nine =
+    elim ends [ inl same ↦ nine_of ended wires wired cause (sym same.0 ∙ nine) | inr failed ↦ absurd (omega (arith, failed.0, nine)) ]
+
+wire_passed : (ended : Result (Unit {0}) Fault) (status wires wired : ℕ) → WireCause wires wired ended → status ≡ ending_status ended → (wired ≡ wires) ⊎ ((status ≡ 9) ⊎ (status ≡ 4))
+wire_passed (Err faults.Wire) status wires wired cause is = inr (inl is)
+wire_passed other status wires wired cause is = inl cause
+
+pub no_wire_passed : (ended : Result (Unit {0}) Fault) (status mid last wires wired : ℕ) → WireCause wires wired ended → EndsSo mid last ended status → (wired ≡ wires) ⊎ ((status ≡ 9) ⊎ (status ≡ 4))
+no_wire_passed ended status mid last wires wired cause ends =
+    elim ends [ inl same ↦ wire_passed ended status wires wired cause same.0 | inr failed ↦ inr (inr failed.0) ]
+
+status_in : (ended : Result (Unit {0}) Fault) (status : ℕ) → status ≡ ending_status ended → (status ≤ 6) ⊎ ((status ≡ 9) ⊎ (status ≡ 11))
+status_in (Err faults.Wire) status is = inr (inl is)
+status_in (Err faults.Turns) status is = inr (inr is)
+status_in other status is = inl (omega (arith, is))
+
+pub statuses_in : (ended : Result (Unit {0}) Fault) (status mid last : ℕ) → EndsSo mid last ended status → (status ≤ 6) ⊎ ((status ≡ 9) ⊎ (status ≡ 11))
+statuses_in ended status mid last ends =
+    elim ends [ inl same ↦ status_in ended status same.0 | inr failed ↦ inl (omega (arith, failed.0)) ]

@@ -1,5 +1,5 @@
 -- How a run goes: as its verdict says, or something from outside ends it early.
-use Rattle.std.specs.Prelude.{◌≡◌, ◌⊎◌, ℕ, ◌≤◌, true, false, List, [], ◌++◌, map, take, Option, Some, None, IsSome, Result, Ok, Err}
+use Rattle.std.specs.Prelude.{◌≡◌, ◌⊎◌, ℕ, ◌≤◌, true, false, List, [], ◌++◌, map, take, Option, Some, None, Result, Ok, Err}
 use Rattle.std.specs.List.{flat_map}
 use Rattle.q3_io.specs.Faults.{Rose}
 use Rattle.q3_io.specs.declared.address.Address.{Address}
@@ -146,7 +146,7 @@ HasWired command told now status =
 
 -- an address is bound only by a command that binds one
 abbrev pub MayBind : Option Command → Outside → Type 0
-MayBind command told = (verdict : Verdict) × IsVerdict told command verdict × IsSome verdict.at
+MayBind command told = (verdict : Verdict) × IsVerdict told command verdict × (at : Address) × (verdict.at ≡ Some at)
 
 -- ---- of the steps
 

@@ -1,5 +1,5 @@
 -- What the input of a run decides: what is printed, and how the run ends.
-use Rattle.std.specs.Prelude.{◌≡◌, ℕ, if◌then◌else◌, List, [], ◌∷◌, map, Option, Some, None, Result, Ok, Err, ok_or}
+use Rattle.std.specs.Prelude.{◌≡◌, ℕ, Bool, true, false, List, [], ◌∷◌, map, Option, Some, None, Result, Ok, Err, ok_or}
 use Rattle.std.specs.Result.{result_map_both}
 use Rattle.std.specs.Global.{Vec}
 use Rattle.q3_profile.specs.declared.profile.Profile.{Profile as ProfileValue}
@@ -113,9 +113,14 @@ tried profile draws = do
   by ← profile_in profile
   Ok (summary by (generated draws.number draws.seed))
 
--- of a node at an address with these turns: it did `end`, or its turns are spent; of none, by a cause
+-- a node did `end`, or its turns are spent
+abbrev pub ending_of : Bool → Result (Unit {0}) Fault
+ending_of true = Ok tt
+ending_of false = Err Turns
+
+-- of a node at an address with these turns; of none, by a cause
 abbrev pub noded : List (List ℕ) → Address → Result (List Turn) Fault → Verdict
-noded names at (Ok turns) = record (printing goes_on_wire names (text_of turns) (if did_end turns then Ok tt else Err Turns)) { at = Some at; turns = turns }
+noded names at (Ok turns) = record (printing goes_on_wire names (text_of turns) (ending_of (did_end turns))) { at = Some at; turns = turns }
 noded names at (Err cause) = printing goes_on_wire names [] (Err cause)
 
 -- the turns of a server by the script in one file and the profile in another, where these readings and arrivals are to come

@@ -1,6 +1,6 @@
 //! The command lines, by position.
 
-ghost use Rattle.std.specs.Prelude.{◌≡◌, ◌-◌, ◌^◌, map, option_map, IfSome};
+ghost use Rattle.std.specs.Prelude.{◌≡◌, ◌-◌, ◌^◌, [], ◌∷◌, map, option_map, IfSome};
 ghost use Rattle.std.specs.String.{string_bytes};
 ghost use Rattle.q3_text.specs.Decimals.{number_at};
 ghost use Rattle.q3net.specs.Command.{AreDraws, MayDraw, command_of, command_value, draws_at, serve_at, join_at};
@@ -53,31 +53,102 @@ pub fn parse(words: &[String]) -> Option<Command<'_>>
     ensures draws { IfSome result MayDraw }
 {
     match words {
-        [word] if word.as_str() == "--help" => Some(Command::Help),
-        [word] if word.as_str() == "--version" => Some(Command::Version),
-        [word, profile, script] if word.as_str() == "replay" => Some(Command::Replay {
-            profile: profile.as_str(),
-            script: script.as_str(),
-        }),
-        [word, number, seed] if word.as_str() == "make" => {
-            Some(Command::Make(draws_of(number.as_str(), seed.as_str())?))
-        }
-        [word, profile, number, seed] if word.as_str() == "trial" => Some(Command::Trial {
-            profile: profile.as_str(),
-            draws: draws_of(number.as_str(), seed.as_str())?,
-        }),
-        [word, profile, script, at] if word.as_str() == "serve" => Some(Command::Serve {
-            profile: profile.as_str(),
-            script: script.as_str(),
-            at: read_address(at.as_bytes())?,
-        }),
-        [word, profile, script, at, server] if word.as_str() == "join" => Some(Command::Join {
-            profile: profile.as_str(),
-            script: script.as_str(),
-            at: read_address(at.as_bytes())?,
-            server: read_address(server.as_bytes())?,
-        }),
+        [word] => alone(word.as_str()),
+        [word, first, second] => with_two(word.as_str(), first.as_str(), second.as_str()),
+        [word, first, second, third] => with_three(
+            word.as_str(),
+            first.as_str(),
+            second.as_str(),
+            third.as_str(),
+        ),
+        [word, first, second, third, fourth] => with_four(
+            word.as_str(),
+            first.as_str(),
+            second.as_str(),
+            third.as_str(),
+            fourth.as_str(),
+        ),
         _ => None,
+    }
+}
+
+/// The command that a word is by itself.
+fn alone(word: &str) -> Option<Command<'_>>
+    ensures value { option_map command_value result ≡ command_of (word.now ∷ []) }
+    ensures draws { IfSome result MayDraw }
+{
+    if word == "--help" {
+        Some(Command::Help)
+    } else if word == "--version" {
+        Some(Command::Version)
+    } else {
+        None
+    }
+}
+
+/// The command that a word is with two behind it.
+fn with_two<'a>(word: &str, first: &'a str, second: &'a str) -> Option<Command<'a>>
+    ensures value { option_map command_value result ≡ command_of (word.now ∷ first.now ∷ second.now ∷ []) }
+    ensures draws { IfSome result MayDraw }
+{
+    if word == "replay" {
+        Some(Command::Replay {
+            profile: first,
+            script: second,
+        })
+    } else if word == "make" {
+        Some(Command::Make(draws_of(first, second)?))
+    } else {
+        None
+    }
+}
+
+/// The command that a word is with three behind it.
+fn with_three<'a>(
+    word: &str,
+    first: &'a str,
+    second: &'a str,
+    third: &'a str,
+) -> Option<Command<'a>>
+    ensures value { option_map command_value result ≡ command_of (word.now ∷ first.now ∷ second.now ∷ third.now ∷ []) }
+    ensures draws { IfSome result MayDraw }
+{
+    if word == "trial" {
+        Some(Command::Trial {
+            profile: first,
+            draws: draws_of(second, third)?,
+        })
+    } else if word == "serve" {
+        Some(Command::Serve {
+            profile: first,
+            script: second,
+            at: read_address(third.as_bytes())?,
+        })
+    } else {
+        None
+    }
+}
+
+/// The command that a word is with four behind it.
+fn with_four<'a>(
+    word: &str,
+    first: &'a str,
+    second: &'a str,
+    third: &'a str,
+    fourth: &'a str,
+) -> Option<Command<'a>>
+    ensures value { option_map command_value result ≡ command_of (word.now ∷ first.now ∷ second.now ∷ third.now ∷ fourth.now ∷ []) }
+    ensures draws { IfSome result MayDraw }
+{
+    if word == "join" {
+        Some(Command::Join {
+            profile: first,
+            script: second,
+            at: read_address(third.as_bytes())?,
+            server: read_address(fourth.as_bytes())?,
+        })
+    } else {
+        None
     }
 }
 

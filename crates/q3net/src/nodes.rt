@@ -1,10 +1,10 @@
 //! A server, and a client, over a wire.
 
-ghost use Rattle.std.specs.Prelude.{◌≡◌, Some, false};
+ghost use Rattle.std.specs.Prelude.{◌≡◌, Some, true, false};
 ghost use Rattle.q3net.specs.Command.{Serve, Join};
 ghost use Rattle.q3net.specs.Faults.{ReadCause, WriteCause, WireCause};
 ghost use Rattle.q3net.specs.Verdict.{outside};
-ghost use Rattle.q3net.specs.Run.{Executes, LeavesFiles, LeavesWire};
+ghost use Rattle.q3net.specs.Run.{Executes, LeavesFiles, LeavesWire, MayBind};
 
 use crate::fault::Fault;
 use crate::replay::{load_events, load_profile};
@@ -29,6 +29,7 @@ pub fn serve<F: Files, W: Wire, C: Clock, O: Sink>(
         (O.written out.old) (O.written out.new) result }
     ensures gives { LeavesFiles (Some (Serve profile.now script.now at)) (outside (F.told files.old) (W.told wire.old) (C.readings clock.old)) (F.told files.new) result }
     ensures wires { LeavesWire (Some (Serve profile.now script.now at)) (outside (F.told files.old) (W.told wire.old) (C.readings clock.old)) (W.told wire.new) result }
+    ensures binds { W.bound wire.new ≡ true → MayBind (Some (Serve profile.now script.now at)) (outside (F.told files.old) (W.told wire.old) (C.readings clock.old)) }
     ensures unbound { W.bound wire.new ≡ false → clock.new ≡ clock.old }
     ensures writes { F.write_faults files.new ≡ F.write_faults files.old }
     ensures read_cause { ReadCause (F.faults files.old) (F.faults files.new) result }
@@ -59,6 +60,7 @@ pub fn join<F: Files, W: Wire, C: Clock, O: Sink>(
         (O.written out.old) (O.written out.new) result }
     ensures gives { LeavesFiles (Some (Join profile.now script.now at server)) (outside (F.told files.old) (W.told wire.old) (C.readings clock.old)) (F.told files.new) result }
     ensures wires { LeavesWire (Some (Join profile.now script.now at server)) (outside (F.told files.old) (W.told wire.old) (C.readings clock.old)) (W.told wire.new) result }
+    ensures binds { W.bound wire.new ≡ true → MayBind (Some (Join profile.now script.now at server)) (outside (F.told files.old) (W.told wire.old) (C.readings clock.old)) }
     ensures unbound { W.bound wire.new ≡ false → clock.new ≡ clock.old }
     ensures writes { F.write_faults files.new ≡ F.write_faults files.old }
     ensures read_cause { ReadCause (F.faults files.old) (F.faults files.new) result }
