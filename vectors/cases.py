@@ -1,0 +1,77 @@
+"""What check and check-nodes share: where cases are, their files, and how a difference is told."""
+import itertools
+import json
+import os
+import pathlib
+import sys
+
+# the folders beside this file whose cases need peers: check-nodes runs them, and check the others
+WITH_PEERS = {'server-and-client'}
+
+
+def command_line(text, with_peers):
+    """The program and the cases that the command line asks for; or the text is printed."""
+    if sys.argv[1:] == ['--help']:
+        print(text.strip())
+        sys.exit()
+    if len(sys.argv) < 2:
+        sys.exit(text)
+    program = os.path.abspath(sys.argv[1])
+    if not os.access(program, os.X_OK) or not os.path.isfile(program):
+        sys.exit(f'no program {program}')
+    here = pathlib.Path(__file__).resolve().parent
+    beside = sorted(path for path in here.iterdir() if path.is_dir() and (path.name in WITH_PEERS) == with_peers)
+    folders = [pathlib.Path(word) for word in sys.argv[2:]] or beside
+    for folder in folders:
+        if not folder.is_dir():
+            sys.exit(f'no folder {folder}')
+    return program, [case for folder in folders for case in sorted(folder.iterdir())]
+
+
+def told(case):
+    return json.loads((case / 'case.json').read_text())
+
+
+def files(folder):
+    return {str(path.relative_to(folder)): path.read_bytes() for path in folder.rglob('*') if path.is_file()}
+
+
+def store(folder, data):
+    for name, content in data.items():
+        path = folder / name
+        path.parent.mkdir(parents=True, exist_ok=True)
+        path.write_bytes(content)
+
+
+def first_difference(what, wanted, got):
+    """The first item of two lists that differs, if one does."""
+    for number, pair in enumerate(itertools.zip_longest(wanted, got), 1):
+        if pair[0] != pair[1]:
+            shown = [repr(item)[:160] if item is not None else 'nothing more' for item in pair]
+            yield f'{what} {number}\n  wanted {shown[0]}\n  got    {shown[1]}'
+            return
+
+
+def differences(case, given, status, printed, left):
+    """What differs after a run: the status, what was printed, and the files that lie where it ran."""
+    if status != told(case)['status']:
+        yield f'status {status}, wanted {told(case)["status"]}'
+    lines = [text.decode('latin-1').split('\n') for text in ((case / 'stdout').read_bytes(), printed)]
+    yield from first_difference('line', *lines)
+    wanted = {**given, **files(case / 'made')}
+    for name in sorted(wanted.keys() | left.keys()):
+        if wanted.get(name) != left.get(name):
+            yield f'file {name}'
+
+
+def passes(case, found):
+    for difference in found:
+        print(f'{case.parent.name}/{case.name}: {difference}')
+    return not found
+
+
+def end(answers):
+    """Prints how many passed: the status."""
+    passed, failed = answers.count(True), answers.count(False)
+    print(f'{len(answers)} cases, {failed} differ\n{passed} passed, {failed} failed')
+    return 0 if answers and not failed else 1
