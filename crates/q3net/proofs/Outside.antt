@@ -29,7 +29,7 @@ use Rattle.q3net.specs.Command.{Command, Help, Version, Replay, Make, Trial, Ser
 use Rattle.q3net.specs.Faults.{ReadCause, WriteCause, FileCause, WireCause}
 use Rattle.q3net.specs.Lines.{help_text, version_text, fault_status, ending_status}
 use Rattle.q3net.specs.Verdict.{Stops, Verdict, Outside, IsVerdict, stops_nowhere, takes_memory, reads_first, settled, profile_in, events_in, replayed, names_by, summary, tried, ending_of, noded, served, client_turns, joined}
-use Rattle.q3net.specs.Run.{Comes, ComesBehind, place_of, Executes, FilesFail, IsComplete, LeavesWire}
+use Rattle.q3net.specs.Run.{Comes, ComesBehind, place_of, Executes, FilesFail, IsEarlyStatus, IsDecided, IsComplete, LeavesWire}
 use Rattle.q3net.proofs.Ending.{comes_behind, settled_writes, settled_wire}
 
 -- ---- what an input decides: no want of memory, no failed write, no fault of the wire, and not that the words are no command line
@@ -405,3 +405,44 @@ status_in other status is = inl (omega (arith, is))
 pub statuses_in : (ended : Result (Unit {0}) Fault) (status mid last : ℕ) → EndsSo mid last ended status → (status ≤ 6) ⊎ ((status ≡ 9) ⊎ (status ≡ 11))
 statuses_in ended status mid last ends =
     elim ends [ inl same ↦ status_in ended status same.0 | inr failed ↦ inl (omega (arith, failed.0)) ]
+
+-- ---- what decides the status
+
+pub decides : (command : Option Command) (told : Outside) (old now : Option Written) (ended : Result (Unit {0}) Fault) (status mid last : ℕ)
+    → Executes command told old now ended → EndsSo mid last ended status → IsDecided command told status
+decides command told old now ended status mid last executes ends = (
+  executes.0,
+  executes.1,
+  elim ends [
+    | inl same ↦ elim executes.2 [
+      | inl done ↦ elim done.1 [
+        | inl said ↦ inl (same.0 ∙ ap ending_status said.0)
+        | inr stopped ↦ inr (inr (stopped.0, comes_behind (place_of executes.0.stops stopped.0) done.0 executes.0.text stopped.2, same.0 ∙ ap ending_status stopped.1))
+      ]
+      | inr failed ↦ inr (inl (same.0 ∙ ap ending_status failed.0))
+    ]
+    | inr failed ↦ inr (inl failed.0)
+  ],
+)
+
+nowhere : (fault : Fault) → Comes (place_of stops_nowhere fault) → ⊥
+nowhere faults.NoMemory comes = comes
+nowhere faults.Read comes = comes
+nowhere faults.FileWrite comes = comes
+nowhere faults.Wire comes = comes
+nowhere other comes = comes
+
+usage_or_four : (verdict : Verdict) (status : ℕ) → verdict ≡ settled stops_nowhere [] (Err faults.Usage)
+    → (status ≡ ending_status verdict.ending) ⊎ IsEarlyStatus verdict.stops status → (status ≡ 2) ⊎ (status ≡ 4)
+usage_or_four verdict status is decided =
+    elim decided [
+      | inl said ↦ inl (said ∙ ap (λ (v : Verdict). ending_status v.ending) is)
+      | inr early ↦ elim early [
+        | inl four ↦ inr four
+        | inr stopped ↦ absurd (nowhere stopped.0 (subst (λ (v : Verdict). Comes (place_of v.stops stopped.0)) is stopped.1))
+      ]
+    ]
+
+pub no_command_so : (command : Option Command) (told : Outside) (status : ℕ) → IsDecided command told status → IsNone command → (status ≡ 2) ⊎ (status ≡ 4)
+no_command_so None told status decided none = usage_or_four decided.0 status decided.1 decided.2
+no_command_so (Some command) told status decided none = absurd cc

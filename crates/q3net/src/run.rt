@@ -26,7 +26,6 @@ const VERSION: &[u8] = b"q3net 0.1.0\n";
 /// Runs the command that the words after the program's name are, and answers its status:
 /// 0 done, 1 no memory, 2 usage, 3 read fault, 4 write fault, 5 bad profile, 6 bad script, 9 wire fault, 11 turns spent.
 /// Want of memory may come at any point after usage, and no clause ties it to anything.
-#[tactic(auto, using(crate::proofs::Outside::four_fails, crate::proofs::Outside::completes))]
 pub fn run<F: Files, W: Wire, C: Clock, O: Sink>(
     alloc: Global,
     words: &[String],

@@ -5,7 +5,7 @@ use Rattle.q3net.specs.Command.{command_of}
 use Rattle.q3net.specs.Verdict.{outside}
 use Rattle.q3net.proofs.Ending.{prints}
 use Rattle.q3net.proofs.Looking.{touches, has_left}
-use Rattle.q3net.proofs.Outside.{files_failed, usage_of_none, nine_fails, no_wire_passed, statuses_in}
+use Rattle.q3net.proofs.Outside.{files_failed, usage_of_none, four_fails, completes, decides, no_command_so, nine_fails, no_wire_passed, statuses_in}
 use Rattle.q3net.proofs.run.run.Goals as goal
 
 pub returns-clause-prints : goal.returns-clause-prints
@@ -44,3 +44,19 @@ returns-clause-no_wire_fault_passed g c = no_wire_passed c.execute-ended.result 
 
 pub returns-clause-statuses : goal.returns-clause-statuses
 returns-clause-statuses g c = statuses_in c.execute-ended.result c.end.result (g.O.Sink.faults c.execute-ended.new.out) (g.O.Sink.faults c.end.new.out) c.end.ensures.status
+
+pub returns-clause-decided : goal.returns-clause-decided
+returns-clause-decided g c = decides (command_of (map string_bytes c.args.words.now)) (outside (g.F.Files.told c.args.files.now) (g.W.Wire.told c.args.wire.now) (g.C.Clock.readings c.args.clock.now)) (g.O.Sink.written c.args.out.now) (g.O.Sink.written c.execute-ended.new.out) c.execute-ended.result c.end.result (g.O.Sink.faults c.execute-ended.new.out) (g.O.Sink.faults c.end.new.out) c.execute-ended.ensures.executes c.end.ensures.status
+
+pub returns-clause-no_command : goal.returns-clause-no_command
+returns-clause-no_command g c = no_command_so (command_of (map string_bytes c.args.words.now)) (outside (g.F.Files.told c.args.files.now) (g.W.Wire.told c.args.wire.now) (g.C.Clock.readings c.args.clock.now)) c.end.result (decides (command_of (map string_bytes c.args.words.now)) (outside (g.F.Files.told c.args.files.now) (g.W.Wire.told c.args.wire.now) (g.C.Clock.readings c.args.clock.now)) (g.O.Sink.written c.args.out.now) (g.O.Sink.written c.execute-ended.new.out) c.execute-ended.result c.end.result (g.O.Sink.faults c.execute-ended.new.out) (g.O.Sink.faults c.end.new.out) c.execute-ended.ensures.executes c.end.ensures.status)
+
+pub returns-clause-write_fault : goal.returns-clause-write_fault
+returns-clause-write_fault g c =
+    four_fails (command_of (map string_bytes c.args.words.now)) (outside (g.F.Files.told c.args.files.now) (g.W.Wire.told c.args.wire.now) (g.C.Clock.readings c.args.clock.now)) (g.O.Sink.written c.args.out.now) (g.O.Sink.written c.execute-ended.new.out) c.execute-ended.result c.end.result (g.F.Files.write_faults c.args.files.now) (g.F.Files.write_faults c.execute-ended.new.files) (g.O.Sink.faults c.args.out.now) (g.O.Sink.faults c.execute-ended.new.out) (g.O.Sink.faults c.end.new.out)
+    c.execute-ended.ensures.executes c.execute-ended.ensures.file_cause c.execute-ended.ensures.write_cause c.end.ensures.status
+
+pub returns-clause-complete : goal.returns-clause-complete
+returns-clause-complete g c =
+    completes (command_of (map string_bytes c.args.words.now)) (outside (g.F.Files.told c.args.files.now) (g.W.Wire.told c.args.wire.now) (g.C.Clock.readings c.args.clock.now)) (g.O.Sink.written c.args.out.now) (g.O.Sink.written c.execute-ended.new.out) c.execute-ended.result c.end.result (g.F.Files.faults c.args.files.now) (g.F.Files.faults c.execute-ended.new.files) (g.F.Files.write_faults c.args.files.now) (g.F.Files.write_faults c.execute-ended.new.files) (g.O.Sink.faults c.args.out.now) (g.O.Sink.faults c.execute-ended.new.out) (g.O.Sink.faults c.end.new.out) (g.W.Wire.faults c.args.wire.now) (g.W.Wire.faults c.execute-ended.new.wire)
+    c.execute-ended.ensures.executes c.execute-ended.ensures.read_cause c.execute-ended.ensures.file_cause c.execute-ended.ensures.write_cause c.execute-ended.ensures.wire_cause c.end.ensures.status
