@@ -244,8 +244,8 @@ third : (word : List ℕ) → ((end line : List ℕ) → taken_by end (word ++ l
     → (n : ℕ) (rest end : List ℕ) → taken_by end (concat (word ∷ decimal n ∷ []) ++ (32 ∷ rest)) ≡ next_is end rest
 third word next n rest end =
     ap (λ (line : List ℕ). taken_by end line) (numbered word n rest)
-        ∙ next end (decimal n ++ (32 ∷ rest))
-        ∙ ap (λ (words : List (List ℕ)). bytes_eq end (slice_index_or words 1 [])) (next_word (decimal n) rest (lacks-decimal 32 n (λ d small same. omega arith)))
+    ∙ next end (decimal n ++ (32 ∷ rest))
+    ∙ ap (λ (words : List (List ℕ)). bytes_eq end (slice_index_or words 1 [])) (next_word (decimal n) rest (lacks-decimal 32 n (λ d small same. omega arith)))
 
 word_plain : (word : List ℕ) (n : ℕ) → lacks 10 word ≡ true → lacks 10 (concat (word ∷ decimal n ∷ [])) ≡ true
 word_plain word n plain = lacks_both 10 word (decimal n ++ []) plain (lacks_both 10 (decimal n) [] (number n) refl)

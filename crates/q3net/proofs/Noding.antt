@@ -72,7 +72,7 @@ serves told profile script at = record {
   no_profile = λ of_profile of_script readings arrivals e is. ap (λ (says : Result Profile Fault). says >>= (λ by. events_in kinds.Serve of_script >>= serve_turns by readings arrivals)) is;
   no_events = λ of_profile of_script readings arrivals by e passes is.
       ap (λ (says : Result Profile Fault). says >>= (λ by. events_in kinds.Serve of_script >>= serve_turns by readings arrivals)) passes
-          ∙ ap (λ (says : Result (List Event) Fault). says >>= serve_turns by readings arrivals) is;
+      ∙ ap (λ (says : Result (List Event) Fault). says >>= serve_turns by readings arrivals) is;
 }
 
 served_so : (of_profile of_script : Option (List ℕ)) (by : Profile) (events : List Event) (readings : List ℕ) (arrivals : List (Option Parcel))
@@ -94,7 +94,7 @@ joins told profile script at server = record {
   no_profile = λ of_profile of_script readings arrivals e is. ap (λ (says : Result Profile Fault). says >>= (λ by. events_in kinds.Join of_script >>= join_turns server by readings arrivals)) is;
   no_events = λ of_profile of_script readings arrivals by e passes is.
       ap (λ (says : Result Profile Fault). says >>= (λ by. events_in kinds.Join of_script >>= join_turns server by readings arrivals)) passes
-          ∙ ap (λ (says : Result (List Event) Fault). says >>= join_turns server by readings arrivals) is;
+      ∙ ap (λ (says : Result (List Event) Fault). says >>= join_turns server by readings arrivals) is;
 }
 
 joined_so : (server : Address) (of_profile of_script : Option (List ℕ)) (by : Profile) (events : List Event) (readings : List ℕ) (arrivals : List (Option Parcel)) (end : ClientEnd)

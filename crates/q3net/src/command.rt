@@ -27,11 +27,17 @@ pub enum Command<'a> {
     Help,
     Version,
     /// Replays a script by a profile; both are names of files.
-    Replay { profile: &'a str, script: &'a str },
+    Replay {
+        profile: &'a str,
+        script: &'a str,
+    },
     /// Prints a generated script.
     Make(Draws),
     /// Replays a generated script by the profile in this file, and prints what it counted.
-    Trial { profile: &'a str, draws: Draws },
+    Trial {
+        profile: &'a str,
+        draws: Draws,
+    },
     /// Is a server at an address, by a profile and a script.
     Serve {
         profile: &'a str,

@@ -111,17 +111,21 @@ fn execute<F: Files, W: Wire, C: Clock, O: Sink>(
         Some(Command::Replay { profile, script }) => replay(alloc, profile, script, files, out),
         Some(Command::Make(draws)) => make(alloc, draws, out),
         Some(Command::Trial { profile, draws }) => trial(alloc, profile, draws, files, out),
-        Some(Command::Serve {
-            profile,
-            script,
-            at,
-        }) => serve(alloc, profile, script, at, files, wire, clock, out),
-        Some(Command::Join {
-            profile,
-            script,
-            at,
-            server,
-        }) => join(alloc, profile, script, at, server, files, wire, clock, out),
+        Some(
+            Command::Serve {
+                profile,
+                script,
+                at,
+            },
+        ) => serve(alloc, profile, script, at, files, wire, clock, out),
+        Some(
+            Command::Join {
+                profile,
+                script,
+                at,
+                server,
+            },
+        ) => join(alloc, profile, script, at, server, files, wire, clock, out),
     }
 }
 
