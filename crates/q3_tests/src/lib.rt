@@ -17,6 +17,8 @@ mod memory;
 #[cfg(test)]
 mod messages;
 #[cfg(test)]
+mod nodes;
+#[cfg(test)]
 mod profiles;
 #[cfg(test)]
 mod sinks;

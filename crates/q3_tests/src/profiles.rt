@@ -20,7 +20,7 @@ fn add_word(text: &mut String, byte: u32) -> Result<(), AllocError> {
 }
 
 /// A profile with the plain code, and with a key that is passed over.
-fn text_of_profile(alloc: Global) -> Result<String, AllocError> {
+pub(crate) fn text_of_profile(alloc: Global) -> Result<String, AllocError> {
     let mut text = String::from_str(alloc, front())?;
     for byte in 0..256 {
         add_word(&mut text, byte)?;
