@@ -25,6 +25,7 @@ use Rattle.q3_chan.specs.Datagrams.{sequence_end, longest_message, piece_count, 
 use Rattle.q3_chan.specs.Sending.{IsIdle}
 use Rattle.q3_chan.specs.Gathering.{gathered}
 use Rattle.q3_report.specs.declared.answer.Front.TheVariants as fronts
+use Rattle.q3_report.specs.declared.answer.TakeRefused.{TakeRefused}
 use Rattle.q3_report.specs.declared.answer.TakeRefused.TheVariants as refused
 use Rattle.q3_report.specs.Answers.{Answered, ByClient, ByServer, SentOut, Took, Untaken, ran_in, snapshot_in}
 use Rattle.q3_world.specs.declared.made.Direction.TheVariants as direction
@@ -121,11 +122,13 @@ abbrev pub AlwaysLegible : Type 0
 AlwaysLegible = (profile : Profile) (all : List Event) → IsChecked profile → AllByRecursion IsScheduled all
     → AllByRecursion IsLegible (kept_answers (opening_kept profile) all)
 
--- a delivery is unknown where no datagram of its number was made, and there alone
+-- a delivery is unknown where no datagram of its number was made; and there alone does nobody take it, for whatever cause
 abbrev pub UnknownWasNotMade : Type 0
 UnknownWasNotMade = (profile : Profile) (all : List Event) (number : ℕ) → IsChecked profile → AllByRecursion IsScheduled all
-    → ((kept_step (kept_then profile all) (events.Deliver number)).answer ≡ Untaken (fronts.Deliver number) refused.Unknown)
-    ↔ (slice_get (kept_then profile all).datagrams (number - 1) ≡ None)
+    → (slice_get (kept_then profile all).datagrams (number - 1) ≡ None
+    → (kept_step (kept_then profile all) (events.Deliver number)).answer ≡ Untaken (fronts.Deliver number) refused.Unknown)
+    × ((cause : TakeRefused) → (kept_step (kept_then profile all) (events.Deliver number)).answer ≡ Untaken (fronts.Deliver number) cause
+    → slice_get (kept_then profile all).datagrams (number - 1) ≡ None)
 
 -- each end has executed a front of the commands that the other issued, each once and in order; and its window counts them
 abbrev pub CommandsArePrefixes : Type 0
