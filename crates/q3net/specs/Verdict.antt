@@ -121,7 +121,7 @@ ending_of false = Err Turns
 -- of a node at an address with these turns; of none, by a cause
 abbrev pub noded : List (List ℕ) → Address → Result (List Turn) Fault → Verdict
 noded names at (Ok turns) = record (printing goes_on_wire names (text_of turns) (ending_of (did_end turns))) { at = Some at; turns = turns }
-noded names at (Err cause) = printing goes_on_wire names [] (Err cause)
+noded names at (Err cause) = printing reads_first names [] (Err cause)
 
 -- the turns of a server by the script in one file and the profile in another, where these readings and arrivals are to come
 abbrev pub served : Option (List ℕ) → Option (List ℕ) → List ℕ → List (Option Parcel) → Result (List Turn) Fault
