@@ -3,7 +3,7 @@
 ghost use Rattle.std.specs.Prelude.{◌≡◌, false};
 
 use crate::profiles::text_of_profile;
-use q3_io::{Address, Sink, Wire};
+use q3_io::{Address, Clock, Sink, Wire};
 use q3_memory::{MemClock, MemSink, MemWire};
 use q3_node::{NodeError, serve_loop};
 use q3_profile::read_profile;
@@ -12,13 +12,13 @@ use std::alloc::Global;
 use std::process::Abort;
 use std::test::*;
 
-/// Runs a server by a script and these readings of a clock.
-fn serve<W: Wire, O: Sink>(
+/// Runs a server by a script.
+fn serve<W: Wire, C: Clock, O: Sink>(
     rt: &impl Abort,
     alloc: Global,
     script: &[u8],
-    readings: &[u64],
     wire: &mut W,
+    clock: &mut C,
     out: &mut O,
 ) -> Result<(), NodeError>
     requires { W.bound wire.old ≡ false }
@@ -26,12 +26,11 @@ fn serve<W: Wire, O: Sink>(
     let text = text_of_profile(alloc).expect(rt, "memory");
     let profile = read_profile(alloc, text.as_bytes()).expect(rt, "a profile");
     let events = read_script(alloc, ScriptKind::Serve, script).expect(rt, "a script");
-    let mut clock = MemClock::new(alloc, readings).expect(rt, "memory");
     let at = Address {
         host: 0x7f00_0001,
         port: 27_960,
     };
-    serve_loop(alloc, &profile, &events, at, wire, &mut clock, out)
+    serve_loop(alloc, &profile, &events, at, wire, clock, out)
 }
 
 const ALONE: &[u8] = b"client 0 17 5000 1 10.0.0.1:27960\nserve 0\nend 5\n";
@@ -41,14 +40,8 @@ const ALONE: &[u8] = b"client 0 17 5000 1 10.0.0.1:27960\nserve 0\nend 5\n";
 fn a_server_sends_to_its_client(rt: HostRuntime) {
     let mut wire = MemWire::new(rt.alloc(), 0, 2, 64, &[]).expect(&rt, "memory");
     let mut out = MemSink::new(rt.alloc(), 256, &[]).expect(&rt, "memory");
-    let ended = serve(
-        &rt,
-        rt.alloc(),
-        ALONE,
-        &[7, 7, 7, 11, 12],
-        &mut wire,
-        &mut out,
-    );
+    let mut clock = MemClock::new(rt.alloc(), &[7, 7, 7, 11, 12]).expect(&rt, "memory");
+    let ended = serve(&rt, rt.alloc(), ALONE, &mut wire, &mut clock, &mut out);
     assert_eq!(rt; ended, Ok(()));
     let client = Address {
         host: 0x0a00_0001,
@@ -70,7 +63,8 @@ fn a_server_sends_to_its_client(rt: HostRuntime) {
 fn a_wire_that_fails_ends_a_server(rt: HostRuntime) {
     let mut wire = MemWire::new(rt.alloc(), 0, 2, 64, &[2]).expect(&rt, "memory");
     let mut out = MemSink::new(rt.alloc(), 256, &[]).expect(&rt, "memory");
-    let ended = serve(&rt, rt.alloc(), ALONE, &[0], &mut wire, &mut out);
+    let mut clock = MemClock::new(rt.alloc(), &[0]).expect(&rt, "memory");
+    let ended = serve(&rt, rt.alloc(), ALONE, &mut wire, &mut clock, &mut out);
     assert_eq!(rt; ended, Err(NodeError::WireFault));
     assert!(rt; wire.sent(0).is_none());
     assert_eq!(rt; out.bytes(), b"client 0 ok\n".as_slice());
@@ -80,7 +74,8 @@ fn a_wire_that_fails_ends_a_server(rt: HostRuntime) {
 fn a_sink_that_fails_ends_a_server(rt: HostRuntime) {
     let mut wire = MemWire::new(rt.alloc(), 0, 2, 64, &[]).expect(&rt, "memory");
     let mut out = MemSink::new(rt.alloc(), 256, &[2]).expect(&rt, "memory");
-    let ended = serve(&rt, rt.alloc(), ALONE, &[0], &mut wire, &mut out);
+    let mut clock = MemClock::new(rt.alloc(), &[0]).expect(&rt, "memory");
+    let ended = serve(&rt, rt.alloc(), ALONE, &mut wire, &mut clock, &mut out);
     assert_eq!(rt; ended, Err(NodeError::WriteFault));
     assert!(rt; wire.sent(0).is_none());
 }
@@ -89,6 +84,7 @@ fn a_sink_that_fails_ends_a_server(rt: HostRuntime) {
 fn a_clock_that_stands_still_spends_the_turns(rt: HostRuntime) {
     let mut wire = MemWire::new(rt.alloc(), 0, 0, 0, &[]).expect(&rt, "memory");
     let mut out = MemSink::new(rt.alloc(), 0, &[]).expect(&rt, "memory");
-    let ended = serve(&rt, rt.alloc(), b"end 1\n", &[4], &mut wire, &mut out);
+    let mut clock = MemClock::new(rt.alloc(), &[4]).expect(&rt, "memory");
+    let ended = serve(&rt, rt.alloc(), b"end 1\n", &mut wire, &mut clock, &mut out);
     assert_eq!(rt; ended, Err(NodeError::Turns));
 }
