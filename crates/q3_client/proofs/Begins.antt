@@ -17,7 +17,7 @@ use Rattle.q3_svmsg.specs.declared.error.Illegible.{Illegible}
 use Rattle.q3_client.specs.declared.moves.Issued.{Issued}
 use Rattle.q3_client.specs.Client.{ClientState, moves_behind}
 use Rattle.q3_client.specs.Moves.{most_moves, is_carried, carried, asks_delta}
-use Rattle.q3_client.specs.Sending.{Said, IsSaid, Emission, next_message, next_said, said_bits, is_unclear, emit_bits, emit_new, emit_left, emit_unless, emit_at}
+use Rattle.q3_client.specs.Sending.{Said, IsSaid, Emission, next_message, next_said, said_bits, is_unclear, emit_bits, emit_new, emit_left, emit_unless, emit_at, wants_delta}
 use Rattle.q3_client.specs.Standing.{AreMoves, IsClient}
 
 -- ---- moves
@@ -73,7 +73,7 @@ next_is_message law client is =
       whole = λ none. none_asked (carried number client.dup client.moves) none;
     }
   where
-    none_asked : (moves : List Move) → moves ≡ [] → asks_delta client.delta moves ≡ false
+    none_asked : (moves : List Move) → moves ≡ [] → asks_delta (wants_delta client) moves ≡ false
     none_asked [] none = refl
     none_asked (one ∷ moves) none = let long : length (one ∷ moves) ≡ 0 = ap (λ (l : List Move). length l) none in absurd (omega (arith, long))
 

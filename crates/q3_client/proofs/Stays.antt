@@ -213,6 +213,9 @@ pub joins_stay : ApplyStays → StaysOutgoing → (profile : Profile) (challenge
 joins_stay applies stays profile challenge qport dup codec room =
     record { applied = applies.none profile codec room; taken = omega arith; window = stays.opens; few = omega arith; moves = no_moves }
 
+pub asks_stay : (client : ClientState) (on : Bool) → IsClient client → IsClient (record client { asks_whole = on })
+asks_stay client on is = record { applied = is.applied; taken = is.taken; window = is.window; few = is.few; moves = is.moves }
+
 pub types_stay : StaysOutgoing → (client : ClientState) (text : List ℕ) → IsText text → IsClient client → IsClient (type_at client text).client
 types_stay stays client text is_text is =
     record { applied = is.applied; taken = is.taken; window = stays.issues client.issued text is.window is_text; few = is.few; moves = is.moves }

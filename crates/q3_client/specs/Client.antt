@@ -27,8 +27,8 @@ use Rattle.q3_client.specs.declared.moves.Issued.{Issued}
 
 -- a client: what the messages that were applied left, and the bytes of the last of them, cleared, none before the first; how it
 -- joined, of how many messages before it a message repeats the moves, the newest number taken and what was gathered, whether the
--- newest message's snapshot was accepted, why it was dropped, if it was, what is being sent, the commands that it issued, the newest
--- 32 moves issued, and the time of the last, 0 before the first
+-- newest message's snapshot was accepted, whether it asks for whole snapshots, why it was dropped, if it was, what is being sent, the
+-- commands that it issued, the newest 32 moves issued, and the time of the last, 0 before the first
 pub record ClientState : Type 0 where
   pub state : AppliedState
   pub message : List ℕ
@@ -37,6 +37,7 @@ pub record ClientState : Type 0 where
   pub dup : ℕ
   pub gathering : Gathering
   pub delta : Bool
+  pub asks_whole : Bool
   pub dropped : Option cause.Illegible
   pub sending : Sending
   pub issued : OutgoingState
@@ -54,6 +55,7 @@ new_client profile challenge qport dup =
       dup = dup;
       gathering = new_gathering Server;
       delta = false;
+      asks_whole = false;
       dropped = None;
       sending = new_sending Client qport;
       issued = new_outgoing;

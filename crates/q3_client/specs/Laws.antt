@@ -1,5 +1,5 @@
 -- Laws of a client's end.
-use Rattle.std.specs.Prelude.{◌≡◌, ℕ, ◌^◌, ◌<◌, ◌≤◌, false, List, IfSome, Ok}
+use Rattle.std.specs.Prelude.{◌≡◌, ℕ, ◌^◌, ◌<◌, ◌≤◌, Bool, false, List, IfSome, Ok}
 use Rattle.q3_text.specs.Texts.{IsText}
 use Rattle.q3_window.specs.Outgoing.{IsOutgoing}
 use Rattle.q3_clstate.specs.Standing.{IsApplied}
@@ -18,12 +18,13 @@ pub record BeginsSaid : Type 0 where
       → IsSaid client.state.profile client.challenge (next_said client)
   pub began : (client : ClientState) → IsClient client → IfSome (emit_at client).began (IsSaid client.state.profile client.challenge)
 
--- a client is well formed once it joined, and stays so, whatever move or command is issued, whatever it emits and whatever bytes it
--- takes; what the messages left stays so too, where a message is received from its bytes
+-- a client is well formed once it joined, and stays so, whatever move or command is issued, whatever it asks for and emits, and whatever
+-- bytes it takes; what the messages left stays so too, where a message is received from its bytes
 pub record ClientStays : Type 0 where
   pub joins : (profile : Profile) (challenge qport dup : ℕ) → IsCodec profile → 512 ≤ profile.parse_ring → IsClient (new_client profile challenge qport dup)
   pub moves : (client : ClientState) (one : Move) → IsMove one → IsClient client → IsClient (add_move_at client one).client
   pub types : (client : ClientState) (text : List ℕ) → IsText text → IsClient client → IsClient (type_at client text).client
+  pub asks : (client : ClientState) (on : Bool) → IsClient client → IsClient (record client { asks_whole = on })
   pub emits : (client : ClientState) → IsClient client → IsClient (emit_at client).client
   pub takes : (client : ClientState) (datagram : List ℕ) → IsClient client → IsClient (take_at client datagram).client
   pub receives : (client : ClientState) (number : ℕ) (bytes : List ℕ) (received : Reception) → number < 2 ^ 32 → IsApplied client.state → IsOutgoing client.issued

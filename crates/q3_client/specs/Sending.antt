@@ -1,5 +1,5 @@
 -- What a client sends. Each emission gives the client after it, its answer, and what it hands out.
-use Rattle.std.specs.Prelude.{ℕ, ◌+◌, ◌^◌, ◌<◌, if◌then◌else◌, ◌≡◌, Bool, false, List, [], ◌∷◌, length, nat_le, nat_lt, Option, Some, None}
+use Rattle.std.specs.Prelude.{ℕ, ◌+◌, ◌^◌, ◌<◌, if◌then◌else◌, ◌≡◌, Bool, false, not, ◌&&◌, List, [], ◌∷◌, length, nat_le, nat_lt, Option, Some, None}
 use Rattle.q3_bits.specs.Bits.{message_bytes, message_length}
 use Rattle.q3_bits.specs.Words.{row_bits}
 use Rattle.q3_text.specs.declared.text.Command.{Command}
@@ -35,10 +35,14 @@ abbrev pub message_with : ℕ → ℕ → ℕ → List Command → Bool → List
 message_with id acknowledged command commands delta moves =
     record { id = id; acknowledged = acknowledged; command = command; commands = commands; delta = asks_delta delta moves; moves = moves }
 
+-- whether the next message may ask for a delta: the newest message's snapshot was accepted, and no whole ones are asked for
+abbrev pub wants_delta : ClientState → Bool
+wants_delta client = client.delta && not client.asks_whole
+
 -- the message that goes to the server next: it carries all commands that aren't acknowledged
 abbrev pub next_message : ClientState → Message
 next_message client =
-    message_with client.state.id client.gathering.taken client.state.executed.executed (waiting_of client.issued) client.delta
+    message_with client.state.id client.gathering.taken client.state.executed.executed (waiting_of client.issued) (wants_delta client)
     (carried (client.sending.number + 1) client.dup client.moves)
 
 -- and with it what it is scrambled by

@@ -12,7 +12,7 @@ ghost use Rattle.q3_rings.specs.Loans.{snapshot_of};
 ghost use Rattle.q3_rings.specs.Rings.{view_at};
 ghost use Rattle.q3_client.specs.Client.{new_client, type_at, take_at, is_accepted, moves_behind};
 ghost use Rattle.q3_client.specs.Moves.{add_move_at};
-ghost use Rattle.q3_client.specs.Sending.{emit_at, emit_new, IsSaid};
+ghost use Rattle.q3_client.specs.Sending.{emit_at, emit_new, wants_delta, IsSaid};
 
 use crate::moves::{Issued, MOST_MOVES, carry, is_issuable};
 use crate::receiving::{gather, receive};
@@ -86,8 +86,8 @@ pub enum Sent {
 }
 
 /// A client: what the messages that were applied left, with a copy of the profile, and the bytes of the last, cleared; what it
-/// gathers, a place for the bytes of a message that came whole, whether the newest message's snapshot was accepted, what it
-/// sends, the commands and the moves that it issued, and places for the moves and the bytes of a message. After `new` no call
+/// gathers, a place for the bytes of a message that came whole, whether the newest message's snapshot was accepted, whether it asks for
+/// whole snapshots, what it sends, the commands and the moves that it issued, and places for the moves and the bytes of a message. After `new` no call
 /// takes memory.
 #[derive(Drop)]
 pub struct Client {
@@ -100,6 +100,7 @@ pub struct Client {
     gatherer: Gatherer,
     whole: Vec<u8>,
     delta: bool,
+    asks_whole: bool,
     dropped: Option<Illegible>,
     sender: Sender,
     outgoing: Outgoing,
@@ -126,6 +127,7 @@ impl Model for Client {
       dup = c.dup;
       gathering = c.gatherer;
       delta = c.delta;
+      asks_whole = c.asks_whole;
       dropped = c.dropped;
       sending = c.sender;
       issued = c.outgoing;
@@ -168,6 +170,7 @@ impl Client {
             gatherer,
             whole,
             delta: false,
+            asks_whole: false,
             dropped: None,
             sender,
             outgoing,
@@ -272,6 +275,13 @@ impl Client {
         self.outgoing.issued()
     }
 
+    /// From here on the messages that are begun ask for whole snapshots, or for deltas again.
+    pub fn ask_whole(&mut self, on: bool)
+        ensures { self.new ≡ record self.old { asks_whole = on } }
+    {
+        self.asks_whole = on;
+    }
+
     /// Makes the next datagram for the server: it is empty where nothing is handed out. `Dropped` comes exactly where the
     /// client was dropped. A message that it begins is well formed, whatever the client took before.
     #[tactic(auto, unfolding(crate::specs::Sending::emit_at))]
@@ -320,7 +330,7 @@ impl Client {
             &self.outgoing,
             self.challenge,
             acknowledged,
-            self.delta,
+            self.wants_delta(),
             &self.carried,
             &mut self.buffer,
         ) else {
@@ -329,6 +339,13 @@ impl Client {
         self.sender.start(&self.buffer[..bytes]);
         self.sender.next(out);
         Sent::Message { number, bytes }
+    }
+
+    /// Whether the message that is begun next may ask for a delta.
+    fn wants_delta(&self) -> bool
+        ensures { result ≡ wants_delta self.now }
+    {
+        self.delta && !self.asks_whole
     }
 
     /// The bytes of the last message that was applied, cleared; none before the first.

@@ -1,6 +1,6 @@
 -- A datagram that either end hands out keeps what holds.
-use Rattle.std.proofs.Common.{◌≡◌, ℕ, ◌+◌, ◌<◌, List, [], ◌∷◌, ◌++◌, length, Bool, true, Option, Some, refl, arith}
-use Rattle.std.specs.Prelude.{IfSome}
+use Rattle.std.proofs.Common.{◌≡◌, ℕ, ◌+◌, ◌<◌, List, [], ◌∷◌, ◌++◌, length, Bool, true, false, ◌&&◌, Option, Some, refl, arith}
+use Rattle.std.specs.Prelude.{IfSome, not}
 use Rattle.q3_profile.specs.declared.profile.Profile.{Profile}
 use Rattle.q3_io.specs.declared.address.Address.{Address}
 use Rattle.q3_chan.specs.Datagrams.{server_header, client_header, sequence_end}
@@ -16,7 +16,7 @@ use Rattle.q3_slot.specs.Emitting.{next_snapshot, next_frames}
 use Rattle.q3_server.specs.Server.{places, slot_at}
 use Rattle.q3_client.specs.Client.{ClientState}
 use Rattle.q3_client.specs.Moves.{asks_delta}
-use Rattle.q3_client.specs.Sending.{IsSaid, said_bytes, next_message, next_said}
+use Rattle.q3_client.specs.Sending.{IsSaid, said_bytes, next_message, next_said, wants_delta}
 use Rattle.q3_world.specs.declared.made.Direction.TheVariants.{ToClient, ToServer}
 use Rattle.q3_world.specs.Layers.{ServerLaws, WindowLaws}
 use Rattle.q3_world.specs.declared.places.Place.{Place}
@@ -240,5 +240,9 @@ Holds-said windows profile whole c slot place left sends gathers lt had way fits
     asks_so delta [] so = absurd cc
     asks_so delta (one ∷ moves) so = so
 
+    both_first : (one other : Bool) → (one && other) ≡ true → one ≡ true
+    both_first true other so = refl
+    both_first false other so = absurd cc
+
     asks_only : (client : ClientState) → (next_message client).delta ≡ true → client.delta ≡ true
-    asks_only client so = asks_so client.delta (next_message client).moves so
+    asks_only client so = both_first client.delta (not client.asks_whole) (asks_so (wants_delta client) (next_message client).moves so)

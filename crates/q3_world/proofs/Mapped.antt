@@ -1,13 +1,13 @@
 -- What joins both ends of a client on the server's maps, over all that is noted of it.
 use Rattle.q3_svmsg.specs.Values as told
 use Rattle.std.proofs.Common.{[], List, None, Option, Some, ap, arith, false, inl, inr, length, refl, subst, sym, true, ℕ, ◌++◌, ◌+◌, ◌<◌, ◌∙◌, ◌∷◌, ◌≡◌, ◌≤◌}
-use Rattle.std.specs.Prelude.{All, Bool, Contains, IfSome, if◌then◌else◌, ◌==◌, ◌||◌}
+use Rattle.std.specs.Prelude.{All, Bool, Contains, IfSome, if◌then◌else◌, not, ◌&&◌, ◌==◌, ◌||◌}
 use Rattle.std.proofs.Math.Seq.{take-append_seam, drop-append_seam}
 use Rattle.std.proofs.lemmas.Bool.{cases_Bool, eqb-false}
 use Rattle.std.proofs.lemmas.List.Elements.{All-drop, All-head, All-take}
 use Rattle.q3_client.specs.Client.{ClientState}
 use Rattle.q3_client.specs.Moves.{asks_delta}
-use Rattle.q3_client.specs.Sending.{Said, next_said}
+use Rattle.q3_client.specs.Sending.{Said, next_said, wants_delta}
 use Rattle.q3_clmsg.specs.declared.moves.Move.{Move}
 use Rattle.q3_clstate.specs.State.{after_gamestate, hearing}
 use Rattle.q3_entity.specs.Runs.{taken}
@@ -87,11 +87,16 @@ pub mapped_said : (map : MapState) (slot : SlotState) (client : ClientState) (hi
     → AreMapped map (standing_of slot) client.state client.gathering.taken client.last_time history.built history.games (history.said ++ next_said client ∷ []) history.accepted history.client_executed
 mapped_said map slot client history asks since mapped =
     AreMapped-said map (standing_of slot) client.state client.gathering.taken client.last_time history.built history.games history.said history.accepted history.client_executed (next_said client) refl
-    refl refl (λ none. ap (asks_delta client.delta) none) (λ so. asks (asks_only client.delta (next_said client).message.moves so)) (AreSince-carried history.games (client.sending.number + 1) client.dup client.moves since) mapped
+    refl refl (λ none. ap (asks_delta (wants_delta client)) none)
+    (λ so. asks (both_first client.delta (not client.asks_whole) (asks_only (wants_delta client) (next_said client).message.moves so))) (AreSince-carried history.games (client.sending.number + 1) client.dup client.moves since) mapped
   where
     asks_only : (delta : Bool) (moves : List Move) → asks_delta delta moves ≡ true → delta ≡ true
     asks_only delta [] so = absurd cc
     asks_only delta (one ∷ moves) so = so
+
+    both_first : (one other : Bool) → (one && other) ≡ true → one ≡ true
+    both_first true other so = refl
+    both_first false other so = absurd cc
 
 -- a move is issued
 pub mapped_issued : (map : MapState) (slot : SlotState) (client : ClientState) (history : History) (time : ℕ) → client.last_time ≤ time → Mapped map slot client history

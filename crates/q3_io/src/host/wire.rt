@@ -15,7 +15,8 @@ use std::time::Duration;
 /// A receive waits for so many milliseconds at most.
 const WAITS: u64 = 1;
 
-/// A socket for datagrams over UDP, of IPv4.
+/// A socket for datagrams over UDP, of IPv4. What goes to port 0 is lost: a datagram may come from there, but none can go back, and one
+/// that comes so must not end a server for the others.
 #[derive(Drop)]
 pub struct UdpWire<R> {
     rt: R,
@@ -120,6 +121,9 @@ impl<R: Net> Wire for UdpWire<R> {
     }
 
     fn send(&mut self, to: Address, bytes: &[u8]) -> Result<(), Failed> {
+        if to.port == 0 {
+            return Ok(());
+        }
         let sent = send(&self.socket, to, bytes);
         counted(sent, &mut self.faults)
     }

@@ -1,4 +1,4 @@
-use Rattle.q3_client.proofs.Stays.{are_received, joins_stay, moves_stay, types_stay, emits_stay, takes_stay}
+use Rattle.q3_client.proofs.Stays.{are_received, joins_stay, moves_stay, types_stay, asks_stay, emits_stay, takes_stay}
 use Rattle.q3_client.proofs.laws.client_stays.Goals as goal
 
 pub returns : goal.returns
@@ -9,6 +9,7 @@ returns c =
       joins = joins_stay applies stays;
       moves = moves_stay;
       types = types_stay stays;
+      asks = asks_stay;
       emits = emits_stay;
       takes = takes_stay applies stays;
       receives = λ client number bytes received fits is window e. (are_received applies stays client number bytes received fits is window e).applied;
