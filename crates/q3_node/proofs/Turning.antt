@@ -2,19 +2,19 @@
 use Rattle.std.proofs.Common.{◌≡◌, ℕ, zero, suc, ◌+◌, ◌-◌, ◌<◌, ◌≤◌, Bool, true, false, if◌then◌else◌, cond, List, [], ◌∷◌, ◌++◌, length, drop, Option, Some, None, Ok, Err, refl, sym, ap, ap₂, subst, ◌∙◌, append_assoc, arith, ◌||◌}
 use Rattle.std.specs.List.{flat_map, list_any, count_by}
 use Rattle.std.specs.Option.{option_to_list}
-use Rattle.std.proofs.lemmas.List.{append-nil, drop-drop}
+use Rattle.std.proofs.lemmas.List.{append-nil, drop-drop, length-append}
 use Rattle.std.proofs.lemmas.List.Sums.{sum_by-append}
 use Rattle.std.proofs.lemmas.List.Folds.{list_any-append}
 use Rattle.std.proofs.lemmas.Grind.{flat_map-append}
 use Rattle.q3_io.specs.Readings.{Reads, reading_of, readings_after}
 use Rattle.q3_io.specs.Traffic.{Parcel, Traffic, next_of}
-use Rattle.q3_io.specs.Written.{Written, Wrote}
+use Rattle.q3_io.specs.Written.{Written, Wrote, NothingWaits}
 use Rattle.q3_io.specs.Laws.{TextsFollow}
 use Rattle.q3_script.specs.declared.event.Event.{Event}
 use Rattle.q3_node.specs.declared.error.NodeError.{NodeError}
 use Rattle.q3_node.specs.declared.error.NodeError.TheVariants.{NoMemory, WireFault, WriteFault, Turns}
 use Rattle.q3_node.specs.Node.{Rules, Node, Turn, Turned, due, start_at, turn_of, turn_at, most_turns, turns_of, arrivals_after, did_end, answer_text, text_of, parcels_of}
-use Rattle.q3_node.specs.Running.{ToArrive, ToRead, wire_behind, traffic_behind, Leaves, LeavesFirst, Ran, RanNode, Finds, DoesTurn, TakesTurn}
+use Rattle.q3_node.specs.Running.{ToArrive, ToRead, wire_behind, traffic_behind, Leaves, readings_behind, clock_behind, Passes, Ran, RanNode, StaysFlushed, Finds, DoesTurn, TakesTurn}
 
 -- ---- what is still to come, before a turn
 
@@ -43,6 +43,29 @@ back_read (Some told) new reading readings read to = record {
 some_read : (clock : Option (List ℕ)) → (readings : List ℕ) × ToRead clock readings
 some_read None = (0 ∷ [], omega arith)
 some_read (Some told) = (told, refl)
+
+-- one reading more was taken
+one_behind : (readings : List ℕ) (count : ℕ) → readings_after (readings_behind count readings) ≡ readings_behind (count + 1) readings
+unfolding readings_behind
+one_behind readings zero = refl
+one_behind readings (suc count) = one_behind (readings_after readings) count
+
+next_clock : (started clock new : Option (List ℕ)) (count reading : ℕ) → clock ≡ clock_behind started count → Reads clock new reading → new ≡ clock_behind started (count + 1)
+next_clock None clock new count reading same read = subst (λ (c : Option (List ℕ)). Reads c new reading) same read
+next_clock (Some readings) clock new count reading same read =
+    let is = subst (λ (c : Option (List ℕ)). Reads c new reading) same read in
+    is.1 ∙ ap (λ (rs : List ℕ). Some rs) (one_behind readings count)
+
+clock_none : (started : Option (List ℕ)) → started ≡ clock_behind started 0
+unfolding readings_behind
+clock_none None = refl
+clock_none (Some readings) = refl
+
+-- behind one turn more
+turn_clock : (started clock new : Option (List ℕ)) (turns : List Turn) (turn : Turn) (reading : ℕ) → clock ≡ clock_behind started (length turns) → Reads clock new reading
+    → new ≡ clock_behind started (length (turns ++ (turn ∷ [])))
+turn_clock started clock new turns turn reading same read =
+    next_clock started clock new (length turns) reading same read ∙ ap (λ (n : ℕ). clock_behind started n) (sym (length-append turns (turn ∷ [])))
 
 -- arrivals that a turn leaves so
 pub record BackArrive (are : Option Traffic) (now : Turn) (found : Option Parcel) (arrivals : List (Option Parcel)) : Type 0 where
@@ -141,6 +164,7 @@ pub record Going {S : Type 0} (rules : Rules S) (count : ℕ) (first now : Node 
   pub turns : List Turn
   pub leaves : Leaves turns true before after were are
   pub unended : did_end turns ≡ false
+  pub read : clock ≡ clock_behind started (length turns)
   pub whole : (readings : List ℕ) (arrivals : List (Option Parcel)) → ToRead clock readings → ToArrive are arrivals
       → Whole rules count first now started were turns (turns_of count rules now readings arrivals)
 
@@ -150,6 +174,7 @@ begins {S} law rules node clock written told = record {
   turns = [];
   leaves = leaves_none law written told;
   unended = refl;
+  read = clock_none clock;
   whole = λ readings arrivals to_read to_arrive. record { readings = readings; to_read = to_read; arrivals = arrivals; to_arrive = to_arrive; same = refl };
 }
 
@@ -187,6 +212,7 @@ goes_on {S} law rules count first now next started clock new before mid after we
       turns = going.turns ++ (t.turn ∷ []);
       leaves = leaves_both law going.turns (t.turn ∷ []) true before mid after were mids are going.leaves d.3;
       unended = list_any-append (λ (x : Turn). x.ended) going.turns (t.turn ∷ []) ∙ rw (going.unended, sym d.0) refl;
+      read = turn_clock started clock new going.turns t.turn takes.reading going.read takes.read;
       whole = λ readings arrivals to_read to_arrive.
           let w = goes_whole rules count first now started clock new before mid were mids are going takes.reading takes.found takes.read d.3.wire d.2 readings arrivals to_read to_arrive in
           record {
@@ -202,7 +228,7 @@ goes_on {S} law rules count first now next started clock new before mid after we
 -- it did `end`
 ends : {S : Type 0} (law : TextsFollow) (rules : Rules S) (count : ℕ) (first now next : Node S) (started clock new : Option (List ℕ)) (before mid after : Option Written) (were mids are : Option Traffic)
     → Going rules (suc count) first now started clock before mid were mids → TakesTurn rules now next clock new mid after mids are (Ok true)
-    → RanNode rules first started before after were are (Ok tt)
+    → RanNode rules first started new before after were are (Ok tt)
 ends {S} law rules count first now next started clock new before mid after were mids are going takes =
     let t : Turned S = turn_at rules now takes.reading takes.found in
     let d = takes.done in
@@ -215,15 +241,18 @@ ends {S} law rules count first now next started clock new before mid after were 
       w.to_read,
       w.arrivals,
       w.to_arrive,
-      subst (λ (ts : List Turn). Ran ts before after were are (Ok tt)) (sym same) (
+      subst (λ (ts : List Turn). Ran ts started new before after were are (Ok tt)) (sym same) (
         list_any-append (λ (x : Turn). x.ended) going.turns (t.turn ∷ []) ∙ rw (going.unended, sym d.0) refl,
-        leaves_both law going.turns (t.turn ∷ []) true before mid after were mids are going.leaves d.3,
+        record {
+          leaves = leaves_both law going.turns (t.turn ∷ []) true before mid after were mids are going.leaves d.3;
+          read = turn_clock started clock new going.turns t.turn takes.reading going.read takes.read;
+        },
       ),
     )
 
 -- its turns are spent
 spent : {S : Type 0} (rules : Rules S) (first now : Node S) (started clock : Option (List ℕ)) (before after : Option Written) (were are : Option Traffic)
-    → Going rules zero first now started clock before after were are → RanNode rules first started before after were are (Err Turns)
+    → Going rules zero first now started clock before after were are → RanNode rules first started clock before after were are (Err Turns)
 unfolding turns_of
 spent {S} rules first now started clock before after were are going =
     let readings = some_read clock in
@@ -233,13 +262,14 @@ spent {S} rules first now started clock before after were are going =
       w.to_read,
       w.arrivals,
       w.to_arrive,
-      subst (λ (ts : List Turn). Ran ts before after were are (Err Turns)) (sym (w.same ∙ append-nil going.turns)) (going.unended, going.leaves),
+      subst (λ (ts : List Turn). Ran ts started clock before after were are (Err Turns)) (sym (w.same ∙ append-nil going.turns))
+      (going.unended, record { leaves = going.leaves; read = going.read }),
     )
 
 -- the wire failed
 wire_failed : {S : Type 0} (rules : Rules S) (count : ℕ) (first now next : Node S) (started clock new : Option (List ℕ)) (before mid after : Option Written) (were mids are : Option Traffic)
     → Going rules count first now started clock before mid were mids → TakesTurn rules now next clock new mid after mids are (Err WireFault)
-    → RanNode rules first started before after were are (Err WireFault)
+    → RanNode rules first started new before after were are (Err WireFault)
 wire_failed {S} rules count first now next started clock new before mid after were mids are going takes =
     let readings = some_read clock in
     let arrivals = some_arrive mids in
@@ -249,34 +279,42 @@ wire_failed {S} rules count first now next started clock new before mid after we
       w.to_read,
       w.arrivals,
       w.to_arrive,
-      (
-        going.turns,
-        turns_of count rules now readings.0 arrivals.0,
-        w.same,
-        rw (d.0, d.1) going.leaves,
-      ),
+      record {
+        first = going.turns;
+        rest = turns_of count rules now readings.0 arrivals.0;
+        whole = w.same;
+        leaves = rw (d.0, d.1) going.leaves;
+        read = next_clock started clock new (length going.turns) takes.reading going.read takes.read;
+      },
     )
 
 -- the sink failed
-write_failed : {S : Type 0} (law : TextsFollow) (rules : Rules S) (count : ℕ) (first now next : Node S) (started clock new : Option (List ℕ)) (before mid after : Option Written) (were mids are : Option Traffic)
-    → Going rules (suc count) first now started clock before mid were mids → TakesTurn rules now next clock new mid after mids are (Err WriteFault)
-    → RanNode rules first started before after were are (Err WriteFault)
-write_failed {S} law rules count first now next started clock new before mid after were mids are going takes =
+write_failed : {S : Type 0} (rules : Rules S) (count : ℕ) (first now next : Node S) (started clock new : Option (List ℕ)) (before mid after : Option Written) (were mids are : Option Traffic)
+    → Going rules (suc count) first now started clock before mid were mids → (NothingWaits before → NothingWaits mid) → TakesTurn rules now next clock new mid after mids are (Err WriteFault)
+    → RanNode rules first started new before after were are (Err WriteFault)
+write_failed {S} rules count first now next started clock new before mid after were mids are going flushed takes =
     let t : Turned S = turn_at rules now takes.reading takes.found in
     let d = takes.done in
     let readings = some_read new in
     let arrivals = some_arrive are in
+    let behind : List Turn = if t.turn.ended then [] else turns_of count rules t.node readings.0 arrivals.0 in
     let w = goes_whole rules count first now started clock new before mid were mids are going takes.reading takes.found takes.read d.1.wire d.0 readings.0 arrivals.0 readings.1 arrivals.1 in (
       w.readings,
       w.to_read,
       w.arrivals,
       w.to_arrive,
-      (
-        going.turns ++ (t.turn ∷ []),
-        _,
-        w.same,
-        leaves_both law going.turns (t.turn ∷ []) false before mid after were mids are going.leaves d.1,
-      ),
+      record {
+        first = going.turns;
+        last = t.turn;
+        rest = behind;
+        whole = w.same ∙ append_assoc going.turns (t.turn ∷ []) behind;
+        mid = mid;
+        mids = mids;
+        passed = going.leaves;
+        flushed = flushed;
+        fails = d.1;
+        read = next_clock started clock new (length going.turns) takes.reading going.read takes.read;
+      },
     )
 
 -- ---- by the turns that were taken
@@ -292,22 +330,30 @@ goes_on_by law rules taken first now next started clock new before mid after wer
 
 pub ends_by : {S : Type 0} (law : TextsFollow) (rules : Rules S) (taken : ℕ) (first now next : Node S) (started clock new : Option (List ℕ)) (before mid after : Option Written) (were mids are : Option Traffic)
     → taken < most_turns → Going rules (most_turns - taken) first now started clock before mid were mids → TakesTurn rules now next clock new mid after mids are (Ok true)
-    → RanNode rules first started before after were are (Ok tt)
+    → RanNode rules first started new before after were are (Ok tt)
 ends_by law rules taken first now next started clock new before mid after were mids are few going takes =
     ends law rules (most_turns - (taken + 1)) first now next started clock new before mid after were mids are (rw (one_left taken few) at going) takes
 
 pub spent_by : {S : Type 0} (rules : Rules S) (taken : ℕ) (first now : Node S) (started clock : Option (List ℕ)) (before after : Option Written) (were are : Option Traffic)
-    → most_turns ≤ taken → Going rules (most_turns - taken) first now started clock before after were are → RanNode rules first started before after were are (Err Turns)
+    → most_turns ≤ taken → Going rules (most_turns - taken) first now started clock before after were are → RanNode rules first started clock before after were are (Err Turns)
 spent_by rules taken first now started clock before after were are all going =
     let none : most_turns - taken ≡ 0 = omega (arith, all) in
     spent rules first now started clock before after were are (rw none at going)
 
-pub fails_by : {S : Type 0} (law : TextsFollow) (rules : Rules S) (taken : ℕ) (first now next : Node S) (started clock new : Option (List ℕ)) (before mid after : Option Written) (were mids are : Option Traffic) (e : NodeError)
-    → taken < most_turns → Going rules (most_turns - taken) first now started clock before mid were mids → TakesTurn rules now next clock new mid after mids are (Err e)
-    → RanNode rules first started before after were are (Err e)
-fails_by law rules taken first now next started clock new before mid after were mids are NoMemory few going takes = absurd takes.done
-fails_by law rules taken first now next started clock new before mid after were mids are WireFault few going takes =
+pub fails_by : {S : Type 0} (rules : Rules S) (taken : ℕ) (first now next : Node S) (started clock new : Option (List ℕ)) (before mid after : Option Written) (were mids are : Option Traffic) (e : NodeError)
+    → taken < most_turns → Going rules (most_turns - taken) first now started clock before mid were mids → (NothingWaits before → NothingWaits mid) → TakesTurn rules now next clock new mid after mids are (Err e)
+    → RanNode rules first started new before after were are (Err e)
+fails_by rules taken first now next started clock new before mid after were mids are NoMemory few going flushed takes = absurd takes.done
+fails_by rules taken first now next started clock new before mid after were mids are WireFault few going flushed takes =
     wire_failed rules (most_turns - taken) first now next started clock new before mid after were mids are going takes
-fails_by law rules taken first now next started clock new before mid after were mids are WriteFault few going takes =
-    write_failed law rules (most_turns - (taken + 1)) first now next started clock new before mid after were mids are (rw (one_left taken few) at going) takes
-fails_by law rules taken first now next started clock new before mid after were mids are Turns few going takes = absurd takes.done
+fails_by rules taken first now next started clock new before mid after were mids are WriteFault few going flushed takes =
+    write_failed rules (most_turns - (taken + 1)) first now next started clock new before mid after were mids are (rw (one_left taken few) at going) flushed takes
+fails_by rules taken first now next started clock new before mid after were mids are Turns few going flushed takes = absurd takes.done
+
+-- where the sink didn't fail nothing waits in it
+pub flushed_still : {S : Type 0} (rules : Rules S) (now next : Node S) (clock new : Option (List ℕ)) (before mid after : Option Written) (mids are : Option Traffic) (e : NodeError)
+    → (NothingWaits before → NothingWaits mid) → TakesTurn rules now next clock new mid after mids are (Err e) → StaysFlushed {T = Unit {0}} before after (Err e)
+flushed_still rules now next clock new before mid after mids are NoMemory flushed takes = absurd takes.done
+flushed_still rules now next clock new before mid after mids are WireFault flushed takes = λ nothing. subst NothingWaits (sym takes.done.0) (flushed nothing)
+flushed_still rules now next clock new before mid after mids are WriteFault flushed takes = tt
+flushed_still rules now next clock new before mid after mids are Turns flushed takes = absurd takes.done

@@ -2,3 +2,4 @@ pub mod Node
 pub mod AtServer
 pub mod AtClient
 pub mod Running
+pub mod Laws

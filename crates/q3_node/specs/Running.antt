@@ -1,11 +1,11 @@
 -- How a node runs: by its turns, over a wire, a clock and a sink.
-use Rattle.std.specs.Prelude.{◌≡◌, ℕ, ◌<◌, ◌≤◌, Bool, true, false, List, [], ◌∷◌, ◌++◌, length, drop, Option, Some, None, option_map, is_some, Result, Ok, Err, OnOk}
+use Rattle.std.specs.Prelude.{◌≡◌, ℕ, zero, suc, ◌+◌, ◌<◌, ◌≤◌, Bool, true, false, List, [], ◌∷◌, ◌++◌, length, drop, Option, Some, None, option_map, is_some, Result, Ok, Err, OnOk}
 use Rattle.std.specs.List.{count_by}
 use Rattle.q3_io.specs.declared.address.Address.{Address}
 use Rattle.q3_io.specs.Faults.{Rose}
 use Rattle.q3_io.specs.Traffic.{Parcel, Traffic, next_of, after_bind, after_send}
-use Rattle.q3_io.specs.Readings.{Reads}
-use Rattle.q3_io.specs.Written.{Written, Wrote}
+use Rattle.q3_io.specs.Readings.{Reads, readings_after}
+use Rattle.q3_io.specs.Written.{Written, Wrote, NothingWaits}
 use Rattle.q3_script.specs.declared.event.Event.{Event}
 use Rattle.q3_report.specs.Answers.{Answered}
 use Rattle.q3_node.specs.declared.turns.Course.{Course}
@@ -42,25 +42,55 @@ pub record Leaves (turns : List Turn) (all : Bool) (before after : Option Writte
   pub printed : Wrote before after (text_of turns) all
   pub wire : are ≡ wire_behind were turns
 
--- behind the first of the turns
-abbrev pub LeavesFirst : List Turn → Bool → Option Written → Option Written → Option Traffic → Option Traffic → Type 0
-LeavesFirst turns all before after were are =
-    (first : List Turn) × (rest : List Turn) × (turns ≡ first ++ rest) × Leaves first all before after were are
+-- readings of which so many were taken
+unfoldable pub readings_behind : ℕ → List ℕ → List ℕ
+readings_behind zero readings = readings
+readings_behind (suc count) readings = readings_behind count (readings_after readings)
+
+-- what is told of a clock then
+abbrev pub clock_behind : Option (List ℕ) → ℕ → Option (List ℕ)
+clock_behind told count = option_map (λ readings. readings_behind count readings) told
+
+-- all of these turns passed: each took one reading
+pub record Passes (turns : List Turn) (clock now : Option (List ℕ)) (before after : Option Written) (were are : Option Traffic) : Type 0 where
+  pub leaves : Leaves turns true before after were are
+  pub read : now ≡ clock_behind clock (length turns)
+
+-- the first of them did, and in the turn behind these the wire failed
+pub record WireFails (turns : List Turn) (clock now : Option (List ℕ)) (before after : Option Written) (were are : Option Traffic) : Type 0 where
+  pub first : List Turn
+  pub rest : List Turn
+  pub whole : turns ≡ first ++ rest
+  pub leaves : Leaves first true before after were are
+  pub read : now ≡ clock_behind clock (length first + 1)
+
+-- the first of them did, their lines were handed on, and of those of the turn behind them the sink took a front
+pub record SinkFails (turns : List Turn) (clock now : Option (List ℕ)) (before after : Option Written) (were are : Option Traffic) : Type 0 where
+  pub first : List Turn
+  pub last : Turn
+  pub rest : List Turn
+  pub whole : turns ≡ first ++ last ∷ rest
+  pub mid : Option Written
+  pub mids : Option Traffic
+  pub passed : Leaves first true before mid were mids
+  pub flushed : NothingWaits before → NothingWaits mid
+  pub fails : Leaves (last ∷ []) false mid after mids are
+  pub read : now ≡ clock_behind clock (length first + 1)
 
 -- a node with these turns did `end` in the last of them; or had as many as may be, and in none did `end`; or the outside ended it behind
--- the first of them, where a sink that failed took a front of their text
-abbrev pub Ran : List Turn → Option Written → Option Written → Option Traffic → Option Traffic → Result (Unit {0}) NodeError → Type 0
-Ran turns before after were are (Ok x) = (did_end turns ≡ true) × Leaves turns true before after were are
-Ran turns before after were are (Err Turns) = (did_end turns ≡ false) × Leaves turns true before after were are
-Ran turns before after were are (Err WireFault) = LeavesFirst turns true before after were are
-Ran turns before after were are (Err WriteFault) = LeavesFirst turns false before after were are
-Ran turns before after were are (Err NoMemory) = ⊥
+-- the first of them
+abbrev pub Ran : List Turn → Option (List ℕ) → Option (List ℕ) → Option Written → Option Written → Option Traffic → Option Traffic → Result (Unit {0}) NodeError → Type 0
+Ran turns clock now before after were are (Ok x) = (did_end turns ≡ true) × Passes turns clock now before after were are
+Ran turns clock now before after were are (Err Turns) = (did_end turns ≡ false) × Passes turns clock now before after were are
+Ran turns clock now before after were are (Err WireFault) = WireFails turns clock now before after were are
+Ran turns clock now before after were are (Err WriteFault) = SinkFails turns clock now before after were are
+Ran turns clock now before after were are (Err NoMemory) = ⊥
 
 -- a node ran by the readings and arrivals that were still to come
-abbrev pub RanNode : {S : Type 0} → Rules S → Node S → Option (List ℕ) → Option Written → Option Written → Option Traffic → Option Traffic → Result (Unit {0}) NodeError → Type 0
-RanNode rules node clock before after were are result =
+abbrev pub RanNode : {S : Type 0} → Rules S → Node S → Option (List ℕ) → Option (List ℕ) → Option Written → Option Written → Option Traffic → Option Traffic → Result (Unit {0}) NodeError → Type 0
+RanNode rules node clock now before after were are result =
     (readings : List ℕ) × ToRead clock readings × (arrivals : List (Option Parcel)) × ToArrive were arrivals
-    × Ran (turns_of most_turns rules node readings arrivals) before after were are result
+    × Ran (turns_of most_turns rules node readings arrivals) clock now before after were are result
 
 -- memory ran out, or the wire failed, before the node ran
 abbrev pub IsBefore : Result (Unit {0}) NodeError → Type 0
@@ -68,7 +98,7 @@ IsBefore (Err NoMemory) = Unit {0}
 IsBefore (Err WireFault) = Unit {0}
 IsBefore other = ⊥
 
--- where an address is bound, the node ran from there; where none is, nothing was printed or sent
+-- what is told of a wire once an address is bound
 abbrev pub at_bound : Option Traffic → Address → Option Traffic
 at_bound told at = option_map (λ traffic. after_bind traffic at) told
 
@@ -77,9 +107,15 @@ abbrev pub BindsAt : Option Traffic → Option Traffic → Address → Result (U
 BindsAt told now at (Ok x) = now ≡ at_bound told at
 BindsAt told now at (Err e) = now ≡ told
 
-abbrev pub RanBound : {S : Type 0} → Bool → Rules S → Node S → Address → Option (List ℕ) → Option Written → Option Written → Option Traffic → Option Traffic → Result (Unit {0}) NodeError → Type 0
-RanBound true rules node at clock before after were are result = RanNode rules node clock before after (at_bound were at) are result
-RanBound false rules node at clock before after were are result = IsBefore result × (after ≡ before) × (are ≡ were)
+-- where an address is bound, the node ran from there; where none is, nothing was printed, sent or read
+abbrev pub RanBound : {S : Type 0} → Bool → Rules S → Node S → Address → Option (List ℕ) → Option (List ℕ) → Option Written → Option Written → Option Traffic → Option Traffic → Result (Unit {0}) NodeError → Type 0
+RanBound true rules node at clock now before after were are result = RanNode rules node clock now before after (at_bound were at) are result
+RanBound false rules node at clock now before after were are result = IsBefore result × (now ≡ clock) × (after ≡ before) × (are ≡ were)
+
+-- nothing waits in a sink in which nothing waited, unless it failed
+abbrev pub StaysFlushed : {T : Type 0} → Option Written → Option Written → Result T NodeError → Type 0
+StaysFlushed before after (Err WriteFault) = Unit {0}
+StaysFlushed before after other = NothingWaits before → NothingWaits after
 
 -- ---- parts of a turn
 

@@ -5,6 +5,7 @@
 mod client;
 mod end;
 pub mod error;
+pub mod laws;
 mod node;
 mod server;
 mod turns;

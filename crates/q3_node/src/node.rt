@@ -9,7 +9,7 @@ ghost use Rattle.q3_server.specs.Server.{places, new_server};
 ghost use Rattle.q3_node.specs.Node.{new_node};
 ghost use Rattle.q3_node.specs.AtServer.{server_rules};
 ghost use Rattle.q3_node.specs.AtClient.{ClientEnd as EndValue, client_rules, client_of};
-ghost use Rattle.q3_node.specs.Running.{BindsAt, RanBound, WireCause, WriteCause};
+ghost use Rattle.q3_node.specs.Running.{BindsAt, RanBound, StaysFlushed, WireCause, WriteCause};
 
 use crate::client::ClientEnd;
 use crate::end::End;
@@ -38,9 +38,10 @@ pub fn serve_loop<W: Wire, C: Clock, O: Sink>(
     requires events { All (IsEventOf kinds.Serve) events.now }
     requires few { length events.now ≤ most_events }
     requires unbound { W.bound wire.old ≡ false }
-    ensures ran { RanBound (W.bound wire.new) server_rules (new_node (new_server profile.now places) events.now) at (C.readings clock.old)
+    ensures ran { RanBound (W.bound wire.new) server_rules (new_node (new_server profile.now places) events.now) at (C.readings clock.old) (C.readings clock.new)
         (O.written out.old) (O.written out.new) (W.told wire.old) (W.told wire.new) result }
     ensures unbound { W.bound wire.new ≡ false → (clock.new ≡ clock.old) × (out.new ≡ out.old) }
+    ensures flushed { StaysFlushed (O.written out.old) (O.written out.new) result }
     ensures no_memory { IsErrOf result NodeError.NoMemory → wire.new ≡ wire.old }
     ensures wire_cause { WireCause (W.faults wire.old) (W.faults wire.new) result }
     ensures write_cause { WriteCause (O.faults out.old) (O.faults out.new) result }
@@ -67,9 +68,10 @@ pub fn join_loop<W: Wire, C: Clock, O: Sink>(
     requires few { length events.now ≤ most_events }
     requires unbound { W.bound wire.old ≡ false }
     ensures ran { (end : EndValue) → client_of profile.now server events.now ≡ Some end
-        → RanBound (W.bound wire.new) client_rules (new_node end events.now) at (C.readings clock.old)
+        → RanBound (W.bound wire.new) client_rules (new_node end events.now) at (C.readings clock.old) (C.readings clock.new)
         (O.written out.old) (O.written out.new) (W.told wire.old) (W.told wire.new) result }
     ensures unbound { W.bound wire.new ≡ false → (clock.new ≡ clock.old) × (out.new ≡ out.old) }
+    ensures flushed { StaysFlushed (O.written out.old) (O.written out.new) result }
     ensures no_memory { IsErrOf result NodeError.NoMemory → wire.new ≡ wire.old }
     ensures wire_cause { WireCause (W.faults wire.old) (W.faults wire.new) result }
     ensures write_cause { WriteCause (O.faults out.old) (O.faults out.new) result }
@@ -105,9 +107,10 @@ fn run<E: End, W: Wire, C: Clock, O: Sink>(
     requires lines { All IsInRange events.now }
     requires few { length events.now ≤ most_events }
     requires unbound { W.bound wire.old ≡ false }
-    ensures ran { RanBound (W.bound wire.new) E.rules (new_node end.old events.now) at (C.readings clock.old)
+    ensures ran { RanBound (W.bound wire.new) E.rules (new_node end.old events.now) at (C.readings clock.old) (C.readings clock.new)
         (O.written out.old) (O.written out.new) (W.told wire.old) (W.told wire.new) result }
     ensures unbound { W.bound wire.new ≡ false → (clock.new ≡ clock.old) × (out.new ≡ out.old) }
+    ensures flushed { StaysFlushed (O.written out.old) (O.written out.new) result }
     ensures no_memory { IsErrOf result NodeError.NoMemory → wire.new ≡ wire.old }
     ensures wire_cause { WireCause (W.faults wire.old) (W.faults wire.new) result }
     ensures write_cause { WriteCause (O.faults out.old) (O.faults out.new) result }

@@ -8,7 +8,7 @@ ghost use Rattle.q3_script.specs.Grammar.{IsInRange};
 ghost use Rattle.q3_script.specs.Script.{most_events};
 ghost use Rattle.q3_node.specs.declared.turns.Course.{Course as CourseValue};
 ghost use Rattle.q3_node.specs.Node.{receive_room, due_at, time_behind, is_end, start_at, due, line_turn, receive_turn, new_node};
-ghost use Rattle.q3_node.specs.Running.{DoesTurn, TakesTurn, RanNode, node_of, IsOn, WireCause, WriteCause};
+ghost use Rattle.q3_node.specs.Running.{DoesTurn, TakesTurn, RanNode, StaysFlushed, node_of, IsOn, WireCause, WriteCause};
 
 use crate::end::End;
 use crate::error::NodeError;
@@ -122,8 +122,9 @@ pub(crate) fn run_turns<E: End, W: Wire, C: Clock, O: Sink>(
     requires few { length events.now ≤ most_events }
     requires room { length buffer.old ≡ receive_room }
     ensures bound { W.bound wire.new ≡ true }
-    ensures ran { RanNode E.rules (new_node end.old events.now) (C.readings clock.old) (O.written out.old) (O.written out.new) (W.told wire.old) (W.told wire.new) result }
-    ensures flushed { NothingWaits (O.written out.old) → OnOk result (NothingWaits (O.written out.new)) }
+    ensures ran { RanNode E.rules (new_node end.old events.now) (C.readings clock.old) (C.readings clock.new)
+        (O.written out.old) (O.written out.new) (W.told wire.old) (W.told wire.new) result }
+    ensures flushed { StaysFlushed (O.written out.old) (O.written out.new) result }
     ensures wire_cause { WireCause (W.faults wire.old) (W.faults wire.new) result }
     ensures write_cause { WriteCause (O.faults out.old) (O.faults out.new) result }
 {

@@ -1,16 +1,19 @@
 -- How a run ends.
-use Rattle.std.proofs.Common.{◌≡◌, ℕ, Bool, true, false, List, [], ◌∷◌, ◌++◌, Option, Some, None, Result, Ok, Err, refl, sym, ap, subst, ◌∙◌, inl, inr}
+use Rattle.std.proofs.Common.{◌≡◌, ℕ, Bool, true, false, List, [], ◌∷◌, ◌++◌, Option, Some, None, Result, Ok, Err, refl, sym, ap, subst, ◌∙◌, inl, inr, arith}
 use Rattle.std.specs.Prelude.{if◌then◌else◌}
 use Rattle.std.proofs.lemmas.List.{append-nil}
+use Rattle.q3_io.specs.declared.address.Address.{Address}
 use Rattle.q3_io.specs.Laws.{TextsFollow}
+use Rattle.q3_io.specs.Traffic.{Traffic}
 use Rattle.q3_io.specs.Written.{Written, Wrote}
+use Rattle.q3_node.specs.Node.{Turn, text_of}
 use Rattle.q3net.specs.declared.fault.Fault.{Fault}
 use Rattle.q3net.specs.declared.fault.Fault.TheVariants as faults
 use Rattle.q3net.specs.Command.{Command}
-use Rattle.q3net.specs.Lines.{ending_status, ending_line}
+use Rattle.q3net.specs.Lines.{fault_status, ending_status, ending_line}
 use Rattle.q3net.specs.Faults.{Gets, FileCause}
 use Rattle.q3net.specs.Verdict.{Place, Nowhere, First, Anywhere, Stops, Verdict, Outside, IsVerdict, stops_nowhere, settled}
-use Rattle.q3net.specs.Run.{Comes, ComesBehind, Executes, PrintsAll, Took, Prints}
+use Rattle.q3net.specs.Run.{Comes, ComesBehind, Executes, PrintsAll, HandsOn, Took, Prints, Reports, wire_by, WiredBy, FailsBy, ExecutesWired}
 
 -- ---- where something may stop a command
 
@@ -139,22 +142,89 @@ behind follow old mid now printed line ended status added took =
       | inr front ↦ inr (front.0, follow.more added front.1 refl)
     ]
 
-failed : (old mid now : Option Written) (text : List ℕ) (ended : Result (Unit {0}) Fault) (status : ℕ) → ended ≡ Err faults.Write
-    → Wrote old mid text false → Took ended (ending_line ended) mid now status → (status ≡ 4) × Wrote old now text false
-failed old mid now text ended status is front took =
+-- where the sink has failed the fault line adds nothing, and the status is 4
+failed : (mid now : Option Written) (ended : Result (Unit {0}) Fault) (status : ℕ) → ended ≡ Err faults.Write → Took ended (ending_line ended) mid now status
+    → (status ≡ 4) × ((all : Bool) × Wrote mid now [] all)
+failed mid now ended status is took =
     let none : ending_line ended ≡ [] = ap ending_line is in
     elim took [
-      | inl all ↦ (all.0 ∙ ap ending_status is, nothing_more old mid now text true front (subst (λ (z : List ℕ). Wrote mid now z true) none all.1.0))
-      | inr more ↦ (more.0, nothing_more old mid now text false front (subst (λ (z : List ℕ). Wrote mid now z false) none more.1))
+      | inl all ↦ (all.0 ∙ ap ending_status is, true, subst (λ (z : List ℕ). Wrote mid now z true) none all.1.0)
+      | inr more ↦ (more.0, false, subst (λ (z : List ℕ). Wrote mid now z false) none more.1)
     ]
 
-pub prints : (follow : TextsFollow) (command : Option Command) (told : Outside) (before after : ℕ) (old mid now : Option Written) (ended : Result (Unit {0}) Fault) (status : ℕ)
-    → Executes command told old mid ended → FileCause before after ended → Took ended (ending_line ended) mid now status → Prints command told before after old now status
-prints follow command told before after old mid now ended status executes cause took =
+still_fails : (at : Option Address) (turns : List Turn) (old mid now : Option Written) (told wired : Option Traffic) (all : Bool) → Wrote mid now [] all
+    → FailsBy at turns old mid told wired → FailsBy at turns old now told wired
+still_fails None turns old mid now told wired all nothing fails = fails
+still_fails (Some at) turns old mid now told wired all nothing fails = (
+  fails.0,
+  fails.1,
+  fails.2,
+  fails.3,
+  fails.4,
+  fails.5,
+  fails.6,
+  record { printed = nothing_more fails.4 mid now (text_of (fails.1 ∷ [])) all fails.7.printed nothing; wire = fails.7.wire },
+)
+
+pub prints : (follow : TextsFollow) (command : Option Command) (told : Outside) (before after : ℕ) (old mid now : Option Written) (wired : Option Traffic) (ended : Result (Unit {0}) Fault) (status : ℕ)
+    → ExecutesWired command told old mid wired ended → FileCause before after ended → Took ended (ending_line ended) mid now status → Prints command told before after old now wired status
+prints follow command told before after old mid now wired ended status executes cause took =
     let verdict = executes.0 in
     elim executes.2 [
-      | inl ends ↦ (verdict, executes.1, ended, cause, inl (ends.0, ends.1, behind follow old mid now ends.0 (ending_line ended) ended status ends.2 took))
+      | inl ends ↦ (verdict, executes.1, ended, cause, inl (ends.0, ends.1, ends.2, behind follow old mid now ends.0 (ending_line ended) ended status ends.3 took))
       | inr so ↦
-          let so_failed = failed old mid now verdict.text ended status so.0 so.1 took in
-          (verdict, executes.1, ended, cause, inr (so.0, so_failed.0, so_failed.1))
+          let no_more = failed mid now ended status so.0 took in
+          (verdict, executes.1, ended, cause,
+          inr (so.0, no_more.0, nothing_more old mid now verdict.text no_more.1.0 so.1 no_more.1.1, still_fails verdict.at verdict.turns old mid now told.wire wired no_more.1.0 no_more.1.1 so.2))
+    ]
+
+-- ---- a command that is done
+
+none_is_done : (ended : Result (Unit {0}) Fault) → ending_status ended ≡ 0 → ended ≡ Ok tt
+none_is_done (Ok x) none = refl
+none_is_done (Err e) none = absurd (no_status e none)
+  where
+    no_status : (e : Fault) → fault_status e ≡ 0 → ⊥
+    no_status faults.NoMemory none = omega (arith, none)
+    no_status faults.Usage none = omega (arith, none)
+    no_status faults.Read none = omega (arith, none)
+    no_status faults.Write none = omega (arith, none)
+    no_status faults.FileWrite none = omega (arith, none)
+    no_status (faults.Profile e) none = omega (arith, none)
+    no_status (faults.Script line cause) none = omega (arith, none)
+    no_status faults.Wire none = omega (arith, none)
+    no_status faults.Turns none = omega (arith, none)
+
+all_wired : (at : Option Address) (verdict : Verdict) (printed : List ℕ) (told wired : Option Traffic) → WiredBy at verdict (Ok tt) printed told wired → wired ≡ wire_by told at verdict.turns
+all_wired None verdict printed told wired by = by
+all_wired (Some at) verdict printed told wired by = elim by [ inl all ↦ all.1 | inr early ↦ absurd early.0 ]
+
+done_reports : (follow : TextsFollow) (command : Option Command) (told : Outside) (old mid now : Option Written) (wired : Option Traffic)
+    → ExecutesWired command told old mid wired (Ok tt) → HandsOn mid now [] → Reports command told old now wired
+done_reports follow command told old mid now wired executes hands =
+    let verdict = executes.0 in
+    elim executes.2 [
+      | inl ends ↦ elim ends.1 [
+        | inl said ↦ (
+          verdict,
+          executes.1,
+          sym said.0,
+          (follow.more ends.3 hands.0 (sym said.1 ∙ sym (append-nil ends.0)), hands.1),
+          all_wired verdict.at verdict ends.0 told.wire wired ends.2,
+        )
+        | inr stopped ↦ absurd (let no : Ok tt ≡ Err stopped.0 = stopped.1 in cc)
+      ]
+      | inr failed ↦ absurd (let no : Ok tt ≡ Err faults.Write = failed.0 in cc)
+    ]
+
+pub reports : (follow : TextsFollow) (command : Option Command) (told : Outside) (old mid now : Option Written) (wired : Option Traffic) (ended : Result (Unit {0}) Fault) (status : ℕ)
+    → ExecutesWired command told old mid wired ended → Took ended (ending_line ended) mid now status → status ≡ 0 → Reports command told old now wired
+reports follow command told old mid now wired ended status executes took none =
+    elim took [
+      | inl all ↦ (
+          let done = none_is_done ended (sym all.0 ∙ none) in
+          done_reports follow command told old mid now wired (subst (λ (e : Result (Unit {0}) Fault). ExecutesWired command told old mid wired e) done executes)
+          (subst (λ (e : Result (Unit {0}) Fault). HandsOn mid now (ending_line e)) done all.1)
+          )
+      | inr front ↦ absurd (omega (arith, front.0, none))
     ]

@@ -1,5 +1,5 @@
 -- How a node ends: a server, or a client, over a wire.
-use Rattle.std.proofs.Common.{◌≡◌, ℕ, ◌<◌, Bool, true, false, List, [], ◌∷◌, ◌++◌, Option, Some, None, Result, Ok, Err, refl, sym, ap, subst, ◌∙◌, inl, inr, arith}
+use Rattle.std.proofs.Common.{◌≡◌, ℕ, ◌<◌, Bool, true, false, List, [], ◌∷◌, ◌++◌, Option, Some, None, Result, Ok, Err, refl, sym, ap, subst, ◌∙◌, append_assoc, inl, inr, arith}
 use Rattle.std.specs.Prelude.{◌⊎◌}
 use Rattle.std.specs.List.{flat_map}
 use Rattle.std.proofs.lemmas.Grind.{flat_map-append}
@@ -21,18 +21,17 @@ use Rattle.q3_node.specs.declared.error.NodeError.TheVariants as node
 use Rattle.q3_node.specs.Node.{Turn, Node, Rules, most_turns, new_node, turns_of, did_end, answer_text, text_of}
 use Rattle.q3_node.specs.AtServer.{server_rules}
 use Rattle.q3_node.specs.AtClient.{ClientEnd, client_of, client_rules}
-use Rattle.q3_node.specs.Running.{ToArrive, ToRead, wire_behind, at_bound, Leaves, LeavesFirst, Ran, RanNode, RanBound, WireCause as NodeWireCause, WriteCause as NodeWriteCause}
+use Rattle.q3_node.specs.Running.{ToArrive, ToRead, at_bound, Ran, RanBound, WireCause as NodeWireCause, WriteCause as NodeWriteCause}
 use Rattle.q3net.specs.declared.fault.Fault.{Fault}
 use Rattle.q3net.specs.declared.fault.Fault.TheVariants as faults
 use Rattle.q3net.specs.Command.{Command, Serve, Join}
-use Rattle.q3net.specs.Faults.{Gets, node_fault, ReadCause, WriteCause, FileCause, WireCause}
+use Rattle.q3net.specs.Faults.{Gets, IsOutside, node_fault, ReadCause, WriteCause, FileCause, WireCause}
 use Rattle.q3net.specs.Input.{IsFront, Holds, looked_up, Touches, Gives}
 use Rattle.q3net.specs.Verdict.{Verdict, Outside, IsVerdict, names_by, profile_in, events_in, ending_of, noded, served, client_turns, joined, GetsFrom}
-use Rattle.q3net.specs.Run.{Comes, Executes, LeavesFiles, wire_by, Wires, LeavesWire, MayBind}
+use Rattle.q3net.specs.Run.{ComesBehind, place_of, ExecutesWired, LeavesFiles, MayBind}
 use Rattle.q3net.proofs.Loading.{held}
 use Rattle.q3net.proofs.Looking.{got_ok, gave, leaves_then, first_then, gave_first, profile_names}
 use Rattle.q3net.proofs.Replaying.{same_held}
-use Rattle.q3net.proofs.Ending.{refused_so, wants_memory, fails_reading}
 use Rattle.q3net.proofs.Outside.{OfInput, profile_of_input, events_of_input}
 
 -- ---- what is still to come
@@ -112,52 +111,48 @@ one_client profile server other is = absurd is
 
 -- ---- before it ran
 
-noded_refused : (names : List (List ℕ)) (at : Address) (answer : Result (List Turn) Fault) (e : Fault) → answer ≡ Err e
-    → ((noded names at answer).ending ≡ Err e) × ((noded names at answer).text ≡ []) × ((noded names at answer).at ≡ None)
-noded_refused names at answer e is = rw is (refl, refl, refl)
+-- by what the input says
+noded_refused : (follow : TextsFollow) (command : Option Command) (told : Outside) (old : Option Written) (names : List (List ℕ)) (at : Address) (answer : Result (List Turn) Fault) (e : Fault) → answer ≡ Err e
+    → IsVerdict told command (noded names at answer) → ExecutesWired command told old old told.wire (Err e)
+noded_refused follow command told old names at answer e no is =
+    (noded names at (Err e), subst (λ (a : Result (List Turn) Fault). IsVerdict told command (noded names at a)) no is, inl ([], inl (refl, refl), refl, follow.none))
 
-noded_memory : (names : List (List ℕ)) (at : Address) (answer : Result (List Turn) Fault) → Comes (noded names at answer).stops.memory
-noded_memory names at (Ok turns) = tt
-noded_memory names at (Err e) = tt
+-- where memory ran out, a read failed, or the wire did before an address was bound
+comes_before : (command : Option Command) (told : Outside) (names : List (List ℕ)) (at : Address) (answer : Result (List Turn) Fault) (fault : Fault) → IsOutside fault
+    → ComesBehind (place_of (noded names at answer).stops fault) [] (noded names at answer).text → (follow : TextsFollow) (old : Option Written) → IsVerdict told command (noded names at answer)
+    → ExecutesWired command told old old told.wire (Err fault)
+comes_before command told names at (Ok turns) fault outside comes follow old is =
+    (noded names at (Ok turns), is, inl ([], inr (fault, refl, comes), inr (outside, inl (refl, refl)), follow.none))
+comes_before command told names at (Err e) fault outside comes follow old is =
+    (noded names at (Err e), is, inl ([], inr (fault, refl, comes), refl, follow.none))
 
-noded_reads : (names : List (List ℕ)) (at : Address) (answer : Result (List Turn) Fault) → Comes (noded names at answer).stops.reads
-noded_reads names at (Ok turns) = tt
-noded_reads names at (Err e) = tt
+noded_memory : (names : List (List ℕ)) (at : Address) (answer : Result (List Turn) Fault) → ComesBehind (place_of (noded names at answer).stops faults.NoMemory) [] (noded names at answer).text
+noded_memory names at (Ok turns) = refl
+noded_memory names at (Err e) = ([], refl)
+
+noded_reads : (names : List (List ℕ)) (at : Address) (answer : Result (List Turn) Fault) → ComesBehind (place_of (noded names at answer).stops faults.Read) [] (noded names at answer).text
+noded_reads names at (Ok turns) = refl
+noded_reads names at (Err e) = refl
 
 -- a part that reads a file ended it
 pub part_executes : {A : Type 0} (follow : TextsFollow) (command : Option Command) (told : Outside) (old : Option Written) (names : List (List ℕ)) (at : Address) (answer : Result (List Turn) Fault)
-    (said : Result A Fault) (e : Fault) → IsVerdict told command (noded names at answer) → (said ≡ Err e → answer ≡ Err e) → Gets said (Err e) → Executes command told old old (Err e)
+    (said : Result A Fault) (e : Fault) → IsVerdict told command (noded names at answer) → (said ≡ Err e → answer ≡ Err e) → Gets said (Err e) → ExecutesWired command told old old told.wire (Err e)
 part_executes follow command told old names at answer said e is so gets =
     elim gets [
-      | inl by_input ↦
-          let no = noded_refused names at answer e (so (sym by_input)) in
-          refused_so follow command told old (noded names at answer) e is no.0 no.1
+      | inl by_input ↦ noded_refused follow command told old names at answer e (so (sym by_input)) is
       | inr outside ↦ elim outside [
         | inl memory ↦ (
             let so : e ≡ faults.NoMemory = cc in
-            subst (λ (d : Fault). Executes command told old old (Err d)) (sym so) (wants_memory follow command told old (noded names at answer) is (noded_memory names at answer))
+            subst (λ (d : Fault). ExecutesWired command told old old told.wire (Err d)) (sym so)
+            (comes_before command told names at answer faults.NoMemory tt (noded_memory names at answer) follow old is)
             )
         | inr read ↦ (
             let so : e ≡ faults.Read = cc in
-            subst (λ (d : Fault). Executes command told old old (Err d)) (sym so) (fails_reading follow command told old (noded names at answer) is (noded_reads names at answer))
+            subst (λ (d : Fault). ExecutesWired command told old old told.wire (Err d)) (sym so)
+            (comes_before command told names at answer faults.Read tt (noded_reads names at answer) follow old is)
             )
       ]
     ]
-
--- and left the wire as it was
-part_wires : {A : Type 0} (command : Option Command) (told : Outside) (names : List (List ℕ)) (at : Address) (answer : Result (List Turn) Fault) (said : Result A Fault) (e : Fault)
-    → IsVerdict told command (noded names at answer) → (said ≡ Err e → answer ≡ Err e) → Gets said (Err e) → LeavesWire command told told.wire (Err e)
-part_wires command told names at answer said e is so gets = (
-  noded names at answer,
-  is,
-  elim gets [
-    | inl by_input ↦ inl (rw (noded_refused names at answer e (so (sym by_input))).2 refl)
-    | inr outside ↦ elim outside [
-      | inl memory ↦ inr ((let so : e ≡ faults.NoMemory = cc in rw so tt), inl refl)
-      | inr read ↦ inr ((let so : e ≡ faults.Read = cc in rw so tt), inl refl)
-    ]
-  ],
-)
 
 noded_touches : {A : Type 0} (ended : Result A Fault) (names : List (List ℕ)) (at : Address) (answer : Result (List Turn) Fault) (told now : Option Told) → Gives ended names told now
     → Touches ended (noded names at answer).named (noded names at answer).made told now
@@ -180,21 +175,12 @@ node_given told command kind profile script at turns now file ended nodes holds 
 -- ---- without a profile
 
 pub no_profile_executes : (follow : TextsFollow) (told : Outside) (command : Option Command) (kind : ScriptKind) (profile script : List ℕ) (at : Address) (turns : TurnsBy) (old : Option Written) (e : Fault)
-    → IsNodes told command kind profile script at turns → GetsFrom profile_in told.files profile (Err e) → Executes command told old old (Err e)
+    → IsNodes told command kind profile script at turns → GetsFrom profile_in told.files profile (Err e) → ExecutesWired command told old old told.wire (Err e)
 no_profile_executes follow told command kind profile script at turns old e nodes gets =
     let s = held told.files script in
     let readings = some_read told.clock in
     let arrivals = some_arrive told.wire in
     part_executes follow command told old (names_by (profile_in gets.0) profile script) at (turns gets.0 s.0 readings.0 arrivals.0) (profile_in gets.0) e
-    (nodes.verdict gets.0 s.0 gets.1 s.1 readings.0 readings.1 arrivals.0 arrivals.1) (nodes.no_profile gets.0 s.0 readings.0 arrivals.0 e) gets.2
-
-pub no_profile_wires : (told : Outside) (command : Option Command) (kind : ScriptKind) (profile script : List ℕ) (at : Address) (turns : TurnsBy) (e : Fault)
-    → IsNodes told command kind profile script at turns → GetsFrom profile_in told.files profile (Err e) → LeavesWire command told told.wire (Err e)
-no_profile_wires told command kind profile script at turns e nodes gets =
-    let s = held told.files script in
-    let readings = some_read told.clock in
-    let arrivals = some_arrive told.wire in
-    part_wires command told (names_by (profile_in gets.0) profile script) at (turns gets.0 s.0 readings.0 arrivals.0) (profile_in gets.0) e
     (nodes.verdict gets.0 s.0 gets.1 s.1 readings.0 readings.1 arrivals.0 arrivals.1) (nodes.no_profile gets.0 s.0 readings.0 arrivals.0 e) gets.2
 
 pub no_profile_given : (told : Outside) (command : Option Command) (kind : ScriptKind) (profile script : List ℕ) (at : Address) (turns : TurnsBy) (now : Option Told) (e : Fault)
@@ -206,23 +192,12 @@ no_profile_given told command kind profile script at turns now e nodes gets give
 
 pub no_script_executes : (follow : TextsFollow) (told : Outside) (command : Option Command) (kind : ScriptKind) (profile script : List ℕ) (at : Address) (turns : TurnsBy) (mid : Option Told) (by : Profile) (old : Option Written) (e : Fault)
     → IsNodes told command kind profile script at turns → GetsFrom profile_in told.files profile (Ok by) → Gives (Ok by) (profile ∷ []) told.files mid → GetsFrom (events_in kind) mid script (Err e)
-    → Executes command told old old (Err e)
+    → ExecutesWired command told old old told.wire (Err e)
 no_script_executes follow told command kind profile script at turns mid by old e nodes passes gives gets =
     let of_script = same_held told.files mid (profile ∷ []) script gets.0 (gave by (profile ∷ []) told.files mid gives) gets.1 in
     let readings = some_read told.clock in
     let arrivals = some_arrive told.wire in
     part_executes follow command told old (names_by (profile_in passes.0) profile script) at (turns passes.0 gets.0 readings.0 arrivals.0) (events_in kind gets.0) e
-    (nodes.verdict passes.0 gets.0 passes.1 of_script readings.0 readings.1 arrivals.0 arrivals.1)
-    (nodes.no_events passes.0 gets.0 readings.0 arrivals.0 by e (got_ok (profile_in passes.0) by passes.2)) gets.2
-
-pub no_script_wires : (told : Outside) (command : Option Command) (kind : ScriptKind) (profile script : List ℕ) (at : Address) (turns : TurnsBy) (mid : Option Told) (by : Profile) (e : Fault)
-    → IsNodes told command kind profile script at turns → GetsFrom profile_in told.files profile (Ok by) → Gives (Ok by) (profile ∷ []) told.files mid → GetsFrom (events_in kind) mid script (Err e)
-    → LeavesWire command told told.wire (Err e)
-no_script_wires told command kind profile script at turns mid by e nodes passes gives gets =
-    let of_script = same_held told.files mid (profile ∷ []) script gets.0 (gave by (profile ∷ []) told.files mid gives) gets.1 in
-    let readings = some_read told.clock in
-    let arrivals = some_arrive told.wire in
-    part_wires command told (names_by (profile_in passes.0) profile script) at (turns passes.0 gets.0 readings.0 arrivals.0) (events_in kind gets.0) e
     (nodes.verdict passes.0 gets.0 passes.1 of_script readings.0 readings.1 arrivals.0 arrivals.1)
     (nodes.no_events passes.0 gets.0 readings.0 arrivals.0 by e (got_ok (profile_in passes.0) by passes.2)) gets.2
 
@@ -302,76 +277,67 @@ arrive_bound (Some traffic) at arrivals to = to
 abbrev of_turns : List ℕ → List ℕ → Address → List Turn → Verdict
 of_turns profile script at turns = noded (profile ∷ script ∷ []) at (Ok turns)
 
+-- turns behind others are those of all
+text_last : (turns first rest : List Turn) (last : Turn) → turns ≡ first ++ last ∷ rest → text_of turns ≡ (text_of first ++ text_of (last ∷ [])) ++ text_of rest
+text_last turns first rest last is =
+    ap text_of (is ∙ sym (append_assoc first (last ∷ []) rest))
+    ∙ flat_map-append (λ (turn : Turn). answer_text turn.answer) (first ++ (last ∷ [])) rest
+    ∙ ap (λ (text : List ℕ). text ++ text_of rest) (flat_map-append (λ (turn : Turn). answer_text turn.answer) first (last ∷ []))
+
 -- a node's loop ended early
-ran_failed : (follow : TextsFollow) (told : Outside) (command : Option Command) (profile script : List ℕ) (at : Address) (turns : List Turn) (old now : Option Written) (are : Option Traffic) (e : NodeError)
-    → IsVerdict told command (of_turns profile script at turns) → Ran turns old now (at_bound told.wire at) are (Err e) → Executes command told old now (Err (node_fault e))
-ran_failed follow told command profile script at turns old now are node.NoMemory is ran = absurd ran
-ran_failed follow told command profile script at turns old now are node.WireFault is ran =
-    (of_turns profile script at turns, is, inl (text_of ran.0, inr (faults.Wire, refl, text_front turns ran.0 ran.1 ran.2), ran.3.printed))
-ran_failed follow told command profile script at turns old now are node.WriteFault is ran =
-    let front = text_front turns ran.0 ran.1 ran.2 in
-    (of_turns profile script at turns, is, inr (refl, follow.early front.0 ran.3.printed (sym front.1)))
-ran_failed follow told command profile script at turns old now are node.Turns is ran =
-    (of_turns profile script at turns, is, inl (text_of turns, inl (sym (ending_so turns false ran.0), refl), ran.1.printed))
+ran_failed : (follow : TextsFollow) (told : Outside) (command : Option Command) (profile script : List ℕ) (at : Address) (turns : List Turn) (clock : Option (List ℕ)) (old now : Option Written) (are : Option Traffic) (e : NodeError)
+    → IsVerdict told command (of_turns profile script at turns) → Ran turns told.clock clock old now (at_bound told.wire at) are (Err e) → ExecutesWired command told old now are (Err (node_fault e))
+ran_failed follow told command profile script at turns clock old now are node.NoMemory is ran = absurd ran
+ran_failed follow told command profile script at turns clock old now are node.WireFault is ran =
+    let front = text_front turns ran.first ran.rest ran.whole in (
+      of_turns profile script at turns,
+      is,
+      inl (text_of ran.first, inr (faults.Wire, refl, front), inr (tt, inr (ran.first, (ran.rest, sym ran.whole), refl, ran.leaves.wire)), ran.leaves.printed),
+    )
+ran_failed follow told command profile script at turns clock old now are node.WriteFault is ran =
+    let all = text_last turns ran.first ran.rest ran.last ran.whole in (
+      of_turns profile script at turns,
+      is,
+      inr (
+        refl,
+        follow.early (text_of ran.rest) (follow.more ran.passed.printed ran.fails.printed refl) all,
+        (ran.first, ran.last, ran.rest, ran.whole, ran.mid, ran.mids, ran.passed, ran.fails),
+      ),
+    )
+ran_failed follow told command profile script at turns clock old now are node.Turns is ran =
+    let ends = sym (ending_so turns false ran.0) in
+    (of_turns profile script at turns, is, inl (text_of turns, inl (ends, refl), inl (ends, ran.1.leaves.wire), ran.1.leaves.printed))
 
 pub loop_failed : {S : Type 0} (follow : TextsFollow) (told : Outside) (command : Option Command) (profile script : List ℕ) (at : Address) (rules : Rules S) (first : Node S) (bound : Bool)
-    (old now : Option Written) (are : Option Traffic) (e : NodeError) → Passed told command profile script at (turns_of most_turns rules first)
-    → RanBound bound rules first at told.clock old now told.wire are (Err e) → Executes command told old now (Err (node_fault e))
-loop_failed follow told command profile script at rules first true old now are e passed ran =
-    ran_failed follow told command profile script at (turns_of most_turns rules first ran.0 ran.2) old now are e (passed.is ran.0 ran.1 ran.2 (arrive_bound told.wire at ran.2 ran.3)) ran.4
-loop_failed follow told command profile script at rules first false old now are node.NoMemory passed ran =
-    let readings = some_read told.clock in
-    let arrivals = some_arrive told.wire in
-    rw ran.1
-    (wants_memory follow command told old (of_turns profile script at (turns_of most_turns rules first readings.0 arrivals.0)) (passed.is readings.0 readings.1 arrivals.0 arrivals.1) tt)
-loop_failed follow told command profile script at rules first false old now are node.WireFault passed ran =
+    (clock : Option (List ℕ)) (old now : Option Written) (are : Option Traffic) (e : NodeError) → Passed told command profile script at (turns_of most_turns rules first)
+    → RanBound bound rules first at told.clock clock old now told.wire are (Err e) → ExecutesWired command told old now are (Err (node_fault e))
+loop_failed follow told command profile script at rules first true clock old now are e passed ran =
+    ran_failed follow told command profile script at (turns_of most_turns rules first ran.0 ran.2) clock old now are e (passed.is ran.0 ran.1 ran.2 (arrive_bound told.wire at ran.2 ran.3)) ran.4
+loop_failed follow told command profile script at rules first false clock old now are node.NoMemory passed ran =
     let readings = some_read told.clock in
     let arrivals = some_arrive told.wire in
     let turns = turns_of most_turns rules first readings.0 arrivals.0 in
-    rw ran.1 (of_turns profile script at turns, passed.is readings.0 readings.1 arrivals.0 arrivals.1, inl ([], inr (faults.Wire, refl, (text_of turns, refl)), follow.none))
-loop_failed follow told command profile script at rules first false old now are node.WriteFault passed ran = absurd ran.0
-loop_failed follow told command profile script at rules first false old now are node.Turns passed ran = absurd ran.0
+    rw (ran.2, ran.3) (comes_before command told (profile ∷ script ∷ []) at (Ok turns) faults.NoMemory tt refl follow old (passed.is readings.0 readings.1 arrivals.0 arrivals.1))
+loop_failed follow told command profile script at rules first false clock old now are node.WireFault passed ran =
+    let readings = some_read told.clock in
+    let arrivals = some_arrive told.wire in
+    let turns = turns_of most_turns rules first readings.0 arrivals.0 in
+    rw (ran.2, ran.3) (comes_before command told (profile ∷ script ∷ []) at (Ok turns) faults.Wire tt (text_of turns, refl) follow old (passed.is readings.0 readings.1 arrivals.0 arrivals.1))
+loop_failed follow told command profile script at rules first false clock old now are node.WriteFault passed ran = absurd ran.0
+loop_failed follow told command profile script at rules first false clock old now are node.Turns passed ran = absurd ran.0
 
 -- or with `end`
 pub loop_done : {S : Type 0} (told : Outside) (command : Option Command) (profile script : List ℕ) (at : Address) (rules : Rules S) (first : Node S) (bound : Bool)
-    (old now : Option Written) (are : Option Traffic) → Passed told command profile script at (turns_of most_turns rules first)
-    → RanBound bound rules first at told.clock old now told.wire are (Ok tt) → Executes command told old now (Ok tt)
-loop_done told command profile script at rules first true old now are passed ran =
+    (clock : Option (List ℕ)) (old now : Option Written) (are : Option Traffic) → Passed told command profile script at (turns_of most_turns rules first)
+    → RanBound bound rules first at told.clock clock old now told.wire are (Ok tt) → ExecutesWired command told old now are (Ok tt)
+loop_done told command profile script at rules first true clock old now are passed ran =
     let turns = turns_of most_turns rules first ran.0 ran.2 in
-    (of_turns profile script at turns, passed.is ran.0 ran.1 ran.2 (arrive_bound told.wire at ran.2 ran.3), inl (text_of turns, inl (sym (ending_so turns true ran.4.0), refl), ran.4.1.printed))
-loop_done told command profile script at rules first false old now are passed ran = absurd ran.0
-
--- and what it left of the wire
-wires_failed : (told : Outside) (command : Option Command) (profile script : List ℕ) (at : Address) (turns : List Turn) (old now : Option Written) (are : Option Traffic) (e : NodeError)
-    → IsVerdict told command (of_turns profile script at turns) → Ran turns old now (at_bound told.wire at) are (Err e) → LeavesWire command told are (Err (node_fault e))
-wires_failed told command profile script at turns old now are node.NoMemory is ran = absurd ran
-wires_failed told command profile script at turns old now are node.WireFault is ran = (of_turns profile script at turns, is, inr (tt, inr (ran.0, (ran.1, sym ran.2), ran.3.wire)))
-wires_failed told command profile script at turns old now are node.WriteFault is ran = (of_turns profile script at turns, is, inr (tt, inr (ran.0, (ran.1, sym ran.2), ran.3.wire)))
-wires_failed told command profile script at turns old now are node.Turns is ran = (of_turns profile script at turns, is, inl ran.1.wire)
-
-pub loop_failed_wires : {S : Type 0} (told : Outside) (command : Option Command) (profile script : List ℕ) (at : Address) (rules : Rules S) (first : Node S) (bound : Bool)
-    (old now : Option Written) (are : Option Traffic) (e : NodeError) → Passed told command profile script at (turns_of most_turns rules first)
-    → RanBound bound rules first at told.clock old now told.wire are (Err e) → LeavesWire command told are (Err (node_fault e))
-loop_failed_wires told command profile script at rules first true old now are e passed ran =
-    wires_failed told command profile script at (turns_of most_turns rules first ran.0 ran.2) old now are e (passed.is ran.0 ran.1 ran.2 (arrive_bound told.wire at ran.2 ran.3)) ran.4
-loop_failed_wires told command profile script at rules first false old now are node.NoMemory passed ran =
-    let readings = some_read told.clock in
-    let arrivals = some_arrive told.wire in
-    (of_turns profile script at (turns_of most_turns rules first readings.0 arrivals.0), passed.is readings.0 readings.1 arrivals.0 arrivals.1, inr (tt, inl ran.2))
-loop_failed_wires told command profile script at rules first false old now are node.WireFault passed ran =
-    let readings = some_read told.clock in
-    let arrivals = some_arrive told.wire in
-    (of_turns profile script at (turns_of most_turns rules first readings.0 arrivals.0), passed.is readings.0 readings.1 arrivals.0 arrivals.1, inr (tt, inl ran.2))
-loop_failed_wires told command profile script at rules first false old now are node.WriteFault passed ran = absurd ran.0
-loop_failed_wires told command profile script at rules first false old now are node.Turns passed ran = absurd ran.0
-
-pub loop_done_wires : {S : Type 0} (told : Outside) (command : Option Command) (profile script : List ℕ) (at : Address) (rules : Rules S) (first : Node S) (bound : Bool)
-    (old now : Option Written) (are : Option Traffic) → Passed told command profile script at (turns_of most_turns rules first)
-    → RanBound bound rules first at told.clock old now told.wire are (Ok tt) → LeavesWire command told are (Ok tt)
-loop_done_wires told command profile script at rules first true old now are passed ran =
-    let turns = turns_of most_turns rules first ran.0 ran.2 in
-    (of_turns profile script at turns, passed.is ran.0 ran.1 ran.2 (arrive_bound told.wire at ran.2 ran.3), inl ran.4.1.wire)
-loop_done_wires told command profile script at rules first false old now are passed ran = absurd ran.0
+    let ends = sym (ending_so turns true ran.4.0) in (
+      of_turns profile script at turns,
+      passed.is ran.0 ran.1 ran.2 (arrive_bound told.wire at ran.2 ran.3),
+      inl (text_of turns, inl (ends, refl), inl (ends, ran.4.1.leaves.wire), ran.4.1.leaves.printed),
+    )
+loop_done told command profile script at rules first false clock old now are passed ran = absurd ran.0
 
 -- its verdict binds an address
 pub passed_binds : (told : Outside) (command : Option Command) (profile script : List ℕ) (at : Address) (turns : List ℕ → List (Option Parcel) → List Turn) → Passed told command profile script at turns

@@ -1,12 +1,12 @@
 -- How a run goes: as its verdict says, or something from outside ends it early.
-use Rattle.std.specs.Prelude.{◌≡◌, ◌⊎◌, ℕ, ◌≤◌, true, false, List, [], ◌++◌, map, take, Option, Some, None, Result, Ok, Err}
+use Rattle.std.specs.Prelude.{◌≡◌, ◌⊎◌, ℕ, ◌≤◌, true, false, List, [], ◌∷◌, ◌++◌, map, take, Option, Some, None, Result, Ok, Err}
 use Rattle.std.specs.List.{flat_map}
 use Rattle.q3_io.specs.Faults.{Rose}
 use Rattle.q3_io.specs.declared.address.Address.{Address}
 use Rattle.q3_io.specs.Told.{Told}
 use Rattle.q3_io.specs.Traffic.{Traffic}
-use Rattle.q3_node.specs.Node.{Turn}
-use Rattle.q3_node.specs.Running.{wire_behind, at_bound}
+use Rattle.q3_node.specs.Node.{Turn, text_of}
+use Rattle.q3_node.specs.Running.{wire_behind, at_bound, Leaves}
 use Rattle.q3_io.specs.Written.{Written, Wrote, NothingWaits}
 use Rattle.q3_report.specs.Answers.{Answered}
 use Rattle.q3_report.specs.AnswerLines.{lines_of}
@@ -66,6 +66,36 @@ LeavesFiles command told now ended = (verdict : Verdict) × IsVerdict told comma
 abbrev pub PrintsAll : List ℕ → Option Written → Option Written → Result (Unit {0}) Fault → Type 0
 PrintsAll text old now ended = ((ended ≡ Ok tt) × Wrote old now text true) ⊎ ((ended ≡ Err Write) × Wrote old now text false)
 
+-- ---- the wire
+
+-- what is told of the wire where a verdict's turns were had at its address, or these of them; without an address it stays
+abbrev pub wire_by : Option Traffic → Option Address → List Turn → Option Traffic
+wire_by told None turns = told
+wire_by told (Some at) turns = wire_behind (at_bound told at) turns
+
+-- of a node all turns were had, or, where something from outside ended it early, those whose text was printed, or nothing was bound; of
+-- any other command the wire stays
+abbrev pub WiredBy : Option Address → Verdict → Result (Unit {0}) Fault → List ℕ → Option Traffic → Option Traffic → Type 0
+WiredBy None verdict ended printed told now = now ≡ told
+WiredBy (Some at) verdict ended printed told now =
+    ((ended ≡ verdict.ending) × (now ≡ wire_by told (Some at) verdict.turns))
+    ⊎ (IsEarly ended × (((printed ≡ []) × (now ≡ told))
+    ⊎ ((first : List Turn) × IsFront first verdict.turns × (printed ≡ text_of first) × (now ≡ wire_by told (Some at) first))))
+
+-- where the sink failed: in the turn behind the first of them, whose lines it took whole
+abbrev pub FailsBy : Option Address → List Turn → Option Written → Option Written → Option Traffic → Option Traffic → Type 0
+FailsBy None turns old now told wired = wired ≡ told
+FailsBy (Some at) turns old now told wired =
+    (first : List Turn) × (last : Turn) × (rest : List Turn) × (turns ≡ first ++ last ∷ rest)
+    × (mid : Option Written) × (mids : Option Traffic) × Leaves first true old mid (at_bound told at) mids × Leaves (last ∷ []) false mid now mids wired
+
+-- what the sink took of a command by then, and what it left of the wire
+abbrev pub ExecutesWired : Option Command → Outside → Option Written → Option Written → Option Traffic → Result (Unit {0}) Fault → Type 0
+ExecutesWired command told old now wired ended =
+    (verdict : Verdict) × IsVerdict told command verdict
+    × (((printed : List ℕ) × Ends verdict ended printed × WiredBy verdict.at verdict ended printed told.wire wired × Wrote old now printed true)
+    ⊎ ((ended ≡ Err Write) × Wrote old now verdict.text false × FailsBy verdict.at verdict.turns old now told.wire wired))
+
 -- ---- how a run ends
 
 -- the whole text was handed on and the status is that of the end, or the sink failed, took a front of the text, and the status is 4
@@ -73,17 +103,17 @@ abbrev pub Took : Result (Unit {0}) Fault → List ℕ → Option Written → Op
 Took ended text old now status = ((status ≡ ending_status ended) × HandsOn old now text) ⊎ ((status ≡ 4) × Wrote old now text false)
 
 -- a run prints what its command prints, and behind that the fault line, if any, which is that of a file's write exactly where the files'
--- count of these changed; or the sink failed before, and took a front of the text
-abbrev pub Prints : Option Command → Outside → ℕ → ℕ → Option Written → Option Written → ℕ → Type 0
-Prints command told before after old now status =
+-- count of these changed; or the sink failed before, and took a front of the text; and it left of the wire what goes with that
+abbrev pub Prints : Option Command → Outside → ℕ → ℕ → Option Written → Option Written → Option Traffic → ℕ → Type 0
+Prints command told before after old now wired status =
     (verdict : Verdict) × IsVerdict told command verdict × (ended : Result (Unit {0}) Fault) × FileCause before after ended
-    × (((printed : List ℕ) × Ends verdict ended printed × Took ended (printed ++ ending_line ended) old now status)
-    ⊎ ((ended ≡ Err Write) × (status ≡ 4) × Wrote old now verdict.text false))
+    × (((printed : List ℕ) × Ends verdict ended printed × WiredBy verdict.at verdict ended printed told.wire wired × Took ended (printed ++ ending_line ended) old now status)
+    ⊎ ((ended ≡ Err Write) × (status ≡ 4) × Wrote old now verdict.text false × FailsBy verdict.at verdict.turns old now told.wire wired))
 
--- the verdict is that the command is done, and its whole text was printed
-abbrev pub Reports : Option Command → Outside → Option Written → Option Written → Type 0
-Reports command told old now =
-    (verdict : Verdict) × IsVerdict told command verdict × (verdict.ending ≡ Ok tt) × HandsOn old now verdict.text
+-- the verdict is that the command is done, its whole text was printed, and all its turns were had
+abbrev pub Reports : Option Command → Outside → Option Written → Option Written → Option Traffic → Type 0
+Reports command told old now wired =
+    (verdict : Verdict) × IsVerdict told command verdict × (verdict.ending ≡ Ok tt) × HandsOn old now verdict.text × (wired ≡ wire_by told.wire verdict.at verdict.turns)
 
 -- a write of the files failed, in a command that makes some
 abbrev pub FilesFail : Option Command → Outside → ℕ → ℕ → Type 0
@@ -121,28 +151,6 @@ HasLeft command told now status =
 abbrev pub Touched : Option Command → Outside → Option Told → Type 0
 Touched command told now =
     (verdict : Verdict) × IsVerdict told command verdict × LeavesFirst told.files now (map looked_up (files_of command) ++ map created verdict.made) verdict.made
-
--- ---- the wire
-
--- what is told of the wire where a verdict's turns were had at its address, or these of them; without an address it stays
-abbrev pub wire_by : Option Traffic → Option Address → List Turn → Option Traffic
-wire_by told None turns = told
-wire_by told (Some at) turns = wire_behind (at_bound told at) turns
-
--- all of them, or, where something from outside ended it early, the first of them, or nothing was bound
-abbrev pub Wires : Verdict → Result (Unit {0}) Fault → Option Traffic → Option Traffic → Type 0
-Wires verdict ended told now =
-    (now ≡ wire_by told verdict.at verdict.turns)
-    ⊎ (IsEarly ended × ((now ≡ told) ⊎ ((first : List Turn) × IsFront first verdict.turns × (now ≡ wire_by told verdict.at first))))
-
--- what a command has done with the wire by then
-abbrev pub LeavesWire : Option Command → Outside → Option Traffic → Result (Unit {0}) Fault → Type 0
-LeavesWire command told now ended = (verdict : Verdict) × IsVerdict told command verdict × Wires verdict ended told.wire now
-
--- and a run
-abbrev pub HasWired : Option Command → Outside → Option Traffic → ℕ → Type 0
-HasWired command told now status =
-    (ended : Result (Unit {0}) Fault) × LeavesWire command told now ended × ((status ≡ ending_status ended) ⊎ (status ≡ 4))
 
 -- an address is bound only by a command that binds one
 abbrev pub MayBind : Option Command → Outside → Type 0

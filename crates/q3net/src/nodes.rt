@@ -4,7 +4,7 @@ ghost use Rattle.std.specs.Prelude.{◌≡◌, Some, true, false};
 ghost use Rattle.q3net.specs.Command.{Serve, Join};
 ghost use Rattle.q3net.specs.Faults.{ReadCause, WriteCause, WireCause};
 ghost use Rattle.q3net.specs.Verdict.{outside};
-ghost use Rattle.q3net.specs.Run.{Executes, LeavesFiles, LeavesWire, MayBind};
+ghost use Rattle.q3net.specs.Run.{ExecutesWired, LeavesFiles, MayBind};
 
 use crate::fault::Fault;
 use crate::replay::{load_events, load_profile};
@@ -25,10 +25,9 @@ pub fn serve<F: Files, W: Wire, C: Clock, O: Sink>(
     out: &mut O,
 ) -> Result<(), Fault>
     requires unbound { W.bound wire.old ≡ false }
-    ensures executes { Executes (Some (Serve profile.now script.now at)) (outside (F.told files.old) (W.told wire.old) (C.readings clock.old))
-        (O.written out.old) (O.written out.new) result }
+    ensures executes { ExecutesWired (Some (Serve profile.now script.now at)) (outside (F.told files.old) (W.told wire.old) (C.readings clock.old))
+        (O.written out.old) (O.written out.new) (W.told wire.new) result }
     ensures gives { LeavesFiles (Some (Serve profile.now script.now at)) (outside (F.told files.old) (W.told wire.old) (C.readings clock.old)) (F.told files.new) result }
-    ensures wires { LeavesWire (Some (Serve profile.now script.now at)) (outside (F.told files.old) (W.told wire.old) (C.readings clock.old)) (W.told wire.new) result }
     ensures binds { W.bound wire.new ≡ true → MayBind (Some (Serve profile.now script.now at)) (outside (F.told files.old) (W.told wire.old) (C.readings clock.old)) }
     ensures unbound { W.bound wire.new ≡ false → clock.new ≡ clock.old }
     ensures writes { F.write_faults files.new ≡ F.write_faults files.old }
@@ -56,10 +55,9 @@ pub fn join<F: Files, W: Wire, C: Clock, O: Sink>(
     out: &mut O,
 ) -> Result<(), Fault>
     requires unbound { W.bound wire.old ≡ false }
-    ensures executes { Executes (Some (Join profile.now script.now at server)) (outside (F.told files.old) (W.told wire.old) (C.readings clock.old))
-        (O.written out.old) (O.written out.new) result }
+    ensures executes { ExecutesWired (Some (Join profile.now script.now at server)) (outside (F.told files.old) (W.told wire.old) (C.readings clock.old))
+        (O.written out.old) (O.written out.new) (W.told wire.new) result }
     ensures gives { LeavesFiles (Some (Join profile.now script.now at server)) (outside (F.told files.old) (W.told wire.old) (C.readings clock.old)) (F.told files.new) result }
-    ensures wires { LeavesWire (Some (Join profile.now script.now at server)) (outside (F.told files.old) (W.told wire.old) (C.readings clock.old)) (W.told wire.new) result }
     ensures binds { W.bound wire.new ≡ true → MayBind (Some (Join profile.now script.now at server)) (outside (F.told files.old) (W.told wire.old) (C.readings clock.old)) }
     ensures unbound { W.bound wire.new ≡ false → clock.new ≡ clock.old }
     ensures writes { F.write_faults files.new ≡ F.write_faults files.old }

@@ -8,7 +8,7 @@ ghost use Rattle.q3net.specs.Command.{command_of};
 ghost use Rattle.q3net.specs.Faults.{ReadCause, WriteCause, FileCause, WireCause};
 ghost use Rattle.q3net.specs.Lines.{fault_line, ending_line, ending_status};
 ghost use Rattle.q3net.specs.Verdict.{outside};
-ghost use Rattle.q3net.specs.Run.{PrintsAll, Executes, Took, Prints, Reports, FilesFail, IsDecided, IsComplete, HasLeft, Touched, LeavesFiles, LeavesWire, HasWired, MayBind, Settles};
+ghost use Rattle.q3net.specs.Run.{PrintsAll, ExecutesWired, Took, Prints, Reports, FilesFail, IsDecided, IsComplete, HasLeft, Touched, LeavesFiles, MayBind, Settles};
 
 use crate::command::{Command, parse};
 use crate::fault::Fault;
@@ -39,10 +39,12 @@ pub fn run<F: Files, W: Wire, C: Clock, O: Sink>(
     // Where 0 is answered, what was written is the text of the verdict: the report, by the profile that the one
     // file's bytes spell, of the events that the other's spell; the generated script; what the report of its replay
     // counts; the lines of a node's turns, by the readings of the clock and the arrivals that were to come; or the text that was asked for.
-    ensures report { result ≡ 0 → Reports (command_of (map string_bytes words.now)) (outside (F.told files.old) (W.told wire.old) (C.readings clock.old)) (O.written out.old) (O.written out.new) }
+    // What was sent then are the datagrams of these turns.
+    ensures report { result ≡ 0 → Reports (command_of (map string_bytes words.now)) (outside (F.told files.old) (W.told wire.old) (C.readings clock.old)) (O.written out.old) (O.written out.new) (W.told wire.new) }
     // Ended early, it is a front of that, and the fault line, `write fault` exactly where a write of the files failed;
-    // where the sink failed, a front of both.
-    ensures prints { Prints (command_of (map string_bytes words.now)) (outside (F.told files.old) (W.told wire.old) (C.readings clock.old)) (F.write_faults files.old) (F.write_faults files.new) (O.written out.old) (O.written out.new) result }
+    // where the sink failed, a front of both. Of the wire it left what goes with that: what was sent by the turns whose lines were printed,
+    // and by the one in which the sink failed.
+    ensures prints { Prints (command_of (map string_bytes words.now)) (outside (F.told files.old) (W.told wire.old) (C.readings clock.old)) (F.write_faults files.old) (F.write_faults files.new) (O.written out.old) (O.written out.new) (W.told wire.new) result }
 
     // The words that name files are given to `lookup`, once each and in the order in which they are read, and then the files
     // that the verdict makes are created, or the first of these where the run ends early; every other file stays. What is
@@ -52,9 +54,7 @@ pub fn run<F: Files, W: Wire, C: Clock, O: Sink>(
     ensures writes { (F.write_faults files.new ≡ F.write_faults files.old)
         ⊎ FilesFail (command_of (map string_bytes words.now)) (outside (F.told files.old) (W.told wire.old) (C.readings clock.old)) (F.write_faults files.old) (F.write_faults files.new) }
 
-    // What is told of the wire: a node's turns at its address, all of them, or, ended early, the first of them, or nothing. An address is bound
-    // only by a command that has one, and the clock is read behind that alone.
-    ensures wires { HasWired (command_of (map string_bytes words.now)) (outside (F.told files.old) (W.told wire.old) (C.readings clock.old)) (W.told wire.new) result }
+    // An address is bound only by a command that has one, and the clock is read behind that alone.
     ensures binds { W.bound wire.new ≡ true → MayBind (command_of (map string_bytes words.now)) (outside (F.told files.old) (W.told wire.old) (C.readings clock.old)) }
     ensures unbound { W.bound wire.new ≡ false → clock.new ≡ clock.old }
 
@@ -93,12 +93,11 @@ fn execute<F: Files, W: Wire, C: Clock, O: Sink>(
     out: &mut O,
 ) -> Result<(), Fault>
     requires unbound { W.bound wire.old ≡ false }
-    ensures executes { Executes (command_of (map string_bytes words.now)) (outside (F.told files.old) (W.told wire.old) (C.readings clock.old)) (O.written out.old) (O.written out.new) result }
+    ensures executes { ExecutesWired (command_of (map string_bytes words.now)) (outside (F.told files.old) (W.told wire.old) (C.readings clock.old)) (O.written out.old) (O.written out.new) (W.told wire.new) result }
     ensures gives { LeavesFiles (command_of (map string_bytes words.now)) (outside (F.told files.old) (W.told wire.old) (C.readings clock.old)) (F.told files.new) result }
     ensures file_cause { FileCause (F.write_faults files.old) (F.write_faults files.new) result }
     ensures read_cause { ReadCause (F.faults files.old) (F.faults files.new) result }
     ensures write_cause { WriteCause (O.faults out.old) (O.faults out.new) result }
-    ensures wires { LeavesWire (command_of (map string_bytes words.now)) (outside (F.told files.old) (W.told wire.old) (C.readings clock.old)) (W.told wire.new) result }
     ensures binds { W.bound wire.new ≡ true → MayBind (command_of (map string_bytes words.now)) (outside (F.told files.old) (W.told wire.old) (C.readings clock.old)) }
     ensures unbound { W.bound wire.new ≡ false → clock.new ≡ clock.old }
     ensures wire_cause { WireCause (W.faults wire.old) (W.faults wire.new) result }

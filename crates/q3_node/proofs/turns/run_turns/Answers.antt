@@ -3,7 +3,7 @@ use Rattle.std.proofs.lemmas.Grind.{common_steps}
 use Rattle.std.proofs.lemmas.Result.{err_from_is_err_and}
 use Rattle.q3_node.specs.Node.{new_node}
 use Rattle.q3_node.specs.Running.{node_of}
-use Rattle.q3_node.proofs.Turning.{begins, goes_on_by, ends_by, spent_by, fails_by}
+use Rattle.q3_node.proofs.Turning.{begins, goes_on_by, ends_by, spent_by, fails_by, flushed_still}
 use Rattle.q3_node.proofs.turns.run_turns.Goals as goal
 
 pub loop-init : goal.loop-init
@@ -22,11 +22,21 @@ pub returns-in_err-turn-clause-ran : goal.returns-in_err-turn-clause-ran
 returns-in_err-turn-clause-ran g c =
     let p = err_from_is_err_and c.from_residual.result c.from_residual.ensures.1 in
     rw (p.1, p.2)
-    (fails_by c.texts_follow.ensures g.E.End.rules c.loop.counter (new_node c.args.end.now c.args.events.now) (node_of c.loop.end c.args.events.now c.loop.course) (node_of c.turn.new.end c.args.events.now c.turn.new.course)
+    (fails_by g.E.End.rules c.loop.counter (new_node c.args.end.now c.args.events.now) (node_of c.loop.end c.args.events.now c.loop.course) (node_of c.turn.new.end c.args.events.now c.turn.new.course)
     (g.C.Clock.readings c.args.clock.now) (g.C.Clock.readings c.loop.clock) (g.C.Clock.readings c.turn.new.clock)
     (g.O.Sink.written c.args.out.now) (g.O.Sink.written c.loop.out) (g.O.Sink.written c.turn.new.out)
     (g.W.Wire.told c.args.wire.now) (g.W.Wire.told c.loop.wire) (g.W.Wire.told c.turn.new.wire) c.in_err-turn.field-0.0
-    c.loop-test.true c.loop.invariant.going c.in_err-turn.ensures.takes)
+    c.loop-test.true c.loop.invariant.going c.loop.invariant.flushed c.in_err-turn.ensures.takes)
+
+pub returns-in_err-turn-clause-flushed : goal.returns-in_err-turn-clause-flushed
+returns-in_err-turn-clause-flushed g c =
+    let p = err_from_is_err_and c.from_residual.result c.from_residual.ensures.1 in
+    rw (p.1, p.2)
+    (flushed_still g.E.End.rules (node_of c.loop.end c.args.events.now c.loop.course) (node_of c.turn.new.end c.args.events.now c.turn.new.course)
+    (g.C.Clock.readings c.loop.clock) (g.C.Clock.readings c.turn.new.clock)
+    (g.O.Sink.written c.args.out.now) (g.O.Sink.written c.loop.out) (g.O.Sink.written c.turn.new.out)
+    (g.W.Wire.told c.loop.wire) (g.W.Wire.told c.turn.new.wire) c.in_err-turn.field-0.0
+    c.loop.invariant.flushed c.in_err-turn.ensures.takes)
 
 pub returns-then-branch-clause-ran : goal.returns-then-branch-clause-ran
 returns-then-branch-clause-ran g c =

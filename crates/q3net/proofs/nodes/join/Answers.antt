@@ -7,7 +7,7 @@ use Rattle.q3_node.specs.AtServer.{server_rules}
 use Rattle.q3_node.specs.AtClient.{client_rules}
 use Rattle.q3net.specs.Command.{Serve, Join}
 use Rattle.q3net.specs.Verdict.{outside, served, joined}
-use Rattle.q3net.proofs.Noding.{serves, joins, one_client, no_profile_executes, no_profile_wires, no_profile_given, no_script_executes, no_script_wires, no_script_given, both_given, serve_passed, join_passed, loop_failed, loop_done, loop_failed_wires, loop_done_wires, passed_binds, node_read_cause, node_write_cause, node_wire_cause}
+use Rattle.q3net.proofs.Noding.{serves, joins, one_client, no_profile_executes, no_profile_given, no_script_executes, no_script_given, both_given, serve_passed, join_passed, loop_failed, loop_done, passed_binds, node_read_cause, node_write_cause, node_wire_cause}
 use Rattle.q3net.proofs.nodes.join.Goals as goal
 
 pub returns-in_err-profile-clause-executes : goal.returns-in_err-profile-clause-executes
@@ -20,11 +20,6 @@ returns-in_err-profile-clause-gives g c =
     let p = err_from_is_err_and c.from_residual.result c.from_residual.ensures.1 in
     rw (p.1, p.2) (no_profile_given (outside (g.F.Files.told c.args.files.now) (g.W.Wire.told c.args.wire.now) (g.C.Clock.readings c.args.clock.now)) (Some (Join c.args.profile.now c.args.script.now c.args.at c.args.server)) kinds.Join c.args.profile.now c.args.script.now c.args.at (joined c.args.server) (g.F.Files.told c.load_profile.new.files) c.in_err-profile.field-0.0 (joins (outside (g.F.Files.told c.args.files.now) (g.W.Wire.told c.args.wire.now) (g.C.Clock.readings c.args.clock.now)) c.args.profile.now c.args.script.now c.args.at c.args.server) c.in_err-profile.ensures.gets c.in_err-profile.ensures.gives)
 
-pub returns-in_err-profile-clause-wires : goal.returns-in_err-profile-clause-wires
-returns-in_err-profile-clause-wires g c =
-    let p = err_from_is_err_and c.from_residual.result c.from_residual.ensures.1 in
-    rw (p.1, p.2) (no_profile_wires (outside (g.F.Files.told c.args.files.now) (g.W.Wire.told c.args.wire.now) (g.C.Clock.readings c.args.clock.now)) (Some (Join c.args.profile.now c.args.script.now c.args.at c.args.server)) kinds.Join c.args.profile.now c.args.script.now c.args.at (joined c.args.server) c.in_err-profile.field-0.0 (joins (outside (g.F.Files.told c.args.files.now) (g.W.Wire.told c.args.wire.now) (g.C.Clock.readings c.args.clock.now)) c.args.profile.now c.args.script.now c.args.at c.args.server) c.in_err-profile.ensures.gets)
-
 pub returns-in_err-events-clause-executes : goal.returns-in_err-events-clause-executes
 returns-in_err-events-clause-executes g c =
     let p = err_from_is_err_and c.from_residual-in_err-events.result c.from_residual-in_err-events.ensures.1 in
@@ -35,36 +30,18 @@ returns-in_err-events-clause-gives g c =
     let p = err_from_is_err_and c.from_residual-in_err-events.result c.from_residual-in_err-events.ensures.1 in
     rw (p.1, p.2) (no_script_given (outside (g.F.Files.told c.args.files.now) (g.W.Wire.told c.args.wire.now) (g.C.Clock.readings c.args.clock.now)) (Some (Join c.args.profile.now c.args.script.now c.args.at c.args.server)) kinds.Join c.args.profile.now c.args.script.now c.args.at (joined c.args.server) (g.F.Files.told c.load_profile.new.files) (g.F.Files.told c.load_events.new.files) c.in_ok-profile.profile c.in_err-events.field-0.0 (joins (outside (g.F.Files.told c.args.files.now) (g.W.Wire.told c.args.wire.now) (g.C.Clock.readings c.args.clock.now)) c.args.profile.now c.args.script.now c.args.at c.args.server) c.in_ok-profile.ensures.gets c.in_ok-profile.ensures.gives c.in_err-events.ensures.gives)
 
-pub returns-in_err-events-clause-wires : goal.returns-in_err-events-clause-wires
-returns-in_err-events-clause-wires g c =
-    let p = err_from_is_err_and c.from_residual-in_err-events.result c.from_residual-in_err-events.ensures.1 in
-    rw (p.1, p.2) (no_script_wires (outside (g.F.Files.told c.args.files.now) (g.W.Wire.told c.args.wire.now) (g.C.Clock.readings c.args.clock.now)) (Some (Join c.args.profile.now c.args.script.now c.args.at c.args.server)) kinds.Join c.args.profile.now c.args.script.now c.args.at (joined c.args.server) (g.F.Files.told c.load_profile.new.files) c.in_ok-profile.profile c.in_err-events.field-0.0 (joins (outside (g.F.Files.told c.args.files.now) (g.W.Wire.told c.args.wire.now) (g.C.Clock.readings c.args.clock.now)) c.args.profile.now c.args.script.now c.args.at c.args.server) c.in_ok-profile.ensures.gets c.in_ok-profile.ensures.gives c.in_err-events.ensures.gets)
-
 pub returns-in_err-join_loop-clause-executes : goal.returns-in_err-join_loop-clause-executes
 returns-in_err-join_loop-clause-executes g c =
     let p = err_from_is_err_and c.from_residual-in_err-join_loop.result c.from_residual-in_err-join_loop.ensures.1 in
     let one = one_client c.in_ok-profile.profile c.args.server c.in_ok-events.events.items c.in_ok-events.ensures.ordered.2 in
     let passed = join_passed (outside (g.F.Files.told c.args.files.now) (g.W.Wire.told c.args.wire.now) (g.C.Clock.readings c.args.clock.now)) c.args.profile.now c.args.script.now c.args.at c.args.server (g.F.Files.told c.load_profile.new.files) c.in_ok-profile.profile c.in_ok-events.events.items one.0 one.1 c.in_ok-profile.ensures.gets c.in_ok-profile.ensures.gives c.in_ok-events.ensures.gets in
-    rw (p.1, p.2) (loop_failed c.texts_follow.ensures (outside (g.F.Files.told c.args.files.now) (g.W.Wire.told c.args.wire.now) (g.C.Clock.readings c.args.clock.now)) (Some (Join c.args.profile.now c.args.script.now c.args.at c.args.server)) c.args.profile.now c.args.script.now c.args.at client_rules (new_node one.0 c.in_ok-events.events.items) (g.W.Wire.bound c.join_loop.new.wire) (g.O.Sink.written c.args.out.now) (g.O.Sink.written c.join_loop.new.out) (g.W.Wire.told c.join_loop.new.wire) c.in_err-join_loop.field-0.0 passed ((rw c.deref.ensures.value at c.in_err-join_loop.ensures.ran) one.0 one.1))
-
-pub returns-in_err-join_loop-clause-wires : goal.returns-in_err-join_loop-clause-wires
-returns-in_err-join_loop-clause-wires g c =
-    let p = err_from_is_err_and c.from_residual-in_err-join_loop.result c.from_residual-in_err-join_loop.ensures.1 in
-    let one = one_client c.in_ok-profile.profile c.args.server c.in_ok-events.events.items c.in_ok-events.ensures.ordered.2 in
-    let passed = join_passed (outside (g.F.Files.told c.args.files.now) (g.W.Wire.told c.args.wire.now) (g.C.Clock.readings c.args.clock.now)) c.args.profile.now c.args.script.now c.args.at c.args.server (g.F.Files.told c.load_profile.new.files) c.in_ok-profile.profile c.in_ok-events.events.items one.0 one.1 c.in_ok-profile.ensures.gets c.in_ok-profile.ensures.gives c.in_ok-events.ensures.gets in
-    rw (p.1, p.2) (loop_failed_wires (outside (g.F.Files.told c.args.files.now) (g.W.Wire.told c.args.wire.now) (g.C.Clock.readings c.args.clock.now)) (Some (Join c.args.profile.now c.args.script.now c.args.at c.args.server)) c.args.profile.now c.args.script.now c.args.at client_rules (new_node one.0 c.in_ok-events.events.items) (g.W.Wire.bound c.join_loop.new.wire) (g.O.Sink.written c.args.out.now) (g.O.Sink.written c.join_loop.new.out) (g.W.Wire.told c.join_loop.new.wire) c.in_err-join_loop.field-0.0 passed ((rw c.deref.ensures.value at c.in_err-join_loop.ensures.ran) one.0 one.1))
+    rw (p.1, p.2) (loop_failed c.texts_follow.ensures (outside (g.F.Files.told c.args.files.now) (g.W.Wire.told c.args.wire.now) (g.C.Clock.readings c.args.clock.now)) (Some (Join c.args.profile.now c.args.script.now c.args.at c.args.server)) c.args.profile.now c.args.script.now c.args.at client_rules (new_node one.0 c.in_ok-events.events.items) (g.W.Wire.bound c.join_loop.new.wire) (g.C.Clock.readings c.join_loop.new.clock) (g.O.Sink.written c.args.out.now) (g.O.Sink.written c.join_loop.new.out) (g.W.Wire.told c.join_loop.new.wire) c.in_err-join_loop.field-0.0 passed ((rw c.deref.ensures.value at c.in_err-join_loop.ensures.ran) one.0 one.1))
 
 pub returns-clause-executes : goal.returns-clause-executes
 returns-clause-executes g c =
     let one = one_client c.in_ok-profile.profile c.args.server c.in_ok-events.events.items c.in_ok-events.ensures.ordered.2 in
     let passed = join_passed (outside (g.F.Files.told c.args.files.now) (g.W.Wire.told c.args.wire.now) (g.C.Clock.readings c.args.clock.now)) c.args.profile.now c.args.script.now c.args.at c.args.server (g.F.Files.told c.load_profile.new.files) c.in_ok-profile.profile c.in_ok-events.events.items one.0 one.1 c.in_ok-profile.ensures.gets c.in_ok-profile.ensures.gives c.in_ok-events.ensures.gets in
-    loop_done (outside (g.F.Files.told c.args.files.now) (g.W.Wire.told c.args.wire.now) (g.C.Clock.readings c.args.clock.now)) (Some (Join c.args.profile.now c.args.script.now c.args.at c.args.server)) c.args.profile.now c.args.script.now c.args.at client_rules (new_node one.0 c.in_ok-events.events.items) (g.W.Wire.bound c.join_loop.new.wire) (g.O.Sink.written c.args.out.now) (g.O.Sink.written c.join_loop.new.out) (g.W.Wire.told c.join_loop.new.wire) passed ((rw c.deref.ensures.value at c.in_ok-join_loop.ensures.ran) one.0 one.1)
-
-pub returns-clause-wires : goal.returns-clause-wires
-returns-clause-wires g c =
-    let one = one_client c.in_ok-profile.profile c.args.server c.in_ok-events.events.items c.in_ok-events.ensures.ordered.2 in
-    let passed = join_passed (outside (g.F.Files.told c.args.files.now) (g.W.Wire.told c.args.wire.now) (g.C.Clock.readings c.args.clock.now)) c.args.profile.now c.args.script.now c.args.at c.args.server (g.F.Files.told c.load_profile.new.files) c.in_ok-profile.profile c.in_ok-events.events.items one.0 one.1 c.in_ok-profile.ensures.gets c.in_ok-profile.ensures.gives c.in_ok-events.ensures.gets in
-    loop_done_wires (outside (g.F.Files.told c.args.files.now) (g.W.Wire.told c.args.wire.now) (g.C.Clock.readings c.args.clock.now)) (Some (Join c.args.profile.now c.args.script.now c.args.at c.args.server)) c.args.profile.now c.args.script.now c.args.at client_rules (new_node one.0 c.in_ok-events.events.items) (g.W.Wire.bound c.join_loop.new.wire) (g.O.Sink.written c.args.out.now) (g.O.Sink.written c.join_loop.new.out) (g.W.Wire.told c.join_loop.new.wire) passed ((rw c.deref.ensures.value at c.in_ok-join_loop.ensures.ran) one.0 one.1)
+    loop_done (outside (g.F.Files.told c.args.files.now) (g.W.Wire.told c.args.wire.now) (g.C.Clock.readings c.args.clock.now)) (Some (Join c.args.profile.now c.args.script.now c.args.at c.args.server)) c.args.profile.now c.args.script.now c.args.at client_rules (new_node one.0 c.in_ok-events.events.items) (g.W.Wire.bound c.join_loop.new.wire) (g.C.Clock.readings c.join_loop.new.clock) (g.O.Sink.written c.args.out.now) (g.O.Sink.written c.join_loop.new.out) (g.W.Wire.told c.join_loop.new.wire) passed ((rw c.deref.ensures.value at c.in_ok-join_loop.ensures.ran) one.0 one.1)
 
 pub returns-in_err-join_loop-clause-binds : goal.returns-in_err-join_loop-clause-binds
 returns-in_err-join_loop-clause-binds g c =

@@ -6,25 +6,8 @@ use Rattle.q3net.specs.Lines.{help_text, version_text}
 use Rattle.q3net.specs.Verdict.{outside, of_files, stops_nowhere, takes_memory}
 use Rattle.q3net.proofs.Ending.{none_executes, text_executes}
 use Rattle.q3net.proofs.Looking.{none_given, text_given}
-use Rattle.q3net.proofs.Outside.{no_file_fails, no_read_fails, no_wire_fails, wire_stays, replay_makes_nothing, make_makes_nothing, trial_makes_nothing, serve_makes_nothing, join_makes_nothing, replay_wires_nothing, make_wires_nothing, trial_wires_nothing, make_reads_nothing}
+use Rattle.q3net.proofs.Outside.{no_file_fails, no_read_fails, no_wire_fails, wire_stays, executes_of, replay_makes_nothing, make_makes_nothing, trial_makes_nothing, serve_makes_nothing, join_makes_nothing, replay_wires_nothing, make_wires_nothing, trial_wires_nothing, make_reads_nothing}
 use Rattle.q3net.proofs.run.execute.Goals as goal
-
-pub returns-in-None-clause-executes : goal.returns-in-None-clause-executes
-returns-in-None-clause-executes g c =
-    rw (← c.in-None.ensures.value) (none_executes c.texts_follow.ensures (outside (g.F.Files.told c.args.files.now) (g.W.Wire.told c.args.wire.now) (g.C.Clock.readings c.args.clock.now)) (g.O.Sink.written c.args.out.now))
-
-pub returns-in-Some-Help-clause-executes : goal.returns-in-Some-Help-clause-executes
-unfolding help_text
-returns-in-Some-Help-clause-executes g c =
-    let e = rw c.in-Some-Help.field-0-is at c.in-Some-Help.ensures.value in
-    rw (← e) (text_executes (Some Help) (outside (g.F.Files.told c.args.files.now) (g.W.Wire.told c.args.wire.now) (g.C.Clock.readings c.args.clock.now)) (g.O.Sink.written c.args.out.now) (g.O.Sink.written c.print.new.out) stops_nowhere [] help_text c.print.result refl c.print.ensures.prints)
-
-pub returns-in-Some-Version-clause-executes : goal.returns-in-Some-Version-clause-executes
-unfolding version_text
-returns-in-Some-Version-clause-executes g c =
-    let e = rw c.in-Some-Version.field-0-is at c.in-Some-Version.ensures.value in
-    rw (← e) (text_executes (Some Version) (outside (g.F.Files.told c.args.files.now) (g.W.Wire.told c.args.wire.now) (g.C.Clock.readings c.args.clock.now)) (g.O.Sink.written c.args.out.now) (g.O.Sink.written c.print-in-Some-Version.new.out) stops_nowhere [] version_text c.print-in-Some-Version.result refl
-    c.print-in-Some-Version.ensures.prints)
 
 pub returns-in-None-clause-gives : goal.returns-in-None-clause-gives
 returns-in-None-clause-gives g c = rw (← c.in-None.ensures.value) (none_given (outside (g.F.Files.told c.args.files.now) (g.W.Wire.told c.args.wire.now) (g.C.Clock.readings c.args.clock.now)))
@@ -40,11 +23,6 @@ unfolding version_text
 returns-in-Some-Version-clause-gives g c =
     let e = rw c.in-Some-Version.field-0-is at c.in-Some-Version.ensures.value in
     rw (← e) (text_given (Some Version) (outside (g.F.Files.told c.args.files.now) (g.W.Wire.told c.args.wire.now) (g.C.Clock.readings c.args.clock.now)) stops_nowhere version_text c.print-in-Some-Version.result refl)
-
-pub returns-in-Some-Make-clause-executes : goal.returns-in-Some-Make-clause-executes
-returns-in-Some-Make-clause-executes g c =
-    let e = rw c.in-Some-Make.field-0-is at c.in-Some-Make.ensures.value in
-    rw (← e) (c.make.ensures.executes (outside (g.F.Files.told c.args.files.now) (g.W.Wire.told c.args.wire.now) (g.C.Clock.readings c.args.clock.now)))
 
 pub returns-in-Some-Make-clause-gives : goal.returns-in-Some-Make-clause-gives
 returns-in-Some-Make-clause-gives g c =
@@ -87,41 +65,41 @@ pub returns-in-Some-Trial-clause-wire_cause : goal.returns-in-Some-Trial-clause-
 returns-in-Some-Trial-clause-wire_cause g c =
     no_wire_fails (Some (Trial c.in-Some-Trial.profile.now c.in-Some-Trial.draws)) (of_files (g.F.Files.told c.args.files.now)) (g.O.Sink.written c.args.out.now) (g.O.Sink.written c.trial.new.out) c.trial.result (g.W.Wire.faults c.args.wire.now) (g.W.Wire.faults c.args.wire.now) (trial_wires_nothing (of_files (g.F.Files.told c.args.files.now)) c.in-Some-Trial.profile.now c.in-Some-Trial.draws) c.trial.ensures.executes refl
 
-pub returns-in-None-clause-wires : goal.returns-in-None-clause-wires
-returns-in-None-clause-wires g c =
+pub returns-in-None-clause-executes : goal.returns-in-None-clause-executes
+returns-in-None-clause-executes g c =
     rw (← c.in-None.ensures.value) (wire_stays None (outside (g.F.Files.told c.args.files.now) (g.W.Wire.told c.args.wire.now) (g.C.Clock.readings c.args.clock.now)) (g.O.Sink.written c.args.out.now) (g.O.Sink.written c.args.out.now) _ tt (none_executes c.texts_follow.ensures (outside (g.F.Files.told c.args.files.now) (g.W.Wire.told c.args.wire.now) (g.C.Clock.readings c.args.clock.now)) (g.O.Sink.written c.args.out.now)))
 
-pub returns-in-Some-Help-clause-wires : goal.returns-in-Some-Help-clause-wires
+pub returns-in-Some-Help-clause-executes : goal.returns-in-Some-Help-clause-executes
 unfolding help_text
-returns-in-Some-Help-clause-wires g c =
+returns-in-Some-Help-clause-executes g c =
     let e = rw c.in-Some-Help.field-0-is at c.in-Some-Help.ensures.value in
     rw (← e) (wire_stays (Some Help) (outside (g.F.Files.told c.args.files.now) (g.W.Wire.told c.args.wire.now) (g.C.Clock.readings c.args.clock.now)) (g.O.Sink.written c.args.out.now) (g.O.Sink.written c.print.new.out) c.print.result tt (text_executes (Some Help) (outside (g.F.Files.told c.args.files.now) (g.W.Wire.told c.args.wire.now) (g.C.Clock.readings c.args.clock.now)) (g.O.Sink.written c.args.out.now) (g.O.Sink.written c.print.new.out) stops_nowhere [] help_text c.print.result refl c.print.ensures.prints))
 
-pub returns-in-Some-Version-clause-wires : goal.returns-in-Some-Version-clause-wires
+pub returns-in-Some-Version-clause-executes : goal.returns-in-Some-Version-clause-executes
 unfolding version_text
-returns-in-Some-Version-clause-wires g c =
+returns-in-Some-Version-clause-executes g c =
     let e = rw c.in-Some-Version.field-0-is at c.in-Some-Version.ensures.value in
     rw (← e) (wire_stays (Some Version) (outside (g.F.Files.told c.args.files.now) (g.W.Wire.told c.args.wire.now) (g.C.Clock.readings c.args.clock.now)) (g.O.Sink.written c.args.out.now) (g.O.Sink.written c.print-in-Some-Version.new.out) c.print-in-Some-Version.result tt (text_executes (Some Version) (outside (g.F.Files.told c.args.files.now) (g.W.Wire.told c.args.wire.now) (g.C.Clock.readings c.args.clock.now)) (g.O.Sink.written c.args.out.now) (g.O.Sink.written c.print-in-Some-Version.new.out) stops_nowhere [] version_text c.print-in-Some-Version.result refl c.print-in-Some-Version.ensures.prints))
 
-pub returns-in-Some-Make-clause-wires : goal.returns-in-Some-Make-clause-wires
-returns-in-Some-Make-clause-wires g c =
+pub returns-in-Some-Make-clause-executes : goal.returns-in-Some-Make-clause-executes
+returns-in-Some-Make-clause-executes g c =
     let e = rw c.in-Some-Make.field-0-is at c.in-Some-Make.ensures.value in
     rw (← e) (wire_stays (Some (Make c.in-Some-Make.draws)) (outside (g.F.Files.told c.args.files.now) (g.W.Wire.told c.args.wire.now) (g.C.Clock.readings c.args.clock.now)) (g.O.Sink.written c.args.out.now) (g.O.Sink.written c.make.new.out) c.make.result tt (c.make.ensures.executes (outside (g.F.Files.told c.args.files.now) (g.W.Wire.told c.args.wire.now) (g.C.Clock.readings c.args.clock.now))))
 
-pub returns-in-Some-Replay-clause-wires : goal.returns-in-Some-Replay-clause-wires
-returns-in-Some-Replay-clause-wires g c =
+pub returns-in-Some-Replay-clause-executes : goal.returns-in-Some-Replay-clause-executes
+returns-in-Some-Replay-clause-executes g c =
     let e = rw c.in-Some-Replay.field-0-is at c.in-Some-Replay.ensures.value in
     rw (← e) (wire_stays (Some (Replay c.in-Some-Replay.profile.now c.in-Some-Replay.script.now)) (outside (g.F.Files.told c.args.files.now) (g.W.Wire.told c.args.wire.now) (g.C.Clock.readings c.args.clock.now)) (g.O.Sink.written c.args.out.now) (g.O.Sink.written c.replay.new.out) c.replay.result tt c.replay.ensures.executes)
 
-pub returns-in-Some-Trial-clause-wires : goal.returns-in-Some-Trial-clause-wires
-returns-in-Some-Trial-clause-wires g c =
+pub returns-in-Some-Trial-clause-executes : goal.returns-in-Some-Trial-clause-executes
+returns-in-Some-Trial-clause-executes g c =
     let e = rw c.in-Some-Trial.field-0-is at c.in-Some-Trial.ensures.value in
     rw (← e) (wire_stays (Some (Trial c.in-Some-Trial.profile.now c.in-Some-Trial.draws)) (outside (g.F.Files.told c.args.files.now) (g.W.Wire.told c.args.wire.now) (g.C.Clock.readings c.args.clock.now)) (g.O.Sink.written c.args.out.now) (g.O.Sink.written c.trial.new.out) c.trial.result tt c.trial.ensures.executes)
 
 pub returns-in-Some-Serve-clause-file_cause : goal.returns-in-Some-Serve-clause-file_cause
 returns-in-Some-Serve-clause-file_cause g c =
-    no_file_fails (Some (Serve c.in-Some-Serve.profile.now c.in-Some-Serve.script.now c.in-Some-Serve.at)) (outside (g.F.Files.told c.args.files.now) (g.W.Wire.told c.args.wire.now) (g.C.Clock.readings c.args.clock.now)) (g.O.Sink.written c.args.out.now) (g.O.Sink.written c.serve.new.out) c.serve.result (g.F.Files.write_faults c.args.files.now) (g.F.Files.write_faults c.serve.new.files) (serve_makes_nothing (outside (g.F.Files.told c.args.files.now) (g.W.Wire.told c.args.wire.now) (g.C.Clock.readings c.args.clock.now)) c.in-Some-Serve.profile.now c.in-Some-Serve.script.now c.in-Some-Serve.at) c.serve.ensures.executes c.serve.ensures.writes
+    no_file_fails (Some (Serve c.in-Some-Serve.profile.now c.in-Some-Serve.script.now c.in-Some-Serve.at)) (outside (g.F.Files.told c.args.files.now) (g.W.Wire.told c.args.wire.now) (g.C.Clock.readings c.args.clock.now)) (g.O.Sink.written c.args.out.now) (g.O.Sink.written c.serve.new.out) c.serve.result (g.F.Files.write_faults c.args.files.now) (g.F.Files.write_faults c.serve.new.files) (serve_makes_nothing (outside (g.F.Files.told c.args.files.now) (g.W.Wire.told c.args.wire.now) (g.C.Clock.readings c.args.clock.now)) c.in-Some-Serve.profile.now c.in-Some-Serve.script.now c.in-Some-Serve.at) (executes_of (Some (Serve c.in-Some-Serve.profile.now c.in-Some-Serve.script.now c.in-Some-Serve.at)) (outside (g.F.Files.told c.args.files.now) (g.W.Wire.told c.args.wire.now) (g.C.Clock.readings c.args.clock.now)) (g.O.Sink.written c.args.out.now) (g.O.Sink.written c.serve.new.out) (g.W.Wire.told c.serve.new.wire) c.serve.result c.serve.ensures.executes) c.serve.ensures.writes
 
 pub returns-in-Some-Join-clause-file_cause : goal.returns-in-Some-Join-clause-file_cause
 returns-in-Some-Join-clause-file_cause g c =
-    no_file_fails (Some (Join c.in-Some-Join.profile.now c.in-Some-Join.script.now c.in-Some-Join.at c.in-Some-Join.server)) (outside (g.F.Files.told c.args.files.now) (g.W.Wire.told c.args.wire.now) (g.C.Clock.readings c.args.clock.now)) (g.O.Sink.written c.args.out.now) (g.O.Sink.written c.join.new.out) c.join.result (g.F.Files.write_faults c.args.files.now) (g.F.Files.write_faults c.join.new.files) (join_makes_nothing (outside (g.F.Files.told c.args.files.now) (g.W.Wire.told c.args.wire.now) (g.C.Clock.readings c.args.clock.now)) c.in-Some-Join.profile.now c.in-Some-Join.script.now c.in-Some-Join.at c.in-Some-Join.server) c.join.ensures.executes c.join.ensures.writes
+    no_file_fails (Some (Join c.in-Some-Join.profile.now c.in-Some-Join.script.now c.in-Some-Join.at c.in-Some-Join.server)) (outside (g.F.Files.told c.args.files.now) (g.W.Wire.told c.args.wire.now) (g.C.Clock.readings c.args.clock.now)) (g.O.Sink.written c.args.out.now) (g.O.Sink.written c.join.new.out) c.join.result (g.F.Files.write_faults c.args.files.now) (g.F.Files.write_faults c.join.new.files) (join_makes_nothing (outside (g.F.Files.told c.args.files.now) (g.W.Wire.told c.args.wire.now) (g.C.Clock.readings c.args.clock.now)) c.in-Some-Join.profile.now c.in-Some-Join.script.now c.in-Some-Join.at c.in-Some-Join.server) (executes_of (Some (Join c.in-Some-Join.profile.now c.in-Some-Join.script.now c.in-Some-Join.at c.in-Some-Join.server)) (outside (g.F.Files.told c.args.files.now) (g.W.Wire.told c.args.wire.now) (g.C.Clock.readings c.args.clock.now)) (g.O.Sink.written c.args.out.now) (g.O.Sink.written c.join.new.out) (g.W.Wire.told c.join.new.wire) c.join.result c.join.ensures.executes) c.join.ensures.writes
