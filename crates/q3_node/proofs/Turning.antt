@@ -263,7 +263,7 @@ spent {S} rules first now started clock before after were are going =
       w.arrivals,
       w.to_arrive,
       subst (λ (ts : List Turn). Ran ts started clock before after were are (Err Turns)) (sym (w.same ∙ append-nil going.turns))
-      (going.unended, record { leaves = going.leaves; read = going.read }),
+          (going.unended, record { leaves = going.leaves; read = going.read }),
     )
 
 -- the wire failed

@@ -173,9 +173,13 @@ prints follow command told before after old mid now wired ended status executes 
     elim executes.2 [
       | inl ends ↦ (verdict, executes.1, ended, cause, inl (ends.0, ends.1, ends.2, behind follow old mid now ends.0 (ending_line ended) ended status ends.3 took))
       | inr so ↦
-          let no_more = failed mid now ended status so.0 took in
-          (verdict, executes.1, ended, cause,
-          inr (so.0, no_more.0, nothing_more old mid now verdict.text no_more.1.0 so.1 no_more.1.1, still_fails verdict.at verdict.turns old mid now told.wire wired no_more.1.0 no_more.1.1 so.2))
+          let no_more = failed mid now ended status so.0 took in (
+            verdict,
+            executes.1,
+            ended,
+            cause,
+            inr (so.0, no_more.0, nothing_more old mid now verdict.text no_more.1.0 so.1 no_more.1.1, still_fails verdict.at verdict.turns old mid now told.wire wired no_more.1.0 no_more.1.1 so.2),
+          )
     ]
 
 -- ---- a command that is done

@@ -18,7 +18,7 @@ ghost use Rattle.q3net.specs.Trying.{CountsTo};
 
 use crate::command::Draws;
 use crate::fault::Fault;
-use crate::replay::load_profile;
+use crate::input::load_profile;
 use q3_io::{Files, NullSink, Piece, Sink, print_all};
 use q3_make::{Drawn, closing_lines, make_script, opening_lines, print_script};
 use q3_script::Event;

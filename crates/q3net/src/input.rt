@@ -1,15 +1,58 @@
-//! Reads a file whole, up to a limit.
+//! Reads a file whole, up to a limit: a profile, or a script.
 
-ghost use Rattle.std.specs.Prelude.{◌≡◌, ◌+◌, ◌<◌, ◌^◌, [], ◌∷◌, length};
+ghost use Rattle.std.specs.Prelude.{◌≡◌, ◌+◌, ◌<◌, ◌≤◌, ◌^◌, [], ◌∷◌, All, length, IfOk};
+ghost use Rattle.q3_profile.specs.Profile.{IsProfile};
+ghost use Rattle.q3_script.specs.Grammar.{IsEventOf, AreOrdered};
+ghost use Rattle.q3_script.specs.Script.{most_events};
 ghost use Rattle.q3net.specs.Faults.{ReadCause};
 ghost use Rattle.q3net.specs.Input.{ReadsFile, ReadsPieces, Gives, with_items};
+ghost use Rattle.q3net.specs.Verdict.{GetsFrom, profile_in, events_in, with_events};
 
 use crate::fault::Fault;
 use q3_io::Files;
+use q3_profile::{Profile, read_profile};
+use q3_script::{Event, ScriptKind, read_script};
 use std::alloc::Global;
 
 /// How many bytes are asked for at a time.
 const PIECE: usize = 65_536;
+
+/// A profile's limit in bytes.
+const LONGEST_PROFILE: usize = 1_048_576;
+
+/// A script's limit in bytes.
+const LONGEST_SCRIPT: usize = 67_108_864;
+
+/// Reads the profile of this name, and checks it.
+pub fn load_profile<F: Files>(alloc: Global, name: &str, files: &mut F) -> Result<Profile, Fault>
+    ensures gets { GetsFrom profile_in (F.told files.old) name.now result }
+    ensures passes { IfOk result IsProfile }
+    ensures gives { Gives result (name.now ∷ []) (F.told files.old) (F.told files.new) }
+    ensures writes { F.write_faults files.new ≡ F.write_faults files.old }
+    ensures read_cause { ReadCause (F.faults files.old) (F.faults files.new) result }
+{
+    let bytes = read_file(alloc, name, LONGEST_PROFILE, files)?;
+    Ok(read_profile(alloc, &bytes)?)
+}
+
+/// Reads the script of this name, of a kind.
+pub fn load_events<F: Files>(
+    alloc: Global,
+    kind: ScriptKind,
+    name: &str,
+    files: &mut F,
+) -> Result<Vec<Event>, Fault>
+    ensures gets { GetsFrom (events_in kind) (F.told files.old) name.now (with_events result) }
+    ensures each { IfOk result (λ events. All (IsEventOf kind) events.items) }
+    ensures ordered { IfOk result (λ events. AreOrdered kind events.items) }
+    ensures few { IfOk result (λ events. length events.items ≤ most_events) }
+    ensures gives { Gives result (name.now ∷ []) (F.told files.old) (F.told files.new) }
+    ensures writes { F.write_faults files.new ≡ F.write_faults files.old }
+    ensures read_cause { ReadCause (F.faults files.old) (F.faults files.new) result }
+{
+    let bytes = read_file(alloc, name, LONGEST_SCRIPT, files)?;
+    Ok(read_script(alloc, kind, &bytes)?)
+}
 
 /// The bytes of the file of this name: all of them, or a front that is longer than the limit.
 /// `Read` comes where the files' count of faults rose, and `NoMemory` is want of memory.

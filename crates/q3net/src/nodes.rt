@@ -7,7 +7,7 @@ ghost use Rattle.q3net.specs.Verdict.{outside};
 ghost use Rattle.q3net.specs.Run.{ExecutesWired, LeavesFiles, MayBind};
 
 use crate::fault::Fault;
-use crate::replay::{load_events, load_profile};
+use crate::input::{load_events, load_profile};
 use q3_io::{Address, Clock, Files, Sink, Wire};
 use q3_node::{join_loop, serve_loop};
 use q3_script::ScriptKind;

@@ -2,7 +2,7 @@ use Rattle.std.proofs.lemmas.Result.{err_from_is_err_and}
 use Rattle.q3_profile.specs.declared.profile.Profile.{Profile}
 use Rattle.q3net.specs.Verdict.{profile_in}
 use Rattle.q3net.proofs.Loading.{unread, profile_refused, profile_passed}
-use Rattle.q3net.proofs.replay.load_profile.Goals as goal
+use Rattle.q3net.proofs.input.load_profile.Goals as goal
 
 pub returns-in_err-bytes-clause-gets : goal.returns-in_err-bytes-clause-gets
 returns-in_err-bytes-clause-gets g c =

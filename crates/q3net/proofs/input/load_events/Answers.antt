@@ -3,7 +3,7 @@ use Rattle.std.proofs.lemmas.Result.{err_from_is_err_and}
 use Rattle.q3_script.specs.declared.event.Event.{Event}
 use Rattle.q3net.specs.Verdict.{events_in}
 use Rattle.q3net.proofs.Loading.{unread, script_refused}
-use Rattle.q3net.proofs.replay.load_events.Goals as goal
+use Rattle.q3net.proofs.input.load_events.Goals as goal
 
 pub returns-in_err-bytes-clause-gets : goal.returns-in_err-bytes-clause-gets
 returns-in_err-bytes-clause-gets g c =
