@@ -325,12 +325,13 @@ impl Client {
         // a ring holds no more than it has room for
         prove!(self.moves.len() <= MOST_MOVES);
         carry(&self.moves, number, self.dup, &mut self.carried);
+        let delta = self.wants_delta();
         let Ok(bytes) = write_scrambled(
             &self.state,
             &self.outgoing,
             self.challenge,
             acknowledged,
-            self.wants_delta(),
+            delta,
             &self.carried,
             &mut self.buffer,
         ) else {
