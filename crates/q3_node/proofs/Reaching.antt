@@ -3,7 +3,8 @@ use Rattle.std.proofs.Common.{◌≡◌, ℕ, zero, suc, ◌+◌, ◌-◌, ◌<�
 use Rattle.std.specs.Prelude.{◌⊎◌, nat_le, not}
 use Rattle.std.specs.List.{count_by, list_any}
 use Rattle.std.proofs.lemmas.Bool.{cases_Bool}
-use Rattle.std.proofs.lemmas.Grind.{nat_tests}
+use Rattle.std.proofs.lemmas.List.Sums.{sum_by-append}
+use Rattle.std.proofs.lemmas.Bool.Decides.{nat_tests}
 use Rattle.q3_io.specs.Readings.{reading_of, readings_after, DontFall}
 use Rattle.q3_io.specs.Traffic.{Parcel, next_of}
 use Rattle.q3_script.specs.declared.event.Event.{Event}
@@ -94,8 +95,8 @@ due_by_end time event events rise last =
     ]
 
 -- behind a line that isn't `end`
-pub record Behind (time : ℕ) (event : Event) (events : List Event) : Type 0 where
-  pub rise : TimesRise (time_behind time event) events
+pub record Behind (before : ℕ) (event : Event) (events : List Event) : Type 0 where
+  pub rise : TimesRise (time_behind before event) events
   pub last : EndsLast events
   pub time : end_time (event ∷ events) ≡ end_time events
 
@@ -105,7 +106,7 @@ behind_line time event events goes rise last =
       | inl says ↦ elim says [
         | inl end ↦ (
             let so = subst (λ (e : Event). is_end e ≡ false) end.1 goes in
-            absurd so
+            absurd cc
             )
         | inr at ↦ (
             let rises = subst (λ (e : Event). TimesRise time (e ∷ events)) at.1 rise in
@@ -137,16 +138,16 @@ line_passed rules node start ms event events starts left goes rise last =
       rise = rw rest behind.rise;
       last = rw rest behind.last;
       time = rw rest (sym behind.time);
-      count = rw rest refl;
+      count = rw rest (omega arith);
       waits = λ is. absurd cc;
     }
 
 wait_passed : {S : Type 0} (rules : Rules S) (node : Node S) (start ms : ℕ) (left : List Event) (found : Option Parcel) → node.start ≡ Some start → node.left ≡ left
     → TimesRise node.time left → EndsLast left → ms < end_time left → Passed left start ms (receive_turn rules node found)
 wait_passed rules node start ms left None starts same rise last waits =
-    record { starts = starts; rise = rw same rise; last = rw same last; time = ap end_time same; count = ap (λ (l : List Event). length l) (sym same); waits = λ is. waits }
+    record { starts = starts; rise = rw same rise; last = rw same last; time = ap end_time same; count = (let e : length left ≡ length node.left = ap (λ (l : List Event). length l) (sym same) in omega (arith, e)); waits = λ is. waits }
 wait_passed rules node start ms left (Some parcel) starts same rise last waits =
-    record { starts = starts; rise = rw same rise; last = rw same last; time = ap end_time same; count = ap (λ (l : List Event). length l) (sym same); waits = λ is. waits }
+    record { starts = starts; rise = rw same rise; last = rw same last; time = ap end_time same; count = (let e : length left ≡ length node.left = ap (λ (l : List Event). length l) (sym same) in omega (arith, e)); waits = λ is. waits }
 
 turn_passed : {S : Type 0} (rules : Rules S) (node : Node S) (start ms : ℕ) (left : List Event) (found : Option Parcel) → node.start ≡ Some start → node.left ≡ left
     → TimesRise node.time left → EndsLast left → (turn_of rules node (due node.time ms left) found).turn.ended ≡ false → Passed left start ms (turn_of rules node (due node.time ms left) found)
@@ -193,7 +194,7 @@ all_done : {S : Type 0} (rules : Rules S) (count : ℕ) (node : Node S) (reading
     → end_time node.left ≤ reading_of (readings_behind behind readings) - start
     → length node.left ≤ (count - behind) + lines_done (take behind (turns_of count rules node readings arrivals))
     → did_end (turns_of count rules node readings arrivals) ≡ true
-unfolding turns_of, readings_behind
+unfolding turns_of readings_behind
 all_done rules zero node readings arrivals behind start starts rise last fall reaches room =
     no_line node.left last (let none = none_done behind in omega (arith, none, room))
   where
@@ -209,18 +210,24 @@ all_done {S} rules (suc count) node readings arrivals behind start starts rise l
           let same : now ≡ turn_of rules begun (due node.time (reading_of readings - start) node.left) (next_of arrivals) = rw starts refl in
           let passed = subst (λ (t : Turned S). Passed node.left start (reading_of readings - start) t) (sym same)
           (turn_passed rules begun start (reading_of readings - start) node.left (next_of arrivals) refl refl rise last (subst (λ (t : Turned S). t.turn.ended ≡ false) same goes)) in
-          let others : did_end (turns_of count rules now.node (readings_after readings) (arrivals_after now.turn arrivals)) ≡ true =
-          on behind now passed (arrivals_after now.turn arrivals) (rw goes at room) reaches in
+          let arrive = arrivals_after now.turn arrivals in
+          let again = λ (b : ℕ) (reaches : end_time now.node.left ≤ reading_of (readings_behind b (readings_after readings)) - start)
+          (room : length now.node.left ≤ (count - b) + lines_done (take b (turns_of count rules now.node (readings_after readings) arrive))).
+          all_done rules count now.node (readings_after readings) arrive b start (rw passed.starts refl) passed.rise passed.last (fall_after start readings fall) reaches room in
+          let others : did_end (turns_of count rules now.node (readings_after readings) arrive) ≡ true = on behind now arrive again passed (rw goes at room) reaches in
           rw goes others
           )
     ]
   where
-    on : (behind : ℕ) (now : Turned S) → Passed node.left start (reading_of readings - start) now → (arrive : List (Option Parcel))
+    on : (behind : ℕ) (now : Turned S) (arrive : List (Option Parcel))
+        → ((b : ℕ) → end_time now.node.left ≤ reading_of (readings_behind b (readings_after readings)) - start
+        → length now.node.left ≤ (count - b) + lines_done (take b (turns_of count rules now.node (readings_after readings) arrive))
+        → did_end (turns_of count rules now.node (readings_after readings) arrive) ≡ true)
+        → Passed node.left start (reading_of readings - start) now
         → length node.left ≤ (suc count - behind) + lines_done (take behind (now.turn ∷ turns_of count rules now.node (readings_after readings) arrive))
         → end_time node.left ≤ reading_of (readings_behind behind readings) - start
         → did_end (turns_of count rules now.node (readings_after readings) arrive) ≡ true
-    unfolding readings_behind
-    on zero now passed arrive room reaches =
+    on zero now arrive again passed room reaches =
         elim (cases_Bool now.turn.received) [
           | inl waits ↦ (
               let early = passed.waits waits in
@@ -230,14 +237,16 @@ all_done {S} rules (suc count) node readings arrivals behind start starts rise l
               let counted : length node.left ≡ 1 + length now.node.left = rw line at passed.count in
               let later = later_read start readings fall in
               let time = passed.time in
-              all_done rules count now.node (readings_after readings) arrive 0 start (rw passed.starts refl) passed.rise passed.last (fall_after start readings fall)
-              (omega (arith, time, later, reaches)) (omega (arith, counted, room))
+              again 0 (omega (arith, time, later, reaches)) (omega (arith, counted, room))
               )
         ]
-    on (suc b) now passed arrive room reaches =
+    on (suc b) now arrive again passed room reaches =
         let counted = passed.count in
-        all_done rules count now.node (readings_after readings) arrive b start (rw passed.starts refl) passed.rise passed.last (fall_after start readings fall)
-        (rw passed.time reaches) (omega (arith, counted, room))
+        let rest = turns_of count rules now.node (readings_after readings) arrive in
+        let one : lines_done (now.turn ∷ []) ≡ 0 + cond (not now.turn.received) 1 0 = refl in
+        let done : lines_done (take (suc b) (now.turn ∷ rest)) ≡ lines_done (now.turn ∷ []) + lines_done (take b rest) =
+        sum_by-append (λ (turn : Turn). cond (not turn.received) 1 0) (now.turn ∷ []) (take b rest) in
+        again b (rw passed.time reaches) (omega (arith, counted, one, done, room))
 
 pub end_is_done : {S : Type 0} (rules : Rules S) → EndIsDone rules
 end_is_done rules = record {

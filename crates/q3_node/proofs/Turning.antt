@@ -45,16 +45,19 @@ some_read None = (0 ∷ [], omega arith)
 some_read (Some told) = (told, refl)
 
 -- one reading more was taken
-one_behind : (readings : List ℕ) (count : ℕ) → readings_after (readings_behind count readings) ≡ readings_behind (count + 1) readings
+one_behind : (readings : List ℕ) (count : ℕ) → readings_after (readings_behind count readings) ≡ readings_behind (suc count) readings
 unfolding readings_behind
 one_behind readings zero = refl
 one_behind readings (suc count) = one_behind (readings_after readings) count
+
+plus_one : (n : ℕ) → suc n ≡ n + 1
+plus_one n = omega arith
 
 next_clock : (started clock new : Option (List ℕ)) (count reading : ℕ) → clock ≡ clock_behind started count → Reads clock new reading → new ≡ clock_behind started (count + 1)
 next_clock None clock new count reading same read = subst (λ (c : Option (List ℕ)). Reads c new reading) same read
 next_clock (Some readings) clock new count reading same read =
     let is = subst (λ (c : Option (List ℕ)). Reads c new reading) same read in
-    is.1 ∙ ap (λ (rs : List ℕ). Some rs) (one_behind readings count)
+    is.1 ∙ ap (λ (rs : List ℕ). Some rs) (one_behind readings count ∙ ap (λ (n : ℕ). readings_behind n readings) (plus_one count))
 
 clock_none : (started : Option (List ℕ)) → started ≡ clock_behind started 0
 unfolding readings_behind
