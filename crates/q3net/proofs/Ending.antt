@@ -148,8 +148,8 @@ failed : (mid now : Option Written) (ended : Result (Unit {0}) Fault) (status : 
 failed mid now ended status is took =
     let none : ending_line ended ≡ [] = ap ending_line is in
     elim took [
-      | inl all ↦ (all.0 ∙ ap ending_status is, true, subst (λ (z : List ℕ). Wrote mid now z true) none all.1.0)
-      | inr more ↦ (more.0, false, subst (λ (z : List ℕ). Wrote mid now z false) none more.1)
+      | inl all ↦ (all.0 ∙ ap ending_status is, (true, subst (λ (z : List ℕ). Wrote mid now z true) none all.1.0))
+      | inr more ↦ (more.0, (false, subst (λ (z : List ℕ). Wrote mid now z false) none more.1))
     ]
 
 still_fails : (at : Option Address) (turns : List Turn) (old mid now : Option Written) (told wired : Option Traffic) (all : Bool) → Wrote mid now [] all

@@ -114,8 +114,8 @@ one_client profile server other is = absurd is
 -- by what the input says
 noded_refused : (follow : TextsFollow) (command : Option Command) (told : Outside) (old : Option Written) (names : List (List ℕ)) (at : Address) (answer : Result (List Turn) Fault) (e : Fault) → answer ≡ Err e
     → IsVerdict told command (noded names at answer) → ExecutesWired command told old old told.wire (Err e)
-noded_refused follow command told old names at answer e no is =
-    (noded names at (Err e), subst (λ (a : Result (List Turn) Fault). IsVerdict told command (noded names at a)) no is, inl ([], inl (refl, refl), refl, follow.none))
+noded_refused follow command told old names at answer e refuses is =
+    (noded names at (Err e), subst (λ (a : Result (List Turn) Fault). IsVerdict told command (noded names at a)) refuses is, inl ([], inl (refl, refl), refl, follow.none))
 
 -- where memory ran out, a read failed, or the wire did before an address was bound
 comes_before : (command : Option Command) (told : Outside) (names : List (List ℕ)) (at : Address) (answer : Result (List Turn) Fault) (fault : Fault) → IsOutside fault
