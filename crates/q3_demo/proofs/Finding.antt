@@ -1,0 +1,77 @@
+-- What is found at a place of a demo, by its head and then by its message.
+use Rattle.std.proofs.Common.{◌≡◌, ℕ, ◌+◌, ◌<◌, ◌≤◌, List, ◌++◌, length, take, Option, Some, Ok, Err, sym, ap, ◌∙◌, inl, inr, arith}
+use Rattle.std.proofs.lemmas.List.{length-take, length-append, drop_at, take_all}
+use Rattle.q3_io.specs.Told.{Told}
+use Rattle.q3_demo.specs.declared.error.DemoError.TheVariants.{Truncated}
+use Rattle.q3_demo.specs.declared.record.Head.{Head}
+use Rattle.q3_demo.specs.declared.record.Piece.TheVariants as piece
+use Rattle.q3_demo.specs.Records.{head_bytes, longest_record, number_end, most_bytes}
+use Rattle.q3_demo.specs.Running.{HasFrom, OnlyAsks, FindsPiece}
+use Rattle.q3_demo.specs.Steps.{Fills, FindsHead}
+use Rattle.q3_demo.proofs.Whole.{has_before, has_joined}
+use Rattle.q3_demo.proofs.Pieces.{HasHead, HasRecord, too_short, record_is, head_stays}
+
+-- a head was found
+pub record Found (told : Option Told) (file at number size : ℕ) : Type 0 where
+  pub bytes : List ℕ
+  pub has : HasFrom told file at bytes
+  pub head : HasHead bytes number size
+
+pub head_found : (told : Option Told) (file at : ℕ) (bytes : List ℕ) (head : Head) → HasFrom told file at bytes → FindsHead bytes (Ok (Some head)) → Found told file at head.number head.length
+head_found told file at bytes head has finds = record { bytes = bytes; has = has; head = record { some = finds.0; number_is = finds.1; size_is = finds.2 } }
+
+pub far : (told : Option Told) (file at last number size : ℕ) (buffer : List ℕ) → Found told file at number size → size ≤ longest_record → last < number → number < number_end
+    → most_bytes < at + head_bytes + size → (bytes : List ℕ) × HasFrom told file at bytes × FindsPiece bytes at last buffer (Err (Truncated at))
+far told file at last number size buffer found short above below is =
+    (found.bytes, found.has, (sym (too_short found.bytes at last number size found.head short above below (inr is)), tt))
+
+-- ---- the message behind it
+
+long_both : (told : Option Told) (file at number size : ℕ) (found : Found told file at number size) (behind : List ℕ) → length (take head_bytes found.bytes ++ behind) ≡ head_bytes + length behind
+long_both told file at number size found behind = omega (arith, length-append (take head_bytes found.bytes) behind, length-take head_bytes found.bytes, found.head.some)
+
+both_has : (told mid : Option Told) (file at number size : ℕ) (found : Found told file at number size) (behind : List ℕ) → OnlyAsks told mid → HasFrom mid file (at + head_bytes) behind
+    → HasFrom told file at (take head_bytes found.bytes ++ behind)
+both_has told mid file at number size found behind asks has =
+    has_joined told file at head_bytes found.bytes behind found.has (has_before told mid file (at + head_bytes) behind asks has)
+
+both_head : (told : Option Told) (file at number size : ℕ) (found : Found told file at number size) (behind : List ℕ) → HasHead (take head_bytes found.bytes ++ behind) number size
+both_head told file at number size found behind = head_stays found.bytes behind head_bytes number size (omega arith) found.head
+
+pub cut : (told mid : Option Told) (file at last number size count : ℕ) (part buffer behind : List ℕ) → Found told file at number size → size ≤ longest_record → last < number → number < number_end
+    → OnlyAsks told mid → HasFrom mid file (at + head_bytes) behind → Fills behind part (Ok count) → length part ≡ size → count < size
+    → (bytes : List ℕ) × HasFrom told file at bytes × FindsPiece bytes at last buffer (Err (Truncated at))
+cut told mid file at last number size count part buffer behind found short above below asks has fills room less = (
+  take head_bytes found.bytes ++ behind,
+  both_has told mid file at number size found behind asks has,
+  (
+    sym (too_short (take head_bytes found.bytes ++ behind) at last number size (both_head told file at number size found behind) short above below
+        (inl (omega (arith, long_both told file at number size found behind, fills.0)))),
+    tt,
+  ),
+)
+
+pub whole : (told mid : Option Told) (file at last number size next count : ℕ) (part buffer behind : List ℕ) → Found told file at number size → size ≤ longest_record → last < number → number < number_end
+    → OnlyAsks told mid → HasFrom mid file (at + head_bytes) behind → Fills behind part (Ok count) → length part ≡ size → size ≤ count → take size buffer ≡ part
+    → next ≡ at + head_bytes + size → next ≤ most_bytes
+    → (bytes : List ℕ) × HasFrom told file at bytes × FindsPiece bytes at last buffer (Ok (piece.Message number size next))
+whole told mid file at last number size next count part buffer behind found short above below asks has fills room all is next_is within =
+    let bytes : List ℕ = take head_bytes found.bytes ++ behind in
+    let came : size ≡ count = omega (arith, fills.0) in
+    let there : HasRecord bytes at last number size next = record {
+      head = both_head told file at number size found behind;
+      short = short;
+      above = above;
+      below = below;
+      there = omega (arith, long_both told file at number size found behind, fills.0);
+      within = omega arith;
+      next_is = next_is;
+    } in (
+      bytes,
+      both_has told mid file at number size found behind asks has,
+      (
+        sym (record_is bytes at last number size next there),
+        is ∙ sym (take_all size part (omega arith)) ∙ ap (λ n. take n part) came ∙ fills.1 ∙ ap (λ n. take n behind) (sym came)
+            ∙ ap (take size) (sym (drop_at (take head_bytes found.bytes) behind head_bytes (omega (arith, length-take head_bytes found.bytes, found.head.some)))),
+      ),
+    )

@@ -1,0 +1,315 @@
+-- A demo is played record by record, and how that ends.
+use Rattle.std.proofs.Common.{◌≡◌, ℕ, zero, suc, ◌+◌, ◌-◌, ◌<◌, ◌≤◌, Bool, true, false, List, [], ◌++◌, length, take, drop, Option, Some, None, Result, Ok, Err, refl, sym, ap, subst, ◌∙◌, append_assoc, arith}
+use Rattle.std.specs.Prelude.{IfErr}
+use Rattle.std.proofs.lemmas.List.{drop_at, drop-drop, length-append, length-take}
+use Rattle.q3_bits.specs.ResultBind.{◌>>=◌, fault_as, bind_ok, bind_is}
+use Rattle.q3_io.specs.Told.{Told}
+use Rattle.q3_io.specs.Written.{Written, Wrote}
+use Rattle.q3_io.specs.Laws.{TextsFollow}
+use Rattle.q3_clstate.specs.State.{Application, apply_at}
+use Rattle.q3_demo.specs.declared.error.DemoError.{DemoError}
+use Rattle.q3_demo.specs.declared.error.DemoError.TheVariants.{ReadFault, Truncated, BadLength, BadNumber, Message as NoMessage, NoMemory, WriteFault}
+use Rattle.q3_demo.specs.declared.record.Piece.{Piece}
+use Rattle.q3_demo.specs.declared.record.Piece.TheVariants as piece
+use Rattle.q3_demo.specs.Records.{head_bytes, piece_of}
+use Rattle.q3_demo.specs.Playing.{Played, Stepped, Play, next_piece, message_of, played_on, play_piece, step, most_records, ends, refused, told_first, at_most, play_step, play_from}
+use Rattle.q3_demo.specs.Running.{HasFrom, FindsPiece, Plays, ReadCause}
+use Rattle.q3_demo.specs.Steps.{step_text, Leads, Fails, TakesStep, behind_limit}
+use Rattle.q3_demo.proofs.Whole.{has_joined}
+use Rattle.q3_demo.proofs.Pieces.{record_is, was_record, record_stays, message_stays}
+
+-- an ending that is a refusal
+abbrev stops : DemoError → Result (Unit {0}) DemoError
+stops e = Err e
+
+pub isnt_memory : (result : Result (Unit {0}) DemoError) → IfErr result (λ e. e ≡ NoMemory → ⊥) → result ≡ Err NoMemory → ⊥
+isnt_memory (Ok x) other is = absurd cc
+isnt_memory (Err e) other is = other cc
+
+-- ---- what is printed
+
+-- what is behind a text that was printed ends so behind it
+pub plays_behind : (law : TextsFollow) (text : List ℕ) (play : Play) (before mid after : Option Written) (result : Result (Unit {0}) DemoError) → (result ≡ Err NoMemory → ⊥)
+    → Wrote before mid text true → Plays play mid after result → Plays (told_first text play) before after result
+plays_behind law text play before mid after (Ok x) some wrote plays = (plays.0, law.more wrote plays.1 refl)
+plays_behind law text play before mid after (Err ReadFault) some wrote plays =
+    (text ++ plays.0, plays.1, append_assoc text plays.0 plays.1 ∙ ap (λ (t : List ℕ). text ++ t) plays.2, law.more wrote plays.3 refl)
+plays_behind law text play before mid after (Err (Truncated at)) some wrote plays = (plays.0, law.more wrote plays.1 refl)
+plays_behind law text play before mid after (Err (BadLength at)) some wrote plays = (plays.0, law.more wrote plays.1 refl)
+plays_behind law text play before mid after (Err (BadNumber at)) some wrote plays = (plays.0, law.more wrote plays.1 refl)
+plays_behind law text play before mid after (Err (NoMessage at cause)) some wrote plays = (plays.0, law.more wrote plays.1 refl)
+plays_behind law text play before mid after (Err NoMemory) some wrote plays = absurd (some refl)
+plays_behind law text play before mid after (Err WriteFault) some wrote plays = law.more wrote plays refl
+
+-- the demo ends
+ends_step : (step : Result (Option Stepped) DemoError) (now next : Played) (others : Played → Play) (mid after : Option Written) → TakesStep step now next mid after (Ok true)
+    → Plays (play_step now step others) mid after (Ok tt)
+ends_step (Ok None) now next others mid after takes = (refl, takes.1)
+ends_step (Ok (Some stepped)) now next others mid after takes = absurd (let e = takes.0 in cc)
+ends_step (Err d) now next others mid after takes = absurd (let e = takes.0 in cc)
+
+-- a step is refused
+refuses : (law : TextsFollow) (step : Result (Option Stepped) DemoError) (now : Played) (others : Played → Play) (mid after : Option Written) (e : DemoError)
+    → step ≡ Err e → after ≡ mid → (Err e ≡ (play_step now step others).ending) × Wrote mid after (play_step now step others).text true
+refuses law (Ok None) now others mid after e is same = absurd cc
+refuses law (Ok (Some stepped)) now others mid after e is same = absurd cc
+refuses law (Err d) now others mid after e is same =
+    let one : e ≡ d = cc in
+    (ap stops one, rw same law.none)
+
+-- the sink failed in what a step tells
+loses : (law : TextsFollow) (step : Result (Option Stepped) DemoError) (now : Played) (others : Played → Play) (mid after : Option Written)
+    → Wrote mid after (step_text now step) false → Wrote mid after (play_step now step others).text false
+loses law (Ok None) now others mid after wrote = wrote
+loses law (Ok (Some stepped)) now others mid after wrote = law.early (others stepped.played).text wrote refl
+loses law (Err d) now others mid after wrote = wrote
+
+fails_step : (law : TextsFollow) (step : Result (Option Stepped) DemoError) (now : Played) (others : Played → Play) (mid after : Option Written) (e : DemoError) → Fails step now mid after e
+    → Plays (play_step now step others) mid after (Err e)
+fails_step law step now others mid after ReadFault fails = ([], (play_step now step others).text, refl, rw fails law.none)
+fails_step law step now others mid after (Truncated at) fails = refuses law step now others mid after (Truncated at) fails.0 fails.1
+fails_step law step now others mid after (BadLength at) fails = refuses law step now others mid after (BadLength at) fails.0 fails.1
+fails_step law step now others mid after (BadNumber at) fails = refuses law step now others mid after (BadNumber at) fails.0 fails.1
+fails_step law step now others mid after (NoMessage at cause) fails = refuses law step now others mid after (NoMessage at cause) fails.0 fails.1
+fails_step law step now others mid after NoMemory fails = absurd fails
+fails_step law step now others mid after WriteFault fails = loses law step now others mid after fails
+
+not_memory : (law : TextsFollow) (step : Result (Option Stepped) DemoError) (now : Played) (mid after : Option Written) (e : DemoError) → Fails step now mid after e → e ≡ NoMemory → ⊥
+not_memory law step now mid after e fails is = subst (λ (d : DemoError). Fails step now mid after d) is fails
+
+-- ---- a record
+
+leads_to : (step : Result (Option Stepped) DemoError) (next : Played) → Leads step next → (stepped : Stepped) × (step ≡ Ok (Some stepped)) × (stepped.played ≡ next)
+leads_to (Ok None) next leads = absurd leads
+leads_to (Ok (Some stepped)) next leads = (stepped, refl, leads)
+leads_to (Err d) next leads = absurd leads
+
+-- the record that was played
+record IsPlayed (demo : List ℕ) (now : Played) (stepped : Stepped) : Type 0 where
+  number : ℕ
+  size : ℕ
+  next : ℕ
+  applied : Application
+  found : next_piece demo now ≡ Ok (piece.Message number size next)
+  applied_is : fault_as (NoMessage now.at) (apply_at now.state number (message_of demo now size)) ≡ Ok applied
+  stepped_is : played_on now number next applied ≡ stepped
+
+same_some : {x y : Stepped} → (let left : Result (Option Stepped) DemoError = Ok (Some x) in left ≡ Ok (Some y)) → x ≡ y
+same_some e = cc
+
+piece_played : (demo : List ℕ) (now : Played) (found : Piece) (stepped : Stepped) → next_piece demo now ≡ Ok found → play_piece demo now found ≡ Ok (Some stepped) → IsPlayed demo now stepped
+piece_played demo now piece.End stepped found is = absurd cc
+piece_played demo now (piece.Message number size next) stepped found is =
+    let on : Application → Result (Option Stepped) DemoError = λ applied. Ok (Some (played_on now number next applied)) in
+    let p = bind_ok (fault_as (NoMessage now.at) (apply_at now.state number (message_of demo now size))) on (Some stepped) is in
+    record { number = number; size = size; next = next; applied = p.0; found = found; applied_is = p.1; stepped_is = same_some p.2 }
+
+was_played : (demo : List ℕ) (now : Played) (stepped : Stepped) → step demo now ≡ Ok (Some stepped) → IsPlayed demo now stepped
+was_played demo now stepped is =
+    let p = bind_ok (next_piece demo now) (play_piece demo now) (Some stepped) is in
+    piece_played demo now p.0 stepped p.1 p.2
+
+-- the message in the bytes from there on
+pub message_there : (demo bytes : List ℕ) (now : Played) (size : ℕ) → drop now.at demo ≡ bytes → message_of demo now size ≡ take size (drop head_bytes bytes)
+message_there demo bytes now size there = ap (take size) (sym (drop-drop head_bytes now.at demo) ∙ ap (drop head_bytes) there)
+
+-- it is played so in every demo that begins so
+plays_so : (demo other bytes rest : List ℕ) (now : Played) (stepped : Stepped) → drop now.at demo ≡ bytes → (was : IsPlayed demo now stepped)
+    → drop now.at other ≡ take (head_bytes + was.size) bytes ++ rest → step other now ≡ Ok (Some stepped)
+plays_so demo other bytes rest now stepped there was here =
+    let size : ℕ = was.size in
+    let had = was_record bytes now.at now.last was.number size was.next (ap (λ (xs : List ℕ). piece_of xs now.at now.last) (sym there) ∙ was.found) in
+    let found : next_piece other now ≡ Ok (piece.Message was.number size was.next) =
+    ap (λ (xs : List ℕ). piece_of xs now.at now.last) here
+    ∙ record_is (take (head_bytes + size) bytes ++ rest) now.at now.last was.number size was.next (record_stays bytes rest now.at now.last was.number size was.next had) in
+    let message : message_of other now size ≡ message_of demo now size =
+    message_there other (take (head_bytes + size) bytes ++ rest) now size here ∙ message_stays bytes rest size had.there ∙ sym (message_there demo bytes now size there) in
+    let applied : fault_as (NoMessage now.at) (apply_at now.state was.number (message_of other now size)) ≡ Ok was.applied =
+    ap (λ (xs : List ℕ). fault_as (NoMessage now.at) (apply_at now.state was.number xs)) message ∙ was.applied_is in
+    let on : Application → Result (Option Stepped) DemoError = λ applied. Ok (Some (played_on now was.number was.next applied)) in
+    bind_is (next_piece other now) (play_piece other now) (piece.Message was.number size was.next) (Ok (Some stepped)) found
+    (bind_is (fault_as (NoMessage now.at) (apply_at now.state was.number (message_of other now size))) on was.applied (Ok (Some stepped)) applied
+    (ap (λ (s : Stepped). Ok (Some s)) was.stepped_is))
+
+-- what is found there is played
+pub step_is : (demo bytes : List ℕ) (now : Played) (found : Piece) → drop now.at demo ≡ bytes → Ok found ≡ piece_of bytes now.at now.last → step demo now ≡ play_piece demo now found
+step_is demo bytes now found there is =
+    let here : next_piece demo now ≡ Ok found = ap (λ (xs : List ℕ). piece_of xs now.at now.last) there ∙ sym is in
+    ap (λ (r : Result Piece DemoError). r >>= play_piece demo now) here
+
+-- no read failed in it
+pub reads_on : (before now : ℕ) (e : DemoError) → (e ≡ ReadFault → ⊥) → now ≡ before → ReadCause {T = Bool} before now (Err e)
+reads_on before now ReadFault other same = absurd (other refl)
+reads_on before now (Truncated at) other same = same
+reads_on before now (BadLength at) other same = same
+reads_on before now (BadNumber at) other same = same
+reads_on before now (NoMessage at cause) other same = same
+reads_on before now NoMemory other same = same
+reads_on before now WriteFault other same = same
+
+-- ---- behind the last record that may be played
+
+refuses_last : (law : TextsFollow) (now : Played) (found : Result Piece DemoError) (e : DemoError) (written : Option Written) → Err e ≡ found
+    → (stops (Truncated now.at) ≡ (at_most now found).ending) × Wrote written written (at_most now found).text true
+refuses_last law now (Ok piece.End) e written is = absurd cc
+refuses_last law now (Ok (piece.Message number size next)) e written is = absurd cc
+refuses_last law now (Err d) e written is = (refl, law.none)
+
+pub limit_refuses : (law : TextsFollow) (now : Played) (bytes buffer : List ℕ) (e : DemoError) (written : Option Written) → FindsPiece bytes now.at now.last buffer (Err e)
+    → Plays (at_most now (piece_of bytes now.at now.last)) written written (Err (behind_limit now.at e))
+limit_refuses law now bytes buffer ReadFault written finds = ([], (at_most now (piece_of bytes now.at now.last)).text, refl, law.none)
+limit_refuses law now bytes buffer (Truncated at) written finds = refuses_last law now (piece_of bytes now.at now.last) (Truncated at) written finds.0
+limit_refuses law now bytes buffer (BadLength at) written finds = refuses_last law now (piece_of bytes now.at now.last) (BadLength at) written finds.0
+limit_refuses law now bytes buffer (BadNumber at) written finds = refuses_last law now (piece_of bytes now.at now.last) (BadNumber at) written finds.0
+limit_refuses law now bytes buffer (NoMessage at cause) written finds = refuses_last law now (piece_of bytes now.at now.last) (NoMessage at cause) written finds.0
+limit_refuses law now bytes buffer NoMemory written finds = refuses_last law now (piece_of bytes now.at now.last) NoMemory written finds.0
+limit_refuses law now bytes buffer WriteFault written finds = refuses_last law now (piece_of bytes now.at now.last) WriteFault written finds.0
+
+pub limit_message : (law : TextsFollow) (now : Played) (found : Result Piece DemoError) (number size next : ℕ) (written : Option Written) → Ok (piece.Message number size next) ≡ found
+    → (stops (Truncated now.at) ≡ (at_most now found).ending) × Wrote written written (at_most now found).text true
+limit_message law now (Ok piece.End) number size next written is = absurd cc
+limit_message law now (Ok (piece.Message n s x)) number size next written is = (refl, law.none)
+limit_message law now (Err d) number size next written is = absurd cc
+
+-- ---- a demo
+
+-- how far it was played: the bytes up to there, whatever is behind them, and the text so far
+pub record Going (told : Option Told) (file left : ℕ) (first now : Played) (before mid : Option Written) : Type 0 where
+  pub front : List ℕ
+  pub text : List ℕ
+  pub long : length front ≡ now.at
+  pub wrote : Wrote before mid text true
+  pub has : (rest : List ℕ) → HasFrom told file now.at rest → HasFrom told file 0 (front ++ rest)
+  pub whole : (rest : List ℕ) → play_from most_records (front ++ rest) first ≡ told_first text (play_from left (front ++ rest) now)
+
+pub begins : (law : TextsFollow) (told : Option Told) (file : ℕ) (first : Played) (before : Option Written) → first.at ≡ 0 → Going told file most_records first first before before
+begins law told file first before at = record {
+  front = [];
+  text = [];
+  long = sym at;
+  wrote = law.none;
+  has = λ rest has. subst (λ (n : ℕ). HasFrom told file n rest) at has;
+  whole = λ rest. refl;
+}
+
+-- how it ends
+pub ends_so : (law : TextsFollow) (told : Option Told) (file left : ℕ) (first now : Played) (before mid after : Option Written) (bytes : List ℕ) (result : Result (Unit {0}) DemoError)
+    → (going : Going told file left first now before mid) → HasFrom told file now.at bytes → (result ≡ Err NoMemory → ⊥) → Plays (play_from left (going.front ++ bytes) now) mid after result
+    → (demo : List ℕ) × HasFrom told file 0 demo × Plays (play_from most_records demo first) before after result
+ends_so law told file left first now before mid after bytes result going has some plays = (
+  going.front ++ bytes,
+  going.has bytes has,
+  subst (λ (p : Play). Plays p before after result) (sym (going.whole bytes)) (plays_behind law going.text (play_from left (going.front ++ bytes) now) before mid after result some going.wrote plays),
+)
+
+-- one record more
+text_of : (now : Played) (s : Result (Option Stepped) DemoError) (stepped : Stepped) → s ≡ Ok (Some stepped) → step_text now s ≡ stepped.text
+text_of now s stepped is = ap (step_text now) is
+
+from_there : (told : Option Told) (file left : ℕ) (first now : Played) (before mid : Option Written) (going : Going told file left first now before mid) (bytes : List ℕ)
+    → drop now.at (going.front ++ bytes) ≡ bytes
+from_there told file left first now before mid going bytes = drop_at going.front bytes now.at going.long
+
+step_more : (left : ℕ) (demo : List ℕ) (now next : Played) (stepped : Stepped) → step demo now ≡ Ok (Some stepped) → stepped.played ≡ next
+    → play_from (suc left) demo now ≡ told_first stepped.text (play_from left demo next)
+unfolding play_from
+step_more left demo now next stepped is leads =
+    ap (λ (s : Result (Option Stepped) DemoError). play_step now s (play_from left demo)) is ∙ ap (λ (p : Played). told_first stepped.text (play_from left demo p)) leads
+
+text_behind : (text more : List ℕ) (play : Play) → told_first text (told_first more play) ≡ told_first (text ++ more) play
+text_behind text more play = ap (λ (t : List ℕ). record play { text = t }) (sym (append_assoc text more play.text))
+
+goes_on : (law : TextsFollow) (told : Option Told) (file left : ℕ) (first now next : Played) (before mid after : Option Written) (bytes : List ℕ)
+    → Going told file (suc left) first now before mid → HasFrom told file now.at bytes
+    → ((demo : List ℕ) → drop now.at demo ≡ bytes → TakesStep (step demo now) now next mid after (Ok false)) → Going told file left first next before after
+goes_on law told file left first now next before mid after bytes going has takes =
+    let demo : List ℕ = going.front ++ bytes in
+    let there : drop now.at demo ≡ bytes = from_there told file (suc left) first now before mid going bytes in
+    let taken = takes demo there in
+    let leads = leads_to (step demo now) next taken.0 in
+    let stepped : Stepped = leads.0 in
+    let was = was_played demo now stepped leads.1 in
+    let size : ℕ = was.size in
+    let had = was_record bytes now.at now.last was.number size was.next (ap (λ (xs : List ℕ). piece_of xs now.at now.last) (sym there) ∙ was.found) in
+    let place : next.at ≡ now.at + (head_bytes + size) =
+    sym (ap (λ (p : Played). p.at) (ap (λ (s : Stepped). s.played) was.stepped_is ∙ leads.2)) ∙ had.next_is ∙ omega arith in
+    let more : List ℕ = take (head_bytes + size) bytes in
+    record {
+      front = going.front ++ more;
+      text = going.text ++ stepped.text;
+      long = omega (arith, length-append going.front more, length-take (head_bytes + size) bytes, had.there, going.long, place);
+      wrote = law.more going.wrote taken.1 (ap (λ (t : List ℕ). going.text ++ t) (sym (text_of now (step demo now) stepped leads.1)));
+      has = λ rest behind. subst (λ (xs : List ℕ). HasFrom told file 0 xs) (sym (append_assoc going.front more rest))
+          (going.has (more ++ rest) (has_joined told file now.at (head_bytes + size) bytes rest has (subst (λ (n : ℕ). HasFrom told file n rest) place behind)));
+      whole = λ rest.
+          let other : List ℕ = going.front ++ (more ++ rest) in
+          let here : drop now.at other ≡ more ++ rest = from_there told file (suc left) first now before mid going (more ++ rest) in
+          let same : going.front ++ more ++ rest ≡ other = append_assoc going.front more rest in
+          let one : play_from (suc left) other now ≡ told_first stepped.text (play_from left other next) =
+          step_more left other now next stepped (plays_so demo other bytes rest now stepped there was here) leads.2 in
+          ap (λ (xs : List ℕ). play_from most_records xs first) same ∙ going.whole (more ++ rest) ∙ ap (told_first going.text) one
+          ∙ text_behind going.text stepped.text (play_from left other next)
+          ∙ ap (λ (xs : List ℕ). told_first (going.text ++ stepped.text) (play_from left xs next)) (sym same);
+    }
+
+-- ---- by the records that were played
+
+one_left : (taken : ℕ) → taken < most_records → most_records - taken ≡ suc (most_records - (taken + 1))
+one_left taken few = omega (arith, few)
+
+pub goes_on_by : (law : TextsFollow) (told : Option Told) (file taken : ℕ) (first now next : Played) (before mid after : Option Written) (bytes : List ℕ)
+    → taken < most_records → Going told file (most_records - taken) first now before mid → HasFrom told file now.at bytes
+    → ((demo : List ℕ) → drop now.at demo ≡ bytes → TakesStep (step demo now) now next mid after (Ok false)) → Going told file (most_records - (taken + 1)) first next before after
+goes_on_by law told file taken first now next before mid after bytes few going has takes =
+    goes_on law told file (most_records - (taken + 1)) first now next before mid after bytes (rw (one_left taken few) at going) has takes
+
+ends_by_step : (left : ℕ) (demo : List ℕ) (now next : Played) (mid after : Option Written) → TakesStep (step demo now) now next mid after (Ok true)
+    → Plays (play_from (suc left) demo now) mid after (Ok tt)
+unfolding play_from
+ends_by_step left demo now next mid after takes = ends_step (step demo now) now next (play_from left demo) mid after takes
+
+pub ends_by : (law : TextsFollow) (told : Option Told) (file taken : ℕ) (first now next : Played) (before mid after : Option Written) (bytes : List ℕ)
+    → taken < most_records → Going told file (most_records - taken) first now before mid → HasFrom told file now.at bytes
+    → ((demo : List ℕ) → drop now.at demo ≡ bytes → TakesStep (step demo now) now next mid after (Ok true))
+    → (demo : List ℕ) × HasFrom told file 0 demo × Plays (play_from most_records demo first) before after (Ok tt)
+ends_by law told file taken first now next before mid after bytes few going has takes =
+    let left : ℕ = most_records - (taken + 1) in
+    let here : Going told file (suc left) first now before mid = rw (one_left taken few) at going in
+    ends_so law told file (suc left) first now before mid after bytes (Ok tt) here has (λ e. absurd cc)
+    (ends_by_step left (here.front ++ bytes) now next mid after (takes (here.front ++ bytes) (from_there told file (suc left) first now before mid here bytes)))
+
+fails_by_step : (law : TextsFollow) (left : ℕ) (demo : List ℕ) (now : Played) (mid after : Option Written) (e : DemoError) → Fails (step demo now) now mid after e
+    → Plays (play_from (suc left) demo now) mid after (Err e)
+unfolding play_from
+fails_by_step law left demo now mid after e fails = fails_step law (step demo now) now (play_from left demo) mid after e fails
+
+same_error : (e d : DemoError) → (let left : Result (Unit {0}) DemoError = Err e in left ≡ Err d) → e ≡ d
+same_error e d is = cc
+
+pub fails_by : (law : TextsFollow) (told : Option Told) (file taken : ℕ) (first now next : Played) (before mid after : Option Written) (bytes : List ℕ) (e : DemoError)
+    → taken < most_records → Going told file (most_records - taken) first now before mid → HasFrom told file now.at bytes
+    → ((demo : List ℕ) → drop now.at demo ≡ bytes → TakesStep (step demo now) now next mid after (Err e))
+    → (demo : List ℕ) × HasFrom told file 0 demo × Plays (play_from most_records demo first) before after (Err e)
+fails_by law told file taken first now next before mid after bytes e few going has takes =
+    let left : ℕ = most_records - (taken + 1) in
+    let here : Going told file (suc left) first now before mid = rw (one_left taken few) at going in
+    let demo : List ℕ = here.front ++ bytes in
+    let fails : Fails (step demo now) now mid after e = takes demo (from_there told file (suc left) first now before mid here bytes) in
+    ends_so law told file (suc left) first now before mid after bytes (Err e) here has (λ is. not_memory law (step demo now) now mid after e fails (same_error e NoMemory is))
+    (fails_by_step law left demo now mid after e fails)
+
+last_step : (demo bytes : List ℕ) (now : Played) (mid after : Option Written) (result : Result (Unit {0}) DemoError) → drop now.at demo ≡ bytes
+    → Plays (at_most now (piece_of bytes now.at now.last)) mid after result → Plays (play_from zero demo now) mid after result
+unfolding play_from
+last_step demo bytes now mid after result there plays =
+    subst (λ (xs : List ℕ). Plays (at_most now (piece_of xs now.at now.last)) mid after result) (sym there) plays
+
+pub ends_last : (law : TextsFollow) (told : Option Told) (file taken : ℕ) (first now : Played) (before mid after : Option Written) (bytes : List ℕ) (result : Result (Unit {0}) DemoError)
+    → most_records ≤ taken → Going told file (most_records - taken) first now before mid → HasFrom told file now.at bytes → (result ≡ Err NoMemory → ⊥)
+    → Plays (at_most now (piece_of bytes now.at now.last)) mid after result
+    → (demo : List ℕ) × HasFrom told file 0 demo × Plays (play_from most_records demo first) before after result
+ends_last law told file taken first now before mid after bytes result all going has some plays =
+    let none : most_records - taken ≡ 0 = omega (arith, all) in
+    let here : Going told file zero first now before mid = rw none at going in
+    ends_so law told file zero first now before mid after bytes result here has some
+    (last_step (here.front ++ bytes) bytes now mid after result (from_there told file zero first now before mid here bytes) plays)

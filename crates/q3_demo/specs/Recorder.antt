@@ -1,0 +1,52 @@
+-- A recording into a file.
+use Rattle.std.specs.Prelude.{◌≡◌, ℕ, Bool, true, false, List, [], ◌∷◌, Option, Some, None, IsOk, IsSome, Result, Ok, Err}
+use Rattle.q3_io.specs.declared.sink.Failed.{Failed}
+use Rattle.q3_io.specs.Told.{Told, Appends}
+use Rattle.q3_rings.specs.Rings.{view_at}
+use Rattle.q3_clstate.specs.State.{AppliedState}
+use Rattle.q3_clstate.specs.declared.applied.Applied.{Applied}
+use Rattle.q3_demo.specs.declared.recorder.Stage.{Stage}
+use Rattle.q3_demo.specs.declared.recorder.Stage.TheVariants.{Waits, Runs, Ended}
+use Rattle.q3_demo.specs.declared.recorder.Noted.{Noted}
+use Rattle.q3_demo.specs.declared.recorder.Noted.TheVariants as noted
+use Rattle.q3_demo.specs.Recording.{front_at, is_before}
+
+-- at most so much is added at once: the gamestate and the first message
+abbrev pub most_added : ℕ
+most_added = 32784
+
+-- the number of its file, how far it is, and the gamestate that it begins with, if one was kept that isn't too long
+pub record RecorderState : Type 0 where
+  pub file : ℕ
+  pub stage : Stage
+  pub game : Option (List ℕ)
+
+abbrev pub new_recorder : ℕ → RecorderState
+new_recorder file = record { file = file; stage = Waits; game = None }
+
+abbrev pub is_waiting : Stage → Bool
+is_waiting Waits = true
+is_waiting other = false
+
+-- what is answered where a recording is so far behind a message
+abbrev pub noted_as : Stage → Noted
+noted_as Waits = noted.Waits
+noted_as (Runs first) = noted.Wrote
+noted_as Ended = noted.Ended
+
+-- a message that was applied last, of a recording that isn't ended: where it has to be composed anew, it says what was read of it, and its
+-- snapshot is held
+abbrev pub IsNoted : Stage → AppliedState → Applied → List ℕ → Type 0
+IsNoted Ended state applied message = ⊥
+IsNoted stage state applied message =
+    (state.number ≡ applied.number) × IsOk (front_at state.profile.code message) × ((first : ℕ) → is_before first applied.snap ≡ true → IsSome (view_at state.held applied.number))
+
+-- an answer without its value
+abbrev pub done : {A : Type 0} → Result A Failed → Result (Unit {0}) Failed
+done (Ok x) = Ok tt
+done (Err e) = Err e
+
+-- bytes were added to a file; none leave all as it was
+abbrev pub AppendsBytes : Option Told → Option Told → ℕ → List ℕ → Result (Unit {0}) Failed → Type 0
+AppendsBytes told now file [] result = now ≡ told
+AppendsBytes told now file (byte ∷ bytes) result = Appends told now file (byte ∷ bytes) result

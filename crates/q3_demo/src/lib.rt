@@ -1,0 +1,18 @@
+//! Demo files: the messages that a client applied, record by record.
+#![tactic(auto)]
+
+mod compose;
+pub mod error;
+pub mod laws;
+mod lines;
+mod playing;
+pub mod record;
+pub mod recorder;
+mod state;
+
+pub use compose::{compose_game, compose_whole};
+pub use error::DemoError;
+pub use playing::play;
+pub use record::{LONGEST_RECORD, Piece, next_record};
+pub use recorder::{Noted, Recorder};
+pub use state::print_state;
