@@ -198,6 +198,7 @@ none_is_done (Err e) none = absurd (no_status e none)
     no_status (faults.Script line cause) none = omega (arith, none)
     no_status faults.Wire none = omega (arith, none)
     no_status faults.Turns none = omega (arith, none)
+    no_status (faults.Demo e) none = omega (arith, none)
 
 all_wired : (at : Option Address) (verdict : Verdict) (printed : List ℕ) (told wired : Option Traffic) → WiredBy at verdict (Ok tt) printed told wired → wired ≡ wire_by told at verdict.turns
 all_wired None verdict printed told wired by = by

@@ -8,3 +8,5 @@ pub mod Outside
 pub mod Replaying
 pub mod Trying
 pub mod Noding
+mod Demoing
+mod Refusing

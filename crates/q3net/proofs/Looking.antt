@@ -9,13 +9,14 @@ use Rattle.q3_node.specs.Node.{Turn}
 use Rattle.q3net.specs.declared.fault.Fault.{Fault}
 use Rattle.q3net.specs.declared.fault.Fault.TheVariants as faults
 use Rattle.q3net.specs.declared.command.Draws.{Draws}
-use Rattle.q3net.specs.Command.{Command, Help, Version, Replay, Make, Trial, Serve, Join, files_of}
+use Rattle.q3net.specs.Command.{Command, Help, Version, Replay, Make, Trial, Serve, Join, Play, files_of}
 use Rattle.q3net.specs.Faults.{Gets, IsOutside, IsEarly}
 use Rattle.q3net.specs.Input.{Holds, looked_up, created, with_files, Leaves, LeavesTold, AreBegun, LeavesFirst, Touches, LooksUpTold, LooksUpFirst, Gives}
+use Rattle.q3_demo.specs.Playing as demos
 use Rattle.q3_make.specs.Printed.{script_text}
 use Rattle.q3_make.specs.Generated.{generated}
 use Rattle.q3net.specs.Lines.{help_text, version_text, fault_status, ending_status}
-use Rattle.q3net.specs.Verdict.{Stops, Verdict, Outside, of_files, IsVerdict, stops_nowhere, takes_memory, reads_first, settled, names_by, replayed, tried, noded, served, joined, profile_in, GetsFrom}
+use Rattle.q3net.specs.Verdict.{Stops, Verdict, Outside, of_files, IsVerdict, stops_nowhere, takes_memory, reads_first, settled, names_by, replayed, tried, noded, served, joined, played, demo_played, profile_in, GetsFrom}
 use Rattle.q3net.specs.Run.{LeavesFiles, HasLeft, Touched}
 use Rattle.q3net.proofs.Loading.{held}
 
@@ -114,6 +115,11 @@ noded_named : (told now : Option Told) (command : Option Command) (names : List 
 noded_named told now command names at (Ok turns) so first = subst (λ (z : List Named). LeavesFirst told now z []) (sym (append-nil (map looked_up (files_of command)))) (so first)
 noded_named told now command names at (Err cause) so first = subst (λ (z : List Named). LeavesFirst told now z []) (sym (append-nil (map looked_up (files_of command)))) (so first)
 
+demo_named : (told now : Option Told) (command : Option Command) (names : List (List ℕ)) (answer : Result demos.Play Fault)
+    → (LooksUpFirst told now names → LooksUpFirst told now (files_of command)) → IsNamed told now command (demo_played names answer)
+demo_named told now command names (Ok play) so first = subst (λ (z : List Named). LeavesFirst told now z []) (sym (append-nil (map looked_up (files_of command)))) (so first)
+demo_named told now command names (Err cause) so first = subst (λ (z : List Named). LeavesFirst told now z []) (sym (append-nil (map looked_up (files_of command)))) (so first)
+
 verdict_named : (told : Outside) (now : Option Told) (command : Option Command) (verdict : Verdict) → IsVerdict told command verdict → IsNamed told.files now command verdict
 verdict_named told now None verdict is = subst (IsNamed told.files now None) (sym is) (settled_named told.files now None stops_nowhere [] (Err faults.Usage) (λ first. first))
 verdict_named told now (Some Help) verdict is = subst (IsNamed told.files now (Some Help)) (sym is) (settled_named told.files now (Some Help) stops_nowhere [] (Ok help_text) (λ first. first))
@@ -136,6 +142,10 @@ verdict_named told now (Some (Join profile script at server)) verdict is =
     let names = names_by (profile_in is.0) profile script in
     subst (IsNamed told.files now (Some (Join profile script at server))) (sym is.8)
     (noded_named told.files now (Some (Join profile script at server)) names at (joined server is.0 is.1 is.4 is.6) (names_more (profile_in is.0) profile script told.files now))
+verdict_named told now (Some (Play profile demo)) verdict is =
+    let names = names_by (profile_in is.0) profile demo in
+    subst (IsNamed told.files now (Some (Play profile demo))) (sym is.4)
+    (demo_named told.files now (Some (Play profile demo)) names (played is.0 is.1) (names_more (profile_in is.0) profile demo told.files now))
 
 -- the names that are given are the first of those that the command names, and of the files that its verdict makes
 pub touches : (command : Option Command) (told : Outside) (now : Option Told) (ended : Result (Unit {0}) Fault) → LeavesFiles command told now ended → Touched command told now

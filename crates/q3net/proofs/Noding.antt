@@ -32,7 +32,8 @@ use Rattle.q3net.specs.Run.{ComesBehind, place_of, ExecutesWired, LeavesFiles, M
 use Rattle.q3net.proofs.Loading.{held}
 use Rattle.q3net.proofs.Looking.{got_ok, gave, leaves_then, first_then, gave_first, profile_names}
 use Rattle.q3net.proofs.Replaying.{same_held}
-use Rattle.q3net.proofs.Outside.{OfInput, profile_of_input, events_of_input}
+use Rattle.q3net.proofs.Outside.{profile_of_input, events_of_input}
+use Rattle.q3net.proofs.Refusing.{OfInput}
 
 -- ---- what is still to come
 

@@ -1,6 +1,6 @@
 -- What comes from outside: it ends a run only where the verdict says that it may come, and where its count rose.
 use Rattle.std.proofs.Common.{◌≡◌, ℕ, ◌<◌, ◌≤◌, Bool, true, false, List, [], ◌∷◌, Option, Some, None, Result, Ok, Err, refl, sym, ap, subst, ◌∙◌, inl, inr, arith}
-use Rattle.std.specs.Prelude.{◌⊎◌, IsNone}
+use Rattle.std.specs.Prelude.{◌⊎◌, IsNone, ok_or}
 use Rattle.std.specs.Result.{result_map_both}
 use Rattle.q3_bits.specs.ResultBind.{◌>>=◌}
 use Rattle.std.proofs.lemmas.Bool.{cases_lt}
@@ -12,6 +12,7 @@ use Rattle.q3_server.specs.Server.{places, new_server}
 use Rattle.q3_node.specs.Node.{Turn, most_turns, new_node, turns_of, did_end}
 use Rattle.q3_node.specs.AtServer.{server_rules}
 use Rattle.q3_node.specs.AtClient.{client_of}
+use Rattle.q3_demo.specs.Playing as demos
 use Rattle.q3_make.specs.Generated.{generated}
 use Rattle.q3_make.specs.Printed.{script_text}
 use Rattle.q3_profile.specs.declared.profile.Profile.{Profile as ProfileValue}
@@ -25,26 +26,15 @@ use Rattle.q3_world.specs.Report.{report}
 use Rattle.q3net.specs.declared.command.Draws.{Draws}
 use Rattle.q3net.specs.declared.fault.Fault.{Fault}
 use Rattle.q3net.specs.declared.fault.Fault.TheVariants as faults
-use Rattle.q3net.specs.Command.{Command, Help, Version, Replay, Make, Trial, Serve, Join}
-use Rattle.q3net.specs.Faults.{ReadCause, WriteCause, FileCause, WireCause}
+use Rattle.q3net.specs.Command.{Command, Help, Version, Replay, Make, Trial, Serve, Join, Play}
+use Rattle.q3net.specs.Faults.{demo_fault, ReadCause, WriteCause, FileCause, WireCause}
 use Rattle.q3net.specs.Lines.{help_text, version_text, fault_status, ending_status}
-use Rattle.q3net.specs.Verdict.{Stops, Verdict, Outside, IsVerdict, stops_nowhere, takes_memory, reads_first, settled, profile_in, events_in, replayed, names_by, summary, tried, ending_of, noded, served, client_turns, joined}
+use Rattle.q3net.specs.Verdict.{Stops, Verdict, Outside, IsVerdict, stops_nowhere, takes_memory, reads_first, settled, profile_in, events_in, replayed, names_by, summary, tried, ending_of, noded, served, client_turns, joined, played, demo_played}
 use Rattle.q3net.specs.Run.{Comes, ComesBehind, place_of, Executes, FilesFail, IsEarlyStatus, IsDecided, IsComplete, WiredBy, FailsBy, ExecutesWired}
 use Rattle.q3net.proofs.Ending.{comes_behind, settled_writes, settled_wire}
+use Rattle.q3net.proofs.Refusing.{OfFault, OfInput, play_refuses}
 
--- ---- what an input decides: no want of memory, no failed write, no fault of the wire, and not that the words are no command line
-
-abbrev pub OfFault : Fault → Type 0
-OfFault faults.NoMemory = ⊥
-OfFault faults.Usage = ⊥
-OfFault faults.Write = ⊥
-OfFault faults.FileWrite = ⊥
-OfFault faults.Wire = ⊥
-OfFault other = Unit {0}
-
-abbrev pub OfInput : {A : Type 0} → Result A Fault → Type 0
-OfInput (Ok x) = Unit {0}
-OfInput (Err e) = OfFault e
+-- ---- what an input decides
 
 bind_of_input : {A B : Type 0} (first : Result A Fault) (then : A → Result B Fault) → OfInput first → ((x : A) → OfInput (then x)) → OfInput (first >>= then)
 bind_of_input (Ok x) then so goes = goes x
@@ -104,6 +94,26 @@ noded_of_input names at (Err e) so = so
 node_of_input : (verdict : Verdict) (names : List (List ℕ)) (at : Address) (answer : Result (List Turn) Fault) → verdict ≡ noded names at answer → OfInput answer → OfInput verdict.ending
 node_of_input verdict names at answer is so = subst (λ (v : Verdict). OfInput v.ending) (sym is) (noded_of_input names at answer so)
 
+-- and of a demo
+abbrev OfPlay : Result demos.Play Fault → Type 0
+OfPlay (Ok play) = OfInput (result_map_both (λ x. x) demo_fault play.ending)
+OfPlay (Err e) = OfFault e
+
+play_of_input : (demo : Option (List ℕ)) (by : ProfileValue) → OfPlay (ok_or demo faults.Read >>= λ bytes. Ok (demos.play_of by bytes))
+play_of_input None by = tt
+play_of_input (Some bytes) by = play_refuses by bytes
+
+played_of_input : (profile demo : Option (List ℕ)) → OfPlay (played profile demo)
+played_of_input profile demo = by_profile (profile_in profile) (profile_of_input profile)
+  where
+    by_profile : (says : Result ProfileValue Fault) → OfInput says → OfPlay (says >>= λ by. ok_or demo faults.Read >>= λ bytes. Ok (demos.play_of by bytes))
+    by_profile (Ok by) so = play_of_input demo by
+    by_profile (Err e) so = so
+
+demo_of_input : (names : List (List ℕ)) (answer : Result demos.Play Fault) → OfPlay answer → OfInput (demo_played names answer).ending
+demo_of_input names (Ok play) so = so
+demo_of_input names (Err e) so = so
+
 -- the verdict of a command
 pub verdict_of_input : (told : Outside) (command : Command) (verdict : Verdict) → IsVerdict told (Some command) verdict → OfInput verdict.ending
 verdict_of_input told Help verdict is = ending_of_input verdict stops_nowhere [] (Ok help_text) is tt
@@ -116,6 +126,8 @@ verdict_of_input told (Serve profile script at) verdict is =
     node_of_input verdict (names_by (profile_in is.0) profile script) at (served is.0 is.1 is.4 is.6) is.8 (served_of_input is.0 is.1 is.4 is.6)
 verdict_of_input told (Join profile script at server) verdict is =
     node_of_input verdict (names_by (profile_in is.0) profile script) at (joined server is.0 is.1 is.4 is.6) is.8 (joined_of_input server is.0 is.1 is.4 is.6)
+verdict_of_input told (Play profile demo) verdict is =
+    subst (λ (v : Verdict). OfInput v.ending) (sym is.4) (demo_of_input (names_by (profile_in is.0) profile demo) (played is.0 is.1) (played_of_input is.0 is.1))
 
 -- so a fault that no input decides isn't its ending
 not_decided : (told : Outside) (command : Command) (verdict : Verdict) (fault : Fault) → IsVerdict told (Some command) verdict → (OfFault fault → ⊥) → verdict.ending ≡ Err fault → ⊥
@@ -207,7 +219,27 @@ join_makes_nothing told profile script at server verdict is = (
   λ comes. node_writes (names_by (profile_in is.0) profile script) at (joined server is.0 is.1 is.4 is.6) (subst (λ (v : Verdict). Comes v.stops.writes) is.8 comes),
 )
 
+demo_writes : (names : List (List ℕ)) (answer : Result demos.Play Fault) → Comes (demo_played names answer).stops.writes → ⊥
+demo_writes names (Ok play) comes = comes
+demo_writes names (Err e) comes = comes
+
+pub play_makes_nothing : (told : Outside) (profile demo : List ℕ) → Never (Some (Play profile demo)) told faults.FileWrite
+play_makes_nothing told profile demo verdict is = (
+  not_decided told (Play profile demo) verdict faults.FileWrite is (λ none. none),
+  λ comes. demo_writes (names_by (profile_in is.0) profile demo) (played is.0 is.1) (subst (λ (v : Verdict). Comes v.stops.writes) is.4 comes),
+)
+
 -- they don't touch the wire
+demo_wire : (names : List (List ℕ)) (answer : Result demos.Play Fault) → Comes (demo_played names answer).stops.wire → ⊥
+demo_wire names (Ok play) comes = comes
+demo_wire names (Err e) comes = comes
+
+pub play_wires_nothing : (told : Outside) (profile demo : List ℕ) → Never (Some (Play profile demo)) told faults.Wire
+play_wires_nothing told profile demo verdict is = (
+  not_decided told (Play profile demo) verdict faults.Wire is (λ none. none),
+  λ comes. demo_wire (names_by (profile_in is.0) profile demo) (played is.0 is.1) (subst (λ (v : Verdict). Comes v.stops.wire) is.4 comes),
+)
+
 pub replay_wires_nothing : (told : Outside) (profile script : List ℕ) → Never (Some (Replay profile script)) told faults.Wire
 replay_wires_nothing told profile script verdict is = (
   not_decided told (Replay profile script) verdict faults.Wire is (λ none. none),
@@ -364,6 +396,10 @@ settled_nowhere : (verdict : Verdict) (stops : Stops) (names : List (List ℕ)) 
 settled_nowhere verdict stops names (Ok text) is = ap (λ (v : Verdict). v.at) is
 settled_nowhere verdict stops names (Err e) is = ap (λ (v : Verdict). v.at) is
 
+demo_nowhere : (verdict : Verdict) (names : List (List ℕ)) (answer : Result demos.Play Fault) → verdict ≡ demo_played names answer → verdict.at ≡ None
+demo_nowhere verdict names (Ok play) is = ap (λ (v : Verdict). v.at) is
+demo_nowhere verdict names (Err e) is = ap (λ (v : Verdict). v.at) is
+
 binds_nothing : (told : Outside) (command : Option Command) (verdict : Verdict) → IsNodeless command → IsVerdict told command verdict → verdict.at ≡ None
 binds_nothing told None verdict nodeless is = settled_nowhere verdict stops_nowhere [] (Err faults.Usage) is
 binds_nothing told (Some Help) verdict nodeless is = settled_nowhere verdict stops_nowhere [] (Ok help_text) is
@@ -372,6 +408,7 @@ binds_nothing told (Some (Replay profile script)) verdict nodeless is =
     settled_nowhere verdict reads_first (names_by (profile_in is.0) profile script) (replayed is.0 is.1) is.4
 binds_nothing told (Some (Make draws)) verdict nodeless is = settled_nowhere verdict takes_memory [] (Ok (script_text (generated draws.number draws.seed))) is
 binds_nothing told (Some (Trial profile draws)) verdict nodeless is = settled_nowhere verdict reads_first (profile ∷ []) (tried is.0 draws) is.2
+binds_nothing told (Some (Play profile demo)) verdict nodeless is = demo_nowhere verdict (names_by (profile_in is.0) profile demo) (played is.0 is.1) is.4
 binds_nothing told (Some (Serve profile script at)) verdict nodeless is = absurd nodeless
 binds_nothing told (Some (Join profile script at server)) verdict nodeless is = absurd nodeless
 
@@ -410,12 +447,12 @@ pub no_wire_passed : (ended : Result (Unit {0}) Fault) (status mid last wires wi
 no_wire_passed ended status mid last wires wired cause ends =
     elim ends [ inl same ↦ wire_passed ended status wires wired cause same.0 | inr failed ↦ inr (inr failed.0) ]
 
-status_in : (ended : Result (Unit {0}) Fault) (status : ℕ) → status ≡ ending_status ended → (status ≤ 6) ⊎ ((status ≡ 9) ⊎ (status ≡ 11))
+status_in : (ended : Result (Unit {0}) Fault) (status : ℕ) → status ≡ ending_status ended → (status ≤ 7) ⊎ ((status ≡ 9) ⊎ (status ≡ 11))
 status_in (Err faults.Wire) status is = inr (inl is)
 status_in (Err faults.Turns) status is = inr (inr is)
 status_in other status is = inl (omega (arith, is))
 
-pub statuses_in : (ended : Result (Unit {0}) Fault) (status mid last : ℕ) → EndsSo mid last ended status → (status ≤ 6) ⊎ ((status ≡ 9) ⊎ (status ≡ 11))
+pub statuses_in : (ended : Result (Unit {0}) Fault) (status mid last : ℕ) → EndsSo mid last ended status → (status ≤ 7) ⊎ ((status ≡ 9) ⊎ (status ≡ 11))
 statuses_in ended status mid last ends =
     elim ends [ inl same ↦ status_in ended status same.0 | inr failed ↦ inl (omega (arith, failed.0)) ]
 

@@ -91,7 +91,7 @@ HasRead-long most (Some told) now file bytes long has = (
 -- ---- a file by its name
 
 -- the number that a name is given stands for it
-given_name : (told : Told) (name : List ℕ) → contents_at (after_given (after_named told name Lookup) name) (length told.numbers) ≡ unwrap_or (contents_of told.files name) []
+pub given_name : (told : Told) (name : List ℕ) → contents_at (after_given (after_named told name Lookup) name) (length told.numbers) ≡ unwrap_or (contents_of told.files name) []
 given_name told name = ap (λ (n : List ℕ). unwrap_or (contents_of told.files n) []) (get_or-append_seam told.numbers name [] [])
 
 some_held : (found : Option (List ℕ)) → IsSome found → found ≡ Some (unwrap_or found [])

@@ -17,6 +17,7 @@ pub data Command : Type 0 where
   Trial : (profile : List ℕ) (draws : Draws) → Command
   Serve : (profile script : List ℕ) (at : Address) → Command
   Join : (profile script : List ℕ) (at server : Address) → Command
+  Play : (profile demo : List ℕ) → Command
 
 -- how many events of a generated script may be drawn
 abbrev pub most_drawn : ℕ
@@ -40,7 +41,8 @@ command_of (word ∷ []) =
     else (if bytes_eq word (codes "--version") then Some Version else None)
 command_of (word ∷ first ∷ second ∷ []) =
     if bytes_eq word (codes "replay") then Some (Replay first second)
-    else (if bytes_eq word (codes "make") then option_map Make (draws_at first second) else None)
+    else (if bytes_eq word (codes "make") then option_map Make (draws_at first second)
+    else (if bytes_eq word (codes "play") then Some (Play first second) else None))
 command_of (word ∷ profile ∷ second ∷ third ∷ []) =
     if bytes_eq word (codes "trial") then option_map (Trial profile) (draws_at second third)
     else (if bytes_eq word (codes "serve") then serve_at profile second third else None)
@@ -57,6 +59,7 @@ command_value (lines.Make draws) = Make draws
 command_value (lines.Trial profile draws) = Trial profile.now draws
 command_value (lines.Serve profile script at) = Serve profile.now script.now at
 command_value (lines.Join profile script at server) = Join profile.now script.now at server
+command_value (lines.Play profile demo) = Play profile.now demo.now
 
 -- the generator draws so many
 abbrev pub AreDraws : Draws → Type 0
@@ -74,4 +77,5 @@ files_of (Some (Replay profile script)) = profile ∷ script ∷ []
 files_of (Some (Trial profile draws)) = profile ∷ []
 files_of (Some (Serve profile script at)) = profile ∷ script ∷ []
 files_of (Some (Join profile script at server)) = profile ∷ script ∷ []
+files_of (Some (Play profile demo)) = profile ∷ demo ∷ []
 files_of other = []

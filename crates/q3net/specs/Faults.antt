@@ -10,9 +10,11 @@ use Rattle.q3_world.specs.declared.told.StepError.{StepError}
 use Rattle.q3_world.specs.declared.told.StepError.TheVariants as step
 use Rattle.q3_node.specs.declared.error.NodeError.{NodeError}
 use Rattle.q3_node.specs.declared.error.NodeError.TheVariants as node
+use Rattle.q3_demo.specs.declared.error.DemoError.{DemoError}
+use Rattle.q3_demo.specs.declared.error.DemoError.TheVariants as demo
 use Rattle.q3_io.specs.Faults.{Rose}
 use Rattle.q3net.specs.declared.fault.Fault.{Fault}
-use Rattle.q3net.specs.declared.fault.Fault.TheVariants.{NoMemory, Usage, Read, Write, FileWrite, Profile, Script, Wire, Turns}
+use Rattle.q3net.specs.declared.fault.Fault.TheVariants.{NoMemory, Usage, Read, Write, FileWrite, Profile, Script, Wire, Turns, Demo}
 
 abbrev pub profile_fault : ProfileError → Fault
 profile_fault profile.NoMemory = NoMemory
@@ -27,6 +29,12 @@ node_fault node.NoMemory = NoMemory
 node_fault node.WireFault = Wire
 node_fault node.WriteFault = Write
 node_fault node.Turns = Turns
+
+abbrev pub demo_fault : DemoError → Fault
+demo_fault demo.NoMemory = NoMemory
+demo_fault demo.ReadFault = Read
+demo_fault demo.WriteFault = Write
+demo_fault e = Demo e
 
 abbrev pub step_fault : StepError → Fault
 step_fault step.NoMemory = NoMemory

@@ -1,6 +1,7 @@
 -- The files of a run: what it reads of each, which names it gives, and what it leaves.
 use Rattle.std.specs.Prelude.{◌≡◌, ◌⊎◌, ℕ, ◌≤◌, List, [], ◌∷◌, ◌++◌, length, map, Option, Some, None, Result, Ok, Err}
 use Rattle.std.specs.Global.{Vec}
+use Rattle.q3_demo.specs.Running.{HasFrom}
 use Rattle.q3_io.specs.Told.{Told, File, Named, Lookup, Create, contents_of, contents_at, with_contents}
 use Rattle.q3net.specs.declared.fault.Fault.{Fault}
 use Rattle.q3net.specs.declared.fault.Fault.TheVariants.{NoMemory, Read}
@@ -29,6 +30,11 @@ with_items (Err e) = Err e
 abbrev pub ReadsFile : ℕ → List ℕ → Option Told → Result (List ℕ) Fault → Type 0
 ReadsFile most name told (Ok bytes) = (contents : List ℕ) × Holds told name (Some contents) × ReadsFront most contents bytes
 ReadsFile most name told (Err e) = (e ≡ NoMemory) ⊎ (e ≡ Read)
+
+-- the file of a name was looked up: where it is told, its number holds what the name does
+abbrev pub Finds : List ℕ → Option Told → Option Told → Result ℕ Fault → Type 0
+Finds name told now (Ok file) = (contents : List ℕ) → HasFrom now file 0 contents → Holds told name (Some contents)
+Finds name told now (Err e) = e ≡ Read
 
 -- of a file that was looked up: what is asked for grows, and nothing else changes
 abbrev pub ReadsWhole : ℕ → List ℕ → Result (List ℕ) Fault → Type 0

@@ -1,5 +1,5 @@
 -- What the program prints of itself, and its fault lines with their statuses.
-use Rattle.std.specs.Prelude.{ℕ, List, [], ◌∷◌, codes, decimal, Result, Ok, Err}
+use Rattle.std.specs.Prelude.{ℕ, List, [], ◌∷◌, codes, decimal, Option, Some, None, Result, Ok, Err}
 use Rattle.q3_bits.specs.declared.words.CodeError.{CodeError}
 use Rattle.q3_bits.specs.declared.words.CodeError.TheVariants as codes_of
 use Rattle.q3_profile.specs.declared.error.Key.{Key}
@@ -10,11 +10,14 @@ use Rattle.q3_profile.specs.Document.{key_name}
 use Rattle.q3_script.specs.declared.cause.LineCause.{LineCause}
 use Rattle.q3_script.specs.declared.cause.LineCause.TheVariants.{Large, Many, Word, Count, Number, Fields, Text, Address, Order}
 use Rattle.std.specs.List.{concat}
+use Rattle.q3_svmsg.specs.Report.{cause_word as illegible_word, cause_number}
+use Rattle.q3_demo.specs.declared.error.DemoError.{DemoError}
+use Rattle.q3_demo.specs.declared.error.DemoError.TheVariants as demo
 use Rattle.q3net.specs.declared.fault.Fault.{Fault}
-use Rattle.q3net.specs.declared.fault.Fault.TheVariants.{NoMemory, Usage, Read, Write, FileWrite, Profile, Script, Wire, Turns}
+use Rattle.q3net.specs.declared.fault.Fault.TheVariants.{NoMemory, Usage, Read, Write, FileWrite, Profile, Script, Wire, Turns, Demo}
 
 unfoldable pub help_text : List ℕ
-help_text = codes "q3net replays schedules of Quake III's connected protocol 68, and serves and joins by it over UDP\n\nq3net replay PROFILE SCRIPT                replays the schedule of the script by the profile, and prints its report\nq3net serve PROFILE SCRIPT ADDRESS         is a server at the address, by the script whose lines are done when they are due\nq3net join PROFILE SCRIPT ADDRESS SERVER   is a client at the address, of the server at that one, likewise\nq3net make NUMBER SEED                     prints a generated script, of which so many events are drawn from the seed\nq3net trial PROFILE NUMBER SEED            replays that script by the profile, and prints what the report counts\nq3net --help                               prints this text\nq3net --version                            prints the version\n"
+help_text = codes "q3net replays schedules of Quake III's connected protocol 68, and serves and joins by it over UDP\n\nq3net replay PROFILE SCRIPT                replays the schedule of the script by the profile, and prints its report\nq3net serve PROFILE SCRIPT ADDRESS         is a server at the address, by the script whose lines are done when they are due\nq3net join PROFILE SCRIPT ADDRESS SERVER   is a client at the address, of the server at that one, likewise\nq3net play PROFILE DEMO                    plays a demo, and prints what its records do and what they leave\nq3net make NUMBER SEED                     prints a generated script, of which so many events are drawn from the seed\nq3net trial PROFILE NUMBER SEED            replays that script by the profile, and prints what the report counts\nq3net --help                               prints this text\nq3net --version                            prints the version\n"
 
 unfoldable pub version_text : List ℕ
 version_text = codes "q3net 0.1.0\n"
@@ -62,6 +65,23 @@ profile_line (profile.Fields key) = key_line (codes "fields ") key
 profile_line (profile.Limit File) = codes "profile: large\n"
 profile_line (profile.Limit key) = key_line (codes "limit ") key
 
+-- what is wrong with the record at a place of a demo
+abbrev pub record_line : List ℕ → ℕ → List ℕ
+record_line rule at = concat (codes "demo: " ∷ rule ∷ codes " at " ∷ decimal at ∷ codes "\n" ∷ [])
+
+abbrev pub illegible_text : List ℕ → Option ℕ → ℕ → List ℕ
+illegible_text word None at = concat (codes " illegible " ∷ word ∷ codes " at " ∷ decimal at ∷ codes "\n" ∷ [])
+illegible_text word (Some number) at = concat (codes " illegible " ∷ word ∷ codes " " ∷ decimal number ∷ codes " at " ∷ decimal at ∷ codes "\n" ∷ [])
+
+abbrev pub demo_line : DemoError → List ℕ
+demo_line demo.ReadFault = codes "read fault\n"
+demo_line demo.NoMemory = no_memory_line
+demo_line demo.WriteFault = []
+demo_line (demo.Truncated at) = record_line (codes "truncated") at
+demo_line (demo.BadLength at) = record_line (codes "length") at
+demo_line (demo.BadNumber at) = record_line (codes "number") at
+demo_line (demo.Message at cause) = concat (codes "demo:" ∷ illegible_text (illegible_word cause) (cause_number cause) at ∷ [])
+
 -- the line that a fault prints; none is asked for where the sink failed
 abbrev pub fault_line : Fault → List ℕ
 fault_line NoMemory = no_memory_line
@@ -72,6 +92,7 @@ fault_line FileWrite = codes "write fault\n"
 fault_line (Profile e) = profile_line e
 fault_line Wire = codes "wire fault\n"
 fault_line Turns = codes "turns spent\n"
+fault_line (Demo e) = demo_line e
 fault_line (Script line cause) = concat (codes "script: line " ∷ decimal line ∷ codes ": " ∷ cause_word cause ∷ codes "\n" ∷ [])
 
 abbrev pub fault_status : Fault → ℕ
@@ -84,6 +105,7 @@ fault_status (Profile e) = 5
 fault_status (Script line cause) = 6
 fault_status Wire = 9
 fault_status Turns = 11
+fault_status (Demo e) = 7
 
 abbrev pub ending_line : Result (Unit {0}) Fault → List ℕ
 ending_line (Ok x) = []

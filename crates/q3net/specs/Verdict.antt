@@ -17,14 +17,15 @@ use Rattle.q3_node.specs.Node.{Turn, most_turns, new_node, turns_of, did_end, te
 use Rattle.q3_node.specs.AtServer.{server_rules}
 use Rattle.q3_node.specs.AtClient.{ClientEnd, client_of, client_rules}
 use Rattle.q3_node.specs.Running.{ToRead, ToArrive}
+use Rattle.q3_demo.specs.Playing as demos
 use Rattle.q3_make.specs.Printed.{script_text}
 use Rattle.q3_make.specs.Generated.{generated}
 use Rattle.q3_world.specs.World.{opening, answers}
 use Rattle.q3_world.specs.Report.{report}
 use Rattle.q3_world.specs.Counts.{counts_of}
 use Rattle.q3net.specs.declared.command.Draws.{Draws}
-use Rattle.q3net.specs.Command.{Command, Help, Version, Replay, Make, Trial, Serve, Join}
-use Rattle.q3net.specs.Faults.{Gets}
+use Rattle.q3net.specs.Command.{Command, Help, Version, Replay, Make, Trial, Serve, Join, Play}
+use Rattle.q3net.specs.Faults.{Gets, demo_fault}
 use Rattle.q3net.specs.Input.{Holds, looked_up}
 use Rattle.q3net.specs.Lines.{help_text, version_text}
 use Rattle.q3net.specs.Summary.{summary_text}
@@ -69,6 +70,10 @@ reads_first = record takes_memory { reads = First }
 -- and what has all its memory before its first line, and goes on over a wire
 abbrev pub goes_on_wire : Stops
 goes_on_wire = record { memory = First; reads = First; writes = Nowhere; wire = Anywhere }
+
+-- and what has all its memory before its first line, and goes on reading
+abbrev pub goes_on_reading : Stops
+goes_on_reading = record { memory = First; reads = Anywhere; writes = Nowhere; wire = Nowhere }
 
 -- of a command that makes no file: it looks up these names, and prints a text, and behind it may come a cause
 abbrev pub printing : Stops → List (List ℕ) → List ℕ → Result (Unit {0}) Fault → Verdict
@@ -141,6 +146,18 @@ joined server profile script readings arrivals = do
   events ← events_in kinds.Join script
   Ok (client_turns (client_of by server events) events readings arrivals)
 
+-- how a demo is played, by the profile in one file and the demo in another
+abbrev pub played : Option (List ℕ) → Option (List ℕ) → Result demos.Play Fault
+played profile demo = do
+  by ← profile_in profile
+  bytes ← ok_or demo Read
+  Ok (demos.play_of by bytes)
+
+-- what playing prints, and how it ends; of none, by a cause
+abbrev pub demo_played : List (List ℕ) → Result demos.Play Fault → Verdict
+demo_played names (Ok play) = printing goes_on_reading names play.text (result_map_both (λ x. x) demo_fault play.ending)
+demo_played names (Err cause) = printing reads_first names [] (Err cause)
+
 -- what is told of the outside: of the files, of the wire, and of the clock
 pub record Outside : Type 0 where
   pub files : Option Told
@@ -173,6 +190,9 @@ IsVerdict told (Some (Join profile script at server)) verdict =
     (of_profile : Option (List ℕ)) × (of_script : Option (List ℕ)) × Holds told.files profile of_profile × Holds told.files script of_script
     × (readings : List ℕ) × ToRead told.clock readings × (arrivals : List (Option Parcel)) × ToArrive told.wire arrivals
     × (verdict ≡ noded (names_by (profile_in of_profile) profile script) at (joined server of_profile of_script readings arrivals))
+IsVerdict told (Some (Play profile demo)) verdict =
+    (of_profile : Option (List ℕ)) × (of_demo : Option (List ℕ)) × Holds told.files profile of_profile × Holds told.files demo of_demo
+    × (verdict ≡ demo_played (names_by (profile_in of_profile) profile demo) (played of_profile of_demo))
 
 -- what a part of a run answers by the file of a name
 abbrev pub GetsFrom : {A : Type 0} → (Option (List ℕ) → Result A Fault) → Option Told → List ℕ → Result A Fault → Type 0

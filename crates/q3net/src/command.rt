@@ -51,6 +51,11 @@ pub enum Command<'a> {
         at: Address,
         server: Address,
     },
+    /// Plays a demo by a profile; both are names of files.
+    Play {
+        profile: &'a str,
+        demo: &'a str,
+    },
 }
 
 /// The command that the words are, or `None` where they are no command line.
@@ -104,6 +109,11 @@ fn with_two<'a>(word: &str, first: &'a str, second: &'a str) -> Option<Command<'
         })
     } else if word == "make" {
         Some(Command::Make(draws_of(first, second)?))
+    } else if word == "play" {
+        Some(Command::Play {
+            profile: first,
+            demo: second,
+        })
     } else {
         None
     }

@@ -1,15 +1,19 @@
 //! Why a run ended early: its fault line and its status.
 
-ghost use Rattle.std.specs.Prelude.{◌≡◌};
+ghost use Rattle.std.specs.Prelude.{◌≡◌, [], ◌∷◌, codes};
+ghost use Rattle.std.specs.List.{concat};
 ghost use Rattle.q3_io.specs.Faults.{HasCause};
 ghost use Rattle.q3_io.specs.Written.{Adds};
-ghost use Rattle.q3net.specs.Lines.{fault_line, fault_status, cause_word, key_line, text_line, code_line, profile_line};
+ghost use Rattle.q3net.specs.Lines.{fault_line, fault_status, cause_word, key_line, text_line, code_line, profile_line, record_line, illegible_text, demo_line};
+ghost use Rattle.q3_svmsg.specs.Report.{cause_word as illegible_word, cause_number};
 
 use q3_bits::{CodeError, NoMemory};
+use q3_demo::DemoError;
 use q3_io::{Failed, Piece, Sink, print_all};
 use q3_node::NodeError;
 use q3_profile::{Key, ProfileError};
 use q3_script::{LineCause, ScriptError};
+use q3_svmsg::{Illegible, cause_number};
 use q3_world::StepError;
 
 /// Why a run ended early.
@@ -33,6 +37,8 @@ pub enum Fault {
     Wire,
     /// A node's turns are spent, and none of them did `end`.
     Turns,
+    /// The demo's first record that is refused, with its place, and why.
+    Demo(DemoError),
 }
 
 impl Fault {
@@ -48,6 +54,7 @@ impl Fault {
             Fault::FileWrite => 4,
             Fault::Profile(_) => 5,
             Fault::Script { .. } => 6,
+            Fault::Demo(_) => 7,
             Fault::Wire => 9,
             Fault::Turns => 11,
         }
@@ -67,6 +74,7 @@ impl Fault {
             Fault::Wire => print_all(&[Piece::Text(b"wire fault\n")], out),
             Fault::Turns => print_all(&[Piece::Text(b"turns spent\n")], out),
             Fault::Profile(e) => print_profile(e, out),
+            Fault::Demo(e) => print_demo(e, out),
             Fault::Script { line, cause } => print_all(
                 &[
                     Piece::Text(b"script: line "),
@@ -164,6 +172,73 @@ fn print_place<O: Sink>(rule: &[u8], place: usize, out: &mut O) -> Result<(), Fa
     )
 }
 
+/// Prints the fault line of a demo.
+fn print_demo<O: Sink>(e: DemoError, out: &mut O) -> Result<(), Failed>
+    ensures adds { Adds (O.written out.old) (O.written out.new) (demo_line e) result }
+    ensures cause { HasCause (O.faults out.old) (O.faults out.new) result }
+{
+    match e {
+        DemoError::ReadFault => print_all(&[Piece::Text(b"read fault\n")], out),
+        DemoError::NoMemory => print_all(&[Piece::Text(b"no memory\n")], out),
+        DemoError::WriteFault => print_all(&[], out),
+        DemoError::Truncated(at) => print_record(b"truncated", at, out),
+        DemoError::BadLength(at) => print_record(b"length", at, out),
+        DemoError::BadNumber(at) => print_record(b"number", at, out),
+        DemoError::Message(at, cause) => print_message(at, cause, out),
+    }
+}
+
+/// Prints the fault line of a record at a place.
+fn print_record<O: Sink>(rule: &[u8], at: u64, out: &mut O) -> Result<(), Failed>
+    ensures adds { Adds (O.written out.old) (O.written out.new) (record_line rule.now at) result }
+    ensures cause { HasCause (O.faults out.old) (O.faults out.new) result }
+{
+    print_all(
+        &[
+            Piece::Text(b"demo: "),
+            Piece::Text(rule),
+            Piece::Text(b" at "),
+            Piece::Number(at),
+            Piece::Text(b"\n"),
+        ],
+        out,
+    )
+}
+
+/// Prints the fault line of a record whose message isn't legible.
+fn print_message<O: Sink>(at: u64, cause: Illegible, out: &mut O) -> Result<(), Failed>
+    ensures adds { Adds (O.written out.old) (O.written out.new)
+        (concat (codes "demo:" ∷ illegible_text (illegible_word cause) (cause_number cause) at ∷ [])) result }
+    ensures cause { HasCause (O.faults out.old) (O.faults out.new) result }
+{
+    let Some(number) = cause_number(cause) else {
+        return print_all(
+            &[
+                Piece::Text(b"demo:"),
+                Piece::Text(b" illegible "),
+                Piece::Text(q3_svmsg::cause_word(cause)),
+                Piece::Text(b" at "),
+                Piece::Number(at),
+                Piece::Text(b"\n"),
+            ],
+            out,
+        );
+    };
+    print_all(
+        &[
+            Piece::Text(b"demo:"),
+            Piece::Text(b" illegible "),
+            Piece::Text(q3_svmsg::cause_word(cause)),
+            Piece::Text(b" "),
+            Piece::Number(u64::from(number)),
+            Piece::Text(b" at "),
+            Piece::Number(at),
+            Piece::Text(b"\n"),
+        ],
+        out,
+    )
+}
+
 /// The word of a cause.
 fn word(cause: LineCause) -> &'static [u8]
     ensures { result.now ≡ cause_word cause }
@@ -241,6 +316,21 @@ impl From<NodeError> for Fault {
             NodeError::WireFault => Fault::Wire,
             NodeError::WriteFault => Fault::Write,
             NodeError::Turns => Fault::Turns,
+        }
+    }
+}
+
+impl From<DemoError> for Fault {
+    ghost use Rattle.q3net.specs.Faults.{demo_fault};
+
+    ghost from_gives = { λ e f. f ≡ demo_fault e };
+
+    fn from(e: DemoError) -> Fault {
+        match e {
+            DemoError::NoMemory => Fault::NoMemory,
+            DemoError::ReadFault => Fault::Read,
+            DemoError::WriteFault => Fault::Write,
+            e => Fault::Demo(e),
         }
     }
 }

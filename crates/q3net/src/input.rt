@@ -5,7 +5,7 @@ ghost use Rattle.q3_profile.specs.Profile.{IsProfile};
 ghost use Rattle.q3_script.specs.Grammar.{IsEventOf, AreOrdered};
 ghost use Rattle.q3_script.specs.Script.{most_events};
 ghost use Rattle.q3net.specs.Faults.{ReadCause};
-ghost use Rattle.q3net.specs.Input.{ReadsFile, ReadsPieces, Gives, with_items};
+ghost use Rattle.q3net.specs.Input.{ReadsFile, ReadsPieces, Finds, Gives, with_items};
 ghost use Rattle.q3net.specs.Verdict.{GetsFrom, profile_in, events_in, with_events};
 
 use crate::fault::Fault;
@@ -52,6 +52,20 @@ pub fn load_events<F: Files>(
 {
     let bytes = read_file(alloc, name, LONGEST_SCRIPT, files)?;
     Ok(read_script(alloc, kind, &bytes)?)
+}
+
+/// The number of the file of this name. `Read` comes where the files' count of faults rose.
+pub fn find_file<F: Files>(name: &str, files: &mut F) -> Result<usize, Fault>
+    ensures given { IfOk result (λ file. file < F.given files.new) }
+    ensures finds { Finds name.now (F.told files.old) (F.told files.new) result }
+    ensures gives { Gives result (name.now ∷ []) (F.told files.old) (F.told files.new) }
+    ensures cause { ReadCause (F.faults files.old) (F.faults files.new) result }
+    ensures writes { F.write_faults files.new ≡ F.write_faults files.old }
+{
+    let Ok(file) = files.lookup(name) else {
+        return Err(Fault::Read);
+    };
+    Ok(file)
 }
 
 /// The bytes of the file of this name: all of them, or a front that is longer than the limit.

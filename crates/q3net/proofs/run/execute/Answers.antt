@@ -1,12 +1,12 @@
 use Rattle.std.proofs.Common.{Some, None, [], Err, refl}
 use Rattle.q3_make.specs.Printed.{script_text}
 use Rattle.q3_make.specs.Generated.{generated}
-use Rattle.q3net.specs.Command.{Help, Version, Replay, Make, Trial, Serve, Join}
+use Rattle.q3net.specs.Command.{Help, Version, Replay, Make, Trial, Serve, Join, Play}
 use Rattle.q3net.specs.Lines.{help_text, version_text}
 use Rattle.q3net.specs.Verdict.{outside, of_files, stops_nowhere, takes_memory}
 use Rattle.q3net.proofs.Ending.{none_executes, text_executes}
 use Rattle.q3net.proofs.Looking.{none_given, text_given}
-use Rattle.q3net.proofs.Outside.{no_file_fails, no_read_fails, no_wire_fails, wire_stays, executes_of, replay_makes_nothing, make_makes_nothing, trial_makes_nothing, serve_makes_nothing, join_makes_nothing, replay_wires_nothing, make_wires_nothing, trial_wires_nothing, make_reads_nothing}
+use Rattle.q3net.proofs.Outside.{no_file_fails, no_read_fails, no_wire_fails, wire_stays, executes_of, replay_makes_nothing, make_makes_nothing, trial_makes_nothing, serve_makes_nothing, join_makes_nothing, play_makes_nothing, play_wires_nothing, replay_wires_nothing, make_wires_nothing, trial_wires_nothing, make_reads_nothing}
 use Rattle.q3net.proofs.run.execute.Goals as goal
 
 pub returns-in-None-clause-gives : goal.returns-in-None-clause-gives
@@ -103,3 +103,18 @@ returns-in-Some-Serve-clause-file_cause g c =
 pub returns-in-Some-Join-clause-file_cause : goal.returns-in-Some-Join-clause-file_cause
 returns-in-Some-Join-clause-file_cause g c =
     no_file_fails (Some (Join c.in-Some-Join.profile.now c.in-Some-Join.script.now c.in-Some-Join.at c.in-Some-Join.server)) (outside (g.F.Files.told c.args.files.now) (g.W.Wire.told c.args.wire.now) (g.C.Clock.readings c.args.clock.now)) (g.O.Sink.written c.args.out.now) (g.O.Sink.written c.join.new.out) c.join.result (g.F.Files.write_faults c.args.files.now) (g.F.Files.write_faults c.join.new.files) (join_makes_nothing (outside (g.F.Files.told c.args.files.now) (g.W.Wire.told c.args.wire.now) (g.C.Clock.readings c.args.clock.now)) c.in-Some-Join.profile.now c.in-Some-Join.script.now c.in-Some-Join.at c.in-Some-Join.server) (executes_of (Some (Join c.in-Some-Join.profile.now c.in-Some-Join.script.now c.in-Some-Join.at c.in-Some-Join.server)) (outside (g.F.Files.told c.args.files.now) (g.W.Wire.told c.args.wire.now) (g.C.Clock.readings c.args.clock.now)) (g.O.Sink.written c.args.out.now) (g.O.Sink.written c.join.new.out) (g.W.Wire.told c.join.new.wire) c.join.result c.join.ensures.executes) c.join.ensures.writes
+
+pub returns-in-Some-Play-clause-file_cause : goal.returns-in-Some-Play-clause-file_cause
+returns-in-Some-Play-clause-file_cause g c =
+    no_file_fails (Some (Play c.in-Some-Play.profile.now c.in-Some-Play.demo.now)) (of_files (g.F.Files.told c.args.files.now)) (g.O.Sink.written c.args.out.now) (g.O.Sink.written c.play.new.out) c.play.result
+    (g.F.Files.write_faults c.args.files.now) (g.F.Files.write_faults c.play.new.files) (play_makes_nothing (of_files (g.F.Files.told c.args.files.now)) c.in-Some-Play.profile.now c.in-Some-Play.demo.now)
+    c.play.ensures.executes c.play.ensures.writes
+
+pub returns-in-Some-Play-clause-wire_cause : goal.returns-in-Some-Play-clause-wire_cause
+returns-in-Some-Play-clause-wire_cause g c =
+    no_wire_fails (Some (Play c.in-Some-Play.profile.now c.in-Some-Play.demo.now)) (of_files (g.F.Files.told c.args.files.now)) (g.O.Sink.written c.args.out.now) (g.O.Sink.written c.play.new.out) c.play.result (g.W.Wire.faults c.args.wire.now) (g.W.Wire.faults c.args.wire.now) (play_wires_nothing (of_files (g.F.Files.told c.args.files.now)) c.in-Some-Play.profile.now c.in-Some-Play.demo.now) c.play.ensures.executes refl
+
+pub returns-in-Some-Play-clause-executes : goal.returns-in-Some-Play-clause-executes
+returns-in-Some-Play-clause-executes g c =
+    let e = rw c.in-Some-Play.field-0-is at c.in-Some-Play.ensures.value in
+    rw (← e) (wire_stays (Some (Play c.in-Some-Play.profile.now c.in-Some-Play.demo.now)) (outside (g.F.Files.told c.args.files.now) (g.W.Wire.told c.args.wire.now) (g.C.Clock.readings c.args.clock.now)) (g.O.Sink.written c.args.out.now) (g.O.Sink.written c.play.new.out) c.play.result tt c.play.ensures.executes)
