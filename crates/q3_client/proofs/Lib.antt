@@ -1,2 +1,4 @@
+pub mod Applies
+pub mod Asks
 pub mod Begins
 pub mod Stays

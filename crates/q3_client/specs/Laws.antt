@@ -2,13 +2,16 @@
 use Rattle.std.specs.Prelude.{◌≡◌, ℕ, ◌^◌, ◌<◌, ◌≤◌, Bool, false, List, IfSome, Ok}
 use Rattle.q3_text.specs.Texts.{IsText}
 use Rattle.q3_window.specs.Outgoing.{IsOutgoing}
+use Rattle.q3_clstate.specs.declared.applied.Applied.{Applied}
+use Rattle.q3_clstate.specs.State.{AppliedState, Application, apply_at}
 use Rattle.q3_clstate.specs.Standing.{IsApplied}
 use Rattle.q3_profile.specs.declared.profile.Profile.{Profile}
 use Rattle.q3_profile.specs.Profile.{IsCodec}
 use Rattle.q3_clmsg.specs.declared.moves.Move.{Move}
 use Rattle.q3_clmsg.specs.Moves.{IsMove}
+use Rattle.q3_client.specs.declared.client.ClientTook.TheVariants as took
 use Rattle.q3_client.specs.Moves.{add_move_at}
-use Rattle.q3_client.specs.Client.{ClientState, Reception, new_client, type_at, take_at, receive_bytes}
+use Rattle.q3_client.specs.Client.{ClientState, Taken, Reception, new_client, type_at, take_at, receive_bytes}
 use Rattle.q3_client.specs.Sending.{IsSaid, next_message, next_said, is_unclear, emit_at}
 use Rattle.q3_client.specs.Standing.{IsClient}
 
@@ -29,3 +32,27 @@ pub record ClientStays : Type 0 where
   pub takes : (client : ClientState) (datagram : List ℕ) → IsClient client → IsClient (take_at client datagram).client
   pub receives : (client : ClientState) (number : ℕ) (bytes : List ℕ) (received : Reception) → number < 2 ^ 32 → IsApplied client.state → IsOutgoing client.issued
       → receive_bytes client number bytes ≡ Ok received → IsApplied received.application.state
+
+-- a client that just joined doesn't ask for whole snapshots, and nothing but asking changes whether it does
+pub record KeepsAsking : Type 0 where
+  pub joins : (profile : Profile) (challenge qport dup : ℕ) → (new_client profile challenge qport dup).asks_whole ≡ false
+  pub moves : (client : ClientState) (one : Move) → (add_move_at client one).client.asks_whole ≡ client.asks_whole
+  pub types : (client : ClientState) (text : List ℕ) → (type_at client text).client.asks_whole ≡ client.asks_whole
+  pub emits : (client : ClientState) → (emit_at client).client.asks_whole ≡ client.asks_whole
+  pub takes : (client : ClientState) (datagram : List ℕ) → (take_at client datagram).client.asks_whole ≡ client.asks_whole
+
+-- what a client with this state, where the newest message taken had a number, made of a message that it applied: it keeps its bytes, cleared,
+-- and they do under its number, which is newer, what was answered, accepted and executed
+pub record WasApplied (before : AppliedState) (last : ℕ) (taken : Taken) (applied : Applied) : Type 0 where
+  pub application : Application
+  pub does : apply_at before applied.number taken.client.message ≡ Ok application
+  pub state : application.state ≡ taken.client.state
+  pub answer : application.answer ≡ applied
+  pub accepted : application.accepted ≡ taken.accepted
+  pub heard : application.heard ≡ taken.heard
+  pub newer : last < applied.number
+  pub fits : applied.number < 2 ^ 32
+
+abbrev pub AppliesItsMessage : Type 0
+AppliesItsMessage = (client : ClientState) (datagram : List ℕ) (applied : Applied)
+    → (take_at client datagram).answer ≡ took.Applied applied → WasApplied client.state client.gathering.taken (take_at client datagram) applied

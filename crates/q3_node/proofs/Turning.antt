@@ -13,7 +13,7 @@ use Rattle.q3_io.specs.Laws.{TextsFollow}
 use Rattle.q3_script.specs.declared.event.Event.{Event}
 use Rattle.q3_node.specs.declared.error.NodeError.{NodeError}
 use Rattle.q3_node.specs.declared.error.NodeError.TheVariants.{NoMemory, WireFault, WriteFault, Turns}
-use Rattle.q3_node.specs.Node.{Rules, Node, Turn, Turned, due, start_at, turn_of, turn_at, most_turns, turns_of, arrivals_after, did_end, answer_text, text_of, parcels_of}
+use Rattle.q3_node.specs.Node.{Rules, Node, Turn, uses_wire, Turned, due, start_at, turn_of, turn_at, most_turns, turns_of, arrivals_after, did_end, answer_text, text_of, parcels_of}
 use Rattle.q3_node.specs.Running.{ToArrive, ToRead, wire_behind, traffic_behind, Leaves, readings_behind, clock_behind, Passes, Ran, RanNode, StaysFlushed, Finds, DoesTurn, TakesTurn}
 
 -- ---- what is still to come, before a turn
@@ -269,14 +269,28 @@ spent {S} rules first now started clock before after were are going =
           (going.unended, record { leaves = going.leaves; read = going.read }),
     )
 
+-- whether a turn uses the wire doesn't rest on what a receive finds
+uses_any_of : {S : Type 0} (rules : Rules S) (node : Node S) (line : Option Event) (found other : Option Parcel)
+    → uses_wire (turn_of rules node line found).turn ≡ true → uses_wire (turn_of rules node line other).turn ≡ true
+uses_any_of rules node (Some event) found other uses = uses
+uses_any_of rules node None found None uses = refl
+uses_any_of rules node None found (Some parcel) uses = refl
+
+uses_any : {S : Type 0} (rules : Rules S) (node : Node S) (reading : ℕ) (found other : Option Parcel)
+    → uses_wire (turn_at rules node reading found).turn ≡ true → uses_wire (turn_at rules node reading other).turn ≡ true
+uses_any rules node reading found other uses =
+    uses_any_of rules (record node { start = Some (start_at node.start reading) }) (due node.time (reading - start_at node.start reading) node.left) found other uses
+
 -- the wire failed
 wire_failed : {S : Type 0} (rules : Rules S) (count : ℕ) (first now next : Node S) (started clock new : Option (List ℕ)) (before mid after : Option Written) (were mids are : Option Traffic)
-    → Going rules count first now started clock before mid were mids → TakesTurn rules now next clock new mid after mids are (Err WireFault)
+    → Going rules (suc count) first now started clock before mid were mids → TakesTurn rules now next clock new mid after mids are (Err WireFault)
     → RanNode rules first started new before after were are (Err WireFault)
 wire_failed {S} rules count first now next started clock new before mid after were mids are going takes =
-    let readings = some_read clock in
+    let later = some_read new in
+    let r = back_read clock new takes.reading later.0 takes.read later.1 in
     let arrivals = some_arrive mids in
-    let w = going.whole readings.0 arrivals.0 readings.1 arrivals.1 in
+    let w = going.whole r.all arrivals.0 r.to_read arrivals.1 in
+    let t : Turned S = turn_at rules now (reading_of r.all) (next_of arrivals.0) in
     let d = takes.done in (
       w.readings,
       w.to_read,
@@ -284,9 +298,12 @@ wire_failed {S} rules count first now next started clock new before mid after we
       w.to_arrive,
       record {
         first = going.turns;
-        rest = turns_of count rules now readings.0 arrivals.0;
-        whole = w.same;
-        leaves = rw (d.0, d.1) going.leaves;
+        last = t.turn;
+        rest = if t.turn.ended then [] else turns_of count rules t.node (readings_after r.all) (arrivals_after t.turn arrivals.0);
+        whole = w.same ∙ ap (λ (ts : List Turn). going.turns ++ ts) (first_turn count rules now r.all arrivals.0 (reading_of r.all) (next_of arrivals.0) refl (λ received. refl));
+        uses = subst (λ (n : ℕ). uses_wire (turn_at rules now n (next_of arrivals.0)).turn ≡ true) (sym r.first)
+            (uses_any rules now takes.reading takes.found (next_of arrivals.0) d.0);
+        leaves = rw (d.1, d.2) going.leaves;
         read = next_clock started clock new (length going.turns) takes.reading going.read takes.read;
       },
     )
@@ -348,7 +365,7 @@ pub fails_by : {S : Type 0} (rules : Rules S) (taken : ℕ) (first now next : No
     → RanNode rules first started new before after were are (Err e)
 fails_by rules taken first now next started clock new before mid after were mids are NoMemory few going flushed takes = absurd takes.done
 fails_by rules taken first now next started clock new before mid after were mids are WireFault few going flushed takes =
-    wire_failed rules (most_turns - taken) first now next started clock new before mid after were mids are going takes
+    wire_failed rules (most_turns - (taken + 1)) first now next started clock new before mid after were mids are (rw (one_left taken few) at going) takes
 fails_by rules taken first now next started clock new before mid after were mids are WriteFault few going flushed takes =
     write_failed rules (most_turns - (taken + 1)) first now next started clock new before mid after were mids are (rw (one_left taken few) at going) flushed takes
 fails_by rules taken first now next started clock new before mid after were mids are Turns few going flushed takes = absurd takes.done
@@ -357,6 +374,6 @@ fails_by rules taken first now next started clock new before mid after were mids
 pub flushed_still : {S : Type 0} (rules : Rules S) (now next : Node S) (clock new : Option (List ℕ)) (before mid after : Option Written) (mids are : Option Traffic) (e : NodeError)
     → (NothingWaits before → NothingWaits mid) → TakesTurn rules now next clock new mid after mids are (Err e) → StaysFlushed {T = Unit {0}} before after (Err e)
 flushed_still rules now next clock new before mid after mids are NoMemory flushed takes = absurd takes.done
-flushed_still rules now next clock new before mid after mids are WireFault flushed takes = λ nothing. subst NothingWaits (sym takes.done.0) (flushed nothing)
+flushed_still rules now next clock new before mid after mids are WireFault flushed takes = λ nothing. subst NothingWaits (sym takes.done.1) (flushed nothing)
 flushed_still rules now next clock new before mid after mids are WriteFault flushed takes = tt
 flushed_still rules now next clock new before mid after mids are Turns flushed takes = absurd takes.done

@@ -1,5 +1,5 @@
 -- A node: one end of a connection over a wire, which does the lines of its script turn by turn, each when it is due.
-use Rattle.std.specs.Prelude.{ℕ, zero, suc, ◌+◌, ◌-◌, nat_le, if◌then◌else◌, Bool, true, false, List, [], ◌∷◌, drop, take, Option, Some, None, option_map}
+use Rattle.std.specs.Prelude.{ℕ, zero, suc, ◌+◌, ◌-◌, ◌||◌, nat_le, if◌then◌else◌, Bool, true, false, List, [], ◌∷◌, drop, take, Option, Some, None, option_map, is_some}
 use Rattle.std.specs.List.{flat_map, list_any}
 use Rattle.std.specs.Option.{option_to_list}
 use Rattle.q3_io.specs.declared.address.Address.{Address}
@@ -46,6 +46,10 @@ pub record Turn : Type 0 where
   pub sends : Option Parcel
   pub received : Bool
   pub ended : Bool
+
+-- it uses the wire where it receives or sends
+abbrev pub uses_wire : Turn → Bool
+uses_wire turn = turn.received || is_some turn.sends
 
 -- with the node behind it
 pub record Turned (S : Type 0) : Type 0 where

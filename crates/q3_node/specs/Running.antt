@@ -11,7 +11,7 @@ use Rattle.q3_report.specs.Answers.{Answered}
 use Rattle.q3_node.specs.declared.turns.Course.{Course}
 use Rattle.q3_node.specs.declared.error.NodeError.{NodeError}
 use Rattle.q3_node.specs.declared.error.NodeError.TheVariants.{NoMemory, WireFault, WriteFault, Turns}
-use Rattle.q3_node.specs.Node.{LineDone, Rules, Node, Turn, Turned, turn_at, most_turns, turns_of, did_end, answer_text, text_of, parcels_of}
+use Rattle.q3_node.specs.Node.{LineDone, Rules, Node, Turn, uses_wire, Turned, turn_at, most_turns, turns_of, did_end, answer_text, text_of, parcels_of}
 
 -- ---- what is still to come
 
@@ -56,11 +56,13 @@ pub record Passes (turns : List Turn) (clock now : Option (List ℕ)) (before af
   pub leaves : Leaves turns true before after were are
   pub read : now ≡ clock_behind clock (length turns)
 
--- the first of them did, and in the turn behind these the wire failed
+-- the first of them did, and in the turn behind these, one that uses the wire, it failed
 pub record WireFails (turns : List Turn) (clock now : Option (List ℕ)) (before after : Option Written) (were are : Option Traffic) : Type 0 where
   pub first : List Turn
+  pub last : Turn
   pub rest : List Turn
-  pub whole : turns ≡ first ++ rest
+  pub whole : turns ≡ first ++ last ∷ rest
+  pub uses : uses_wire last ≡ true
   pub leaves : Leaves first true before after were are
   pub read : now ≡ clock_behind clock (length first + 1)
 
@@ -127,7 +129,7 @@ sent_on told (Some parcel) = option_map (λ traffic. after_send traffic parcel.a
 -- it was sent, and whether there was one is answered; or the wire failed
 abbrev pub SendsParcel : Option Parcel → Option Traffic → Option Traffic → Result Bool NodeError → Type 0
 SendsParcel parcel were are (Ok sent) = (sent ≡ is_some parcel) × (are ≡ sent_on were parcel)
-SendsParcel parcel were are (Err WireFault) = are ≡ were
+SendsParcel parcel were are (Err WireFault) = (is_some parcel ≡ true) × (are ≡ were)
 SendsParcel parcel were are (Err other) = ⊥
 
 -- the lines of an answer were printed, if there is one; or the sink took a front of them
@@ -140,7 +142,7 @@ PrintsAnswer answer before after (Err other) = ⊥
 abbrev pub Tells : Option Answered → Option Parcel → Option Written → Option Written → Option Traffic → Option Traffic → Result Bool NodeError → Type 0
 Tells answer sends before after were are (Ok sent) = (sent ≡ is_some sends) × Wrote before after (answer_text answer) true × (are ≡ sent_on were sends)
 Tells answer sends before after were are (Err WriteFault) = Wrote before after (answer_text answer) false × (are ≡ sent_on were sends)
-Tells answer sends before after were are (Err WireFault) = (after ≡ before) × (are ≡ were)
+Tells answer sends before after were are (Err WireFault) = (is_some sends ≡ true) × (after ≡ before) × (are ≡ were)
 Tells answer sends before after were are (Err other) = ⊥
 
 -- a line was done
@@ -153,11 +155,12 @@ abbrev pub Finds : Turn → Option Traffic → Option Parcel → Type 0
 Finds turn None found = Unit {0}
 Finds turn (Some traffic) found = turn.received ≡ true → next_of traffic.arrivals ≡ found
 
--- a turn was done, and whether it did `end` is answered; or the sink took a front of its lines; or the wire failed, and nothing was printed or sent
+-- a turn was done, and whether it did `end` is answered; or the sink took a front of its lines; or the wire, which it uses, failed, and nothing
+-- was printed or sent
 abbrev pub DoesTurn : {S : Type 0} → Turned S → Option Parcel → Node S → Option Written → Option Written → Option Traffic → Option Traffic → Result Bool NodeError → Type 0
 DoesTurn now found node before after were are (Ok ended) = (ended ≡ now.turn.ended) × (node ≡ now.node) × Finds now.turn were found × Leaves (now.turn ∷ []) true before after were are
 DoesTurn now found node before after were are (Err WriteFault) = Finds now.turn were found × Leaves (now.turn ∷ []) false before after were are
-DoesTurn now found node before after were are (Err WireFault) = (after ≡ before) × (are ≡ were)
+DoesTurn now found node before after were are (Err WireFault) = (uses_wire now.turn ≡ true) × (after ≡ before) × (are ≡ were)
 DoesTurn now found node before after were are (Err other) = ⊥
 
 -- by one reading of the clock, and what a receive finds, if there is one

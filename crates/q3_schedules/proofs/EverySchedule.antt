@@ -40,6 +40,7 @@ use Rattle.q3_world.specs.Layers.{Layers}
 use Rattle.q3_built.specs.Built.{Built, number_of, IsNear, IsBuilt, built_bytes, plain_bytes}
 use Rattle.q3_slot.specs.Slot.{SlotState}
 use Rattle.q3_server.specs.Server.{places, slot_at}
+use Rattle.q3_client.specs.Laws.{KeepsAsking}
 use Rattle.q3_client.specs.Client.{ClientState, Taken, Reception, receive_message, take_answer, take_gathered}
 use Rattle.q3_lines.specs.ServerLines.{Run}
 use Rattle.q3_world.specs.declared.places.Place.{Place}
@@ -49,6 +50,7 @@ use Rattle.q3_world.specs.World.{Tag, Step, Whole, History, history_at, built_at
 use Rattle.q3_world.specs.StandsFor.{IsSent, WasBuilt, WasAccepted, Rise}
 use Rattle.q3_world.specs.ByTags.{kept_then, whole_then, BytesFollowTags}
 use Rattle.q3_world.specs.Answering.{outcome_of, applied_of, is_game, outcome_in}
+use Rattle.q3_schedules.proofs.Asking.{wants_by_delta}
 use Rattle.q3_schedules.specs.Schedules.{AcceptedWereBuilt, ShownWasBuilt, ShownIsNewest, AsksForAccepted, heard_of, Shows, AppliedWasBuilt, NewerIsAccepted, BasesWereAccepted, HeldIsAccepted, ViewsWereBuilt, ClientTookSo, StateIsOfGame}
 use Rattle.q3_world.proofs.Holding.{Holds, Has, has_client}
 use Rattle.q3_world.proofs.Agree.{Cited}
@@ -120,13 +122,14 @@ shown_is_newest law profile all c is are within =
     ∙ of_each profile (kept_then profile all) (whole_then profile all) c (λ slot found history. newest (option_map client_of found) ≡ last_or None (since_of history)) within stands
     refl (λ slot place had. had.joined.of_client.shows))
 
-pub asks_for_accepted : BytesFollowTags → AsksForAccepted
-asks_for_accepted law profile all c client is are within found =
+pub asks_for_accepted : BytesFollowTags → KeepsAsking → AsksForAccepted
+asks_for_accepted law keeps profile all c client is are within found =
     let stands : Then profile all = stood law profile all is are in
     let whole = whole_then profile all in
     let since = since_of (history_at whole.histories c) in
-    of_there profile (kept_then profile all) whole c client (λ (client : ClientState). (client.delta ≡ true) ↔ WasAccepted since client.gathering.taken) within found stands
-    (λ slot place had. had.joined.of_client.asks)
+    subst (λ (asks : Bool). (asks ≡ true) ↔ WasAccepted since client.gathering.taken) (sym (wants_by_delta keeps profile all c client found))
+    (of_there profile (kept_then profile all) whole c client (λ (client : ClientState). (client.delta ≡ true) ↔ WasAccepted since client.gathering.taken) within found stands
+    (λ slot place had. had.joined.of_client.asks))
 
 -- ---- what a client holds
 

@@ -1,4 +1,5 @@
 pub mod Stood
+pub mod Asking
 pub mod EverySchedule
 pub mod GamesLaws
 pub mod Usual

@@ -33,7 +33,7 @@ use Rattle.q3_built.specs.Built.{Built, number_of, IsNear, is_unclear, built_byt
 use Rattle.q3_slot.specs.Slot.{SlotState}
 use Rattle.q3_slot.specs.Emitting.{next_snapshot, begun_next, most_placed}
 use Rattle.q3_map.specs.Map.{MapState, is_other}
-use Rattle.q3_client.specs.Sending.{Said}
+use Rattle.q3_client.specs.Sending.{Said, wants_delta}
 use Rattle.q3_slot.specs.declared.stage.ClientStage.TheVariants.{Active}
 use Rattle.q3_slot.specs.Taking.{Playing, asks_game, goes_on, heads_of}
 use Rattle.q3_server.specs.Server.{ServerState, places, slot_at}
@@ -178,11 +178,12 @@ abbrev pub ShownIsNewest : Type 0
 ShownIsNewest = (profile : Profile) (all : List Event) (c : ℕ) → IsChecked profile → AllByRecursion IsScheduled all → c < places
     → snapshot_in (kept_step (kept_then profile all) (events.Show c)).answer ≡ last_or None (since_then profile all c)
 
--- a client asks for deltas exactly where the snapshot of the newest message that it took was accepted, and no gamestate was applied since
+-- a client's next message may ask for a delta exactly where the snapshot of the newest message that it took was accepted, and no gamestate
+-- was applied since
 abbrev pub AsksForAccepted : Type 0
 AsksForAccepted = (profile : Profile) (all : List Event) (c : ℕ) (client : ClientState) → IsChecked profile → AllByRecursion IsScheduled all
     → c < places → client_at (kept_then profile all).ends c ≡ Some client
-    → (client.delta ≡ true) ↔ WasAccepted (since_then profile all c) client.gathering.taken
+    → (wants_delta client ≡ true) ↔ WasAccepted (since_then profile all c) client.gathering.taken
 
 -- each base against which a message was built is below it, at most by 28, was built itself and was accepted by the client
 abbrev pub BasesWereAccepted : Type 0

@@ -5,6 +5,7 @@ ghost use Rattle.q3_schedules.specs.Schedules.{AlwaysLegible, UnknownWasNotMade,
 
 use q3_bits::laws as bits;
 use q3_chan::laws as chan;
+use q3_client::laws as client;
 use q3_world::laws as world;
 
 /// In a replay no end ever gets what it can't read, no acknowledgement is refused, no command leaves a gap, the server finds each
@@ -69,12 +70,13 @@ pub fn shown_is_newest()
     world::bytes_follow_tags();
 }
 
-/// A client asks for deltas exactly where the snapshot of the newest message that it took was accepted, and no gamestate was
-/// applied since.
+/// A client's next message may ask for a delta exactly where the snapshot of the newest message that it took was accepted, and no
+/// gamestate was applied since.
 pub fn asks_for_accepted()
     ensures { AsksForAccepted }
 {
     world::bytes_follow_tags();
+    client::keeps_asking();
 }
 
 /// What a client's message asks for, what its slot writes against, and each base of a message were accepted by the client under the

@@ -134,14 +134,6 @@ nothing_more a b c text all first second = record {
 
 -- ---- what was printed
 
-behind : (follow : TextsFollow) (old mid now : Option Written) (printed line : List ℕ) (ended : Result (Unit {0}) Fault) (status : ℕ) → Wrote old mid printed true
-    → Took ended line mid now status → Took ended (printed ++ line) old now status
-behind follow old mid now printed line ended status added took =
-    elim took [
-      | inl all ↦ inl (all.0, (follow.more added all.1.0 refl, all.1.1))
-      | inr front ↦ inr (front.0, follow.more added front.1 refl)
-    ]
-
 -- where the sink has failed the fault line adds nothing, and the status is 4
 failed : (mid now : Option Written) (ended : Result (Unit {0}) Fault) (status : ℕ) → ended ≡ Err faults.Write → Took ended (ending_line ended) mid now status
     → (status ≡ 4) × ((all : Bool) × Wrote mid now [] all)
@@ -163,7 +155,8 @@ still_fails (Some at) turns old mid now told wired all nothing fails = (
   fails.4,
   fails.5,
   fails.6,
-  record { printed = nothing_more fails.4 mid now (text_of (fails.1 ∷ [])) all fails.7.printed nothing; wire = fails.7.wire },
+  fails.7,
+  record { printed = nothing_more fails.4 mid now (text_of (fails.1 ∷ [])) all fails.8.printed nothing; wire = fails.8.wire },
 )
 
 pub prints : (follow : TextsFollow) (command : Option Command) (told : Outside) (before after : ℕ) (old mid now : Option Written) (wired : Option Traffic) (ended : Result (Unit {0}) Fault) (status : ℕ)
@@ -171,7 +164,7 @@ pub prints : (follow : TextsFollow) (command : Option Command) (told : Outside) 
 prints follow command told before after old mid now wired ended status executes cause took =
     let verdict = executes.0 in
     elim executes.2 [
-      | inl ends ↦ (verdict, executes.1, ended, cause, inl (ends.0, ends.1, ends.2, behind follow old mid now ends.0 (ending_line ended) ended status ends.3 took))
+      | inl ends ↦ (verdict, executes.1, ended, cause, inl (ends.0, mid, ends.1, ends.2, ends.3, ends.4, took))
       | inr so ↦
           let no_more = failed mid now ended status so.0 took in (
             verdict,
@@ -202,7 +195,14 @@ none_is_done (Err e) none = absurd (no_status e none)
 
 all_wired : (at : Option Address) (verdict : Verdict) (printed : List ℕ) (told wired : Option Traffic) → WiredBy at verdict (Ok tt) printed told wired → wired ≡ wire_by told at verdict.turns
 all_wired None verdict printed told wired by = by
-all_wired (Some at) verdict printed told wired by = elim by [ inl all ↦ all.1 | inr early ↦ absurd early.0 ]
+all_wired (Some at) verdict printed told wired by =
+    elim by [
+      | inl all ↦ all.1
+      | inr early ↦ elim early [
+        | inl before ↦ absurd before.0
+        | inr stops ↦ absurd (let no : Ok tt ≡ Err faults.Wire = stops.0 in cc)
+      ]
+    ]
 
 done_reports : (follow : TextsFollow) (command : Option Command) (told : Outside) (old mid now : Option Written) (wired : Option Traffic)
     → ExecutesWired command told old mid wired (Ok tt) → HandsOn mid now [] → Reports command told old now wired

@@ -21,14 +21,14 @@ use Rattle.q3_node.specs.declared.error.NodeError.TheVariants as node
 use Rattle.q3_node.specs.Node.{Turn, Node, Rules, most_turns, new_node, turns_of, did_end, answer_text, text_of}
 use Rattle.q3_node.specs.AtServer.{server_rules}
 use Rattle.q3_node.specs.AtClient.{ClientEnd, client_of, client_rules}
-use Rattle.q3_node.specs.Running.{ToArrive, ToRead, at_bound, Ran, RanBound, WireCause as NodeWireCause, WriteCause as NodeWriteCause}
+use Rattle.q3_node.specs.Running.{ToArrive, ToRead, at_bound, WireFails, Ran, RanBound, StaysFlushed, WireCause as NodeWireCause, WriteCause as NodeWriteCause}
 use Rattle.q3net.specs.declared.fault.Fault.{Fault}
 use Rattle.q3net.specs.declared.fault.Fault.TheVariants as faults
 use Rattle.q3net.specs.Command.{Command, Serve, Join}
 use Rattle.q3net.specs.Faults.{Gets, IsOutside, node_fault, ReadCause, WriteCause, FileCause, WireCause}
 use Rattle.q3net.specs.Input.{IsFront, Holds, looked_up, Touches, Gives}
 use Rattle.q3net.specs.Verdict.{Verdict, Outside, IsVerdict, names_by, profile_in, events_in, ending_of, noded, served, client_turns, joined, GetsFrom}
-use Rattle.q3net.specs.Run.{ComesBehind, place_of, ExecutesWired, LeavesFiles, MayBind}
+use Rattle.q3net.specs.Run.{ComesBehind, place_of, StopsIn, ExecutesWired, LeavesFiles, MayBind}
 use Rattle.q3net.proofs.Loading.{held}
 use Rattle.q3net.proofs.Looking.{got_ok, gave, leaves_then, first_then, gave_first, profile_names}
 use Rattle.q3net.proofs.Replaying.{same_held}
@@ -116,16 +116,16 @@ one_client profile server other is = absurd is
 noded_refused : (follow : TextsFollow) (command : Option Command) (told : Outside) (old : Option Written) (names : List (List ℕ)) (at : Address) (answer : Result (List Turn) Fault) (e : Fault) → answer ≡ Err e
     → IsVerdict told command (noded names at answer) → ExecutesWired command told old old told.wire (Err e)
 noded_refused follow command told old names at answer e refuses is =
-    (noded names at (Err e), subst (λ (a : Result (List Turn) Fault). IsVerdict told command (noded names at a)) refuses is, inl ([], inl (refl, refl), refl, follow.none))
+    (noded names at (Err e), subst (λ (a : Result (List Turn) Fault). IsVerdict told command (noded names at a)) refuses is, inl ([], inl (refl, refl), refl, follow.none, tt))
 
 -- where memory ran out, a read failed, or the wire did before an address was bound
 comes_before : (command : Option Command) (told : Outside) (names : List (List ℕ)) (at : Address) (answer : Result (List Turn) Fault) (fault : Fault) → IsOutside fault
     → ComesBehind (place_of (noded names at answer).stops fault) [] (noded names at answer).text → (follow : TextsFollow) (old : Option Written) → IsVerdict told command (noded names at answer)
     → ExecutesWired command told old old told.wire (Err fault)
 comes_before command told names at (Ok turns) fault outside comes follow old is =
-    (noded names at (Ok turns), is, inl ([], inr (fault, refl, comes), inr (outside, inl (refl, refl)), follow.none))
+    (noded names at (Ok turns), is, inl ([], inr (fault, refl, comes), inr (inl (outside, refl, refl)), follow.none, λ nothing. nothing))
 comes_before command told names at (Err e) fault outside comes follow old is =
-    (noded names at (Err e), is, inl ([], inr (fault, refl, comes), refl, follow.none))
+    (noded names at (Err e), is, inl ([], inr (fault, refl, comes), refl, follow.none, tt))
 
 noded_memory : (names : List (List ℕ)) (at : Address) (answer : Result (List Turn) Fault) → ComesBehind (place_of (noded names at answer).stops faults.NoMemory) [] (noded names at answer).text
 noded_memory names at (Ok turns) = refl
@@ -285,60 +285,68 @@ text_last turns first rest last is =
     ∙ flat_map-append (λ (turn : Turn). answer_text turn.answer) (first ++ (last ∷ [])) rest
     ∙ ap (λ (text : List ℕ). text ++ text_of rest) (flat_map-append (λ (turn : Turn). answer_text turn.answer) first (last ∷ []))
 
+-- the wire failed
+stops_in : (turns : List Turn) (now clock : Option (List ℕ)) (old mid : Option Written) (were are : Option Traffic) → (ran : WireFails turns clock now old mid were are) → StopsIn turns were are (text_of ran.first)
+stops_in turns now clock old mid were are ran =
+    record { first = ran.first; last = ran.last; rest = ran.rest; whole = ran.whole; uses = ran.uses; printed = refl; wire = ran.leaves.wire }
+
 -- a node's loop ended early
 ran_failed : (follow : TextsFollow) (told : Outside) (command : Option Command) (profile script : List ℕ) (at : Address) (turns : List Turn) (clock : Option (List ℕ)) (old now : Option Written) (are : Option Traffic) (e : NodeError)
-    → IsVerdict told command (of_turns profile script at turns) → Ran turns told.clock clock old now (at_bound told.wire at) are (Err e) → ExecutesWired command told old now are (Err (node_fault e))
-ran_failed follow told command profile script at turns clock old now are node.NoMemory is ran = absurd ran
-ran_failed follow told command profile script at turns clock old now are node.WireFault is ran =
-    let front = text_front turns ran.first ran.rest ran.whole in (
+    → IsVerdict told command (of_turns profile script at turns) → Ran turns told.clock clock old now (at_bound told.wire at) are (Err e) → StaysFlushed {T = Unit {0}} old now (Err e)
+    → ExecutesWired command told old now are (Err (node_fault e))
+ran_failed follow told command profile script at turns clock old now are node.NoMemory is ran flushed = absurd ran
+ran_failed follow told command profile script at turns clock old now are node.WireFault is ran flushed =
+    let front = text_front turns ran.first (ran.last ∷ ran.rest) ran.whole in (
       of_turns profile script at turns,
       is,
-      inl (text_of ran.first, inr (faults.Wire, refl, front), inr (tt, inr (ran.first, (ran.rest, sym ran.whole), refl, ran.leaves.wire)), ran.leaves.printed),
+      inl (text_of ran.first, inr (faults.Wire, refl, front), inr (inr (refl, stops_in turns clock told.clock old now (at_bound told.wire at) are ran)), ran.leaves.printed, flushed),
     )
-ran_failed follow told command profile script at turns clock old now are node.WriteFault is ran =
+ran_failed follow told command profile script at turns clock old now are node.WriteFault is ran flushed =
     let all = text_last turns ran.first ran.rest ran.last ran.whole in (
       of_turns profile script at turns,
       is,
       inr (
         refl,
         follow.early (text_of ran.rest) (follow.more ran.passed.printed ran.fails.printed refl) all,
-        (ran.first, ran.last, ran.rest, ran.whole, ran.mid, ran.mids, ran.passed, ran.fails),
+        (ran.first, ran.last, ran.rest, ran.whole, ran.mid, ran.mids, ran.flushed, ran.passed, ran.fails),
       ),
     )
-ran_failed follow told command profile script at turns clock old now are node.Turns is ran =
+ran_failed follow told command profile script at turns clock old now are node.Turns is ran flushed =
     let ends = sym (ending_so turns false ran.0) in
-    (of_turns profile script at turns, is, inl (text_of turns, inl (ends, refl), inl (ends, ran.1.leaves.wire), ran.1.leaves.printed))
+    (of_turns profile script at turns, is, inl (text_of turns, inl (ends, refl), inl (ends, ran.1.leaves.wire), ran.1.leaves.printed, flushed))
 
 pub loop_failed : {S : Type 0} (follow : TextsFollow) (told : Outside) (command : Option Command) (profile script : List ℕ) (at : Address) (rules : Rules S) (first : Node S) (bound : Bool)
     (clock : Option (List ℕ)) (old now : Option Written) (are : Option Traffic) (e : NodeError) → Passed told command profile script at (turns_of most_turns rules first)
-    → RanBound bound rules first at told.clock clock old now told.wire are (Err e) → ExecutesWired command told old now are (Err (node_fault e))
-loop_failed follow told command profile script at rules first true clock old now are e passed ran =
-    ran_failed follow told command profile script at (turns_of most_turns rules first ran.0 ran.2) clock old now are e (passed.is ran.0 ran.1 ran.2 (arrive_bound told.wire at ran.2 ran.3)) ran.4
-loop_failed follow told command profile script at rules first false clock old now are node.NoMemory passed ran =
+    → RanBound bound rules first at told.clock clock old now told.wire are (Err e) → StaysFlushed {T = Unit {0}} old now (Err e)
+    → ExecutesWired command told old now are (Err (node_fault e))
+loop_failed follow told command profile script at rules first true clock old now are e passed ran flushed =
+    ran_failed follow told command profile script at (turns_of most_turns rules first ran.0 ran.2) clock old now are e (passed.is ran.0 ran.1 ran.2 (arrive_bound told.wire at ran.2 ran.3)) ran.4 flushed
+loop_failed follow told command profile script at rules first false clock old now are node.NoMemory passed ran flushed =
     let readings = some_read told.clock in
     let arrivals = some_arrive told.wire in
     let turns = turns_of most_turns rules first readings.0 arrivals.0 in
     rw (ran.2, ran.3) (comes_before command told (profile ∷ script ∷ []) at (Ok turns) faults.NoMemory tt refl follow old (passed.is readings.0 readings.1 arrivals.0 arrivals.1))
-loop_failed follow told command profile script at rules first false clock old now are node.WireFault passed ran =
+loop_failed follow told command profile script at rules first false clock old now are node.WireFault passed ran flushed =
     let readings = some_read told.clock in
     let arrivals = some_arrive told.wire in
     let turns = turns_of most_turns rules first readings.0 arrivals.0 in
     rw (ran.2, ran.3) (comes_before command told (profile ∷ script ∷ []) at (Ok turns) faults.Wire tt (text_of turns, refl) follow old (passed.is readings.0 readings.1 arrivals.0 arrivals.1))
-loop_failed follow told command profile script at rules first false clock old now are node.WriteFault passed ran = absurd ran.0
-loop_failed follow told command profile script at rules first false clock old now are node.Turns passed ran = absurd ran.0
+loop_failed follow told command profile script at rules first false clock old now are node.WriteFault passed ran flushed = absurd ran.0
+loop_failed follow told command profile script at rules first false clock old now are node.Turns passed ran flushed = absurd ran.0
 
 -- or with `end`
 pub loop_done : {S : Type 0} (told : Outside) (command : Option Command) (profile script : List ℕ) (at : Address) (rules : Rules S) (first : Node S) (bound : Bool)
     (clock : Option (List ℕ)) (old now : Option Written) (are : Option Traffic) → Passed told command profile script at (turns_of most_turns rules first)
-    → RanBound bound rules first at told.clock clock old now told.wire are (Ok tt) → ExecutesWired command told old now are (Ok tt)
-loop_done told command profile script at rules first true clock old now are passed ran =
+    → RanBound bound rules first at told.clock clock old now told.wire are (Ok tt) → StaysFlushed {T = Unit {0}} old now (Ok tt)
+    → ExecutesWired command told old now are (Ok tt)
+loop_done told command profile script at rules first true clock old now are passed ran flushed =
     let turns = turns_of most_turns rules first ran.0 ran.2 in
     let ends = sym (ending_so turns true ran.4.0) in (
       of_turns profile script at turns,
       passed.is ran.0 ran.1 ran.2 (arrive_bound told.wire at ran.2 ran.3),
-      inl (text_of turns, inl (ends, refl), inl (ends, ran.4.1.leaves.wire), ran.4.1.leaves.printed),
+      inl (text_of turns, inl (ends, refl), inl (ends, ran.4.1.leaves.wire), ran.4.1.leaves.printed, flushed),
     )
-loop_done told command profile script at rules first false clock old now are passed ran = absurd ran.0
+loop_done told command profile script at rules first false clock old now are passed ran flushed = absurd ran.0
 
 -- its verdict binds an address
 pub passed_binds : (told : Outside) (command : Option Command) (profile script : List ℕ) (at : Address) (turns : List ℕ → List (Option Parcel) → List Turn) → Passed told command profile script at turns

@@ -30,7 +30,7 @@ use Rattle.q3net.specs.Command.{Command, Help, Version, Replay, Make, Trial, Ser
 use Rattle.q3net.specs.Faults.{demo_fault, ReadCause, WriteCause, FileCause, WireCause}
 use Rattle.q3net.specs.Lines.{help_text, version_text, fault_status, ending_status}
 use Rattle.q3net.specs.Verdict.{Stops, Verdict, Outside, IsVerdict, stops_nowhere, takes_memory, reads_first, settled, profile_in, events_in, replayed, names_by, summary, tried, ending_of, noded, served, client_turns, joined, played, demo_played}
-use Rattle.q3net.specs.Run.{Comes, ComesBehind, place_of, Executes, FilesFail, IsEarlyStatus, IsDecided, IsComplete, WiredBy, FailsBy, ExecutesWired}
+use Rattle.q3net.specs.Run.{Comes, ComesBehind, place_of, Executes, FilesFail, IsEarlyStatus, IsDecided, IsComplete, WiredBy, HandedOn, FailsBy, ExecutesWired}
 use Rattle.q3net.proofs.Ending.{comes_behind, settled_writes, settled_wire}
 use Rattle.q3net.proofs.Refusing.{OfFault, OfInput, play_refuses}
 
@@ -420,7 +420,7 @@ wire_stays command told old now ended nodeless executes =
       executes.0,
       executes.1,
       elim executes.2 [
-        | inl done ↦ inl (done.0, done.1, subst (λ (at : Option Address). WiredBy at executes.0 ended done.0 told.wire told.wire) (sym none) refl, done.2)
+        | inl done ↦ inl (done.0, done.1, subst (λ (at : Option Address). WiredBy at executes.0 ended done.0 told.wire told.wire) (sym none) refl, done.2, subst (λ (at : Option Address). HandedOn at old now) (sym none) tt)
         | inr failed ↦ inr (failed.0, failed.1, subst (λ (at : Option Address). FailsBy at executes.0.turns old now told.wire told.wire) (sym none) refl)
       ],
     )

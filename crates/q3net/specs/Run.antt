@@ -5,7 +5,7 @@ use Rattle.q3_io.specs.Faults.{Rose}
 use Rattle.q3_io.specs.declared.address.Address.{Address}
 use Rattle.q3_io.specs.Told.{Told}
 use Rattle.q3_io.specs.Traffic.{Traffic}
-use Rattle.q3_node.specs.Node.{Turn, text_of}
+use Rattle.q3_node.specs.Node.{Turn, uses_wire, text_of}
 use Rattle.q3_node.specs.Running.{wire_behind, at_bound, Leaves}
 use Rattle.q3_io.specs.Written.{Written, Wrote, NothingWaits}
 use Rattle.q3_report.specs.Answers.{Answered}
@@ -73,27 +73,43 @@ abbrev pub wire_by : Option Traffic → Option Address → List Turn → Option 
 wire_by told None turns = told
 wire_by told (Some at) turns = wire_behind (at_bound told at) turns
 
--- of a node all turns were had, or, where something from outside ended it early, those whose text was printed, or nothing was bound; of
--- any other command the wire stays
+-- the wire failed in a turn that uses it, behind the first of these turns, whose text was printed
+pub record StopsIn (turns : List Turn) (bound now : Option Traffic) (text : List ℕ) : Type 0 where
+  pub first : List Turn
+  pub last : Turn
+  pub rest : List Turn
+  pub whole : turns ≡ first ++ last ∷ rest
+  pub uses : uses_wire last ≡ true
+  pub printed : text ≡ text_of first
+  pub wire : now ≡ wire_behind bound first
+
+-- of a node all turns were had, or it ended early before an address was bound, or the wire failed in one of them; of any other command the
+-- wire stays
 abbrev pub WiredBy : Option Address → Verdict → Result (Unit {0}) Fault → List ℕ → Option Traffic → Option Traffic → Type 0
 WiredBy None verdict ended printed told now = now ≡ told
 WiredBy (Some at) verdict ended printed told now =
     ((ended ≡ verdict.ending) × (now ≡ wire_by told (Some at) verdict.turns))
-    ⊎ (IsEarly ended × (((printed ≡ []) × (now ≡ told))
-    ⊎ ((first : List Turn) × IsFront first verdict.turns × (printed ≡ text_of first) × (now ≡ wire_by told (Some at) first))))
+    ⊎ ((IsEarly ended × (printed ≡ []) × (now ≡ told)) ⊎ ((ended ≡ Err Wire) × StopsIn verdict.turns (at_bound told at) now printed))
 
--- where the sink failed: in the turn behind the first of them, whose lines it took whole
+-- the lines of its turns were handed on, where nothing waited before
+abbrev pub HandedOn : Option Address → Option Written → Option Written → Type 0
+HandedOn None old now = Unit {0}
+HandedOn (Some at) old now = NothingWaits old → NothingWaits now
+
+-- where the sink failed: in the turn behind the first of them, whose lines it took whole and handed on
 abbrev pub FailsBy : Option Address → List Turn → Option Written → Option Written → Option Traffic → Option Traffic → Type 0
 FailsBy None turns old now told wired = wired ≡ told
 FailsBy (Some at) turns old now told wired =
     (first : List Turn) × (last : Turn) × (rest : List Turn) × (turns ≡ first ++ last ∷ rest)
-    × (mid : Option Written) × (mids : Option Traffic) × Leaves first true old mid (at_bound told at) mids × Leaves (last ∷ []) false mid now mids wired
+    × (mid : Option Written) × (mids : Option Traffic) × (NothingWaits old → NothingWaits mid)
+    × Leaves first true old mid (at_bound told at) mids × Leaves (last ∷ []) false mid now mids wired
 
 -- what the sink took of a command by then, and what it left of the wire
 abbrev pub ExecutesWired : Option Command → Outside → Option Written → Option Written → Option Traffic → Result (Unit {0}) Fault → Type 0
 ExecutesWired command told old now wired ended =
     (verdict : Verdict) × IsVerdict told command verdict
-    × (((printed : List ℕ) × Ends verdict ended printed × WiredBy verdict.at verdict ended printed told.wire wired × Wrote old now printed true)
+    × (((printed : List ℕ) × Ends verdict ended printed × WiredBy verdict.at verdict ended printed told.wire wired × Wrote old now printed true
+    × HandedOn verdict.at old now)
     ⊎ ((ended ≡ Err Write) × Wrote old now verdict.text false × FailsBy verdict.at verdict.turns old now told.wire wired))
 
 -- ---- how a run ends
@@ -103,11 +119,13 @@ abbrev pub Took : Result (Unit {0}) Fault → List ℕ → Option Written → Op
 Took ended text old now status = ((status ≡ ending_status ended) × HandsOn old now text) ⊎ ((status ≡ 4) × Wrote old now text false)
 
 -- a run prints what its command prints, and behind that the fault line, if any, which is that of a file's write exactly where the files'
--- count of these changed; or the sink failed before, and took a front of the text; and it left of the wire what goes with that
+-- count of these changed, and of which the sink may take a front; or the sink failed before, and took a front of the text; and it left of
+-- the wire what goes with that
 abbrev pub Prints : Option Command → Outside → ℕ → ℕ → Option Written → Option Written → Option Traffic → ℕ → Type 0
 Prints command told before after old now wired status =
     (verdict : Verdict) × IsVerdict told command verdict × (ended : Result (Unit {0}) Fault) × FileCause before after ended
-    × (((printed : List ℕ) × Ends verdict ended printed × WiredBy verdict.at verdict ended printed told.wire wired × Took ended (printed ++ ending_line ended) old now status)
+    × (((printed : List ℕ) × (mid : Option Written) × Ends verdict ended printed × WiredBy verdict.at verdict ended printed told.wire wired
+    × Wrote old mid printed true × HandedOn verdict.at old mid × Took ended (ending_line ended) mid now status)
     ⊎ ((ended ≡ Err Write) × (status ≡ 4) × Wrote old now verdict.text false × FailsBy verdict.at verdict.turns old now told.wire wired))
 
 -- the verdict is that the command is done, its whole text was printed, and all its turns were had

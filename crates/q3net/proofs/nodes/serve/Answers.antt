@@ -34,12 +34,12 @@ pub returns-in_err-serve_loop-clause-executes : goal.returns-in_err-serve_loop-c
 returns-in_err-serve_loop-clause-executes g c =
     let p = err_from_is_err_and c.from_residual-in_err-serve_loop.result c.from_residual-in_err-serve_loop.ensures.1 in
     let passed = serve_passed (outside (g.F.Files.told c.args.files.now) (g.W.Wire.told c.args.wire.now) (g.C.Clock.readings c.args.clock.now)) c.args.profile.now c.args.script.now c.args.at (g.F.Files.told c.load_profile.new.files) c.in_ok-profile.profile c.in_ok-events.events.items c.in_ok-profile.ensures.gets c.in_ok-profile.ensures.gives c.in_ok-events.ensures.gets in
-    rw (p.1, p.2) (loop_failed c.texts_follow.ensures (outside (g.F.Files.told c.args.files.now) (g.W.Wire.told c.args.wire.now) (g.C.Clock.readings c.args.clock.now)) (Some (Serve c.args.profile.now c.args.script.now c.args.at)) c.args.profile.now c.args.script.now c.args.at server_rules (new_node (new_server c.in_ok-profile.profile places) c.in_ok-events.events.items) (g.W.Wire.bound c.serve_loop.new.wire) (g.C.Clock.readings c.serve_loop.new.clock) (g.O.Sink.written c.args.out.now) (g.O.Sink.written c.serve_loop.new.out) (g.W.Wire.told c.serve_loop.new.wire) c.in_err-serve_loop.field-0.0 passed (rw c.deref.ensures.value at c.in_err-serve_loop.ensures.ran))
+    rw (p.1, p.2) (loop_failed c.texts_follow.ensures (outside (g.F.Files.told c.args.files.now) (g.W.Wire.told c.args.wire.now) (g.C.Clock.readings c.args.clock.now)) (Some (Serve c.args.profile.now c.args.script.now c.args.at)) c.args.profile.now c.args.script.now c.args.at server_rules (new_node (new_server c.in_ok-profile.profile places) c.in_ok-events.events.items) (g.W.Wire.bound c.serve_loop.new.wire) (g.C.Clock.readings c.serve_loop.new.clock) (g.O.Sink.written c.args.out.now) (g.O.Sink.written c.serve_loop.new.out) (g.W.Wire.told c.serve_loop.new.wire) c.in_err-serve_loop.field-0.0 passed (rw c.deref.ensures.value at c.in_err-serve_loop.ensures.ran) c.in_err-serve_loop.ensures.flushed)
 
 pub returns-clause-executes : goal.returns-clause-executes
 returns-clause-executes g c =
     let passed = serve_passed (outside (g.F.Files.told c.args.files.now) (g.W.Wire.told c.args.wire.now) (g.C.Clock.readings c.args.clock.now)) c.args.profile.now c.args.script.now c.args.at (g.F.Files.told c.load_profile.new.files) c.in_ok-profile.profile c.in_ok-events.events.items c.in_ok-profile.ensures.gets c.in_ok-profile.ensures.gives c.in_ok-events.ensures.gets in
-    loop_done (outside (g.F.Files.told c.args.files.now) (g.W.Wire.told c.args.wire.now) (g.C.Clock.readings c.args.clock.now)) (Some (Serve c.args.profile.now c.args.script.now c.args.at)) c.args.profile.now c.args.script.now c.args.at server_rules (new_node (new_server c.in_ok-profile.profile places) c.in_ok-events.events.items) (g.W.Wire.bound c.serve_loop.new.wire) (g.C.Clock.readings c.serve_loop.new.clock) (g.O.Sink.written c.args.out.now) (g.O.Sink.written c.serve_loop.new.out) (g.W.Wire.told c.serve_loop.new.wire) passed (rw c.deref.ensures.value at c.in_ok-serve_loop.ensures.ran)
+    loop_done (outside (g.F.Files.told c.args.files.now) (g.W.Wire.told c.args.wire.now) (g.C.Clock.readings c.args.clock.now)) (Some (Serve c.args.profile.now c.args.script.now c.args.at)) c.args.profile.now c.args.script.now c.args.at server_rules (new_node (new_server c.in_ok-profile.profile places) c.in_ok-events.events.items) (g.W.Wire.bound c.serve_loop.new.wire) (g.C.Clock.readings c.serve_loop.new.clock) (g.O.Sink.written c.args.out.now) (g.O.Sink.written c.serve_loop.new.out) (g.W.Wire.told c.serve_loop.new.wire) passed (rw c.deref.ensures.value at c.in_ok-serve_loop.ensures.ran) c.in_ok-serve_loop.ensures.flushed
 
 pub returns-in_err-serve_loop-clause-binds : goal.returns-in_err-serve_loop-clause-binds
 returns-in_err-serve_loop-clause-binds g c =
