@@ -102,9 +102,10 @@ def counts_instructions():
     return shutil.which('valgrind') is not None
 
 
-def instructions(command, folder):
-    """How many instructions a command takes."""
-    counting = ['env', f'GLIBC_TUNABLES={NO_REPEATS}', 'valgrind', '--tool=callgrind', '--callgrind-out-file=/dev/null']
+def instructions(command, folder, within=None):
+    """How many instructions a command takes, or how many of them within a function."""
+    counting = ['env', f'GLIBC_TUNABLES={NO_REPEATS}', 'valgrind', '--tool=callgrind', '--callgrind-out-file=/dev/null',
+                *([f'--toggle-collect=*{within}*'] if within else [])]
     _, _, told = run([*counting, *command], folder)
     return int(re.search(r'Collected : (\d+)', told).group(1))
 
