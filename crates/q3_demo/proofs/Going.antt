@@ -1,7 +1,10 @@
 -- A demo is played record by record, and how that ends.
-use Rattle.std.proofs.Common.{◌≡◌, ℕ, zero, suc, ◌+◌, ◌-◌, ◌<◌, ◌≤◌, Bool, true, false, List, [], ◌++◌, length, take, drop, Option, Some, None, Result, Ok, Err, refl, sym, ap, subst, ◌∙◌, append_assoc, arith}
+use Rattle.std.proofs.Common.{◌≡◌, ℕ, zero, suc, ◌+◌, ◌-◌, ◌<◌, ◌≤◌, Bool, true, false, List, [], ◌∷◌, ◌++◌, length, take, drop, Option, Some, None, Result, Ok, Err, refl, sym, ap, subst, ◌∙◌, append_assoc, arith}
 use Rattle.std.specs.Prelude.{IfErr}
-use Rattle.std.proofs.lemmas.List.{drop_at, drop-drop, length-append, length-take}
+use Rattle.std.specs.List.{concat}
+use Rattle.std.proofs.Math.Seq.{take-append-add}
+use Rattle.std.proofs.lemmas.List.{append-nil, drop_at, drop-drop, length-append, length-take}
+use Rattle.std.proofs.lemmas.List.Folds.{concat-append}
 use Rattle.q3_bits.specs.ResultBind.{◌>>=◌, fault_as, bind_ok, bind_is}
 use Rattle.q3_io.specs.Told.{Told}
 use Rattle.q3_io.specs.Written.{Written, Wrote}
@@ -12,7 +15,7 @@ use Rattle.q3_demo.specs.declared.error.DemoError.TheVariants.{ReadFault, Trunca
 use Rattle.q3_demo.specs.declared.record.Piece.{Piece}
 use Rattle.q3_demo.specs.declared.record.Piece.TheVariants as piece
 use Rattle.q3_demo.specs.Records.{head_bytes, piece_of}
-use Rattle.q3_demo.specs.Playing.{Played, Stepped, Play, next_piece, message_of, played_on, play_piece, step, most_records, ends, refused, told_first, at_most, play_step, play_from}
+use Rattle.q3_demo.specs.Playing.{Played, Stepped, Play, play_text, next_piece, message_of, played_on, play_piece, step, most_records, told_first, at_most, play_step, play_from}
 use Rattle.q3_demo.specs.Running.{HasFrom, FindsPiece, Plays, ReadCause}
 use Rattle.q3_demo.specs.Steps.{step_text, Leads, Fails, TakesStep, behind_limit}
 use Rattle.q3_demo.proofs.Whole.{has_joined}
@@ -28,29 +31,35 @@ isnt_memory (Err e) other is = other cc
 
 -- ---- what is printed
 
--- what is behind a text that was printed ends so behind it
-pub plays_behind : (law : TextsFollow) (text : List ℕ) (play : Play) (before mid after : Option Written) (result : Result (Unit {0}) DemoError) → (result ≡ Err NoMemory → ⊥)
-    → Wrote before mid text true → Plays play mid after result → Plays (told_first text play) before after result
-plays_behind law text play before mid after (Ok x) some wrote plays = (plays.0, law.more wrote plays.1 refl)
-plays_behind law text play before mid after (Err ReadFault) some wrote plays =
-    (text ++ plays.0, plays.1, append_assoc text plays.0 plays.1 ∙ ap (λ (t : List ℕ). text ++ t) plays.2, law.more wrote plays.3 refl)
-plays_behind law text play before mid after (Err (Truncated at)) some wrote plays = (plays.0, law.more wrote plays.1 refl)
-plays_behind law text play before mid after (Err (BadLength at)) some wrote plays = (plays.0, law.more wrote plays.1 refl)
-plays_behind law text play before mid after (Err (BadNumber at)) some wrote plays = (plays.0, law.more wrote plays.1 refl)
-plays_behind law text play before mid after (Err (NoMessage at cause)) some wrote plays = (plays.0, law.more wrote plays.1 refl)
-plays_behind law text play before mid after (Err NoMemory) some wrote plays = absurd (some refl)
-plays_behind law text play before mid after (Err WriteFault) some wrote plays = law.more wrote plays refl
+-- records are told, and then the others
+abbrev told_all : List (List ℕ) → Play → Play
+told_all texts others = record others { texts = texts ++ others.texts }
+
+first_told : (texts : List (List ℕ)) (play : Play) (count : ℕ) → concat (take (length texts + count) (told_all texts play).texts) ≡ concat texts ++ concat (take count play.texts)
+first_told texts play count = ap concat (take-append-add texts play.texts count) ∙ concat-append texts (take count play.texts)
+
+-- what is behind texts that were printed ends so behind them
+pub plays_behind : (law : TextsFollow) (texts : List (List ℕ)) (play : Play) (before mid after : Option Written) (result : Result (Unit {0}) DemoError) → (result ≡ Err NoMemory → ⊥)
+    → Wrote before mid (concat texts) true → Plays play mid after result → Plays (told_all texts play) before after result
+plays_behind law texts play before mid after (Ok x) some wrote plays = (plays.0, law.more wrote plays.1 (concat-append texts play.texts))
+plays_behind law texts play before mid after (Err ReadFault) some wrote plays = (length texts + plays.0, law.more wrote plays.1 (first_told texts play plays.0))
+plays_behind law texts play before mid after (Err (Truncated at)) some wrote plays = (plays.0, law.more wrote plays.1 (concat-append texts play.texts))
+plays_behind law texts play before mid after (Err (BadLength at)) some wrote plays = (plays.0, law.more wrote plays.1 (concat-append texts play.texts))
+plays_behind law texts play before mid after (Err (BadNumber at)) some wrote plays = (plays.0, law.more wrote plays.1 (concat-append texts play.texts))
+plays_behind law texts play before mid after (Err (NoMessage at cause)) some wrote plays = (plays.0, law.more wrote plays.1 (concat-append texts play.texts))
+plays_behind law texts play before mid after (Err NoMemory) some wrote plays = absurd (some refl)
+plays_behind law texts play before mid after (Err WriteFault) some wrote plays = law.more wrote plays (concat-append texts play.texts)
 
 -- the demo ends
-ends_step : (step : Result (Option Stepped) DemoError) (now next : Played) (others : Played → Play) (mid after : Option Written) → TakesStep step now next mid after (Ok true)
+ends_step : (law : TextsFollow) (step : Result (Option Stepped) DemoError) (now next : Played) (others : Played → Play) (mid after : Option Written) → TakesStep step now next mid after (Ok true)
     → Plays (play_step now step others) mid after (Ok tt)
-ends_step (Ok None) now next others mid after takes = (refl, takes.1)
-ends_step (Ok (Some stepped)) now next others mid after takes = absurd (let e = takes.0 in cc)
-ends_step (Err d) now next others mid after takes = absurd (let e = takes.0 in cc)
+ends_step law (Ok None) now next others mid after takes = (refl, law.more takes.1 law.none refl)
+ends_step law (Ok (Some stepped)) now next others mid after takes = absurd (let e = takes.0 in cc)
+ends_step law (Err d) now next others mid after takes = absurd (let e = takes.0 in cc)
 
 -- a step is refused
 refuses : (law : TextsFollow) (step : Result (Option Stepped) DemoError) (now : Played) (others : Played → Play) (mid after : Option Written) (e : DemoError)
-    → step ≡ Err e → after ≡ mid → (Err e ≡ (play_step now step others).ending) × Wrote mid after (play_step now step others).text true
+    → step ≡ Err e → after ≡ mid → (Err e ≡ (play_step now step others).ending) × Wrote mid after (play_text (play_step now step others)) true
 refuses law (Ok None) now others mid after e is same = absurd cc
 refuses law (Ok (Some stepped)) now others mid after e is same = absurd cc
 refuses law (Err d) now others mid after e is same =
@@ -59,14 +68,14 @@ refuses law (Err d) now others mid after e is same =
 
 -- the sink failed in what a step tells
 loses : (law : TextsFollow) (step : Result (Option Stepped) DemoError) (now : Played) (others : Played → Play) (mid after : Option Written)
-    → Wrote mid after (step_text now step) false → Wrote mid after (play_step now step others).text false
-loses law (Ok None) now others mid after wrote = wrote
-loses law (Ok (Some stepped)) now others mid after wrote = law.early (others stepped.played).text wrote refl
+    → Wrote mid after (step_text now step) false → Wrote mid after (play_text (play_step now step others)) false
+loses law (Ok None) now others mid after wrote = law.early [] wrote refl
+loses law (Ok (Some stepped)) now others mid after wrote = law.early (play_text (others stepped.played)) wrote refl
 loses law (Err d) now others mid after wrote = wrote
 
 fails_step : (law : TextsFollow) (step : Result (Option Stepped) DemoError) (now : Played) (others : Played → Play) (mid after : Option Written) (e : DemoError) → Fails step now mid after e
     → Plays (play_step now step others) mid after (Err e)
-fails_step law step now others mid after ReadFault fails = ([], (play_step now step others).text, refl, rw fails law.none)
+fails_step law step now others mid after ReadFault fails = (0, rw fails law.none)
 fails_step law step now others mid after (Truncated at) fails = refuses law step now others mid after (Truncated at) fails.0 fails.1
 fails_step law step now others mid after (BadLength at) fails = refuses law step now others mid after (BadLength at) fails.0 fails.1
 fails_step law step now others mid after (BadNumber at) fails = refuses law step now others mid after (BadNumber at) fails.0 fails.1
@@ -85,14 +94,14 @@ leads_to (Ok (Some stepped)) next leads = (stepped, refl, leads)
 leads_to (Err d) next leads = absurd leads
 
 -- the record that was played
-record IsPlayed (demo : List ℕ) (now : Played) (stepped : Stepped) : Type 0 where
-  number : ℕ
-  size : ℕ
-  next : ℕ
-  applied : Application
-  found : next_piece demo now ≡ Ok (piece.Message number size next)
-  applied_is : fault_as (NoMessage now.at) (apply_at now.state number (message_of demo now size)) ≡ Ok applied
-  stepped_is : played_on now number next applied ≡ stepped
+pub record IsPlayed (demo : List ℕ) (now : Played) (stepped : Stepped) : Type 0 where
+  pub number : ℕ
+  pub size : ℕ
+  pub next : ℕ
+  pub applied : Application
+  pub found : next_piece demo now ≡ Ok (piece.Message number size next)
+  pub applied_is : fault_as (NoMessage now.at) (apply_at now.state number (message_of demo now size)) ≡ Ok applied
+  pub stepped_is : played_on now number next applied ≡ stepped
 
 same_some : {x y : Stepped} → (let left : Result (Option Stepped) DemoError = Ok (Some x) in left ≡ Ok (Some y)) → x ≡ y
 same_some e = cc
@@ -104,7 +113,7 @@ piece_played demo now (piece.Message number size next) stepped found is =
     let p = bind_ok (fault_as (NoMessage now.at) (apply_at now.state number (message_of demo now size))) on (Some stepped) is in
     record { number = number; size = size; next = next; applied = p.0; found = found; applied_is = p.1; stepped_is = same_some p.2 }
 
-was_played : (demo : List ℕ) (now : Played) (stepped : Stepped) → step demo now ≡ Ok (Some stepped) → IsPlayed demo now stepped
+pub was_played : (demo : List ℕ) (now : Played) (stepped : Stepped) → step demo now ≡ Ok (Some stepped) → IsPlayed demo now stepped
 was_played demo now stepped is =
     let p = bind_ok (next_piece demo now) (play_piece demo now) (Some stepped) is in
     piece_played demo now p.0 stepped p.1 p.2
@@ -150,14 +159,14 @@ reads_on before now WriteFault other same = same
 -- ---- behind the last record that may be played
 
 refuses_last : (law : TextsFollow) (now : Played) (found : Result Piece DemoError) (e : DemoError) (written : Option Written) → Err e ≡ found
-    → (stops (Truncated now.at) ≡ (at_most now found).ending) × Wrote written written (at_most now found).text true
+    → (stops (Truncated now.at) ≡ (at_most now found).ending) × Wrote written written (play_text (at_most now found)) true
 refuses_last law now (Ok piece.End) e written is = absurd cc
 refuses_last law now (Ok (piece.Message number size next)) e written is = absurd cc
 refuses_last law now (Err d) e written is = (refl, law.none)
 
 pub limit_refuses : (law : TextsFollow) (now : Played) (bytes buffer : List ℕ) (e : DemoError) (written : Option Written) → FindsPiece bytes now.at now.last buffer (Err e)
     → Plays (at_most now (piece_of bytes now.at now.last)) written written (Err (behind_limit now.at e))
-limit_refuses law now bytes buffer ReadFault written finds = ([], (at_most now (piece_of bytes now.at now.last)).text, refl, law.none)
+limit_refuses law now bytes buffer ReadFault written finds = (0, law.none)
 limit_refuses law now bytes buffer (Truncated at) written finds = refuses_last law now (piece_of bytes now.at now.last) (Truncated at) written finds.0
 limit_refuses law now bytes buffer (BadLength at) written finds = refuses_last law now (piece_of bytes now.at now.last) (BadLength at) written finds.0
 limit_refuses law now bytes buffer (BadNumber at) written finds = refuses_last law now (piece_of bytes now.at now.last) (BadNumber at) written finds.0
@@ -166,26 +175,26 @@ limit_refuses law now bytes buffer NoMemory written finds = refuses_last law now
 limit_refuses law now bytes buffer WriteFault written finds = refuses_last law now (piece_of bytes now.at now.last) WriteFault written finds.0
 
 pub limit_message : (law : TextsFollow) (now : Played) (found : Result Piece DemoError) (number size next : ℕ) (written : Option Written) → Ok (piece.Message number size next) ≡ found
-    → (stops (Truncated now.at) ≡ (at_most now found).ending) × Wrote written written (at_most now found).text true
+    → (stops (Truncated now.at) ≡ (at_most now found).ending) × Wrote written written (play_text (at_most now found)) true
 limit_message law now (Ok piece.End) number size next written is = absurd cc
 limit_message law now (Ok (piece.Message n s x)) number size next written is = (refl, law.none)
 limit_message law now (Err d) number size next written is = absurd cc
 
 -- ---- a demo
 
--- how far it was played: the bytes up to there, whatever is behind them, and the text so far
+-- how far it was played: the bytes up to there, whatever is behind them, and the texts so far
 pub record Going (told : Option Told) (file left : ℕ) (first now : Played) (before mid : Option Written) : Type 0 where
   pub front : List ℕ
-  pub text : List ℕ
+  pub texts : List (List ℕ)
   pub long : length front ≡ now.at
-  pub wrote : Wrote before mid text true
+  pub wrote : Wrote before mid (concat texts) true
   pub has : (rest : List ℕ) → HasFrom told file now.at rest → HasFrom told file 0 (front ++ rest)
-  pub whole : (rest : List ℕ) → play_from most_records (front ++ rest) first ≡ told_first text (play_from left (front ++ rest) now)
+  pub whole : (rest : List ℕ) → play_from most_records (front ++ rest) first ≡ told_all texts (play_from left (front ++ rest) now)
 
 pub begins : (law : TextsFollow) (told : Option Told) (file : ℕ) (first : Played) (before : Option Written) → first.at ≡ 0 → Going told file most_records first first before before
 begins law told file first before at = record {
   front = [];
-  text = [];
+  texts = [];
   long = sym at;
   wrote = law.none;
   has = λ rest has. subst (λ (n : ℕ). HasFrom told file n rest) at has;
@@ -199,7 +208,7 @@ pub ends_so : (law : TextsFollow) (told : Option Told) (file left : ℕ) (first 
 ends_so law told file left first now before mid after bytes result going has some plays = (
   going.front ++ bytes,
   going.has bytes has,
-  subst (λ (p : Play). Plays p before after result) (sym (going.whole bytes)) (plays_behind law going.text (play_from left (going.front ++ bytes) now) before mid after result some going.wrote plays),
+  subst (λ (p : Play). Plays p before after result) (sym (going.whole bytes)) (plays_behind law going.texts (play_from left (going.front ++ bytes) now) before mid after result some going.wrote plays),
 )
 
 -- one record more
@@ -216,8 +225,12 @@ unfolding play_from
 step_more left demo now next stepped is leads =
     ap (λ (s : Result (Option Stepped) DemoError). play_step now s (play_from left demo)) is ∙ ap (λ (p : Played). told_first stepped.text (play_from left demo p)) leads
 
-text_behind : (text more : List ℕ) (play : Play) → told_first text (told_first more play) ≡ told_first (text ++ more) play
-text_behind text more play = ap (λ (t : List ℕ). record play { text = t }) (sym (append_assoc text more play.text))
+text_behind : (texts : List (List ℕ)) (text : List ℕ) (play : Play) → told_all texts (told_first text play) ≡ told_all (texts ++ text ∷ []) play
+text_behind texts text play = ap (λ (ts : List (List ℕ)). record play { texts = ts }) (sym (append_assoc texts (text ∷ []) play.texts))
+
+-- what a step told stands behind the texts so far
+told_behind : (texts : List (List ℕ)) (text : List ℕ) → concat (texts ++ text ∷ []) ≡ concat texts ++ text
+told_behind texts text = concat-append texts (text ∷ []) ∙ ap (λ (t : List ℕ). concat texts ++ t) (append-nil text)
 
 goes_on : (law : TextsFollow) (told : Option Told) (file left : ℕ) (first now next : Played) (before mid after : Option Written) (bytes : List ℕ)
     → Going told file (suc left) first now before mid → HasFrom told file now.at bytes
@@ -236,9 +249,9 @@ goes_on law told file left first now next before mid after bytes going has takes
     let more : List ℕ = take (head_bytes + size) bytes in
     record {
       front = going.front ++ more;
-      text = going.text ++ stepped.text;
+      texts = going.texts ++ stepped.text ∷ [];
       long = omega (arith, length-append going.front more, length-take (head_bytes + size) bytes, had.there, going.long, place);
-      wrote = law.more going.wrote taken.1 (ap (λ (t : List ℕ). going.text ++ t) (sym (text_of now (step demo now) stepped leads.1)));
+      wrote = law.more going.wrote taken.1 (told_behind going.texts stepped.text ∙ ap (λ (t : List ℕ). concat going.texts ++ t) (sym (text_of now (step demo now) stepped leads.1)));
       has = λ rest behind. subst (λ (xs : List ℕ). HasFrom told file 0 xs) (sym (append_assoc going.front more rest))
           (going.has (more ++ rest) (has_joined told file now.at (head_bytes + size) bytes rest has (subst (λ (n : ℕ). HasFrom told file n rest) place behind)));
       whole = λ rest.
@@ -247,9 +260,9 @@ goes_on law told file left first now next before mid after bytes going has takes
           let same : going.front ++ more ++ rest ≡ other = append_assoc going.front more rest in
           let one : play_from (suc left) other now ≡ told_first stepped.text (play_from left other next) =
           step_more left other now next stepped (plays_so demo other bytes rest now stepped there was here) leads.2 in
-          ap (λ (xs : List ℕ). play_from most_records xs first) same ∙ going.whole (more ++ rest) ∙ ap (told_first going.text) one
-          ∙ text_behind going.text stepped.text (play_from left other next)
-          ∙ ap (λ (xs : List ℕ). told_first (going.text ++ stepped.text) (play_from left xs next)) (sym same);
+          ap (λ (xs : List ℕ). play_from most_records xs first) same ∙ going.whole (more ++ rest) ∙ ap (told_all going.texts) one
+          ∙ text_behind going.texts stepped.text (play_from left other next)
+          ∙ ap (λ (xs : List ℕ). told_all (going.texts ++ stepped.text ∷ []) (play_from left xs next)) (sym same);
     }
 
 -- ---- by the records that were played
@@ -263,10 +276,10 @@ pub goes_on_by : (law : TextsFollow) (told : Option Told) (file taken : ℕ) (fi
 goes_on_by law told file taken first now next before mid after bytes few going has takes =
     goes_on law told file (most_records - (taken + 1)) first now next before mid after bytes (rw (one_left taken few) at going) has takes
 
-ends_by_step : (left : ℕ) (demo : List ℕ) (now next : Played) (mid after : Option Written) → TakesStep (step demo now) now next mid after (Ok true)
+ends_by_step : (law : TextsFollow) (left : ℕ) (demo : List ℕ) (now next : Played) (mid after : Option Written) → TakesStep (step demo now) now next mid after (Ok true)
     → Plays (play_from (suc left) demo now) mid after (Ok tt)
 unfolding play_from
-ends_by_step left demo now next mid after takes = ends_step (step demo now) now next (play_from left demo) mid after takes
+ends_by_step law left demo now next mid after takes = ends_step law (step demo now) now next (play_from left demo) mid after takes
 
 pub ends_by : (law : TextsFollow) (told : Option Told) (file taken : ℕ) (first now next : Played) (before mid after : Option Written) (bytes : List ℕ)
     → taken < most_records → Going told file (most_records - taken) first now before mid → HasFrom told file now.at bytes
@@ -276,7 +289,7 @@ ends_by law told file taken first now next before mid after bytes few going has 
     let left : ℕ = most_records - (taken + 1) in
     let here : Going told file (suc left) first now before mid = rw (one_left taken few) at going in
     ends_so law told file (suc left) first now before mid after bytes (Ok tt) here has (λ e. absurd cc)
-    (ends_by_step left (here.front ++ bytes) now next mid after (takes (here.front ++ bytes) (from_there told file (suc left) first now before mid here bytes)))
+    (ends_by_step law left (here.front ++ bytes) now next mid after (takes (here.front ++ bytes) (from_there told file (suc left) first now before mid here bytes)))
 
 fails_by_step : (law : TextsFollow) (left : ℕ) (demo : List ℕ) (now : Played) (mid after : Option Written) (e : DemoError) → Fails (step demo now) now mid after e
     → Plays (play_from (suc left) demo now) mid after (Err e)

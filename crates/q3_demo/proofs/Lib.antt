@@ -1,6 +1,9 @@
+pub mod Accepted
 pub mod Whole
 pub mod Pieces
 pub mod Finding
 pub mod Going
 pub mod Printed
+pub mod Fronts
+pub mod Stepping
 pub mod Adding

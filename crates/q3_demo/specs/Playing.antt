@@ -1,5 +1,5 @@
 -- A demo is played: its messages are applied, one after the other.
-use Rattle.std.specs.Prelude.{ℕ, zero, suc, ◌+◌, List, [], ◌∷◌, ◌++◌, drop, take, codes, decimal, Option, Some, None, Result, Ok, Err}
+use Rattle.std.specs.Prelude.{ℕ, zero, suc, ◌+◌, List, [], ◌∷◌, drop, take, codes, decimal, Option, Some, None, Result, Ok, Err}
 use Rattle.std.specs.List.{concat}
 use Rattle.q3_bits.specs.ResultBind.{◌>>=◌, fault_as}
 use Rattle.q3_profile.specs.declared.profile.Profile.{Profile}
@@ -66,22 +66,27 @@ step demo played = do
 abbrev pub most_records : ℕ
 most_records = 1048576
 
--- what playing prints, and why it ended, where it wasn't by the demo's end
+-- what playing tells: the lines of each record that is played, and behind them, where the demo ends, what they left; and why it ended,
+-- where it wasn't by the demo's end
 pub record Play : Type 0 where
-  pub text : List ℕ
+  pub texts : List (List ℕ)
   pub ending : Result (Unit {0}) DemoError
+
+-- what it prints
+abbrev pub play_text : Play → List ℕ
+play_text play = concat play.texts
 
 -- at the demo's end the state is told
 abbrev pub ends : Played → Play
-ends played = record { text = state_text played.state played.records; ending = Ok tt }
+ends played = record { texts = state_text played.state played.records ∷ []; ending = Ok tt }
 
 -- where a record is refused, nothing more
 abbrev pub refused : DemoError → Play
-refused e = record { text = []; ending = Err e }
+refused e = record { texts = []; ending = Err e }
 
 -- a record is told, and then the others
 abbrev pub told_first : List ℕ → Play → Play
-told_first text others = record others { text = text ++ others.text }
+told_first text others = record others { texts = text ∷ others.texts }
 
 -- where no more may be played, anything but the demo's end is refused
 abbrev pub at_most : Played → Result Piece DemoError → Play
@@ -102,7 +107,32 @@ play_from (suc left) demo played = play_step played (step demo played) (play_fro
 abbrev pub play_of : Profile → List ℕ → Play
 play_of profile demo = play_from most_records demo (unplayed profile)
 
--- ---- the first of it
+-- ---- the records that are played
+
+-- a record more where a step gives one, and then the others; none behind a refusal or the demo's end
+abbrev pub next_records : Result (Option Stepped) DemoError → (Played → List Stepped) → List Stepped
+next_records (Ok (Some stepped)) others = stepped ∷ others stepped.played
+next_records other others = []
+
+-- those from there on, as many at most
+unfoldable pub records_from : ℕ → List ℕ → Played → List Stepped
+records_from zero demo played = []
+records_from (suc left) demo played = next_records (step demo played) (records_from left demo)
+
+-- those of a demo, by a profile
+abbrev pub records_of : Profile → List ℕ → List Stepped
+records_of profile demo = records_from most_records demo (unplayed profile)
+
+-- what the last of them left, or what was there before the first
+unfoldable pub last_of : Played → List Stepped → Played
+last_of played [] = played
+last_of played (stepped ∷ records) = last_of stepped.played records
+
+-- what all of them left
+abbrev pub last_played : Profile → List ℕ → Played
+last_played profile demo = last_of (unplayed profile) (records_of profile demo)
+
+-- ---- the first of them
 
 -- what the first so many records leave; it is refused where one of them is, and where the demo ends before
 abbrev pub go_on : Played → Option Stepped → Result Played DemoError

@@ -1,5 +1,6 @@
 -- How a demo is read and played from a file.
-use Rattle.std.specs.Prelude.{◌≡◌, ℕ, ◌≤◌, true, false, List, ◌++◌, drop, take, length, Option, Some, None, Result, Ok, Err}
+use Rattle.std.specs.Prelude.{◌≡◌, ℕ, ◌≤◌, true, false, List, drop, take, length, Option, Some, None, Result, Ok, Err}
+use Rattle.std.specs.List.{concat}
 use Rattle.q3_io.specs.Faults.{Rose}
 use Rattle.q3_io.specs.Told.{Told, contents_at}
 use Rattle.q3_io.specs.Written.{Written, Wrote}
@@ -8,7 +9,7 @@ use Rattle.q3_demo.specs.declared.error.DemoError.TheVariants.{ReadFault, WriteF
 use Rattle.q3_demo.specs.declared.record.Piece.{Piece}
 use Rattle.q3_demo.specs.declared.record.Piece.TheVariants as piece
 use Rattle.q3_demo.specs.Records.{head_bytes, piece_of}
-use Rattle.q3_demo.specs.Playing.{Play}
+use Rattle.q3_demo.specs.Playing.{Play, play_text}
 
 -- ---- what a file holds
 
@@ -37,12 +38,12 @@ FindsPiece bytes at last buffer result = (result ≡ piece_of bytes at last) × 
 -- ---- playing
 
 -- the text of playing was printed and it ended so; or something from outside ended it early: before the first line where memory ran out,
--- behind a front of the text where a read failed, and where the sink did it took a front
+-- behind the first of the texts, whole, where a read failed, and where the sink did it took a front
 abbrev pub Plays : Play → Option Written → Option Written → Result (Unit {0}) DemoError → Type 0
 Plays play before after (Err NoMemory) = after ≡ before
-Plays play before after (Err ReadFault) = (printed : List ℕ) × (rest : List ℕ) × (printed ++ rest ≡ play.text) × Wrote before after printed true
-Plays play before after (Err WriteFault) = Wrote before after play.text false
-Plays play before after result = (result ≡ play.ending) × Wrote before after play.text true
+Plays play before after (Err ReadFault) = (count : ℕ) × Wrote before after (concat (take count play.texts)) true
+Plays play before after (Err WriteFault) = Wrote before after (play_text play) false
+Plays play before after result = (result ≡ play.ending) × Wrote before after (play_text play) true
 
 -- ---- causes
 

@@ -6,7 +6,7 @@ ghost use Rattle.std.specs.Prelude.{◌≡◌, ◌<◌, ◌≤◌, ◌+◌, ◌+
 ghost use Rattle.q3_io.specs.Faults.{HasCause};
 ghost use Rattle.q3_demo.specs.Records.{longest_record};
 ghost use Rattle.q3_demo.specs.Recording.{composed, game_bits, note_at, closing, record_bytes, is_whole, is_before};
-ghost use Rattle.q3_demo.specs.Recorder.{new_recorder, most_added, is_waiting, IsNoted, AppendsBytes, noted_as, done};
+ghost use Rattle.q3_demo.specs.Recorder.{new_recorder, most_added, is_waiting, MayNote, AppendsBytes, noted_as, done};
 
 use crate::compose::{compose_game, compose_whole};
 use crate::record::LONGEST_RECORD;
@@ -49,10 +49,9 @@ pub enum Noted {
     Ended,
 }
 
-/// A recording into a file. After `new` no call takes memory.
+/// A recording into a file, whose number comes with each call. After `new` no call takes memory.
 #[derive(Drop)]
 pub struct Recorder {
-    file: usize,
     stage: Stage,
     game: Vec<u8>,
     game_length: Option<usize>,
@@ -69,7 +68,6 @@ impl Model for Recorder {
     ghost Value = { RecorderState };
 
     ghost view = { λ r. record {
-      file = r.file;
       stage = r.stage;
       game = option_map (λ (count : ℕ). take count r.game.items) r.game_length;
     } };
@@ -83,15 +81,14 @@ impl Recorder {
     ghost use Rattle.q3_rings.specs.Rings.{view_at};
     ghost use Rattle.q3_demo.specs.Recording.{begins, goes_on, recomposed, composed_whole, whole_of, front_at, end_bytes};
 
-    /// A recording into the file of this number, which is empty. It waits for a whole snapshot. `Err` is want of memory.
-    pub fn new(alloc: Global, file: usize) -> Result<Recorder, NoMemory>
-        ensures { IfOk result (λ made. made ≡ new_recorder file) }
+    /// A recording that waits for a whole snapshot, into a file that is empty. `Err` is want of memory.
+    pub fn new(alloc: Global) -> Result<Recorder, NoMemory>
+        ensures { IfOk result (λ made. made ≡ new_recorder) }
     {
         let game = vec![in alloc; 0; LONGEST_RECORD]?;
         let message = vec![in alloc; 0; LONGEST_RECORD]?;
         let bytes = vec![in alloc; 0; MOST_ADDED]?;
         Ok(Recorder {
-            file,
             stage: Stage::Waits,
             game,
             game_length: None,
@@ -119,61 +116,68 @@ impl Recorder {
         };
     }
 
-    /// Records a message that the client applied: `applied` is what became of it, and `state` is what the client has behind it. While the
-    /// recording waits, `prepare` was called with the state before the message. `Failed` comes where a write of the files failed; the
-    /// recording isn't used any more then.
+    /// Records a message that the client applied, the last one: `applied` is what became of it, and `state` is what the client has behind
+    /// it. While the recording waits, `prepare` was called with the state before the message. Behind the recording's end nothing is added.
+    /// `Failed` comes where a write of the files failed; the recording isn't used any more then.
     pub fn note<F: Files>(
         &mut self,
         state: &ClState,
-        files: &mut F,
         applied: &Applied,
         message: &[u8],
+        file: usize,
+        files: &mut F,
     ) -> Result<Noted, Failed>
-        requires given { self.old.file < F.given files.old }
+        requires given { file < F.given files.old }
         requires short { length message.now ≤ longest_record }
         requires number { 0 < applied.now.number }
-        requires applied { IsNoted self.old.stage state.now applied.now message.now }
+        requires applied { MayNote self.old.stage state.now applied.now message.now }
         ensures stage { OnOk result (self.new ≡ record self.old { stage = (note_at self.old.stage self.old.game state.now applied.now message.now).stage }) }
         ensures answer { IfOk result (λ noted. noted ≡ noted_as (note_at self.old.stage self.old.game state.now applied.now message.now).stage) }
-        ensures adds { AppendsBytes (F.told files.old) (F.told files.new) self.old.file (note_at self.old.stage self.old.game state.now applied.now message.now).bytes (done result) }
+        ensures adds { AppendsBytes (F.told files.old) (F.told files.new) file (note_at self.old.stage self.old.game state.now applied.now message.now).bytes (done result) }
         ensures given { F.given files.new ≡ F.given files.old }
         ensures cause { HasCause (F.write_faults files.old) (F.write_faults files.new) result }
         ensures others { F.faults files.new ≡ F.faults files.old }
     {
         match self.stage {
-            Stage::Waits if is_whole(applied.snap) => self.begin(files, applied.number, message),
+            Stage::Waits if is_whole(applied.snap) => self.begin(
+                applied.number,
+                message,
+                file,
+                files,
+            ),
             Stage::Waits => Ok(Noted::Waits),
             Stage::Runs { first } if is_before(first, applied.snap) => {
-                self.recompose(state, files, first, applied.number, message)
+                self.recompose(state, first, applied.number, message, file, files)
             }
-            Stage::Runs { first } => self.go_on(files, first, applied.number, message),
-            Stage::Ended => unreachable!(),
+            Stage::Runs { first } => self.go_on(first, applied.number, message, file, files),
+            Stage::Ended => Ok(Noted::Ended),
         }
     }
 
     /// Writes the gamestate that was kept, and the first message.
     fn begin<F: Files>(
         &mut self,
-        files: &mut F,
         number: u32,
         message: &[u8],
+        file: usize,
+        files: &mut F,
     ) -> Result<Noted, Failed>
-        requires given { self.old.file < F.given files.old }
+        requires given { file < F.given files.old }
         requires short { length message.now ≤ longest_record }
         requires number { 0 < number }
         ensures stage { OnOk result (self.new ≡ record self.old { stage = (begins number message.now self.old.game).stage }) }
         ensures answer { IfOk result (λ noted. noted ≡ noted_as (begins number message.now self.old.game).stage) }
-        ensures adds { AppendsBytes (F.told files.old) (F.told files.new) self.old.file (begins number message.now self.old.game).bytes (done result) }
+        ensures adds { AppendsBytes (F.told files.old) (F.told files.new) file (begins number message.now self.old.game).bytes (done result) }
         ensures given { F.given files.new ≡ F.given files.old }
         ensures cause { HasCause (F.write_faults files.old) (F.write_faults files.new) result }
         ensures others { F.faults files.new ≡ F.faults files.old }
     {
         let Some(count) = self.game_length else {
-            return self.end(files);
+            return self.end(file, files);
         };
         let place = put_record(&mut self.bytes, 0, number - 1, &self.game[..count]);
         let place = put_record(&mut self.bytes, place, number, message);
-        files.append(self.file, &self.bytes[..place])?;
+        files.append(file, &self.bytes[..place])?;
         self.stage = Stage::Runs { first: number };
         Ok(Noted::Wrote)
     }
@@ -181,22 +185,23 @@ impl Recorder {
     /// Writes a message that stays as it is.
     fn go_on<F: Files>(
         &mut self,
-        files: &mut F,
         first: u32,
         number: u32,
         message: &[u8],
+        file: usize,
+        files: &mut F,
     ) -> Result<Noted, Failed>
-        requires given { self.old.file < F.given files.old }
+        requires given { file < F.given files.old }
         requires short { length message.now ≤ longest_record }
         ensures stage { OnOk result (self.new ≡ record self.old { stage = (goes_on first number message.now).stage }) }
         ensures answer { IfOk result (λ noted. noted ≡ noted_as (goes_on first number message.now).stage) }
-        ensures adds { AppendsBytes (F.told files.old) (F.told files.new) self.old.file (goes_on first number message.now).bytes (done result) }
+        ensures adds { AppendsBytes (F.told files.old) (F.told files.new) file (goes_on first number message.now).bytes (done result) }
         ensures given { F.given files.new ≡ F.given files.old }
         ensures cause { HasCause (F.write_faults files.old) (F.write_faults files.new) result }
         ensures others { F.faults files.new ≡ F.faults files.old }
     {
         let place = put_record(&mut self.bytes, 0, number, message);
-        files.append(self.file, &self.bytes[..place])?;
+        files.append(file, &self.bytes[..place])?;
         self.stage = Stage::Runs { first };
         Ok(Noted::Wrote)
     }
@@ -205,49 +210,51 @@ impl Recorder {
     fn recompose<F: Files>(
         &mut self,
         state: &ClState,
-        files: &mut F,
         first: u32,
         number: u32,
         message: &[u8],
+        file: usize,
+        files: &mut F,
     ) -> Result<Noted, Failed>
-        requires given { self.old.file < F.given files.old }
+        requires given { file < F.given files.old }
         requires front { IsOk (front_at state.now.profile.code message.now) }
         requires held { IsSome (view_at state.now.held state.now.number) }
         ensures stage { OnOk result (self.new ≡ record self.old { stage = (recomposed first number (composed_whole state.now (whole_of state.now message.now))).stage }) }
         ensures answer { IfOk result (λ noted. noted ≡ noted_as (recomposed first number (composed_whole state.now (whole_of state.now message.now))).stage) }
-        ensures adds { AppendsBytes (F.told files.old) (F.told files.new) self.old.file (recomposed first number (composed_whole state.now (whole_of state.now message.now))).bytes (done result) }
+        ensures adds { AppendsBytes (F.told files.old) (F.told files.new) file (recomposed first number (composed_whole state.now (whole_of state.now message.now))).bytes (done result) }
         ensures given { F.given files.new ≡ F.given files.old }
         ensures cause { HasCause (F.write_faults files.old) (F.write_faults files.new) result }
         ensures others { F.faults files.new ≡ F.faults files.old }
     {
         let Ok(count) = compose_whole(state, message, &mut self.commands, &mut self.message) else {
-            return self.end(files);
+            return self.end(file, files);
         };
         let place = put_record(&mut self.bytes, 0, number, &self.message[..count]);
-        files.append(self.file, &self.bytes[..place])?;
+        files.append(file, &self.bytes[..place])?;
         self.stage = Stage::Runs { first };
         Ok(Noted::Wrote)
     }
 
     /// Writes the demo's end before a message that is too long.
-    fn end<F: Files>(&mut self, files: &mut F) -> Result<Noted, Failed>
-        requires given { self.old.file < F.given files.old }
+    fn end<F: Files>(&mut self, file: usize, files: &mut F) -> Result<Noted, Failed>
+        requires given { file < F.given files.old }
         ensures stage { OnOk result (self.new ≡ record self.old { stage = Stage.Ended }) }
         ensures answer { IfOk result (λ noted. noted ≡ Noted.Ended) }
-        ensures adds { AppendsBytes (F.told files.old) (F.told files.new) self.old.file end_bytes (done result) }
+        ensures adds { AppendsBytes (F.told files.old) (F.told files.new) file end_bytes (done result) }
         ensures given { F.given files.new ≡ F.given files.old }
         ensures cause { HasCause (F.write_faults files.old) (F.write_faults files.new) result }
         ensures others { F.faults files.new ≡ F.faults files.old }
     {
-        files.append(self.file, &END)?;
+        files.append(file, &END)?;
         self.stage = Stage::Ended;
         Ok(Noted::Ended)
     }
 
     /// Ends the recording: writes the demo's end, unless it ended by itself. `Failed` comes where a write of the files failed.
-    pub fn stop<F: Files>(&mut self, files: &mut F) -> Result<(), Failed>
-        requires given { self.old.file < F.given files.old }
-        ensures adds { AppendsBytes (F.told files.old) (F.told files.new) self.old.file (closing self.old.stage) result }
+    pub fn stop<F: Files>(&mut self, file: usize, files: &mut F) -> Result<(), Failed>
+        requires given { file < F.given files.old }
+        ensures stage { OnOk result (self.new ≡ record self.old { stage = Stage.Ended }) }
+        ensures adds { AppendsBytes (F.told files.old) (F.told files.new) file (closing self.old.stage) result }
         ensures given { F.given files.new ≡ F.given files.old }
         ensures cause { HasCause (F.write_faults files.old) (F.write_faults files.new) result }
         ensures others { F.faults files.new ≡ F.faults files.old }
@@ -255,7 +262,9 @@ impl Recorder {
         if self.stage == Stage::Ended {
             return Ok(());
         }
-        files.append(self.file, &END)
+        files.append(file, &END)?;
+        self.stage = Stage::Ended;
+        Ok(())
     }
 }
 

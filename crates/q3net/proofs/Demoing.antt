@@ -1,7 +1,10 @@
 -- How a demo's play ends.
-use Rattle.std.proofs.Common.{◌≡◌, ℕ, zero, suc, Bool, true, false, List, [], ◌∷◌, ◌++◌, drop, length, Option, Some, None, Result, Ok, Err, refl, sym, ap, subst, ◌∙◌, inl, inr}
+use Rattle.std.proofs.Common.{◌≡◌, ℕ, zero, suc, Bool, true, false, List, [], ◌∷◌, ◌++◌, take, drop, length, Option, Some, None, Result, Ok, Err, refl, sym, ap, subst, ◌∙◌, inl, inr}
 use Rattle.std.specs.Prelude.{◌⊎◌, IsSome, ok_or, unwrap_or}
+use Rattle.std.specs.List.{concat}
 use Rattle.std.specs.Result.{result_map_both}
+use Rattle.std.proofs.lemmas.List.{take-append-drop}
+use Rattle.std.proofs.lemmas.List.Folds.{concat-append}
 use Rattle.q3_bits.specs.ResultBind.{◌>>=◌}
 use Rattle.q3_io.specs.Laws.{TextsFollow}
 use Rattle.q3_io.specs.Told.{Told, contents_of, contents_at, LooksUp, Lookup, after_named, after_given}
@@ -104,19 +107,23 @@ play_verdict told profile demo bytes by passes holds = (
 fault_of : Result (Unit {0}) DemoError → Result (Unit {0}) Fault
 fault_of ended = result_map_both (λ x. x) demo_fault ended
 
+-- the first of some texts are a front of all of them
+first_texts : (count : ℕ) (texts : List (List ℕ)) → concat (take count texts) ++ concat (drop count texts) ≡ concat texts
+first_texts count texts = sym (concat-append (take count texts) (drop count texts)) ∙ ap concat (take-append-drop count texts)
+
 play_ends : (follow : TextsFollow) (told : Option Told) (command : Option Command) (names : List (List ℕ)) (play : demos.Play) (old now : Option Written) (ended : Result (Unit {0}) DemoError)
     → IsVerdict (of_files told) command (demo_played names (Ok play)) → Plays play old now ended → Executes command (of_files told) old now (fault_of ended)
 unfolding fault_of
-play_ends follow told command names play old now (Ok x) is plays = (demo_played names (Ok play), is, inl (play.text, inl (ap fault_of plays.0, refl), plays.1))
+play_ends follow told command names play old now (Ok x) is plays = (demo_played names (Ok play), is, inl (demos.play_text play, inl (ap fault_of plays.0, refl), plays.1))
 play_ends follow told command names play old now (Err demo.NoMemory) is plays =
     (demo_played names (Ok play), is, inl ([], inr (faults.NoMemory, refl, refl), rw plays follow.none))
 play_ends follow told command names play old now (Err demo.ReadFault) is plays =
-    (demo_played names (Ok play), is, inl (plays.0, inr (faults.Read, refl, (plays.1, plays.2)), plays.3))
+    (demo_played names (Ok play), is, inl (concat (take plays.0 play.texts), inr (faults.Read, refl, (concat (drop plays.0 play.texts), first_texts plays.0 play.texts)), plays.1))
 play_ends follow told command names play old now (Err demo.WriteFault) is plays = (demo_played names (Ok play), is, inr (refl, plays))
-play_ends follow told command names play old now (Err (demo.Truncated at)) is plays = (demo_played names (Ok play), is, inl (play.text, inl (ap fault_of plays.0, refl), plays.1))
-play_ends follow told command names play old now (Err (demo.BadLength at)) is plays = (demo_played names (Ok play), is, inl (play.text, inl (ap fault_of plays.0, refl), plays.1))
-play_ends follow told command names play old now (Err (demo.BadNumber at)) is plays = (demo_played names (Ok play), is, inl (play.text, inl (ap fault_of plays.0, refl), plays.1))
-play_ends follow told command names play old now (Err (demo.Message at cause)) is plays = (demo_played names (Ok play), is, inl (play.text, inl (ap fault_of plays.0, refl), plays.1))
+play_ends follow told command names play old now (Err (demo.Truncated at)) is plays = (demo_played names (Ok play), is, inl (demos.play_text play, inl (ap fault_of plays.0, refl), plays.1))
+play_ends follow told command names play old now (Err (demo.BadLength at)) is plays = (demo_played names (Ok play), is, inl (demos.play_text play, inl (ap fault_of plays.0, refl), plays.1))
+play_ends follow told command names play old now (Err (demo.BadNumber at)) is plays = (demo_played names (Ok play), is, inl (demos.play_text play, inl (ap fault_of plays.0, refl), plays.1))
+play_ends follow told command names play old now (Err (demo.Message at cause)) is plays = (demo_played names (Ok play), is, inl (demos.play_text play, inl (ap fault_of plays.0, refl), plays.1))
 
 pub play_ended : (follow : TextsFollow) (told mid found : Option Told) (profile demo : List ℕ) (by : Profile) (file : ℕ) (old now : Option Written) (ended : Result (Unit {0}) DemoError)
     → GetsFrom profile_in told profile (Ok by) → Gives (Ok by) (profile ∷ []) told mid → Finds demo mid found (Ok file)

@@ -155,7 +155,7 @@ played profile demo = do
 
 -- what playing prints, and how it ends; of none, by a cause
 abbrev pub demo_played : List (List ℕ) → Result demos.Play Fault → Verdict
-demo_played names (Ok play) = printing goes_on_reading names play.text (result_map_both (λ x. x) demo_fault play.ending)
+demo_played names (Ok play) = printing goes_on_reading names (demos.play_text play) (result_map_both (λ x. x) demo_fault play.ending)
 demo_played names (Err cause) = printing reads_first names [] (Err cause)
 
 -- what is told of the outside: of the files, of the wire, and of the clock
