@@ -3,6 +3,7 @@ pub mod Written
 pub mod Line
 pub mod Laws
 pub mod Told
+pub mod Acts
 pub mod HostCounts
 pub mod Quoted
 pub mod Print
