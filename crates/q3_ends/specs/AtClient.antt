@@ -1,5 +1,5 @@
 -- What a client's issuing of a command or a move does at its end, what a client makes of bytes, and what it shows.
-use Rattle.std.specs.Prelude.{ℕ, List, Option, Some, None, Result, Ok, Err}
+use Rattle.std.specs.Prelude.{ℕ, Bool, List, Option, Some, None, Result, Ok, Err}
 use Rattle.q3_window.specs.declared.outgoing.WindowFull.{WindowFull}
 use Rattle.q3_clmsg.specs.declared.moves.Move.{Move}
 use Rattle.q3_ring.specs.Snapshot.{Snapshot}
@@ -39,9 +39,9 @@ add_move client c one =
     let given = add_move_at client one in
     record { client = given.client; answer = moved c given.answer }
 
--- the answer of a client that took bytes
-abbrev pub taken_by_client : Front → ℕ → Taken → Answered
-taken_by_client front c taken = Took front (ByClient c taken.answer taken.client.state taken.heard)
+-- the answer of a client that took bytes, and whose recording ended by that or not
+abbrev pub taken_by_client : Front → ℕ → Taken → Bool → Answered
+taken_by_client front c taken ended = Took front (ByClient c taken.answer taken.client.state taken.heard ended)
 
 -- the newest snapshot that a client accepted
 abbrev pub newest_of : ClientState → Option Snapshot

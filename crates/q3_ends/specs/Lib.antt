@@ -1,2 +1,3 @@
 pub mod AtServer
 pub mod AtClient
+pub mod Recording

@@ -1,5 +1,5 @@
 -- The lines of an event's answer.
-use Rattle.std.specs.Prelude.{ℕ, List, [], ◌∷◌, ◌++◌, codes, decimal, Option, Some, None, Result, Ok, Err}
+use Rattle.std.specs.Prelude.{ℕ, Bool, true, false, List, [], ◌∷◌, ◌++◌, codes, decimal, Option, Some, None, Result, Ok, Err}
 use Rattle.std.specs.List.{concat}
 use Rattle.q3_io.specs.Print.{hex_word}
 use Rattle.q3_clstate.specs.Report.{snapshot_text}
@@ -9,6 +9,10 @@ use Rattle.q3_report.specs.declared.answer.MoveRefused.{MoveRefused}
 use Rattle.q3_report.specs.declared.answer.MoveRefused.TheVariants as refused
 use Rattle.q3_report.specs.declared.answer.TypeRefused.{TypeRefused}
 use Rattle.q3_report.specs.declared.answer.TypeRefused.TheVariants as untyped
+use Rattle.q3_report.specs.declared.answer.RecordRefused.{RecordRefused}
+use Rattle.q3_report.specs.declared.answer.RecordRefused.TheVariants as unrecorded
+use Rattle.q3_report.specs.declared.answer.StopRefused.{StopRefused}
+use Rattle.q3_report.specs.declared.answer.StopRefused.TheVariants as unstopped
 use Rattle.q3_report.specs.declared.answer.TakeRefused.{TakeRefused}
 use Rattle.q3_report.specs.declared.answer.TakeRefused.TheVariants as untaken
 use Rattle.q3_report.specs.declared.answer.HandedIn.{HandedIn}
@@ -37,6 +41,16 @@ abbrev pub move_refused_text : MoveRefused → List ℕ
 move_refused_text refused.NoClient = codes "noclient"
 move_refused_text (refused.Error e) = move_error_text e
 
+-- why a client doesn't begin a recording, and why it doesn't end one
+abbrev pub record_refused_text : RecordRefused → List ℕ
+record_refused_text unrecorded.NoClient = codes "noclient"
+record_refused_text unrecorded.NoGame = codes "nogame"
+record_refused_text unrecorded.Already = codes "already"
+
+abbrev pub stop_refused_text : StopRefused → List ℕ
+stop_refused_text unstopped.NoClient = codes "noclient"
+stop_refused_text unstopped.NotRecording = codes "notrecording"
+
 -- the lines of what was handed in
 abbrev pub handed_lines : HandedIn → List ℕ
 handed_lines (handed.Client c outcome) = concat (codes "client " ∷ decimal c ∷ handed_in_text slot_error_text outcome ∷ [])
@@ -52,6 +66,8 @@ handed_lines handed.Time = codes "time ok\n"
 handed_lines (handed.Say c outcome) = concat (codes "say " ∷ decimal c ∷ issued_text say_error_text outcome ∷ [])
 handed_lines (handed.TypeText c outcome) = concat (codes "type " ∷ decimal c ∷ issued_text type_refused_text outcome ∷ [])
 handed_lines (handed.Move c outcome) = concat (codes "move " ∷ decimal c ∷ handed_in_text move_refused_text outcome ∷ [])
+handed_lines (handed.Record c outcome) = concat (codes "record " ∷ decimal c ∷ handed_in_text record_refused_text outcome ∷ [])
+handed_lines (handed.Stop c outcome) = concat (codes "stop " ∷ decimal c ∷ handed_in_text stop_refused_text outcome ∷ [])
 
 -- what stands in front of what an end made of bytes
 abbrev pub front_text : Front → List ℕ
@@ -66,9 +82,14 @@ untaken_text untaken.Unknown = codes " unknown\n"
 untaken_text untaken.NoClient = codes " noclient\n"
 untaken_text (untaken.Stranger c) = concat (codes " client " ∷ decimal c ∷ codes " stranger\n" ∷ [])
 
+-- the last line under what a client made of bytes, where its recording ended by itself
+abbrev pub ended_text : Bool → List ℕ
+ended_text true = codes "+ recording ended\n"
+ended_text false = []
+
 -- what an end made of bytes, to the end of that line and with the lines under it
 abbrev pub taking_text : Taking → List ℕ
-taking_text (ByClient c took state commands) = client_text state c took commands
+taking_text (ByClient c took state commands ended) = client_text state c took commands ++ ended_text ended
 taking_text (ByServer took run) = server_text took run
 
 -- what stands behind `show C`

@@ -1,5 +1,5 @@
 -- What an event answered, as a value: all that stands in its lines.
-use Rattle.std.specs.Prelude.{ℕ, List, Option, Some, None, Result}
+use Rattle.std.specs.Prelude.{ℕ, Bool, List, Option, Some, None, Result}
 use Rattle.q3_ring.specs.Snapshot.{Snapshot}
 use Rattle.q3_text.specs.declared.text.Command.{Command}
 use Rattle.q3_clstate.specs.State.{AppliedState}
@@ -13,10 +13,10 @@ use Rattle.q3_report.specs.declared.answer.HandedIn.{HandedIn}
 use Rattle.q3_report.specs.declared.answer.Front.{Front}
 use Rattle.q3_report.specs.declared.answer.TakeRefused.{TakeRefused}
 
--- an end that took bytes, and what it made of them: a client with what it has then and the commands that it executed, or the server with
--- what it ran
+-- an end that took bytes, and what it made of them: a client with what it has then, the commands that it executed, and whether its
+-- recording ended by itself; or the server with what it ran
 pub data Taking : Type 0 where
-  ByClient : ℕ → ClientTook → AppliedState → List Command → Taking
+  ByClient : ℕ → ClientTook → AppliedState → List Command → Bool → Taking
   ByServer : ServerTook → Run → Taking
 
 -- what a client shows: there is no such client, it has no snapshot, or its newest
@@ -38,7 +38,7 @@ pub data Answered : Type 0 where
 
 -- what was executed and run with an answer
 abbrev pub ran_in : Answered → Run
-ran_in (Took front (ByClient c took state commands)) = record ran_nothing { commands = commands }
+ran_in (Took front (ByClient c took state commands ended)) = record ran_nothing { commands = commands }
 ran_in (Took front (ByServer took run)) = run
 ran_in other = ran_nothing
 

@@ -11,7 +11,7 @@ use Rattle.q3_report.specs.declared.answer.Answer.TheVariants as answers
 use Rattle.q3_report.specs.Answers.{Taking, ByClient, ByServer, Showing, ShowsNobody, ShowsNothing, ShowsNewest, Answered, Given, Served, SentOut, Took, Untaken, Shown, Bytes}
 
 abbrev pub taking_of : taker.Taker → Taking
-taking_of (takers.Client c took client log) = ByClient c took client.now.state log.now.commands
+taking_of (takers.Client c took client log ended) = ByClient c took client.now.state log.now.commands ended
 taking_of (takers.Server took heard) = ByServer took (run_of heard.now)
 
 abbrev pub showing_of : shown.Shown → Showing

@@ -24,6 +24,26 @@ pub enum MoveRefused {
     Error(MoveError),
 }
 
+/// Why a client doesn't begin a recording.
+#[derive(Clone, Copy, Debug, PartialEq, Eq)]
+pub enum RecordRefused {
+    /// No such client was added.
+    NoClient,
+    /// It has applied no gamestate yet.
+    NoGame,
+    /// It records already.
+    Already,
+}
+
+/// Why a client doesn't end a recording.
+#[derive(Clone, Copy, Debug, PartialEq, Eq)]
+pub enum StopRefused {
+    /// No such client was added.
+    NoClient,
+    /// It doesn't record, or its recording ended by itself.
+    NotRecording,
+}
+
 /// What was handed in to an end, and whether the end took it over.
 #[derive(Clone, Copy, Debug, PartialEq, Eq)]
 pub enum HandedIn {
@@ -83,6 +103,16 @@ pub enum HandedIn {
         c: u8,
         outcome: Result<(), MoveRefused>,
     },
+    /// The client records into a file of its own from its next whole snapshot on, unless that was refused.
+    Record {
+        c: u8,
+        outcome: Result<(), RecordRefused>,
+    },
+    /// The client's recording has its end, unless that was refused.
+    Stop {
+        c: u8,
+        outcome: Result<(), StopRefused>,
+    },
 }
 
 /// How bytes came to an end, which stands in front of what the end made of them.
@@ -112,12 +142,13 @@ pub enum TakeRefused {
 /// The end that took bytes, what it made of them, and what is printed under that.
 #[derive(Clone, Copy)]
 pub enum Taker<'a> {
-    /// A client, which executed these commands.
+    /// A client, which executed these commands, and whether its recording ended by itself.
     Client {
         c: u8,
         took: ClientTook,
         client: &'a Client,
         log: &'a Log,
+        ended: bool,
     },
     /// The server, which executed and ran this.
     Server {

@@ -6,5 +6,8 @@ pub mod answer;
 mod refusals;
 mod report;
 
-pub use answer::{Answer, Front, HandedIn, MoveRefused, Shown, TakeRefused, Taker, TypeRefused};
+pub use answer::{
+    Answer, Front, HandedIn, MoveRefused, RecordRefused, Shown, StopRefused, TakeRefused, Taker,
+    TypeRefused,
+};
 pub use report::print_answer;

@@ -5,9 +5,9 @@ ghost use Rattle.std.specs.Prelude.{ℕ, List};
 ghost use Rattle.q3_io.specs.Faults.{HasCause};
 ghost use Rattle.q3_io.specs.Written.{Adds};
 ghost use Rattle.q3_lines.specs.ServerLines.{slot_error_text, no_client_text, say_error_text, not_later_text, late_text, config_refused_text};
-ghost use Rattle.q3_report.specs.AnswerLines.{type_refused_text, move_refused_text};
+ghost use Rattle.q3_report.specs.AnswerLines.{type_refused_text, move_refused_text, record_refused_text, stop_refused_text};
 
-use crate::answer::{MoveRefused, TypeRefused};
+use crate::answer::{MoveRefused, RecordRefused, StopRefused, TypeRefused};
 use q3_io::{Failed, Piece, Sink, print_all};
 use q3_lines::client::print_move_error;
 use q3_map::{Late, NotLater};
@@ -146,6 +146,35 @@ impl Refusal for MoveRefused {
         match self {
             MoveRefused::NoClient => out.write_all(b"noclient"),
             MoveRefused::Error(error) => print_move_error(*error, out),
+        }
+    }
+}
+
+impl Refusal for RecordRefused {
+    ghost told = { record_refused_text };
+
+    fn print<O: Sink>(&self, out: &mut O) -> Result<(), Failed>
+        ensures adds { Adds (O.written out.old) (O.written out.new) (record_refused_text self.now) result }
+        ensures cause { HasCause (O.faults out.old) (O.faults out.new) result }
+    {
+        match self {
+            RecordRefused::NoClient => out.write_all(b"noclient"),
+            RecordRefused::NoGame => out.write_all(b"nogame"),
+            RecordRefused::Already => out.write_all(b"already"),
+        }
+    }
+}
+
+impl Refusal for StopRefused {
+    ghost told = { stop_refused_text };
+
+    fn print<O: Sink>(&self, out: &mut O) -> Result<(), Failed>
+        ensures adds { Adds (O.written out.old) (O.written out.new) (stop_refused_text self.now) result }
+        ensures cause { HasCause (O.faults out.old) (O.faults out.new) result }
+    {
+        match self {
+            StopRefused::NoClient => out.write_all(b"noclient"),
+            StopRefused::NotRecording => out.write_all(b"notrecording"),
         }
     }
 }

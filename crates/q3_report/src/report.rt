@@ -7,13 +7,15 @@ ghost use Rattle.q3_io.specs.Faults.{HasCause};
 ghost use Rattle.q3_io.specs.Print.{hex_word};
 ghost use Rattle.q3_io.specs.Written.{Adds, NothingWaits};
 ghost use Rattle.q3_clstate.specs.Report.{snapshot_text};
+ghost use Rattle.q3_lines.specs.ClientLines.{client_text};
 ghost use Rattle.q3_rings.specs.Loans.{snapshot_of};
-ghost use Rattle.q3_report.specs.AnswerLines.{lines_of, handed_lines, front_text, untaken_text, taking_text, handed_in_text, issued_text, bytes_text, showing_text};
+ghost use Rattle.q3_report.specs.AnswerLines.{lines_of, handed_lines, front_text, untaken_text, taking_text, handed_in_text, issued_text, bytes_text, showing_text, ended_text};
 ghost use Rattle.q3_report.specs.Tellings.{answered_of, taking_of, showing_of};
 
 use crate::answer::{Answer, Front, HandedIn, Shown, TakeRefused, Taker};
 use crate::refusals::Refusal;
-use q3_clstate::print_snapshot;
+use q3_client::{Client, ClientTook};
+use q3_clstate::{Log, print_snapshot};
 use q3_io::{Failed, Piece, Sink, laws, print_all, print_hex_word};
 use q3_lines::client::print_sent;
 use q3_lines::server::print_emitted;
@@ -83,6 +85,8 @@ fn print_handed_in<O: Sink>(handed: &HandedIn, out: &mut O) -> Result<(), Failed
         HandedIn::Say { c, outcome } => print_issued(b"say ", *c, outcome, out),
         HandedIn::TypeText { c, outcome } => print_issued(b"type ", *c, outcome, out),
         HandedIn::Move { c, outcome } => print_outcome(b"move ", u32::from(*c), outcome, out),
+        HandedIn::Record { c, outcome } => print_outcome(b"record ", u32::from(*c), outcome, out),
+        HandedIn::Stop { c, outcome } => print_outcome(b"stop ", u32::from(*c), outcome, out),
     }
 }
 
@@ -232,9 +236,30 @@ fn print_taking<O: Sink>(taker: &Taker, out: &mut O) -> Result<(), Failed>
             took,
             client,
             log,
-        } => client::print_took(client, *c, took, log, out),
+            ended,
+        } => print_client_took(client, *c, took, log, *ended, out),
         Taker::Server { took, heard } => server::print_took(took, heard, out),
     }
+}
+
+/// Prints what a client made of bytes, and that its recording ended by itself.
+fn print_client_took<O: Sink>(
+    client: &Client,
+    c: u8,
+    took: &ClientTook,
+    log: &Log,
+    ended: bool,
+    out: &mut O,
+) -> Result<(), Failed>
+    ensures adds { Adds (O.written out.old) (O.written out.new) (client_text client.now.state c took.now log.now.commands ++ ended_text ended) result }
+    ensures cause { HasCause (O.faults out.old) (O.faults out.new) result }
+{
+    laws::texts_follow();
+    client::print_took(client, c, took, log, out)?;
+    if !ended {
+        return Ok(());
+    }
+    out.write_all(b"+ recording ended\n")
 }
 
 /// Prints a word, and the number of what the line is about.
