@@ -5,7 +5,7 @@ use Rattle.std.proofs.lemmas.List.Elements.{All-nil, All-cons, All-append, All-h
 use Rattle.std.proofs.lemmas.List.Sums.{sum_by-append}
 use Rattle.rand_pcg.specs.Lcg.{Lcg}
 use Rattle.q3_script.specs.declared.event.Event.{Event}
-use Rattle.q3_script.specs.declared.event.Event.TheVariants.{Client, Port, Map, Entity, Remove, Baseline, Player, Area, Time, Config, Say, TypeText, Move, Serve, Send, Deliver, Show, Bytes, Toclient, Toserver, At, End}
+use Rattle.q3_script.specs.declared.event.Event.TheVariants.{Client, Port, Map, Entity, Remove, Baseline, Player, Area, Time, Config, Say, TypeText, Move, Serve, Send, Deliver, RecordTo, Stop, Show, Bytes, Toclient, Toserver, At, End}
 use Rattle.q3_script.specs.Grammar.{IsReplayEvent}
 use Rattle.q3_make.specs.Printed.{event_line, script_text}
 use Rattle.q3_make.specs.Generated.{generator_of, entity_with, still, joins, made_by, made_in, drawn_line, drawn_from, first_turns, last_turn, last_turns, opening, closing, generated, DrawnState, rest_of, IsMade}
@@ -52,6 +52,8 @@ made_by_few (Move c one) = omega arith
 made_by_few (Serve c) = omega arith
 made_by_few (Send c) = omega arith
 made_by_few (Deliver datagram) = omega arith
+made_by_few (RecordTo c name) = omega arith
+made_by_few (Stop c) = omega arith
 made_by_few (Show c) = omega arith
 made_by_few (Bytes datagram) = omega arith
 made_by_few (Toclient c bytes) = omega arith

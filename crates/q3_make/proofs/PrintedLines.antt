@@ -25,14 +25,15 @@ use Rattle.q3_player.proofs.Kept.{patterns-kept, kept-fits, shorts-back, length-
 use Rattle.q3_text.specs.Texts.{IsTextByte, IsText}
 use Rattle.q3_text.proofs.Translation.{stays}
 use Rattle.q3_script.specs.declared.event.Event.{Event}
-use Rattle.q3_script.specs.declared.event.Event.TheVariants.{Client, Port, Map, Entity, Remove, Baseline, Player, Area, Time, Config, Say, TypeText, Move, Serve, Send, Deliver, Show, Bytes, Toclient, Toserver, At, End}
+use Rattle.q3_script.specs.declared.event.Event.TheVariants.{Client, Port, Map, Entity, Remove, Baseline, Player, Area, Time, Config, Say, TypeText, Move, Serve, Send, Deliver, RecordTo, Stop, Show, Bytes, Toclient, Toserver, At, End}
 use Rattle.q3_script.specs.declared.cause.ScriptKind.TheVariants.{Replay}
+use Rattle.q3_script.specs.Names.{IsName}
 use Rattle.q3_script.specs.Words.{words_of}
 use Rattle.q3_io.specs.Print.{hex_word}
 use Rattle.q3_script.specs.Script.{longest_script, most_events, lines_of, is_passed_over}
 use Rattle.q3_script.specs.Grammar.{IsReplayEvent, field_words, SpellsAddress, SpellsEntity, SpellsPlayer, SpellsText, HasWords, SpellsEvent, SpellEvents, SpellsScript}
 use Rattle.q3_make.specs.Printed.{event_text, script_text}
-use Rattle.q3_make.proofs.PrintedWords.{without, IsWord, word_and, decimal_word, AreLineWords, words_and, Prints, only, before, row, hex_text_is_word, quoted_prints, fields_are_words, HasFields, fields_of}
+use Rattle.q3_make.proofs.PrintedWords.{without, IsWord, word_and, decimal_word, AreLineWords, words_and, Prints, only, before, row, name_is_word, hex_text_is_word, quoted_prints, fields_are_words, HasFields, fields_of}
 
 -- a line of an event
 record IsPrinted (event : Event) : Type 0 where
@@ -167,6 +168,12 @@ hex_prints c bytes small each =
     let text : (decimal c ++ (codes " " ++ [])) ++ hex_word bytes ≡ decimal c ++ 32 ∷ hex_word bytes = append_assoc (decimal c) (codes " ") (hex_word bytes) in
     rw text (before (decimal c) (hex_word bytes) (hex_word bytes ∷ []) (decimal_word c small) (only (hex_word bytes) (hex_text_is_word bytes each)))
 
+-- a number and a name
+name_prints : (c : ℕ) (name : List ℕ) → c < 2 ^ 64 → IsName name → Prints (decimal c ++ (codes " " ++ (name ++ []))) (decimal c ∷ name ∷ [])
+name_prints c name small is =
+    let text : name ++ [] ≡ name = append-nil name in
+    before (decimal c) (name ++ []) (name ∷ []) (decimal_word c small) (rw text (only name (name_is_word name is.2)))
+
 -- a number and bytes in quotes
 quotes_print : (n : ℕ) (bytes : List ℕ) → n < 2 ^ 64 → All (λ byte. (0 < byte) × (byte < 256)) bytes → Prints (decimal n ++ (codes " " ++ (quoted bytes ++ []))) (decimal n ∷ words_of (quoted bytes))
 quotes_print n bytes small each =
@@ -285,6 +292,8 @@ is_printed (Move c one) is =
 is_printed (Serve c) is = record { words = codes "serve" ∷ decimal c ∷ []; prints = row (codes "serve") (decimal c ∷ []) (record { no_space = refl; no_newline = refl }) (number_row c (omega arith)); has = refl }
 is_printed (Send c) is = record { words = codes "send" ∷ decimal c ∷ []; prints = row (codes "send") (decimal c ∷ []) (record { no_space = refl; no_newline = refl }) (number_row c (omega arith)); has = refl }
 is_printed (Deliver datagram) is = record { words = codes "deliver" ∷ decimal datagram ∷ []; prints = row (codes "deliver") (decimal datagram ∷ []) (record { no_space = refl; no_newline = refl }) (number_row datagram (omega arith)); has = refl }
+is_printed (RecordTo c name) is = record { words = codes "record" ∷ decimal c ∷ name ∷ []; prints = before (codes "record") _ _ (record { no_space = refl; no_newline = refl }) (name_prints c name (omega arith) is.1); has = refl }
+is_printed (Stop c) is = record { words = codes "stop" ∷ decimal c ∷ []; prints = row (codes "stop") (decimal c ∷ []) (record { no_space = refl; no_newline = refl }) (number_row c (omega arith)); has = refl }
 is_printed (Show c) is = record { words = codes "show" ∷ decimal c ∷ []; prints = row (codes "show") (decimal c ∷ []) (record { no_space = refl; no_newline = refl }) (number_row c (omega arith)); has = refl }
 is_printed (Bytes datagram) is = record { words = codes "bytes" ∷ decimal datagram ∷ []; prints = row (codes "bytes") (decimal datagram ∷ []) (record { no_space = refl; no_newline = refl }) (number_row datagram (omega arith)); has = refl }
 is_printed (Toclient c bytes) is = record { words = codes "toclient" ∷ decimal c ∷ hex_word bytes ∷ []; prints = before (codes "toclient") _ _ (record { no_space = refl; no_newline = refl }) (hex_prints c bytes (omega arith) is.2); has = (hex_word bytes, refl, refl) }
@@ -316,6 +325,8 @@ is_read (Move c one) = first_other (event_text (Move c one)) _ _ refl refl
 is_read (Serve c) = first_other (event_text (Serve c)) _ _ refl refl
 is_read (Send c) = first_other (event_text (Send c)) _ _ refl refl
 is_read (Deliver datagram) = first_other (event_text (Deliver datagram)) _ _ refl refl
+is_read (RecordTo c name) = first_other (event_text (RecordTo c name)) _ _ refl refl
+is_read (Stop c) = first_other (event_text (Stop c)) _ _ refl refl
 is_read (Show c) = first_other (event_text (Show c)) _ _ refl refl
 is_read (Bytes datagram) = first_other (event_text (Bytes datagram)) _ _ refl refl
 is_read (Toclient c bytes) = first_other (event_text (Toclient c bytes)) _ _ refl refl

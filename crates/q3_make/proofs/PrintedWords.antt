@@ -1,5 +1,5 @@
 -- The words that a printed line is cut into.
-use Rattle.std.proofs.Common.{◌≡◌, ℕ, zero, suc, ◌+◌, ◌/◌, ◌%◌, ◌^◌, ◌<◌, true, false, eqb, List, [], ◌∷◌, ◌++◌, length, replicate, All, refl, sym, ap, subst, ◌∙◌, arith, inl, inr}
+use Rattle.std.proofs.Common.{◌≡◌, ℕ, zero, suc, ◌+◌, ◌/◌, ◌%◌, ◌^◌, ◌<◌, ◌≤◌, true, false, eqb, List, [], ◌∷◌, ◌++◌, length, replicate, All, refl, sym, ap, subst, ◌∙◌, arith, inl, inr}
 use Rattle.std.specs.Prelude.{codes, not, slice_index}
 use Rattle.std.specs.Fmt.{decimal}
 use Rattle.std.specs.List.{flat_map}
@@ -100,6 +100,20 @@ hex_is_word (byte ∷ bytes) each =
 pub hex_text_is_word : (bytes : List ℕ) → All (λ byte. byte < 256) bytes → IsWord (hex_word bytes)
 hex_text_is_word [] each = record { no_space = refl; no_newline = refl }
 hex_text_is_word (byte ∷ bytes) each = hex_is_word (byte ∷ bytes) each
+
+-- ---- names
+
+-- no byte of a name is a space or a newline
+pub name_is_word : (bytes : List ℕ) → All (λ byte. (33 ≤ byte) × (byte ≤ 126)) bytes → IsWord bytes
+name_is_word [] each = record { no_space = refl; no_newline = refl }
+name_is_word (byte ∷ bytes) each =
+    let here = All-head (λ (byte : ℕ). (33 ≤ byte) × (byte ≤ 126)) byte bytes each in
+    let others = name_is_word bytes (All-tail (λ (byte : ℕ). (33 ≤ byte) × (byte ≤ 126)) byte bytes each) in
+    let least = here.0 in
+    record {
+      no_space = rw (ne_eqb byte 32 (λ e. absurd (omega arith))) others.no_space;
+      no_newline = rw (ne_eqb byte 10 (λ e. absurd (omega arith))) others.no_newline;
+    }
 
 -- ---- bytes in quotes
 

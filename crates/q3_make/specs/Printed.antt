@@ -6,7 +6,7 @@ use Rattle.q3_clmsg.specs.Report.{move_words, spaced}
 use Rattle.q3_entity.specs.Report.{fields_text}
 use Rattle.q3_player.specs.Report.{player_text}
 use Rattle.q3_script.specs.declared.event.Event.{Event}
-use Rattle.q3_script.specs.declared.event.Event.TheVariants.{Client, Port, Map, Entity, Remove, Baseline, Player, Area, Time, Config, Say, TypeText, Move, Serve, Send, Deliver, Show, Bytes, Toclient, Toserver, At, End}
+use Rattle.q3_script.specs.declared.event.Event.TheVariants.{Client, Port, Map, Entity, Remove, Baseline, Player, Area, Time, Config, Say, TypeText, Move, Serve, Send, Deliver, RecordTo, Stop, Show, Bytes, Toclient, Toserver, At, End}
 use Rattle.q3_io.specs.Print.{hex_word}
 use Rattle.q3_script.specs.declared.cause.ScriptKind.TheVariants.{Replay}
 use Rattle.q3_script.specs.Script.{longest_script, most_events}
@@ -49,6 +49,8 @@ event_text (Move c one) = number_text (codes "move ") c ++ spaced (move_words on
 event_text (Serve c) = number_text (codes "serve ") c
 event_text (Send c) = number_text (codes "send ") c
 event_text (Deliver datagram) = number_text (codes "deliver ") datagram
+event_text (RecordTo c name) = concat (codes "record " ∷ decimal c ∷ codes " " ∷ name ∷ [])
+event_text (Stop c) = number_text (codes "stop ") c
 event_text (Show c) = number_text (codes "show ") c
 event_text (Bytes datagram) = number_text (codes "bytes ") datagram
 event_text (Toclient c bytes) = bytes_text (codes "toclient ") c bytes

@@ -82,6 +82,8 @@ fn print_event<O: Sink>(event: &Event, out: &mut O) -> Result<(), Failed>
         Event::Serve { c } => print_number(b"serve ", u32::from(*c), out),
         Event::Send { c } => print_number(b"send ", u32::from(*c), out),
         Event::Deliver { datagram } => print_number(b"deliver ", *datagram, out),
+        Event::RecordTo { c, name } => print_recording(*c, name.bytes(), out),
+        Event::Stop { c } => print_number(b"stop ", u32::from(*c), out),
         Event::Show { c } => print_number(b"show ", u32::from(*c), out),
         Event::Bytes { datagram } => print_number(b"bytes ", *datagram, out),
         Event::Toclient { c, bytes } => print_bytes(b"toclient ", *c, bytes.bytes(), out),
@@ -168,6 +170,22 @@ fn print_quoted<'a, O: Sink>(
             Piece::Number(u64::from(number)),
             Piece::Text(b" "),
             Piece::Quoted(bytes),
+        ],
+        out,
+    )
+}
+
+/// Prints the line of a client whose messages are recorded.
+fn print_recording<O: Sink>(c: u8, name: &[u8], out: &mut O) -> Result<(), Failed>
+    ensures adds { Adds (O.written out.old) (O.written out.new) (concat (codes "record " ∷ decimal c ∷ codes " " ∷ name.now ∷ [])) result }
+    ensures cause { HasCause (O.faults out.old) (O.faults out.new) result }
+{
+    print_all(
+        &[
+            Piece::Text(b"record "),
+            Piece::Number(u64::from(c)),
+            Piece::Text(b" "),
+            Piece::Text(name),
         ],
         out,
     )

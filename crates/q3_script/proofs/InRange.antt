@@ -1,6 +1,6 @@
 -- An event that a script may have is within its ranges.
 use Rattle.q3_script.specs.declared.event.Event.{Event}
-use Rattle.q3_script.specs.declared.event.Event.TheVariants.{Client, Port, Map, Entity, Remove, Baseline, Player, Area, Time, Config, Say, TypeText, Move, Serve, Send, Deliver, Show, Bytes, Toclient, Toserver, At, End}
+use Rattle.q3_script.specs.declared.event.Event.TheVariants.{Client, Port, Map, Entity, Remove, Baseline, Player, Area, Time, Config, Say, TypeText, Move, Serve, Send, Deliver, RecordTo, Stop, Show, Bytes, Toclient, Toserver, At, End}
 use Rattle.q3_script.specs.declared.cause.ScriptKind.{ScriptKind}
 use Rattle.q3_script.specs.declared.cause.ScriptKind.TheVariants as kinds
 use Rattle.q3_script.specs.Grammar.{IsInRange, IsReplayEvent, IsServeEvent, IsJoinEvent, IsEventOf}
@@ -22,6 +22,8 @@ replay_in_range (Move c one) is = is
 replay_in_range (Serve c) is = is
 replay_in_range (Send c) is = is
 replay_in_range (Deliver datagram) is = is
+replay_in_range (RecordTo c name) is = is
+replay_in_range (Stop c) is = is
 replay_in_range (Show c) is = is
 replay_in_range (Bytes datagram) is = is
 replay_in_range (Toclient c bytes) is = is
@@ -46,6 +48,8 @@ serve_in_range (Move c one) is = absurd is
 serve_in_range (Serve c) is = is
 serve_in_range (Send c) is = absurd is
 serve_in_range (Deliver datagram) is = absurd is
+serve_in_range (RecordTo c name) is = absurd is
+serve_in_range (Stop c) is = absurd is
 serve_in_range (Show c) is = absurd is
 serve_in_range (Bytes datagram) is = absurd is
 serve_in_range (Toclient c bytes) is = absurd is
@@ -70,6 +74,8 @@ join_in_range (Move c one) is = is
 join_in_range (Serve c) is = absurd is
 join_in_range (Send c) is = is
 join_in_range (Deliver datagram) is = absurd is
+join_in_range (RecordTo c name) is = absurd is
+join_in_range (Stop c) is = absurd is
 join_in_range (Show c) is = is
 join_in_range (Bytes datagram) is = absurd is
 join_in_range (Toclient c bytes) is = absurd is

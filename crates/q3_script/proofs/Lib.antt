@@ -5,6 +5,7 @@ pub mod Addresses
 pub mod FieldWords
 pub mod Digits
 pub mod HexWords
+pub mod NameWords
 pub mod Fronts
 pub mod Unquoted
 pub mod Coming

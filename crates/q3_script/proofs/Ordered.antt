@@ -6,7 +6,7 @@ use Rattle.std.proofs.lemmas.Bool.{both_ways, ltb-false, le-ltb}
 use Rattle.std.proofs.lemmas.Bool.Decides.{Decides-eqb}
 use Rattle.q3_io.specs.declared.address.Address.{Address}
 use Rattle.q3_script.specs.declared.event.Event.{Event}
-use Rattle.q3_script.specs.declared.event.Event.TheVariants.{Client, Port, Map, Entity, Remove, Baseline, Player, Area, Time, Config, Say, TypeText, Move, Serve, Send, Deliver, Show, Bytes, Toclient, Toserver, At, End}
+use Rattle.q3_script.specs.declared.event.Event.TheVariants.{Client, Port, Map, Entity, Remove, Baseline, Player, Area, Time, Config, Say, TypeText, Move, Serve, Send, Deliver, RecordTo, Stop, Show, Bytes, Toclient, Toserver, At, End}
 use Rattle.q3_script.specs.declared.cause.LineCause.{LineCause}
 use Rattle.q3_script.specs.declared.cause.LineCause.TheVariants.{Order}
 use Rattle.q3_script.specs.declared.cause.ScriptKind.{ScriptKind}
@@ -87,6 +87,8 @@ by_time (Move c one) = inr (inr (record { stays = λ course. refl; rise = λ lea
 by_time (Serve c) = inr (inr (record { stays = λ course. refl; rise = λ least events r. r; risen = λ least events r. r; ends = λ events e. e; ended = λ events e. e }))
 by_time (Send c) = inr (inr (record { stays = λ course. refl; rise = λ least events r. r; risen = λ least events r. r; ends = λ events e. e; ended = λ events e. e }))
 by_time (Deliver datagram) = inr (inr (record { stays = λ course. refl; rise = λ least events r. r; risen = λ least events r. r; ends = λ events e. e; ended = λ events e. e }))
+by_time (RecordTo c name) = inr (inr (record { stays = λ course. refl; rise = λ least events r. r; risen = λ least events r. r; ends = λ events e. e; ended = λ events e. e }))
+by_time (Stop c) = inr (inr (record { stays = λ course. refl; rise = λ least events r. r; risen = λ least events r. r; ends = λ events e. e; ended = λ events e. e }))
 by_time (Show c) = inr (inr (record { stays = λ course. refl; rise = λ least events r. r; risen = λ least events r. r; ends = λ events e. e; ended = λ events e. e }))
 by_time (Bytes datagram) = inr (inr (record { stays = λ course. refl; rise = λ least events r. r; risen = λ least events r. r; ends = λ events e. e; ended = λ events e. e }))
 by_time (Toclient c bytes) = inr (inr (record { stays = λ course. refl; rise = λ least events r. r; risen = λ least events r. r; ends = λ events e. e; ended = λ events e. e }))
@@ -200,6 +202,8 @@ is_of-Decides c (Move d one) = Decides-eqb d c
 is_of-Decides c (Serve d) = (λ e. tt, λ is. refl)
 is_of-Decides c (Send d) = Decides-eqb d c
 is_of-Decides c (Deliver datagram) = (λ e. tt, λ is. refl)
+is_of-Decides c (RecordTo d name) = Decides-eqb d c
+is_of-Decides c (Stop d) = Decides-eqb d c
 is_of-Decides c (Show d) = Decides-eqb d c
 is_of-Decides c (Bytes datagram) = (λ e. tt, λ is. refl)
 is_of-Decides c (Toclient d bytes) = (λ e. tt, λ is. refl)
@@ -255,6 +259,8 @@ by_client (Move c one) = inr (record { refuses = refl; never = λ events is. is 
 by_client (Serve c) = inr (record { refuses = refl; never = λ events is. is })
 by_client (Send c) = inr (record { refuses = refl; never = λ events is. is })
 by_client (Deliver datagram) = inr (record { refuses = refl; never = λ events is. is })
+by_client (RecordTo c name) = inr (record { refuses = refl; never = λ events is. is })
+by_client (Stop c) = inr (record { refuses = refl; never = λ events is. is })
 by_client (Show c) = inr (record { refuses = refl; never = λ events is. is })
 by_client (Bytes datagram) = inr (record { refuses = refl; never = λ events is. is })
 by_client (Toclient c bytes) = inr (record { refuses = refl; never = λ events is. is })

@@ -21,7 +21,7 @@ use Rattle.q3_entity.specs.declared.state.EntityState.{EntityState}
 use Rattle.q3_player.specs.declared.state.PlayerState.{PlayerState}
 use Rattle.q3_io.specs.declared.address.Address.{Address}
 use Rattle.q3_script.specs.declared.event.Event.{Event}
-use Rattle.q3_script.specs.declared.event.Event.TheVariants.{Client, Port, Map, Entity, Remove, Baseline, Player, Area, Time, Config, Say, TypeText, Move, Serve, Send, Deliver, Show, Bytes, Toclient, Toserver, At, End}
+use Rattle.q3_script.specs.declared.event.Event.TheVariants.{Client, Port, Map, Entity, Remove, Baseline, Player, Area, Time, Config, Say, TypeText, Move, Serve, Send, Deliver, RecordTo, Stop, Show, Bytes, Toclient, Toserver, At, End}
 use Rattle.q3_script.specs.declared.cause.LineCause.{LineCause}
 use Rattle.q3_script.specs.declared.cause.LineCause.TheVariants as causes
 use Rattle.q3_script.specs.declared.cause.ScriptKind.{ScriptKind}
@@ -30,14 +30,16 @@ use Rattle.q3_bits.specs.ResultBind.{◌>>=◌, bind_ok}
 use Rattle.q3_script.specs.Words.{words_of, words_left}
 use Rattle.q3_script.specs.Addresses.{address_at}
 use Rattle.q3_script.specs.Hex.{most_handed, area_at, handed_at}
+use Rattle.q3_script.specs.Names.{name_at}
 use Rattle.q3_script.specs.Fields.{values_of, player_of, entity_at, player_at}
-use Rattle.q3_script.specs.Lines.{last_client, last_entity, last_datagram, last_time, number_word, entity_word, client_word, client_line, port_line, map_line, entity_line, remove_line, baseline_line, player_line, area_line, time_line, config_line, say_line, type_line, move_line, serve_line, send_line, deliver_line, show_line, bytes_line, hand_at, toclient_line, toserver_line, at_line, end_line, Table, line_in, lines_taken, line_at}
+use Rattle.q3_script.specs.Lines.{last_client, last_entity, last_datagram, last_time, number_word, entity_word, client_word, client_line, port_line, map_line, entity_line, remove_line, baseline_line, player_line, area_line, time_line, config_line, say_line, type_line, move_line, serve_line, send_line, deliver_line, record_line, stop_line, show_line, bytes_line, hand_at, toclient_line, toserver_line, at_line, end_line, Table, line_in, lines_taken, line_at}
 use Rattle.q3_script.specs.Grammar.{AreFields, SpellsAddress, SpellsHex, SpellsEntity, SpellsPlayer, SpellsEvent, IsInRange, IsEventOf, HasWords}
 use Rattle.q3_script.proofs.SpelledLines.{IsLine}
 use Rattle.q3_script.proofs.Spaces.{is_space, words_at_space, AreLeft}
 use Rattle.q3_script.proofs.NumberWords.{done, ok_is, ok_or-ok, number_word-spelled, number_word-again}
 use Rattle.q3_script.proofs.Addresses.{address_at-spelled, address_at-again}
 use Rattle.q3_script.proofs.FieldWords.{entity_at-spelled, entity_at-again, player_at-spelled, player_at-again}
+use Rattle.q3_script.proofs.NameWords.{name_at-is, name_at-again}
 use Rattle.q3_script.proofs.HexWords.{hex_within-spelled, hex_within-again, area_at-spelled, area_at-again}
 use Rattle.q3_script.proofs.SpelledCommands.{config_line-spelled, config_at-again, command_at-again, say_line-spelled, type_line-spelled}
 use Rattle.q3_script.proofs.SpelledMoves.{move_line-spelled, move_line-again}
@@ -270,6 +272,32 @@ deliver_line-spelled (word ∷ []) event e =
     subst (λ (x : Event). IsLine (codes "deliver" ∷ word ∷ []) x) (ok_is (Deliver datagram.0) event datagram.2) (record { in_range = (is.0, is.1); whole = ap (λ (w : List ℕ). codes "deliver" ∷ w ∷ []) is.2 })
 deliver_line-spelled (word ∷ other ∷ others) event e = absurd cc
 
+-- the two words of a recording, each read
+record_from : (word last : List ℕ) (c : ℕ) (name : List ℕ) → client_word word ≡ Ok c → name_at last ≡ Some name → IsLine (codes "record" ∷ word ∷ last ∷ []) (RecordTo c name)
+record_from word last c name c_read name_read =
+    let c_is = number_word-spelled 0 last_client word c (omega arith) c_read in
+    let was = name_at-is last name name_read in
+    record { in_range = (c_is.1, was.is); whole = rw (c_is.2, was.same) refl }
+
+record_line-spelled : (words : List (List ℕ)) (event : Event) → record_line words ≡ Ok event → IsLine (codes "record" ∷ words) event
+unfolding record_line
+record_line-spelled [] event e = absurd cc
+record_line-spelled (word ∷ []) event e = absurd cc
+record_line-spelled (word ∷ last ∷ []) event e =
+    let c = bind_ok (client_word word) (λ c. ok_or (name_at last) causes.Name >>= λ name. Ok (RecordTo c name)) event e in
+    let name = bind_ok (ok_or (name_at last) causes.Name) (λ name. Ok (RecordTo c.0 name)) event c.2 in
+    subst (λ (x : Event). IsLine (codes "record" ∷ word ∷ last ∷ []) x) (ok_is (RecordTo c.0 name.0) event name.2) (record_from word last c.0 name.0 c.1 (ok_or-ok (name_at last) causes.Name name.0 name.1))
+record_line-spelled (word ∷ last ∷ other ∷ others) event e = absurd cc
+
+stop_line-spelled : (words : List (List ℕ)) (event : Event) → stop_line words ≡ Ok event → IsLine (codes "stop" ∷ words) event
+unfolding stop_line
+stop_line-spelled [] event e = absurd cc
+stop_line-spelled (word ∷ []) event e =
+    let c = bind_ok (client_word word) (λ c. Ok (Stop c)) event e in
+    let is = number_word-spelled 0 last_client word c.0 (omega arith) c.1 in
+    subst (λ (x : Event). IsLine (codes "stop" ∷ word ∷ []) x) (ok_is (Stop c.0) event c.2) (record { in_range = omega arith; whole = ap (λ (w : List ℕ). codes "stop" ∷ w ∷ []) is.2 })
+stop_line-spelled (word ∷ other ∷ others) event e = absurd cc
+
 show_line-spelled : (words : List (List ℕ)) (event : Event) → show_line words ≡ Ok event → IsLine (codes "show" ∷ words) event
 unfolding show_line
 show_line-spelled [] event e = absurd cc
@@ -379,7 +407,7 @@ found (line ∷ lines) word others event each left e =
 
 -- each line of a table reads what is spelled so
 each_line : (kind : ScriptKind) → EachIsSpelled (lines_taken kind)
-each_line kinds.Replay = (of_any (codes "client") client_line client_line-spelled, (of_any (codes "port") port_line port_line-spelled, (of_any (codes "toclient") toclient_line toclient_line-spelled, (of_any (codes "toserver") toserver_line toserver_line-spelled, (of_any (codes "map") map_line map_line-spelled, (of_any (codes "entity") entity_line entity_line-spelled, (of_any (codes "remove") remove_line remove_line-spelled, (of_any (codes "baseline") baseline_line baseline_line-spelled, (of_any (codes "player") player_line player_line-spelled, (of_any (codes "area") area_line area_line-spelled, (of_any (codes "time") time_line time_line-spelled, (config_line-spelled, (say_line-spelled, (type_line-spelled, (of_any (codes "move") move_line move_line-spelled, (of_any (codes "serve") serve_line serve_line-spelled, (of_any (codes "send") send_line send_line-spelled, (of_any (codes "deliver") deliver_line deliver_line-spelled, (of_any (codes "show") show_line show_line-spelled, (of_any (codes "bytes") bytes_line bytes_line-spelled, tt))))))))))))))))))))
+each_line kinds.Replay = (of_any (codes "client") client_line client_line-spelled, (of_any (codes "port") port_line port_line-spelled, (of_any (codes "toclient") toclient_line toclient_line-spelled, (of_any (codes "toserver") toserver_line toserver_line-spelled, (of_any (codes "map") map_line map_line-spelled, (of_any (codes "entity") entity_line entity_line-spelled, (of_any (codes "remove") remove_line remove_line-spelled, (of_any (codes "baseline") baseline_line baseline_line-spelled, (of_any (codes "player") player_line player_line-spelled, (of_any (codes "area") area_line area_line-spelled, (of_any (codes "time") time_line time_line-spelled, (config_line-spelled, (say_line-spelled, (type_line-spelled, (of_any (codes "move") move_line move_line-spelled, (of_any (codes "serve") serve_line serve_line-spelled, (of_any (codes "send") send_line send_line-spelled, (of_any (codes "deliver") deliver_line deliver_line-spelled, (of_any (codes "record") record_line record_line-spelled, (of_any (codes "stop") stop_line stop_line-spelled, (of_any (codes "show") show_line show_line-spelled, (of_any (codes "bytes") bytes_line bytes_line-spelled, tt))))))))))))))))))))))
 each_line kinds.Serve = (of_any (codes "client") client_line client_line-spelled, (of_any (codes "map") map_line map_line-spelled, (of_any (codes "entity") entity_line entity_line-spelled, (of_any (codes "remove") remove_line remove_line-spelled, (of_any (codes "baseline") baseline_line baseline_line-spelled, (of_any (codes "player") player_line player_line-spelled, (of_any (codes "area") area_line area_line-spelled, (of_any (codes "time") time_line time_line-spelled, (config_line-spelled, (say_line-spelled, (of_any (codes "serve") serve_line serve_line-spelled, (of_any (codes "at") at_line at_line-spelled, (of_any (codes "end") end_line end_line-spelled, tt)))))))))))))
 each_line kinds.Join = (of_any (codes "client") client_line client_line-spelled, (type_line-spelled, (of_any (codes "move") move_line move_line-spelled, (of_any (codes "send") send_line send_line-spelled, (of_any (codes "show") show_line show_line-spelled, (of_any (codes "at") at_line at_line-spelled, (of_any (codes "end") end_line end_line-spelled, tt)))))))
 
@@ -408,6 +436,8 @@ word_of (Move c one) = codes "move"
 word_of (Serve c) = codes "serve"
 word_of (Send c) = codes "send"
 word_of (Deliver datagram) = codes "deliver"
+word_of (RecordTo c name) = codes "record"
+word_of (Stop c) = codes "stop"
 word_of (Show c) = codes "show"
 word_of (Bytes datagram) = codes "bytes"
 word_of (Toclient c bytes) = codes "toclient"
@@ -433,6 +463,8 @@ line_of (Move c one) = move_line
 line_of (Serve c) = serve_line
 line_of (Send c) = send_line
 line_of (Deliver datagram) = deliver_line
+line_of (RecordTo c name) = record_line
+line_of (Stop c) = stop_line
 line_of (Show c) = show_line
 line_of (Bytes datagram) = bytes_line
 line_of (Toclient c bytes) = toclient_line
@@ -448,7 +480,7 @@ record Again (words : List (List ℕ)) (event : Event) : Type 0 where
 
 -- what is spelled so is read
 again : (words : List (List ℕ)) (event : Event) → IsInRange event → HasWords words event → Again words event
-unfolding client_line port_line map_line entity_line remove_line baseline_line player_line area_line time_line config_line say_line type_line serve_line send_line deliver_line show_line bytes_line toclient_line toserver_line at_line end_line
+unfolding client_line port_line map_line entity_line remove_line baseline_line player_line area_line time_line config_line say_line type_line serve_line send_line deliver_line record_line stop_line show_line bytes_line toclient_line toserver_line at_line end_line
 again words (Client c challenge qport dup address) is whole = record { others = decimal c ∷ decimal challenge ∷ decimal qport ∷ decimal dup ∷ whole.0 ∷ []; whole = whole.2; read = rw (number_word-again 0 last_client c (omega arith) (omega arith) (omega arith), number_word-again 0 4294967295 challenge (omega arith) (omega arith) (omega arith), number_word-again 0 65535 qport (omega arith) (omega arith) (omega arith), number_word-again 0 5 dup (omega arith) (omega arith) is.3, address_at-again whole.0 address whole.1 is.4 is.5) refl }
 again words (Port c port) is whole = record { others = decimal c ∷ decimal port ∷ []; whole = whole; read = rw (number_word-again 0 last_client c (omega arith) (omega arith) (omega arith), number_word-again 1 65535 port (omega arith) is.1 (omega arith)) refl }
 again words (Map id feed) is whole = record { others = decimal id ∷ decimal feed ∷ []; whole = whole; read = rw (number_word-again 1 2147483647 id (omega arith) is.0 (omega arith), number_word-again 0 4294967295 feed (omega arith) (omega arith) (omega arith)) refl }
@@ -465,6 +497,8 @@ again words (Move c one) is whole = record { others = decimal c ∷ move_words o
 again words (Serve c) is whole = record { others = decimal c ∷ []; whole = whole; read = rw (number_word-again 0 last_client c (omega arith) (omega arith) (omega arith)) refl }
 again words (Send c) is whole = record { others = decimal c ∷ []; whole = whole; read = rw (number_word-again 0 last_client c (omega arith) (omega arith) (omega arith)) refl }
 again words (Deliver datagram) is whole = record { others = decimal datagram ∷ []; whole = whole; read = rw (number_word-again 1 last_datagram datagram (omega arith) is.0 is.1) refl }
+again words (RecordTo c name) is whole = record { others = decimal c ∷ name ∷ []; whole = whole; read = rw (number_word-again 0 last_client c (omega arith) (omega arith) (omega arith), name_at-again name is.1) refl }
+again words (Stop c) is whole = record { others = decimal c ∷ []; whole = whole; read = rw (number_word-again 0 last_client c (omega arith) (omega arith) (omega arith)) refl }
 again words (Show c) is whole = record { others = decimal c ∷ []; whole = whole; read = rw (number_word-again 0 last_client c (omega arith) (omega arith) (omega arith)) refl }
 again words (Bytes datagram) is whole = record { others = decimal datagram ∷ []; whole = whole; read = rw (number_word-again 1 last_datagram datagram (omega arith) is.0 is.1) refl }
 again words (Toclient c bytes) is whole = record { others = decimal c ∷ whole.0 ∷ []; whole = whole.2; read = rw (hand_at-again c bytes whole.0 is.0 is.1 is.2 whole.1) refl }
@@ -501,6 +535,8 @@ sorted kinds.Replay (Move c one) = inl (record { is = λ r. r; was = λ r. r; re
 sorted kinds.Replay (Serve c) = inl (record { is = λ r. r; was = λ r. r; reads = λ others. refl })
 sorted kinds.Replay (Send c) = inl (record { is = λ r. r; was = λ r. r; reads = λ others. refl })
 sorted kinds.Replay (Deliver datagram) = inl (record { is = λ r. r; was = λ r. r; reads = λ others. refl })
+sorted kinds.Replay (RecordTo c name) = inl (record { is = λ r. r; was = λ r. r; reads = λ others. refl })
+sorted kinds.Replay (Stop c) = inl (record { is = λ r. r; was = λ r. r; reads = λ others. refl })
 sorted kinds.Replay (Show c) = inl (record { is = λ r. r; was = λ r. r; reads = λ others. refl })
 sorted kinds.Replay (Bytes datagram) = inl (record { is = λ r. r; was = λ r. r; reads = λ others. refl })
 sorted kinds.Replay (Toclient c bytes) = inl (record { is = λ r. r; was = λ r. r; reads = λ others. refl })
@@ -523,6 +559,8 @@ sorted kinds.Serve (Move c one) = inr (record { never = λ r. r; refuses = λ ot
 sorted kinds.Serve (Serve c) = inl (record { is = λ r. r; was = λ r. r; reads = λ others. refl })
 sorted kinds.Serve (Send c) = inr (record { never = λ r. r; refuses = λ others. refl })
 sorted kinds.Serve (Deliver datagram) = inr (record { never = λ r. r; refuses = λ others. refl })
+sorted kinds.Serve (RecordTo c name) = inr (record { never = λ r. r; refuses = λ others. refl })
+sorted kinds.Serve (Stop c) = inr (record { never = λ r. r; refuses = λ others. refl })
 sorted kinds.Serve (Show c) = inr (record { never = λ r. r; refuses = λ others. refl })
 sorted kinds.Serve (Bytes datagram) = inr (record { never = λ r. r; refuses = λ others. refl })
 sorted kinds.Serve (Toclient c bytes) = inr (record { never = λ r. r; refuses = λ others. refl })
@@ -545,6 +583,8 @@ sorted kinds.Join (Move c one) = inl (record { is = λ r. r; was = λ r. r; read
 sorted kinds.Join (Serve c) = inr (record { never = λ r. r; refuses = λ others. refl })
 sorted kinds.Join (Send c) = inl (record { is = λ r. r; was = λ r. r; reads = λ others. refl })
 sorted kinds.Join (Deliver datagram) = inr (record { never = λ r. r; refuses = λ others. refl })
+sorted kinds.Join (RecordTo c name) = inr (record { never = λ r. r; refuses = λ others. refl })
+sorted kinds.Join (Stop c) = inr (record { never = λ r. r; refuses = λ others. refl })
 sorted kinds.Join (Show c) = inl (record { is = λ r. r; was = λ r. r; reads = λ others. refl })
 sorted kinds.Join (Bytes datagram) = inr (record { never = λ r. r; refuses = λ others. refl })
 sorted kinds.Join (Toclient c bytes) = inr (record { never = λ r. r; refuses = λ others. refl })

@@ -1,15 +1,16 @@
 -- Each line in the steps by which it is read.
 use Rattle.std.proofs.Common.{◌≡◌, ℕ, List, [], ◌∷◌, Ok, refl}
 use Rattle.std.specs.Option.{ok_or}
-use Rattle.q3_script.specs.declared.event.Event.TheVariants.{Client, Port, Map, Entity, Remove, Baseline, Player, Area, Time, Move, Serve, Send, Deliver, Show, Bytes, At, End}
-use Rattle.q3_script.specs.declared.cause.LineCause.TheVariants.{Address, Count, Number}
+use Rattle.q3_script.specs.declared.event.Event.TheVariants.{Client, Port, Map, Entity, Remove, Baseline, Player, Area, Time, Move, Serve, Send, Deliver, RecordTo, Stop, Show, Bytes, At, End}
+use Rattle.q3_script.specs.declared.cause.LineCause.TheVariants.{Address, Count, Name, Number}
 use Rattle.q3_bits.specs.ResultBind.{◌>>=◌}
 use Rattle.q3_script.specs.Words.{next_of, three_of, only_of, text_from}
 use Rattle.q3_script.specs.Addresses.{address_at}
 use Rattle.q3_script.specs.Hex.{area_at, handed_at}
+use Rattle.q3_script.specs.Names.{name_at}
 use Rattle.q3_script.specs.Quotes.{bytes_word, text_word}
 use Rattle.q3_script.specs.Fields.{entity_at, player_at}
-use Rattle.q3_script.specs.Lines.{last_datagram, last_time, last_entity, most_config, number_word, entity_word, client_word, angles_at, steps_at, move_with, client_line, port_line, map_line, entity_line, remove_line, baseline_line, player_line, area_line, time_line, config_at, command_at, move_line, serve_line, send_line, deliver_line, show_line, bytes_line, hand_at, at_line, end_line}
+use Rattle.q3_script.specs.Lines.{last_datagram, last_time, last_entity, most_config, number_word, entity_word, client_word, angles_at, steps_at, move_with, client_line, port_line, map_line, entity_line, remove_line, baseline_line, player_line, area_line, time_line, config_at, command_at, move_line, serve_line, send_line, deliver_line, record_line, stop_line, show_line, bytes_line, hand_at, at_line, end_line}
 
 -- a client: four words and the last, then each of them
 pub client_steps : (words : List (List ℕ)) → client_line words ≡ (ok_or (next_of words) Count >>= λ c. ok_or (next_of c.1) Count >>= λ challenge. ok_or (next_of challenge.1) Count >>= λ qport. ok_or (next_of qport.1) Count >>= λ dup. ok_or (only_of dup.1) Count >>= λ address.
@@ -132,6 +133,21 @@ unfolding deliver_line
 deliver_steps [] = refl
 deliver_steps (datagram ∷ []) = refl
 deliver_steps (datagram ∷ other ∷ others) = refl
+
+-- a recording: a word and the last, then each of them
+pub record_steps : (words : List (List ℕ)) → record_line words ≡ (ok_or (next_of words) Count >>= λ c. ok_or (only_of c.1) Count >>= λ name. client_word c.0 >>= λ c. ok_or (name_at name) Name >>= λ name. Ok (RecordTo c name))
+unfolding record_line
+record_steps [] = refl
+record_steps (c ∷ []) = refl
+record_steps (c ∷ name ∷ []) = refl
+record_steps (c ∷ name ∷ other ∷ others) = refl
+
+-- its end: the only word is a client
+pub stop_steps : (words : List (List ℕ)) → stop_line words ≡ (ok_or (only_of words) Count >>= λ word. client_word word >>= λ c. Ok (Stop c))
+unfolding stop_line
+stop_steps [] = refl
+stop_steps (c ∷ []) = refl
+stop_steps (c ∷ other ∷ others) = refl
 
 -- a look: the only word is a client
 pub show_steps : (words : List (List ℕ)) → show_line words ≡ (ok_or (only_of words) Count >>= λ word. client_word word >>= λ c. Ok (Show c))

@@ -14,13 +14,14 @@ use Rattle.q3_io.specs.Quoted.{quoted}
 use Rattle.q3_io.specs.declared.address.Address.{Address}
 use Rattle.q3_text.specs.Texts.{IsText, text_of}
 use Rattle.q3_script.specs.declared.event.Event.{Event}
-use Rattle.q3_script.specs.declared.event.Event.TheVariants.{Client, Port, Map, Entity, Remove, Baseline, Player, Area, Time, Config, Say, TypeText, Move, Serve, Send, Deliver, Show, Bytes, Toclient, Toserver, At, End}
+use Rattle.q3_script.specs.declared.event.Event.TheVariants.{Client, Port, Map, Entity, Remove, Baseline, Player, Area, Time, Config, Say, TypeText, Move, Serve, Send, Deliver, RecordTo, Stop, Show, Bytes, Toclient, Toserver, At, End}
 use Rattle.q3_script.specs.declared.cause.ScriptKind.{ScriptKind}
 use Rattle.q3_script.specs.declared.cause.ScriptKind.TheVariants as kinds
 use Rattle.q3_script.specs.Words.{words_of}
 use Rattle.q3_script.specs.Addresses.{host_of}
 use Rattle.q3_io.specs.Print.{hex_word}
 use Rattle.q3_script.specs.Hex.{most_area, most_handed}
+use Rattle.q3_script.specs.Names.{IsName}
 use Rattle.q3_script.specs.Fields.{values_of, player_of}
 use Rattle.q3_script.specs.Lines.{last_client, last_entity, last_datagram, last_time, most_config}
 use Rattle.q3_script.specs.Script.{is_passed_over, lines_of, longest_script, most_events}
@@ -44,6 +45,8 @@ IsInRange (Move c one) = (c ≤ last_client) × IsHeldMove one
 IsInRange (Serve c) = c ≤ last_client
 IsInRange (Send c) = c ≤ last_client
 IsInRange (Deliver datagram) = (1 ≤ datagram) × (datagram ≤ last_datagram)
+IsInRange (RecordTo c name) = (c ≤ last_client) × IsName name
+IsInRange (Stop c) = c ≤ last_client
 IsInRange (Show c) = c ≤ last_client
 IsInRange (Bytes datagram) = (1 ≤ datagram) × (datagram ≤ last_datagram)
 IsInRange (Toclient c bytes) = (c ≤ last_client) × (length bytes ≤ most_handed) × All (λ byte. byte < 256) bytes
@@ -64,6 +67,8 @@ IsServeEvent (TypeText c text) = ⊥
 IsServeEvent (Move c one) = ⊥
 IsServeEvent (Send c) = ⊥
 IsServeEvent (Deliver datagram) = ⊥
+IsServeEvent (RecordTo c name) = ⊥
+IsServeEvent (Stop c) = ⊥
 IsServeEvent (Show c) = ⊥
 IsServeEvent (Bytes datagram) = ⊥
 IsServeEvent (Toclient c bytes) = ⊥
@@ -84,6 +89,8 @@ IsJoinEvent (Config index text) = ⊥
 IsJoinEvent (Say c text) = ⊥
 IsJoinEvent (Serve c) = ⊥
 IsJoinEvent (Deliver datagram) = ⊥
+IsJoinEvent (RecordTo c name) = ⊥
+IsJoinEvent (Stop c) = ⊥
 IsJoinEvent (Bytes datagram) = ⊥
 IsJoinEvent (Toclient c bytes) = ⊥
 IsJoinEvent (Toserver c bytes) = ⊥
@@ -176,6 +183,8 @@ HasWords words (Move c one) = words ≡ codes "move" ∷ decimal c ∷ move_word
 HasWords words (Serve c) = words ≡ codes "serve" ∷ decimal c ∷ []
 HasWords words (Send c) = words ≡ codes "send" ∷ decimal c ∷ []
 HasWords words (Deliver datagram) = words ≡ codes "deliver" ∷ decimal datagram ∷ []
+HasWords words (RecordTo c name) = words ≡ codes "record" ∷ decimal c ∷ name ∷ []
+HasWords words (Stop c) = words ≡ codes "stop" ∷ decimal c ∷ []
 HasWords words (Show c) = words ≡ codes "show" ∷ decimal c ∷ []
 HasWords words (Bytes datagram) = words ≡ codes "bytes" ∷ decimal datagram ∷ []
 HasWords words (Toclient c bytes) = (last : List ℕ) × SpellsHex last bytes × (words ≡ codes "toclient" ∷ decimal c ∷ last ∷ [])
@@ -219,6 +228,8 @@ IsOfClient c (Client d challenge qport dup address) = ⊥
 IsOfClient c (TypeText d text) = d ≡ c
 IsOfClient c (Move d one) = d ≡ c
 IsOfClient c (Send d) = d ≡ c
+IsOfClient c (RecordTo d name) = d ≡ c
+IsOfClient c (Stop d) = d ≡ c
 IsOfClient c (Show d) = d ≡ c
 IsOfClient c event = Unit {0}
 

@@ -1,6 +1,7 @@
 pub mod Words
 pub mod Addresses
 pub mod Hex
+pub mod Names
 pub mod Quotes
 pub mod Fields
 pub mod Lines

@@ -6,7 +6,7 @@ use Rattle.std.specs.Map.{lookup}
 use Rattle.std.specs.Str.{bytes_eq}
 use Rattle.q3_clmsg.specs.declared.moves.Move.{Move as MoveValue}
 use Rattle.q3_script.specs.declared.event.Event.{Event}
-use Rattle.q3_script.specs.declared.event.Event.TheVariants.{Client, Port, Map, Entity, Remove, Baseline, Player, Area, Time, Config, Say, TypeText, Move, Serve, Send, Deliver, Show, Bytes, Toclient, Toserver, At, End}
+use Rattle.q3_script.specs.declared.event.Event.TheVariants.{Client, Port, Map, Entity, Remove, Baseline, Player, Area, Time, Config, Say, TypeText, Move, Serve, Send, Deliver, RecordTo, Stop, Show, Bytes, Toclient, Toserver, At, End}
 use Rattle.q3_script.specs.declared.cause.LineCause.{LineCause}
 use Rattle.q3_script.specs.declared.cause.LineCause.TheVariants as causes
 use Rattle.q3_script.specs.declared.cause.ScriptKind.{ScriptKind}
@@ -16,6 +16,7 @@ use Rattle.q3_text.specs.Decimals.{number_at}
 use Rattle.q3_script.specs.Words.{behind}
 use Rattle.q3_script.specs.Addresses.{address_at}
 use Rattle.q3_script.specs.Hex.{area_at, handed_at}
+use Rattle.q3_script.specs.Names.{name_at}
 use Rattle.q3_script.specs.Quotes.{bytes_word, text_word}
 use Rattle.q3_script.specs.Fields.{entity_at, player_at}
 
@@ -213,6 +214,19 @@ deliver_line (datagram ∷ []) = do
   Ok (Deliver datagram)
 deliver_line words = Err causes.Count
 
+unfoldable pub record_line : List (List ℕ) → Result Event LineCause
+record_line (c ∷ name ∷ []) = do
+  c ← client_word c
+  name ← ok_or (name_at name) causes.Name
+  Ok (RecordTo c name)
+record_line words = Err causes.Count
+
+unfoldable pub stop_line : List (List ℕ) → Result Event LineCause
+stop_line (c ∷ []) = do
+  c ← client_word c
+  Ok (Stop c)
+stop_line words = Err causes.Count
+
 unfoldable pub show_line : List (List ℕ) → Result Event LineCause
 show_line (c ∷ []) = do
   c ← client_word c
@@ -284,6 +298,8 @@ replay_lines =
     ∷ (codes "serve", serve_line)
     ∷ (codes "send", send_line)
     ∷ (codes "deliver", deliver_line)
+    ∷ (codes "record", record_line)
+    ∷ (codes "stop", stop_line)
     ∷ (codes "show", show_line)
     ∷ (codes "bytes", bytes_line)
     ∷ []

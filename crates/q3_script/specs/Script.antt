@@ -65,6 +65,8 @@ is_of c (events.Client d challenge qport dup address) = false
 is_of c (events.TypeText d text) = d == c
 is_of c (events.Move d one) = d == c
 is_of c (events.Send d) = d == c
+is_of c (events.RecordTo d name) = d == c
+is_of c (events.Stop d) = d == c
 is_of c (events.Show d) = d == c
 is_of c other = true
 

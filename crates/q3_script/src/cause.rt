@@ -34,6 +34,8 @@ pub enum LineCause {
     /// What is left of the line is no text in quotes, or one of too many bytes: more than 1,023, or in a line `config` more
     /// than 9,000.
     Text,
+    /// The word isn't a name of a file: 1 to 200 bytes, each 33 to 126. It is printed `name`.
+    Name,
     /// The word isn't an address.
     Address,
     /// The line can't stand here: a time that is less than the one before it, a line behind `end`, or, in a client's script, a first

@@ -34,6 +34,8 @@ fn is_of(c: u8, event: &Event) -> bool
         Event::TypeText { c: d, .. }
         | Event::Move { c: d, .. }
         | Event::Send { c: d }
+        | Event::RecordTo { c: d, .. }
+        | Event::Stop { c: d }
         | Event::Show { c: d } => *d == c,
         _ => true,
     }

@@ -1,6 +1,7 @@
 //! The events of a script.
 
 use crate::bytes::Bytes;
+use crate::name::Name;
 use arrayvec::ArrayVec;
 use q3_clmsg::Move;
 use q3_entity::EntityState;
@@ -88,6 +89,15 @@ pub enum Event {
     /// The datagram of this number, counted from 1, arrives.
     Deliver {
         datagram: u32,
+    },
+    /// The client's messages are recorded into a file of this name from its next whole snapshot on.
+    RecordTo {
+        c: u8,
+        name: Name,
+    },
+    /// The client's recording ends.
+    Stop {
+        c: u8,
     },
     /// The client's newest accepted snapshot is printed.
     Show {

@@ -2,7 +2,7 @@
 
 ghost use Rattle.std.specs.Prelude.{◌≡◌, ◌∷◌, IfOk};
 ghost use Rattle.q3_script.specs.Words.{words_of, words_left};
-ghost use Rattle.q3_script.specs.Lines.{client_line, port_line, map_line, entity_line, remove_line, baseline_line, player_line, area_line, time_line, config_at, config_line, command_at, say_line, type_line, serve_line, send_line, deliver_line, show_line, bytes_line, hand_at, toclient_line, toserver_line, at_line, end_line, line_at};
+ghost use Rattle.q3_script.specs.Lines.{client_line, port_line, map_line, entity_line, remove_line, baseline_line, player_line, area_line, time_line, config_at, config_line, command_at, say_line, type_line, serve_line, send_line, deliver_line, record_line, stop_line, show_line, bytes_line, hand_at, toclient_line, toserver_line, at_line, end_line, line_at};
 
 use crate::address::read_address;
 use crate::area::{area_bytes, handed_bytes};
@@ -11,6 +11,7 @@ use crate::cause::{LineCause, ScriptKind};
 use crate::event::Event;
 use crate::fields::{entity_state, player_state};
 use crate::moves::move_line;
+use crate::name::Name;
 use crate::numbers::{client_word, entity_word, number_word};
 use crate::quotes::{config_bytes, text_word};
 use crate::words::{first_word, is, next_word, only_word, text_left};
@@ -217,6 +218,38 @@ fn deliver(left: &[u8]) -> Result<Event, LineCause>
     })
 }
 
+/// A `record` line. Such lines are few: apart, their code doesn't slow down the others.
+#[tactic(auto, using(crate::proofs::Steps::record_steps))]
+#[inline(never)]
+fn record_to(alloc: Global, left: &[u8]) -> Result<Result<Event, LineCause>, NoMemory>
+    ensures { IfOk result (λ answer. answer ≡ record_line (words_left left.now)) }
+{
+    let Some((c, left)) = next_word(left) else {
+        return Ok(Err(LineCause::Count));
+    };
+    let Some(word) = only_word(left) else {
+        return Ok(Err(LineCause::Count));
+    };
+    let c = match client_word(c) {
+        Ok(c) => c,
+        Err(cause) => return Ok(Err(cause)),
+    };
+    match Name::of(alloc, word)? {
+        Some(name) => Ok(Ok(Event::RecordTo { c, name })),
+        None => Ok(Err(LineCause::Name)),
+    }
+}
+
+#[tactic(auto, using(crate::proofs::Steps::stop_steps))]
+fn stop(left: &[u8]) -> Result<Event, LineCause>
+    ensures { result ≡ stop_line (words_left left.now) }
+{
+    let word = only_word(left).ok_or(LineCause::Count)?;
+    Ok(Event::Stop {
+        c: client_word(word)?,
+    })
+}
+
 #[tactic(auto, using(crate::proofs::Steps::show_steps))]
 fn show(left: &[u8]) -> Result<Event, LineCause>
     ensures { result ≡ show_line (words_left left.now) }
@@ -347,6 +380,10 @@ fn replay_line(
         Ok(send(left))
     } else if is(word, b"deliver") {
         Ok(deliver(left))
+    } else if is(word, b"record") {
+        record_to(alloc, left)
+    } else if is(word, b"stop") {
+        Ok(stop(left))
     } else if is(word, b"show") {
         Ok(show(left))
     } else if is(word, b"bytes") {

@@ -8,7 +8,7 @@ use Rattle.q3_profile.specs.declared.error.ProfileError.{ProfileError}
 use Rattle.q3_profile.specs.declared.error.ProfileError.TheVariants as profile
 use Rattle.q3_profile.specs.Document.{key_name}
 use Rattle.q3_script.specs.declared.cause.LineCause.{LineCause}
-use Rattle.q3_script.specs.declared.cause.LineCause.TheVariants.{Large, Many, Word, Count, Number, Fields, Text, Address, Order}
+use Rattle.q3_script.specs.declared.cause.LineCause.TheVariants.{Large, Many, Word, Count, Number, Fields, Text, Name, Address, Order}
 use Rattle.std.specs.List.{concat}
 use Rattle.q3_svmsg.specs.Report.{cause_word as illegible_word, cause_number}
 use Rattle.q3_demo.specs.declared.error.DemoError.{DemoError}
@@ -30,6 +30,7 @@ cause_word Count = codes "count"
 cause_word Number = codes "number"
 cause_word Fields = codes "fields"
 cause_word Text = codes "text"
+cause_word Name = codes "name"
 cause_word Address = codes "address"
 cause_word Order = codes "order"
 

@@ -251,6 +251,7 @@ fn word(cause: LineCause) -> &'static [u8]
         LineCause::Number => b"number",
         LineCause::Fields => b"fields",
         LineCause::Text => b"text",
+        LineCause::Name => b"name",
         LineCause::Address => b"address",
         LineCause::Order => b"order",
     }

@@ -1,0 +1,90 @@
+//! The name of a file in a line.
+
+ghost use Rattle.std.specs.Prelude.{◌≡◌, IfOk, bytes_eq};
+ghost use Rattle.std.specs.Cmp.{partial_equiv_from_equiv};
+ghost use Rattle.std.specs.Cmp.Lexicographic.{nat_list_eq_equiv};
+ghost use Rattle.q3_script.specs.Names.{IsName, is_name, is_name_byte, name_at};
+ghost use Rattle.std.specs.List.{list_all};
+
+use q3_bits::NoMemory;
+use std::alloc::Global;
+use std::marker::Model;
+
+/// The most bytes of a name.
+const LONGEST_NAME: usize = 200;
+
+/// The name of a file, in memory of its own: 1 to 200 bytes, each 33 to 126. To a caller it is the list of its bytes.
+#[derive(Debug, Drop)]
+pub struct Name {
+    bytes: Vec<u8>,
+}
+
+impl Model for Name {
+    ghost use Rattle.std.specs.Prelude.{ℕ, List};
+    ghost use Rattle.q3_script.specs.Names.{IsName};
+
+    ghost Value = { List ℕ };
+
+    ghost view = { λ n. n.bytes.items };
+
+    ghost invariant = { λ n. IsName n.bytes.items };
+}
+
+impl PartialEq for Name {
+    ghost eq = { λ a b. bytes_eq a b };
+
+    ghost laws = { partial_equiv_from_equiv nat_list_eq_equiv };
+
+    fn eq(&self, other: &Name) -> bool {
+        self.bytes() == other.bytes()
+    }
+}
+
+impl Eq for Name {
+    ghost laws = { nat_list_eq_equiv };
+}
+
+/// Whether a byte may stand in a name: it prints, and is no space.
+fn is_name_byte(byte: u8) -> bool
+    ensures { result ≡ is_name_byte byte }
+{
+    byte >= 33 && byte <= 126
+}
+
+/// Whether each byte may stand in a name.
+fn are_name_bytes(word: &[u8]) -> bool
+    ensures { result ≡ list_all is_name_byte word.now }
+{
+    word.iter().all(|byte| is_name_byte(*byte))
+}
+
+/// Whether a word is a name.
+#[tactic(auto, unfolding(crate::specs::Names::is_name))]
+fn is_name(word: &[u8]) -> bool
+    ensures { result ≡ is_name word.now }
+{
+    !word.is_empty() && word.len() <= LONGEST_NAME && are_name_bytes(word)
+}
+
+impl Name {
+    /// The name that a word is, if it is one. `Err` is want of memory.
+    #[tactic(auto, unfolding(crate::specs::Names::name_at), using(crate::proofs::NameWords::named))]
+    pub fn of(alloc: Global, bytes: &[u8]) -> Result<Option<Name>, NoMemory>
+        ensures { IfOk result (λ name. name ≡ name_at bytes.now) }
+    {
+        if !is_name(bytes) {
+            return Ok(None);
+        }
+        let mut kept = Vec::with_capacity(alloc, bytes.len())?;
+        kept.extend_from_slice(bytes)?;
+        Ok(Some(Name { bytes: kept }))
+    }
+
+    /// The bytes of the name.
+    pub fn bytes(&self) -> &[u8]
+        ensures bytes { result.now ≡ self.now }
+        ensures is_name { IsName self.now }
+    {
+        &self.bytes
+    }
+}
