@@ -103,11 +103,12 @@ abbrev pub HasFile : Option Told → ℕ → ℕ → Option RecordingState → T
 HasFile told given file None = Unit {0}
 HasFile told given file (Some recording) = (file < given) × StandsForName told file recording.name
 
--- what a call does to files: these acts, or where one fails some of them; no number is lost, nothing is read, and a write that failed was
--- counted
+-- what a call does to files: these acts, or where one fails some of them; no number is lost, nor the name that it stands for, nothing is
+-- read, and a write that failed was counted
 pub record WritesFiles (told now : Option Told) (given behind faults faults_behind write_faults write_faults_behind : ℕ) (acts : List FileAct) (result : Result (Unit {0}) Failed) : Type 0 where
   pub acts_on : ActsOn told now acts result
   pub some : IsErr result → acts ≢ []
   pub numbers : given ≤ behind
+  pub names : (file : ℕ) (name : List ℕ) → file < given → StandsForName told file name → StandsForName now file name
   pub reads : faults_behind ≡ faults
   pub cause : HasCause write_faults write_faults_behind result

@@ -141,6 +141,7 @@ impl End for ClientEnd {
             took,
             client: &self.client,
             log: &self.log,
+            ended: false,
         };
         print_answer(&Answer::Took { front, taker }, out)
     }

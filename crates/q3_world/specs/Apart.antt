@@ -1,7 +1,7 @@
 -- An event of one client leaves what the others have.
 use Rattle.std.specs.Prelude.{◌≡◌, ◌≢◌, ℕ, ◌-◌, Option, Some, None, IfSome, slice_get}
 use Rattle.q3_script.specs.declared.event.Event.{Event}
-use Rattle.q3_script.specs.declared.event.Event.TheVariants.{Client, Port, Map, Player, Area, Config, Say, TypeText, Move, Serve, Send, Deliver, Toclient, Toserver}
+use Rattle.q3_script.specs.declared.event.Event.TheVariants.{Client, Port, Map, Player, Area, Config, Say, TypeText, Move, Serve, Send, Deliver, RecordTo, Stop, Toclient, Toserver}
 use Rattle.q3_server.specs.Server.{slot_at}
 use Rattle.q3_server.specs.Apart.{KeepsFrames, taker_of}
 use Rattle.q3_world.specs.declared.made.Direction.{Direction}
@@ -34,16 +34,18 @@ IsApart kept (Move c one) d = d ≢ c
 IsApart kept (Serve c) d = d ≢ c
 IsApart kept (Send c) d = d ≢ c
 IsApart kept (Deliver number) d = IsOfOthers kept.ends d (slice_get kept.datagrams (number - 1))
+IsApart kept (RecordTo c name) d = d ≢ c
+IsApart kept (Stop c) d = d ≢ c
 IsApart kept (Toclient c bytes) d = d ≢ c
 IsApart kept (Toserver c bytes) d = IfSome (place_at kept.ends c) (λ place. taker_of kept.ends.server place.address bytes ≢ Some d)
 IsApart kept other d = Unit {0}
 
--- a client has the same slot, the same frames as far as they are there, and at its place the same end and address
+-- a client has the same slot, the same frames as far as they are there, and at its place the same end, address and recording
 pub record IsLeft (d : ℕ) (old new : Ends) : Type 0 where
   pub slot : slot_at new.server d ≡ slot_at old.server d
   pub frames : KeepsFrames d old.server.frames new.server.frames
   pub place : place_at new d ≡ place_at old d
 
--- an event that isn't of a client leaves its slot, its frames, its end and its address, in every state and whatever bytes arrive
+-- an event that isn't of a client leaves its slot, its frames, its end, its address and its recording, in every state and whatever bytes arrive
 abbrev pub SlotsApart : Type 0
 SlotsApart = (kept : Kept) (event : Event) (d : ℕ) → IsApart kept event d → IsLeft d kept.ends (kept_step kept event).kept.ends

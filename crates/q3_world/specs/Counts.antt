@@ -16,10 +16,11 @@ use Rattle.q3_report.specs.Answers.{Taking, ByClient, ByServer, Answered, Served
 use Rattle.q3_world.specs.declared.counts.Counts.{Counts}
 use Rattle.q3_world.specs.Kept.{Kept}
 
--- what the program's world keeps, and what it counted
+-- what the program's world keeps, what it counted, and the number of the file of each client's recording
 pub record Counting : Type 0 where
   pub kept : Kept
   pub counts : Counts
+  pub numbers : List ℕ
 
 -- before the first event
 abbrev pub no_counts : Counts
@@ -63,7 +64,7 @@ lines_of_server other ran = one_event
 
 -- the lines of an end that took bytes
 abbrev pub lines_of_taking : Taking → Counts
-lines_of_taking (ByClient c took state commands) = lines_of_client took commands
+lines_of_taking (ByClient c took state commands ended) = lines_of_client took commands
 lines_of_taking (ByServer took ran) = lines_of_server took ran
 
 -- the lines of an answer

@@ -1,11 +1,16 @@
 -- What an event does to the program's world, and to its ends.
 use Rattle.std.specs.Prelude.{◌≡◌, ℕ, ◌+◌, ◌≤◌, length, Option, Result, OnOk, IsErrOf}
 use Rattle.q3_io.specs.Written.{Written, NothingWaits}
+use Rattle.q3_client.specs.Client.{Taken}
+use Rattle.q3_report.specs.declared.answer.Front.{Front}
 use Rattle.q3_report.specs.Answers.{Answered}
 use Rattle.q3_report.specs.AnswerLines.{lines_of}
 use Rattle.q3_world.specs.declared.counts.Counts.{Counts}
 use Rattle.q3_world.specs.declared.told.StepError.{StepError}
-use Rattle.q3_world.specs.declared.told.StepError.TheVariants.{NoMemory}
+use Rattle.q3_world.specs.declared.told.StepError.TheVariants.{NoMemory, FileFault}
+use Rattle.q3_ends.specs.AtClient.{taken_by_client}
+use Rattle.q3_ends.specs.Recording.{note_taken}
+use Rattle.q3_world.specs.declared.places.Place.{Place}
 use Rattle.q3_world.specs.Counts.{Counting, counted}
 use Rattle.q3_world.specs.Ends.{Ends, EndsStep}
 use Rattle.q3_world.specs.Kept.{KeptStep}
@@ -15,6 +20,17 @@ use Rattle.q3_world.specs.Outcome.{Prints, HasStepCause}
 pub record Tells (old new : Counts) (before behind : Option Written) (were are : ℕ) (answer : Answered) (result : Result (Unit {0}) StepError) : Type 0 where
   pub counts : new ≡ counted old answer
   pub printed : Prints before behind (lines_of answer) result
+  pub flushed : OnOk result (NothingWaits behind)
+  pub cause : HasStepCause were are result
+  pub memory : IsErrOf result NoMemory → ⊥
+  pub files : IsErrOf result FileFault → ⊥
+
+-- a client took bytes, and its recording went on by what it applied; that is told, unless a file can't be written
+pub record TakesAt (old : Place) (taken : Taken) (new : Place) (front : Front) (c : ℕ) (counts_old counts : Counts) (before behind : Option Written) (were are : ℕ) (result : Result (Unit {0}) StepError) : Type 0 where
+  pub kept : new ≡ record old { client = taken.client; recording = new.recording }
+  pub recording : OnOk result (new.recording ≡ (note_taken old.recording old.client taken).recording)
+  pub told : OnOk result (counts ≡ counted counts_old (taken_by_client front c taken (note_taken old.recording old.client taken).ended))
+  pub printed : Prints before behind (lines_of (taken_by_client front c taken (note_taken old.recording old.client taken).ended)) result
   pub flushed : OnOk result (NothingWaits behind)
   pub cause : HasStepCause were are result
   pub memory : IsErrOf result NoMemory → ⊥

@@ -13,18 +13,21 @@ use Rattle.q3_server.specs.Taking as hears
 use Rattle.q3_client.specs.Client.{ClientState, new_client}
 use Rattle.q3_client.specs.Client as takes
 use Rattle.q3_report.specs.declared.answer.HandedIn.{HandedIn}
-use Rattle.q3_report.specs.declared.answer.HandedIn.TheVariants.{Client, Port, Time, TypeText, Move as Moved}
+use Rattle.q3_report.specs.declared.answer.HandedIn.TheVariants.{Client, Port, Time, TypeText, Move as Moved, Record as Recorded, Stop as Stopped}
 use Rattle.q3_report.specs.declared.answer.MoveRefused.TheVariants as refused
 use Rattle.q3_report.specs.declared.answer.TypeRefused.TheVariants as untyped
 use Rattle.q3_report.specs.declared.answer.Front.{Front}
+use Rattle.q3_report.specs.declared.answer.RecordRefused.TheVariants as unrecorded
+use Rattle.q3_report.specs.declared.answer.StopRefused.TheVariants as unstopped
 use Rattle.q3_report.specs.declared.answer.Front.TheVariants.{Toclient, Toserver}
 use Rattle.q3_report.specs.declared.answer.TakeRefused.TheVariants.{NoClient}
 use Rattle.q3_report.specs.Answers.{Answered, Given, Untaken, Shown, Showing, ShowsNobody}
 use Rattle.q3_ends.specs.AtServer.{ServerStep, server_line, taken_by_server}
 use Rattle.q3_ends.specs.AtClient as at_client
 use Rattle.q3_ends.specs.AtClient.{ClientStep, taken_by_client, newest_of, showing}
+use Rattle.q3_ends.specs.Recording.{new_recording, begin_at, stop_at, note_taken}
 
--- the server, and at its place each client with the address that its datagrams come from
+-- the server, and at its place each client with the address that its datagrams come from, and its recording, if one goes on
 pub record Ends : Type 0 where
   pub server : ServerState
   pub clients : List (Option Place)
@@ -70,7 +73,7 @@ joined ends c place (Err e) = given ends (Client c (Err e))
 abbrev pub join : Profile → Ends → ℕ → ℕ → ℕ → ℕ → Address → EndsStep
 join profile ends c challenge qport dup address =
     let added = add_client_at ends.server c challenge qport address in
-    joined (record ends { server = added.server }) c (record { client = new_client profile challenge qport dup; address = address }) added.answer
+    joined (record ends { server = added.server }) c (record { client = new_client profile challenge qport dup; address = address; recording = None }) added.answer
 
 -- a client's later datagrams come from another port, if it is there
 abbrev pub set_port_of : Ends → ℕ → ℕ → Option Place → EndsStep
@@ -100,6 +103,26 @@ type_text ends c text = to_client ends c (TypeText c (Err untyped.NoClient)) (λ
 abbrev pub add_move : Ends → ℕ → Move → EndsStep
 add_move ends c one = to_client ends c (Moved c (Err refused.NoClient)) (λ client. at_client.add_move client c one) (place_at ends c)
 
+-- a client begins a recording into the file of a name, if it is there
+abbrev pub record_of : Ends → ℕ → List ℕ → Option Place → EndsStep
+record_of ends c name None = given ends (Recorded c (Err unrecorded.NoClient))
+record_of ends c name (Some place) =
+    let begun = begin_at place.client place.recording (new_recording name) in
+    given (with_place ends c (record place { recording = begun.recording })) (Recorded c begun.answer)
+
+abbrev pub record_to : Ends → ℕ → List ℕ → EndsStep
+record_to ends c name = record_of ends c name (place_at ends c)
+
+-- and the recording of a client has its end
+abbrev pub stop_of : Ends → ℕ → Option Place → EndsStep
+stop_of ends c None = given ends (Stopped c (Err unstopped.NoClient))
+stop_of ends c (Some place) =
+    let stopped = stop_at place.recording in
+    given (with_place ends c (record place { recording = stopped.recording })) (Stopped c stopped.answer)
+
+abbrev pub stop : Ends → ℕ → EndsStep
+stop ends c = stop_of ends c (place_at ends c)
+
 -- the newest snapshot that a client accepted, if it is there
 abbrev pub newest : Option ClientState → Option Snapshot
 newest None = None
@@ -115,9 +138,14 @@ show ends c = record { ends = ends; answer = Shown c (showing_at (place_at ends 
 
 -- ---- bytes come to an end
 
--- a client took something
+-- a client took something, and what it applied is recorded, where a recording goes on
 abbrev pub client_took : Ends → ℕ → Front → Place → takes.Taken → EndsStep
-client_took ends c front place taken = record { ends = with_client ends c place taken.client; answer = taken_by_client front c taken }
+client_took ends c front place taken =
+    let noted = note_taken place.recording place.client taken in
+    record {
+      ends = with_client ends c (record place { recording = noted.recording }) taken.client;
+      answer = taken_by_client front c taken noted.ended;
+    }
 
 -- the client at a place, if there is one, takes bytes
 abbrev pub client_takes : Ends → ℕ → Front → List ℕ → Option Place → EndsStep
@@ -165,6 +193,8 @@ line_of profile ends (events.Move c one) = Hands (add_move ends c one)
 line_of profile ends (events.Serve c) = Serves c
 line_of profile ends (events.Send c) = Sends c
 line_of profile ends (events.Deliver number) = Delivers number
+line_of profile ends (events.RecordTo c name) = Hands (record_to ends c name)
+line_of profile ends (events.Stop c) = Hands (stop ends c)
 line_of profile ends (events.Show c) = Hands (show ends c)
 line_of profile ends (events.Bytes number) = TellsBytes number
 line_of profile ends (events.Toclient c bytes) = HandsBytes c (hand_client ends c bytes)

@@ -8,6 +8,7 @@ use Rattle.q3_client.specs.Sending as speaks
 use Rattle.q3_report.specs.declared.answer.Front.TheVariants as fronts
 use Rattle.q3_report.specs.declared.answer.TakeRefused.TheVariants as refused
 use Rattle.q3_report.specs.Answers.{Answered, Served, SentOut, Untaken, Bytes}
+use Rattle.q3_ends.specs.Recording.{asking}
 use Rattle.q3_world.specs.declared.made.Direction.{Direction}
 use Rattle.q3_world.specs.declared.made.Direction.TheVariants.{ToClient, ToServer}
 use Rattle.q3_world.specs.declared.places.Place.{Place}
@@ -69,10 +70,10 @@ kept_said kept c place emission =
       answer = SentOut c (Ok emission.answer) (length kept.datagrams + 1);
     }
 
--- a datagram of the client at a place, if there is one
+-- a datagram of the client at a place, if there is one: it asks for whole snapshots exactly while its recording waits
 abbrev pub kept_send : Kept → ℕ → Option Place → KeptStep
 kept_send kept c None = record { kept = kept; answer = SentOut c (Err (record {})) (length kept.datagrams + 1) }
-kept_send kept c (Some place) = kept_said kept c place (speaks.emit_at place.client)
+kept_send kept c (Some place) = kept_said kept c place (speaks.emit_at (asking place.client place.recording))
 
 -- the end that a datagram goes to takes it
 abbrev pub arrive_at : Ends → ℕ → SentBytes → Direction → EndsStep

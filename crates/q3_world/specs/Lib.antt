@@ -3,6 +3,7 @@ pub mod Apart
 pub mod Ends
 pub mod Counts
 pub mod Kept
+pub mod Files
 pub mod Moves
 pub mod World
 pub mod Games

@@ -37,6 +37,7 @@ use Rattle.q3_report.specs.declared.answer.Front.TheVariants as fronts
 use Rattle.q3_report.specs.declared.answer.TakeRefused.TheVariants as refused
 use Rattle.q3_report.specs.Answers.{Answered, Given, Served, SentOut, Untaken, Bytes}
 use Rattle.q3_ends.specs.AtServer.{ran_of}
+use Rattle.q3_ends.specs.Recording.{asking}
 use Rattle.q3_world.specs.declared.made.Direction.{Direction}
 use Rattle.q3_world.specs.declared.made.Direction.TheVariants.{ToClient, ToServer}
 use Rattle.q3_world.specs.Ends as by_ends
@@ -269,10 +270,10 @@ say whole c place emission =
       answer = SentOut c (Ok emission.answer) (length whole.sent + 1);
     }
 
--- a datagram of the client at a place, if there is one
+-- a datagram of the client at a place, if there is one: it asks for whole snapshots exactly while its recording waits
 abbrev pub send : Whole → ℕ → Option Place → Step
 send whole c None = record { whole = whole; answer = SentOut c (Err (record {})) (length whole.sent + 1) }
-send whole c (Some place) = say whole c place (speaks.emit_at place.client)
+send whole c (Some place) = say whole c place (speaks.emit_at (asking place.client place.recording))
 
 -- the message that the tag of a datagram for a client names
 abbrev pub named : List History → Tag → Built

@@ -1,12 +1,15 @@
 //! Both ends of every client, and what a line of a script does at them.
 
-ghost use Rattle.std.specs.Prelude.{◌≡◌, ◌<◌, ◌≤◌, ◌+◌, ◌-◌, [], length, slice_get, vec_capacity, IfOk, IfSome, IsSome, IsErrOf, OnErr, OnOk};
+ghost use Rattle.std.specs.Prelude.{◌≡◌, ◌≢◌, ◌<◌, ◌≤◌, ◌+◌, ◌-◌, ℕ, None, [], length, option_map, slice_get, vec_capacity, IfOk, IfSome, IsSome, IsErrOf, OnErr, OnOk};
 ghost use Rattle.q3_profile.specs.Profile.{IsProfile, IsCodec};
 ghost use Rattle.q3_script.specs.Grammar.{IsReplayEvent};
 ghost use Rattle.q3_server.specs.Server.{places, emit_at};
 ghost use Rattle.q3_report.specs.Answers.{Given, Shown};
 ghost use Rattle.q3_report.specs.Tellings.{answered_of};
 ghost use Rattle.q3_ends.specs.AtServer.{server_line};
+ghost use Rattle.q3_ends.specs.Recording.{new_recording, HasFile};
+ghost use Rattle.q3_world.specs.declared.places.Place.{Place as PlaceValue};
+ghost use Rattle.q3_world.specs.Files.{recording_at};
 
 use crate::counts::Counts;
 use crate::made::{Direction, Made, keep};
@@ -18,10 +21,14 @@ use q3_client::Client;
 use q3_clmsg::Move;
 use q3_clstate::Log;
 use q3_ends::client::show;
+use q3_ends::recording::Recording;
 use q3_ends::server::{server_line, server_takes};
-use q3_io::{Address, Sink};
+use q3_io::{Address, Failed, Files, Sink};
 use q3_profile::Profile;
-use q3_report::{Answer, Front, HandedIn, MoveRefused, Shown, TakeRefused, TypeRefused};
+use q3_report::{
+    Answer, Front, HandedIn, MoveRefused, RecordRefused, Shown, StopRefused, TakeRefused,
+    TypeRefused,
+};
 use q3_script::Event;
 use q3_server::{Heard, MOST_SLOTS, NoClient, Server};
 use q3_text::Text;
@@ -48,10 +55,12 @@ impl Model for Ends {
 }
 
 impl Ends {
-    ghost use Rattle.q3_world.specs.Ends.{place_at, new_ends, join, set_port, game_step, type_text, add_move, show, client_takes, server_takes, hand_server, step_in, line_of};
+    ghost use Rattle.q3_world.specs.Ends.{place_at, new_ends, join, set_port, game_step, type_text, add_move, record_to, stop, show, client_takes, server_takes, hand_server, step_in, line_of};
     ghost use Rattle.q3_world.specs.Kept.{Kept, most_datagrams, deliver_at, kept_serve, kept_send};
     ghost use Rattle.q3_world.specs.Doing.{Tells, EndsDo};
+    ghost use Rattle.q3_world.specs.Files.{AreNumbered, DoesFiles, NoneRecords, begin_acts, stop_acts, take_acts, deliver_acts, line_acts, ending_acts};
     ghost use Rattle.q3_world.specs.Outcome.{TakesMemory};
+    ghost use Rattle.q3_ends.specs.Recording.{WritesFiles};
 
     /// A server by this profile, and no client. `Err` is want of memory.
     pub fn new(alloc: Global, profile: &Profile) -> Result<Ends, NoMemory>
@@ -66,24 +75,31 @@ impl Ends {
     }
 
     /// What a line does that hands something in, hands bytes to an end, or shows a client; and its answer is told. Both lists may hold
-    /// anything before. `NoMemory` comes at `client` alone, and changes nothing.
-    #[tactic(auto, unfolding(crate::specs::Ends::line_of, q3_ends::specs::AtServer::server_line))]
-    pub fn line<O: Sink>(
+    /// anything before. `NoMemory` comes at `client` and `record` alone, and changes nothing.
+    #[tactic(auto, unfolding(crate::specs::Ends::line_of, crate::specs::Files::line_acts, q3_ends::specs::AtServer::server_line))]
+    pub fn line<F: Files, O: Sink>(
         &mut self,
         alloc: Global,
         profile: &Profile,
         event: &Event,
+        numbers: &mut [usize; 16],
         log: &mut Log,
         heard: &mut Heard,
         counts: &mut Counts,
+        files: &mut F,
         out: &mut O,
     ) -> Result<(), StepError>
         requires profile { IsProfile profile.now }
         requires event { IsReplayEvent event.now }
         requires line { IsSome (step_in (line_of profile.now self.old event.now)) }
+        requires numbered { AreNumbered (F.told files.old) (F.given files.old) numbers.old self.old }
         ensures does { IfSome (step_in (line_of profile.now self.old event.now))
             (λ step. EndsDo self.old self.new counts.old counts.new (O.written out.old) (O.written out.new) (O.faults out.old) (O.faults out.new) step result) }
         ensures memory { IsErrOf result StepError.NoMemory → TakesMemory event.now }
+        ensures files { DoesFiles (F.told files.old) (F.told files.new) (F.given files.old) (F.given files.new) (F.faults files.old) (F.faults files.new)
+            (F.write_faults files.old) (F.write_faults files.new) (line_acts self.old event.now) result }
+        ensures numbered { AreNumbered (F.told files.new) (F.given files.new) numbers.new self.new }
+        ensures same { IsErrOf result StepError.NoMemory → numbers.new ≡ numbers.old }
     {
         match event {
             Event::Client {
@@ -111,10 +127,17 @@ impl Ends {
                 let handed = self.add_move(*c, one);
                 tell(&Answer::HandedIn(handed), counts, out)
             }
+            Event::RecordTo { c, name } => {
+                let Ok(fresh) = Recording::new(alloc, name) else {
+                    return Err(StepError::NoMemory);
+                };
+                self.record(*c, fresh, numbers, counts, files, out)
+            }
+            Event::Stop { c } => self.stop(*c, numbers, counts, files, out),
             Event::Show { c } => tell(&self.show(*c), counts, out),
             Event::Toclient { c, bytes } => {
                 let front = Front::Toclient { c: *c };
-                self.client_takes(front, *c, bytes.bytes(), log, counts, out)
+                self.client_takes(front, *c, bytes.bytes(), numbers, log, counts, files, out)
             }
             Event::Toserver { c, bytes } => {
                 self.hand_server(*c, bytes.bytes(), heard, counts, out)
@@ -146,7 +169,11 @@ impl Ends {
                 outcome: Err(error),
             });
         }
-        self.clients[c as usize] = Some(Place { client, address });
+        self.clients[c as usize] = Some(Place {
+            client,
+            address,
+            recording: None,
+        });
         Ok(HandedIn::Client { c, outcome: Ok(()) })
     }
 
@@ -211,6 +238,101 @@ impl Ends {
         place.add_move(c, one)
     }
 
+    /// A client begins this recording, if it is there.
+    fn record<F: Files, O: Sink>(
+        &mut self,
+        c: u8,
+        fresh: Recording,
+        numbers: &mut [usize; 16],
+        counts: &mut Counts,
+        files: &mut F,
+        out: &mut O,
+    ) -> Result<(), StepError>
+        requires place { c < places }
+        requires fresh { fresh ≡ new_recording fresh.name }
+        requires numbered { AreNumbered (F.told files.old) (F.given files.old) numbers.old self.old }
+        ensures does { EndsDo self.old self.new counts.old counts.new (O.written out.old) (O.written out.new) (O.faults out.old) (O.faults out.new) (record_to self.old c fresh.name) result }
+        ensures memory { IsErrOf result StepError.NoMemory → ⊥ }
+        ensures files { DoesFiles (F.told files.old) (F.told files.new) (F.given files.old) (F.given files.new) (F.faults files.old) (F.faults files.new)
+            (F.write_faults files.old) (F.write_faults files.new) (begin_acts (place_at self.old c) fresh.name) result }
+        ensures numbered { AreNumbered (F.told files.new) (F.given files.new) numbers.new self.new }
+    {
+        let Some(place) = &mut self.clients[c as usize] else {
+            let outcome = Err(RecordRefused::NoClient);
+            return tell(&Answer::HandedIn(HandedIn::Record { c, outcome }), counts, out);
+        };
+        let mut number = numbers[c as usize];
+        let begun = place.record(fresh, &mut number, files);
+        numbers[c as usize] = number;
+        let Ok(outcome) = begun else {
+            return Err(StepError::FileFault);
+        };
+        tell(&Answer::HandedIn(HandedIn::Record { c, outcome }), counts, out)
+    }
+
+    /// A client's recording has its end, if the client is there.
+    fn stop<F: Files, O: Sink>(
+        &mut self,
+        c: u8,
+        numbers: &[usize; 16],
+        counts: &mut Counts,
+        files: &mut F,
+        out: &mut O,
+    ) -> Result<(), StepError>
+        requires place { c < places }
+        requires numbered { AreNumbered (F.told files.old) (F.given files.old) numbers.now self.old }
+        ensures does { EndsDo self.old self.new counts.old counts.new (O.written out.old) (O.written out.new) (O.faults out.old) (O.faults out.new) (stop self.old c) result }
+        ensures memory { IsErrOf result StepError.NoMemory → ⊥ }
+        ensures files { DoesFiles (F.told files.old) (F.told files.new) (F.given files.old) (F.given files.new) (F.faults files.old) (F.faults files.new)
+            (F.write_faults files.old) (F.write_faults files.new) (stop_acts (place_at self.old c)) result }
+        ensures numbered { AreNumbered (F.told files.new) (F.given files.new) numbers.now self.new }
+    {
+        let Some(place) = &mut self.clients[c as usize] else {
+            let outcome = Err(StopRefused::NoClient);
+            return tell(&Answer::HandedIn(HandedIn::Stop { c, outcome }), counts, out);
+        };
+        let Ok(outcome) = place.stop(numbers[c as usize], files) else {
+            return Err(StepError::FileFault);
+        };
+        tell(&Answer::HandedIn(HandedIn::Stop { c, outcome }), counts, out)
+    }
+
+    /// The recording of the client at a place has its end, if the client is there and one goes on.
+    fn end_at<F: Files>(
+        &mut self,
+        c: u8,
+        number: usize,
+        files: &mut F,
+    ) -> Result<(), Failed>
+        requires place { c < places }
+        requires file { HasFile (F.told files.old) (F.given files.old) number (recording_at (place_at self.old c)) }
+        ensures server { self.new.server ≡ self.old.server }
+        ensures ends { (place_at self.new c ≡ option_map (λ (place : PlaceValue). record place { recording = None }) (place_at self.old c))
+            × ((d : ℕ) → d ≢ c → place_at self.new d ≡ place_at self.old d) }
+        ensures files { WritesFiles (F.told files.old) (F.told files.new) (F.given files.old) (F.given files.new) (F.faults files.old) (F.faults files.new)
+            (F.write_faults files.old) (F.write_faults files.new) (stop_acts (place_at self.old c)) result }
+    {
+        let Some(place) = &mut self.clients[c as usize] else {
+            return Ok(());
+        };
+        let _ = place.stop(number, files)?;
+        Ok(())
+    }
+
+    /// Every recording that goes on has its end, by client. `Failed` comes where one can't be written.
+    pub fn finish<F: Files>(&mut self, numbers: &[usize; 16], files: &mut F) -> Result<(), Failed>
+        requires numbered { AreNumbered (F.told files.old) (F.given files.old) numbers.now self.old }
+        ensures files { WritesFiles (F.told files.old) (F.told files.new) (F.given files.old) (F.given files.new) (F.faults files.old) (F.faults files.new)
+            (F.write_faults files.old) (F.write_faults files.new) (ending_acts self.old) result }
+        ensures ended { OnOk result (NoneRecords self.new) }
+        ensures numbered { AreNumbered (F.told files.new) (F.given files.new) numbers.now self.new }
+    {
+        for c in 0..MOST_SLOTS {
+            self.end_at(c, numbers[c as usize], files)?;
+        }
+        Ok(())
+    }
+
     /// What a client shows.
     fn show(&self, c: u8) -> Answer<'_>
         requires { c < places }
@@ -223,28 +345,32 @@ impl Ends {
         Answer::Show { c, shown }
     }
 
-    /// The client at a place takes bytes, if it is there.
-    fn client_takes<O: Sink>(
+    /// The client at a place takes bytes, if it is there, and records what it applied.
+    fn client_takes<F: Files, O: Sink>(
         &mut self,
         front: Front,
         c: u8,
         bytes: &[u8],
+        numbers: &[usize; 16],
         log: &mut Log,
         counts: &mut Counts,
+        files: &mut F,
         out: &mut O,
     ) -> Result<(), StepError>
-        requires { c < places }
-        ensures ends { self.new ≡ (client_takes self.old c front bytes.now (place_at self.old c)).ends }
-        ensures told { Tells counts.old counts.new (O.written out.old) (O.written out.new) (O.faults out.old) (O.faults out.new)
-            (client_takes self.old c front bytes.now (place_at self.old c)).answer result }
+        requires place { c < places }
+        requires numbered { AreNumbered (F.told files.old) (F.given files.old) numbers.now self.old }
+        ensures does { EndsDo self.old self.new counts.old counts.new (O.written out.old) (O.written out.new) (O.faults out.old) (O.faults out.new)
+            (client_takes self.old c front bytes.now (place_at self.old c)) result }
+        ensures memory { IsErrOf result StepError.NoMemory → ⊥ }
+        ensures files { DoesFiles (F.told files.old) (F.told files.new) (F.given files.old) (F.given files.new) (F.faults files.old) (F.faults files.new)
+            (F.write_faults files.old) (F.write_faults files.new) (take_acts (place_at self.old c) bytes.now) result }
+        ensures numbered { AreNumbered (F.told files.new) (F.given files.new) numbers.now self.new }
     {
-        match &mut self.clients[c as usize] {
-            None => {
-                let cause = TakeRefused::NoClient;
-                tell(&Answer::Untaken { front, cause }, counts, out)
-            }
-            Some(place) => place.take(front, c, bytes, log, counts, out),
-        }
+        let Some(place) = &mut self.clients[c as usize] else {
+            let cause = TakeRefused::NoClient;
+            return tell(&Answer::Untaken { front, cause }, counts, out);
+        };
+        place.take(front, c, bytes, log, numbers[c as usize], counts, files, out)
     }
 
     /// The server takes bytes from the address of a client, if it is there.
@@ -292,19 +418,25 @@ impl Ends {
     }
 
     /// The datagram of a number, if it was made, arrives: the end that it goes to takes it.
-    pub fn deliver<O: Sink>(
+    pub fn deliver<F: Files, O: Sink>(
         &mut self,
         number: u32,
         datagrams: &[Made],
+        numbers: &[usize; 16],
         log: &mut Log,
         heard: &mut Heard,
         counts: &mut Counts,
+        files: &mut F,
         out: &mut O,
     ) -> Result<(), StepError>
-        requires { 1 ≤ number }
-        ensures ends { self.new ≡ (deliver_at self.old number (slice_get datagrams.now (number - 1))).ends }
-        ensures told { Tells counts.old counts.new (O.written out.old) (O.written out.new) (O.faults out.old) (O.faults out.new)
-            (deliver_at self.old number (slice_get datagrams.now (number - 1))).answer result }
+        requires number { 1 ≤ number }
+        requires numbered { AreNumbered (F.told files.old) (F.given files.old) numbers.now self.old }
+        ensures does { EndsDo self.old self.new counts.old counts.new (O.written out.old) (O.written out.new) (O.faults out.old) (O.faults out.new)
+            (deliver_at self.old number (slice_get datagrams.now (number - 1))) result }
+        ensures memory { IsErrOf result StepError.NoMemory → ⊥ }
+        ensures files { DoesFiles (F.told files.old) (F.told files.new) (F.given files.old) (F.given files.new) (F.faults files.old) (F.faults files.new)
+            (F.write_faults files.old) (F.write_faults files.new) (deliver_acts self.old (slice_get datagrams.now (number - 1))) result }
+        ensures numbered { AreNumbered (F.told files.new) (F.given files.new) numbers.now self.new }
     {
         let front = Front::Deliver { datagram: number };
         let Some(sent) = datagrams.get(number as usize - 1) else {
@@ -316,7 +448,7 @@ impl Ends {
                 self.server_takes(front, from, &sent.bytes, heard, counts, out)
             }
             Direction::ToClient => {
-                self.client_takes(front, sent.client, &sent.bytes, log, counts, out)
+                self.client_takes(front, sent.client, &sent.bytes, numbers, log, counts, files, out)
             }
         }
     }

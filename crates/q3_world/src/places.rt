@@ -13,23 +13,29 @@ use q3_client::{Client, Sent};
 use q3_clmsg::Move;
 use q3_clstate::Log;
 use q3_ends::client::{add_move, type_text};
-use q3_io::{Address, Sink};
-use q3_report::{Answer, Front, HandedIn, Taker};
+use q3_ends::recording::{Recording, begin, emit, stop, take};
+use q3_io::{Address, Failed, Files, Sink};
+use q3_report::{Answer, Front, HandedIn, RecordRefused, StopRefused, Taker};
 use q3_server::MOST_SLOTS;
 use q3_text::Text;
 use std::alloc::Global;
 
-/// A client, and the address that its datagrams come from.
+/// A client, the address that its datagrams come from, and its recording, if one goes on.
 #[derive(Drop)]
 pub struct Place {
     pub client: Client,
     pub address: Address,
+    pub recording: Option<Recording>,
 }
 
 impl Place {
     ghost use Rattle.q3_client.specs.Client.{take_at};
+    ghost use Rattle.std.specs.Prelude.{OnOk, IfOk, IsErrOf};
     ghost use Rattle.q3_ends.specs.AtClient.{type_text, add_move, taken_by_client};
-    ghost use Rattle.q3_world.specs.Doing.{Tells};
+    ghost use Rattle.q3_ends.specs.Recording.{new_recording, begin_at, stop_at, note_taken, asking, HasFile, WritesFiles};
+    ghost use Rattle.q3_demo.specs.Recorder.{done};
+    ghost use Rattle.q3_world.specs.Doing.{Tells, TakesAt};
+    ghost use Rattle.q3_world.specs.Files.{DoesFiles};
 
     /// The client issues a command.
     pub(crate) fn type_text(&mut self, c: u8, text: &Text) -> HandedIn
@@ -47,38 +53,86 @@ impl Place {
         add_move(&mut self.client, c, one)
     }
 
-    /// The client takes bytes, and what it made of them is told. `log` may hold anything before.
-    pub(crate) fn take<O: Sink>(
+    /// The client begins this recording, whose file gets a number.
+    pub(crate) fn record<F: Files>(
+        &mut self,
+        fresh: Recording,
+        number: &mut usize,
+        files: &mut F,
+    ) -> Result<Result<(), RecordRefused>, Failed>
+        requires file { HasFile (F.told files.old) (F.given files.old) number.old self.old.recording }
+        ensures kept { self.new ≡ record self.old { recording = self.new.recording } }
+        ensures recording { OnOk result (self.new.recording ≡ (begin_at self.old.client self.old.recording fresh).recording) }
+        ensures answer { IfOk result (λ answer. answer ≡ (begin_at self.old.client self.old.recording fresh).answer) }
+        ensures files { WritesFiles (F.told files.old) (F.told files.new) (F.given files.old) (F.given files.new) (F.faults files.old) (F.faults files.new)
+            (F.write_faults files.old) (F.write_faults files.new) (begin_at self.old.client self.old.recording fresh).acts (done result) }
+        ensures file { HasFile (F.told files.new) (F.given files.new) number.new self.new.recording }
+    {
+        begin(&self.client, &mut self.recording, fresh, number, files)
+    }
+
+    /// The client's recording has its end.
+    pub(crate) fn stop<F: Files>(
+        &mut self,
+        number: usize,
+        files: &mut F,
+    ) -> Result<Result<(), StopRefused>, Failed>
+        requires file { HasFile (F.told files.old) (F.given files.old) number self.old.recording }
+        ensures place { self.new ≡ record self.old { recording = (stop_at self.old.recording).recording } }
+        ensures answer { IfOk result (λ answer. answer ≡ (stop_at self.old.recording).answer) }
+        ensures files { WritesFiles (F.told files.old) (F.told files.new) (F.given files.old) (F.given files.new) (F.faults files.old) (F.faults files.new)
+            (F.write_faults files.old) (F.write_faults files.new) (stop_at self.old.recording).acts (done result) }
+    {
+        stop(&mut self.recording, number, files)
+    }
+
+    /// The client takes bytes and records what it applied, and what it made of them is told. `log` may hold anything before.
+    pub(crate) fn take<F: Files, O: Sink>(
         &mut self,
         front: Front,
         c: u8,
         bytes: &[u8],
         log: &mut Log,
+        number: usize,
         counts: &mut Counts,
+        files: &mut F,
         out: &mut O,
     ) -> Result<(), StepError>
-        ensures place { self.new ≡ record self.old { client = (take_at self.old.client bytes.now).client } }
-        ensures told { Tells counts.old counts.new (O.written out.old) (O.written out.new) (O.faults out.old) (O.faults out.new)
-            (taken_by_client front c (take_at self.old.client bytes.now)) result }
+        requires file { HasFile (F.told files.old) (F.given files.old) number self.old.recording }
+        ensures takes { TakesAt self.old (take_at self.old.client bytes.now) self.new front c counts.old counts.new (O.written out.old) (O.written out.new)
+            (O.faults out.old) (O.faults out.new) result }
+        ensures files { DoesFiles (F.told files.old) (F.told files.new) (F.given files.old) (F.given files.new) (F.faults files.old) (F.faults files.new)
+            (F.write_faults files.old) (F.write_faults files.new) (note_taken self.old.recording self.old.client (take_at self.old.client bytes.now)).acts result }
+        ensures file { HasFile (F.told files.new) (F.given files.new) number self.new.recording }
     {
-        let took = self.client.take(bytes, log);
+        let Ok((took, ended)) = take(
+            &mut self.client,
+            &mut self.recording,
+            bytes,
+            log,
+            number,
+            files,
+        ) else {
+            return Err(StepError::FileFault);
+        };
         let client = &self.client;
         let taker = Taker::Client {
             c,
             took,
             client,
             log,
+            ended,
         };
         tell(&Answer::Took { front, taker }, counts, out)
     }
 
     /// The client makes a datagram, which it sends from this address.
     pub(crate) fn send(&mut self, out: &mut Datagram) -> (Sent, Address)
-        ensures place { self.new ≡ record self.old { client = (emit_at self.old.client).client } }
-        ensures answer { result ≡ ((emit_at self.old.client).answer, self.old.address) }
-        ensures piece { HandsOut (emit_at self.old.client).piece out.new.items }
+        ensures place { self.new ≡ record self.old { client = (emit_at (asking self.old.client self.old.recording)).client } }
+        ensures answer { result ≡ ((emit_at (asking self.old.client self.old.recording)).answer, self.old.address) }
+        ensures piece { HandsOut (emit_at (asking self.old.client self.old.recording)).piece out.new.items }
     {
-        let sent = self.client.emit(out);
+        let sent = emit(&mut self.client, &self.recording, out);
         (sent, self.address)
     }
 }

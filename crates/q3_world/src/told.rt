@@ -10,10 +10,12 @@ use q3_report::{Answer, print_answer};
 /// Why a step failed.
 #[derive(Clone, Copy, Debug, PartialEq, Eq)]
 pub enum StepError {
-    /// Want of memory, at an event that makes a client or a datagram; the world is as it was.
+    /// Want of memory, at an event that makes a client, a datagram or a recording; the world is as it was.
     NoMemory,
     /// The sink failed, and took a front of the event's lines.
     WriteFault,
+    /// The file of a recording can't be made, or can't be written; nothing was printed.
+    FileFault,
 }
 
 /// Counts the lines of an answer, and prints them.

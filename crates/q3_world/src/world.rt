@@ -1,6 +1,6 @@
 //! Both ends over a schedule of events: the world of a replay.
 
-ghost use Rattle.std.specs.Prelude.{◌≡◌, ◌+◌, ◌-◌, ◌<◌, ◌≤◌, length, slice_get, option_map, IfOk, IfSome, IsSome, OnOk, IsErrOf};
+ghost use Rattle.std.specs.Prelude.{◌≡◌, ◌+◌, ◌-◌, ◌<◌, ◌≤◌, ℕ, Option, length, slice_get, option_map, IfOk, IfSome, IsSome, OnOk, IsErrOf};
 ghost use Rattle.q3_profile.specs.declared.profile.Profile.{Profile as ProfileValue};
 ghost use Rattle.q3_profile.specs.Profile.{IsProfile, IsCodec};
 ghost use Rattle.q3_script.specs.Grammar.{IsReplayEvent};
@@ -23,7 +23,7 @@ use crate::made::{Made, room_for_one};
 use crate::told::{StepError, tell};
 use q3_bits::NoMemory;
 use q3_clstate::Log;
-use q3_io::{Files, Sink};
+use q3_io::{Failed, Files, Sink};
 use q3_profile::Profile;
 use q3_report::Answer;
 use q3_script::Event;
@@ -43,6 +43,7 @@ pub struct World {
     counts: Counts,
     log: Box<Log>,
     heard: Box<Heard>,
+    numbers: [usize; 16],
 }
 
 impl Model for World {
@@ -54,6 +55,7 @@ impl Model for World {
     ghost view = { λ w. record {
       kept = record { profile = w.profile; ends = w.ends; datagrams = w.datagrams.items };
       counts = w.counts;
+      numbers = w.numbers;
     } };
 
     ghost invariant = { λ w. IsProfile w.profile };
@@ -61,12 +63,16 @@ impl Model for World {
 
 impl World {
     ghost use Rattle.q3_world.specs.Doing.{Does};
+    ghost use Rattle.q3_world.specs.Files.{AreNumbered, DoesFiles, NoneRecords, acts_of, line_acts, deliver_acts, ending_acts};
+    ghost use Rattle.q3_ends.specs.Recording.{WritesFiles};
+    ghost use Rattle.q3_io.specs.Told.{Told};
 
     /// A world by this profile, with no client, nothing sent, and the time 0. `Err` is want of memory.
     pub fn new(alloc: Global, profile: &Profile) -> Result<World, NoMemory>
         requires { IsProfile profile.now }
         ensures stands { IfOk result (λ world. StandsFor profile.now world.kept (opening profile.now)) }
         ensures counts { IfOk result (λ world. world.counts ≡ no_counts) }
+        ensures numbered { IfOk result (λ world. (told : Option Told) (given : ℕ) → AreNumbered told given world.numbers world.kept.ends) }
     {
         laws::layers();
         let world = World::empty(alloc, profile)?;
@@ -76,7 +82,7 @@ impl World {
     /// What a world begins as.
     fn empty(alloc: Global, profile: &Profile) -> Result<World, NoMemory>
         requires { IsProfile profile.now }
-        ensures made { IfOk result (λ world. world ≡ record { kept = opening_kept profile.now; counts = no_counts }) }
+        ensures made { IfOk result (λ world. (world.kept ≡ opening_kept profile.now) × (world.counts ≡ no_counts)) }
         ensures codec { OnOk result (IsCodec profile.now) }
     {
         let copy = profile.copy()?;
@@ -93,12 +99,14 @@ impl World {
             counts: Counts::none(),
             log,
             heard,
+            numbers: [0; 16],
         })
     }
 
-    /// Does one event, and prints its lines.
-    /// `NoMemory` comes at `client`, `serve` and `send` alone, and the world is then as it was; nothing is printed.
-    /// `WriteFault` comes where the sink failed; the world then has no promised state, and no promised counts.
+    /// Does one event, writes what a client records to its file, and prints the event's lines.
+    /// `NoMemory` comes at `client`, `serve`, `send` and `record` alone, and the world is then as it was; nothing is printed.
+    /// `WriteFault` comes where the sink failed, and `FileFault` where the file of a recording can't be made or written, before a line is
+    /// printed; the world then has no promised state, and no promised counts.
     pub fn step<F: Files, O: Sink>(
         &mut self,
         event: &Event,
@@ -107,6 +115,7 @@ impl World {
     ) -> Result<(), StepError>
         requires event { IsReplayEvent event.now }
         requires few { length self.old.kept.datagrams < most_datagrams }
+        requires numbered { AreNumbered (F.told files.old) (F.given files.old) self.old.numbers self.old.kept.ends }
         ensures stands { OnOk result ((profile : ProfileValue) (whole : Whole) → StandsFor profile self.old.kept whole
             → StandsFor profile self.new.kept (step_of profile whole event.now).whole) }
         ensures kept { OnOk result (self.new.kept ≡ (kept_step self.old.kept event.now).kept) }
@@ -121,47 +130,67 @@ impl World {
         ensures no_memory { IsErrOf result StepError.NoMemory
             → TakesMemory event.now × (self.new ≡ self.old) × (O.written out.new ≡ O.written out.old) }
         ensures few { length self.new.kept.datagrams ≤ length self.old.kept.datagrams + 1 }
-        ensures files { files.new ≡ files.old }
+        ensures files { DoesFiles (F.told files.old) (F.told files.new) (F.given files.old) (F.given files.new) (F.faults files.old) (F.faults files.new)
+            (F.write_faults files.old) (F.write_faults files.new) (acts_of self.old.kept event.now) result }
+        ensures numbered { AreNumbered (F.told files.new) (F.given files.new) self.new.numbers self.new.kept.ends }
     {
-        // No event uses the files yet.
-        let _ = files;
         // What the clauses on the whole world cite.
         laws::step_follows();
-        self.act(event, out)
+        self.act(event, files, out)
     }
 
     /// Does one event.
-    #[tactic(auto, unfolding(crate::specs::Kept::kept_step, crate::specs::Ends::line_of, q3_ends::specs::AtServer::server_line))]
-    fn act<O: Sink>(&mut self, event: &Event, out: &mut O) -> Result<(), StepError>
+    #[tactic(auto, unfolding(crate::specs::Kept::kept_step, crate::specs::Ends::line_of, crate::specs::Files::acts_of, crate::specs::Files::line_acts, q3_ends::specs::AtServer::server_line))]
+    fn act<F: Files, O: Sink>(
+        &mut self,
+        event: &Event,
+        files: &mut F,
+        out: &mut O,
+    ) -> Result<(), StepError>
         requires event { IsReplayEvent event.now }
         requires few { length self.old.kept.datagrams < most_datagrams }
+        requires numbered { AreNumbered (F.told files.old) (F.given files.old) self.old.numbers self.old.kept.ends }
         ensures does { Does self.old self.new (O.written out.old) (O.written out.new) (O.faults out.old) (O.faults out.new) (kept_step self.old.kept event.now) result }
         ensures memory { IsErrOf result StepError.NoMemory → TakesMemory event.now }
+        ensures files { DoesFiles (F.told files.old) (F.told files.new) (F.given files.old) (F.given files.new) (F.faults files.old) (F.faults files.new)
+            (F.write_faults files.old) (F.write_faults files.new) (acts_of self.old.kept event.now) result }
+        ensures numbered { AreNumbered (F.told files.new) (F.given files.new) self.new.numbers self.new.kept.ends }
     {
         match event {
             Event::Serve { c } => self.serve(*c, out),
             Event::Send { c } => self.send(*c, out),
-            Event::Deliver { datagram } => self.deliver(*datagram, out),
+            Event::Deliver { datagram } => self.deliver(*datagram, files, out),
             Event::Bytes { datagram } => self.tell_bytes(*datagram, out),
-            _ => self.hand_in(event, out),
+            _ => self.hand_in(event, files, out),
         }
     }
 
     /// What a line does that hands something in, hands bytes to an end, or shows a client.
-    fn hand_in<O: Sink>(&mut self, event: &Event, out: &mut O) -> Result<(), StepError>
+    fn hand_in<F: Files, O: Sink>(
+        &mut self,
+        event: &Event,
+        files: &mut F,
+        out: &mut O,
+    ) -> Result<(), StepError>
         requires event { IsReplayEvent event.now }
         requires line { IsSome (step_in (line_of self.old.kept.profile self.old.kept.ends event.now)) }
+        requires numbered { AreNumbered (F.told files.old) (F.given files.old) self.old.numbers self.old.kept.ends }
         ensures does { IfSome (step_in (line_of self.old.kept.profile self.old.kept.ends event.now))
             (λ step. Does self.old self.new (O.written out.old) (O.written out.new) (O.faults out.old) (O.faults out.new) (kept_ends self.old.kept step) result) }
         ensures memory { IsErrOf result StepError.NoMemory → TakesMemory event.now }
+        ensures files { DoesFiles (F.told files.old) (F.told files.new) (F.given files.old) (F.given files.new) (F.faults files.old) (F.faults files.new)
+            (F.write_faults files.old) (F.write_faults files.new) (line_acts self.old.kept.ends event.now) result }
+        ensures numbered { AreNumbered (F.told files.new) (F.given files.new) self.new.numbers self.new.kept.ends }
     {
         self.ends.line(
             self.alloc,
             &self.profile,
             event,
+            &mut self.numbers,
             &mut self.log,
             &mut self.heard,
             &mut self.counts,
+            files,
             out,
         )
     }
@@ -195,18 +224,30 @@ impl World {
     }
 
     /// A datagram arrives: the end that it goes to takes the stored bytes.
-    fn deliver<O: Sink>(&mut self, number: u32, out: &mut O) -> Result<(), StepError>
-        requires { 1 ≤ number }
+    fn deliver<F: Files, O: Sink>(
+        &mut self,
+        number: u32,
+        files: &mut F,
+        out: &mut O,
+    ) -> Result<(), StepError>
+        requires number { 1 ≤ number }
+        requires numbered { AreNumbered (F.told files.old) (F.given files.old) self.old.numbers self.old.kept.ends }
         ensures does { Does self.old self.new (O.written out.old) (O.written out.new) (O.faults out.old) (O.faults out.new)
             (kept_ends self.old.kept (deliver_at self.old.kept.ends number (slice_get self.old.kept.datagrams (number - 1)))) result }
         ensures memory { IsErrOf result StepError.NoMemory → ⊥ }
+        ensures files { DoesFiles (F.told files.old) (F.told files.new) (F.given files.old) (F.given files.new) (F.faults files.old) (F.faults files.new)
+            (F.write_faults files.old) (F.write_faults files.new)
+            (deliver_acts self.old.kept.ends (slice_get self.old.kept.datagrams (number - 1))) result }
+        ensures numbered { AreNumbered (F.told files.new) (F.given files.new) self.new.numbers self.new.kept.ends }
     {
         self.ends.deliver(
             number,
             &self.datagrams,
+            &self.numbers,
             &mut self.log,
             &mut self.heard,
             &mut self.counts,
+            files,
             out,
         )
     }
@@ -224,6 +265,17 @@ impl World {
             bytes,
         };
         tell(&answer, &mut self.counts, out)
+    }
+
+    /// Each recording that goes on has its end, by client; it is called behind the last event. `Failed` comes where one can't be written.
+    pub fn finish<F: Files>(&mut self, files: &mut F) -> Result<(), Failed>
+        requires numbered { AreNumbered (F.told files.old) (F.given files.old) self.old.numbers self.old.kept.ends }
+        ensures files { WritesFiles (F.told files.old) (F.told files.new) (F.given files.old) (F.given files.new) (F.faults files.old) (F.faults files.new)
+            (F.write_faults files.old) (F.write_faults files.new) (ending_acts self.old.kept.ends) result }
+        ensures ended { OnOk result (NoneRecords self.new.kept.ends) }
+        ensures numbered { AreNumbered (F.told files.new) (F.given files.new) self.new.numbers self.new.kept.ends }
+    {
+        self.ends.finish(&self.numbers, files)
     }
 
     /// What was counted of the lines of all events so far.
