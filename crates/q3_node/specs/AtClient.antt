@@ -54,7 +54,7 @@ is_address one other = (one.host == other.host) && (one.port == other.port)
 abbrev pub took : ClientEnd → List ℕ → Arrived ClientEnd
 took end bytes =
     let taken = take_at end.client bytes in
-    record { end = record end { client = taken.client }; answer = taken_by_client Arrive end.c taken }
+    record { end = record end { client = taken.client }; answer = taken_by_client Arrive end.c taken false }
 
 abbrev pub arrived : ClientEnd → Parcel → Arrived ClientEnd
 arrived end parcel =

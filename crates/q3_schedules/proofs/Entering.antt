@@ -594,16 +594,16 @@ enters_to profile whole number c n time tag from holds sent way (Some slot) at r
           (subst (λ (h : History). Past history.run time (Some taken.slot) h.run) (sym (set_there whole.histories k no_history next holds.facts.histories sent.client)) past);
     })
 
-not_by_client : (number : ℕ) (c : ℕ) (client : ClientTook) (state : AppliedState) (commands : List Command) (answer : ServerTook) (run : Run)
-    → ServerTookSo (Took (fronts.Deliver number) (ByClient c client state commands)) number answer run → ⊥
-not_by_client number c client state commands answer run e = absurd cc
+not_by_client : (number : ℕ) (c : ℕ) (client : ClientTook) (state : AppliedState) (commands : List Command) (ended : Bool) (answer : ServerTook) (run : Run)
+    → ServerTookSo (Took (fronts.Deliver number) (ByClient c client state commands ended)) number answer run → ⊥
+not_by_client number c client state commands ended answer run e = absurd cc
 
 not_untaken : {cause : TakeRefused} (number : ℕ) (answer : ServerTook) (run : Run) → ServerTookSo (Untaken (fronts.Deliver number) cause) number answer run → ⊥
 not_untaken {cause} number answer run e = absurd cc
 
 enters_client : (profile : Profile) (whole : Whole) (number c n time : ℕ) (tag : Tag) (found : Option Place) → EntersWith whole number c n time (to_client profile whole number tag found)
 enters_client profile whole number c n time tag None run answered entered = absurd (not_untaken number (took.Ran c n) run answered)
-enters_client profile whole number c n time tag (Some place) run answered entered = absurd (not_by_client number tag.client _ _ _ (took.Ran c n) run answered)
+enters_client profile whole number c n time tag (Some place) run answered entered = absurd (not_by_client number tag.client _ _ _ _ (took.Ran c n) run answered)
 
 enters_arrive : (profile : Profile) (whole : Whole) (number c n time : ℕ) (tag : Tag) → Holds profile whole → IsSent profile whole.histories tag → (direction : Direction) → tag.direction ≡ direction
     → EntersWith whole number c n time (arrive profile whole number tag direction)

@@ -63,7 +63,7 @@ taking_alone taking rest spelled same =
     (none_beneath (next_is (codes "client") rest) (next_is (codes "server") rest)) spelled (sym same)
 
 client_alone : (c : ℕ) (took : ClientTook) (state : AppliedState) (commands : List Command) → OneLine (took_text state took commands)
-    → lines_of_client took commands ≡ one_event → TakingLines (ByClient c took state commands)
+    → lines_of_client took commands ≡ one_event → TakingLines (ByClient c took state commands false)
 client_alone c took state commands one same =
     let is = behind (codes " client ") (decimal c ++ (took_text state took commands ++ [])) refl
     (behind (decimal c) (took_text state took commands ++ []) (number c) (closed (took_text state took commands) one)) in

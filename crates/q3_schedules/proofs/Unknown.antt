@@ -27,9 +27,9 @@ use Rattle.q3_clstate.specs.State.{AppliedState}
 use Rattle.q3_lines.specs.ServerLines.{Run}
 use Rattle.q3_schedules.proofs.Stood.{Stood, delivers_same, holds_of, step_own, stood}
 
-not_delivered : (number c : ℕ) (state : AppliedState) (took : ClientTook) (commands : List Command) (cause : TakeRefused)
-    → Took (fronts.Deliver number) (ByClient c took state commands) ≡ Untaken (fronts.Deliver number) cause → ⊥
-not_delivered number c state took commands cause e = absurd cc
+not_delivered : (number c : ℕ) (state : AppliedState) (took : ClientTook) (commands : List Command) (ended : Bool) (cause : TakeRefused)
+    → Took (fronts.Deliver number) (ByClient c took state commands ended) ≡ Untaken (fronts.Deliver number) cause → ⊥
+not_delivered number c state took commands ended cause e = absurd cc
 
 not_ran : (number : ℕ) (took : ServerTook) (ran : Run) (cause : TakeRefused) → Took (fronts.Deliver number) (ByServer took ran) ≡ Untaken (fronts.Deliver number) cause → ⊥
 not_ran number took ran cause e = absurd cc
@@ -39,7 +39,7 @@ known : (profile : Profile) (whole : Whole) (number : ℕ) (tag : Tag) (directio
     → (cause : TakeRefused) → (arrive profile whole number tag direction).answer ≡ Untaken (fronts.Deliver number) cause → ⊥
 known profile whole number tag ToClient way is holds cause =
     let found = client_of_tag profile whole tag (is_for profile whole tag way is) holds in
-    rw found.1 (λ e. not_delivered number tag.client _ _ _ cause e)
+    rw found.1 (λ e. not_delivered number tag.client _ _ _ _ cause e)
 known profile whole number tag (ToServer from) way is holds cause =
     let found = slot_of_tag profile whole tag from (is_of_client profile whole tag from way is) holds in
     rw found.1 (λ e. not_ran number _ _ cause e)

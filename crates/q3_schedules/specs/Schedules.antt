@@ -1,5 +1,5 @@
 -- Laws over every list of events.
-use Rattle.std.specs.Prelude.{ℕ, ◌≡◌, ◌↔◌, ◌⊎◌, ◌||◌, ◌+◌, ◌-◌, ◌<◌, true, false, List, [], ◌∷◌, ◌++◌, length, map, take, replicate, ◌≤◌, All, Contains, Option, Some, None, IfSome, MatchOption, Ok, slice_get, slice_index_or}
+use Rattle.std.specs.Prelude.{ℕ, ◌≡◌, ◌↔◌, ◌⊎◌, ◌||◌, ◌+◌, ◌-◌, ◌<◌, Bool, true, false, List, [], ◌∷◌, ◌++◌, length, map, take, replicate, ◌≤◌, All, Contains, Option, Some, None, IfSome, MatchOption, Ok, slice_get, slice_index_or}
 use Rattle.std.specs.List.{AllByRecursion, last_or, range_with_len}
 use Rattle.q3_clmsg.specs.declared.moves.Move.{Move}
 use Rattle.q3_profile.specs.declared.profile.Profile.{Profile}
@@ -39,7 +39,9 @@ use Rattle.q3_slot.specs.Taking.{Playing, asks_game, goes_on, heads_of}
 use Rattle.q3_server.specs.Server.{ServerState, places, slot_at}
 use Rattle.q3_client.specs.Client.{ClientState}
 use Rattle.q3_world.specs.Moves.{TimesRise, StandAmong}
-use Rattle.q3_world.specs.Ends.{Ends, client_at, newest}
+use Rattle.q3_ends.specs.Recording.{asking, waits_in}
+use Rattle.q3_world.specs.declared.places.Place.{Place}
+use Rattle.q3_world.specs.Ends.{Ends, client_at, place_at, newest}
 use Rattle.q3_world.specs.Kept.{SentBytes, opening_kept, kept_step, kept_answers}
 use Rattle.q3_world.specs.declared.made.Direction.{Direction}
 use Rattle.q3_text.specs.declared.text.Command.{Command}
@@ -64,7 +66,7 @@ since_then profile all c = accepted_since (history_then profile all c).games (hi
 
 -- a client made this of the datagram of a number, and executed these commands
 abbrev pub ClientTookSo : Answered → ℕ → ℕ → ClientTook → List Command → Type 0
-ClientTookSo answer number c made commands = (state : AppliedState) × (answer ≡ Took (fronts.Deliver number) (ByClient c made state commands))
+ClientTookSo answer number c made commands = (state : AppliedState) × (ended : Bool) × (answer ≡ Took (fronts.Deliver number) (ByClient c made state commands ended))
 
 -- the server made this of it, and ran this
 abbrev pub ServerTookSo : Answered → ℕ → ServerTook → Run → Type 0
@@ -102,7 +104,7 @@ IsReadByServer other = Unit {0}
 
 -- the answer of an end that could make something of what arrived, and of a client that wasn't dropped
 abbrev pub IsLegible : Answered → Type 0
-IsLegible (Took front (ByClient c made state commands)) = IsReadByClient made
+IsLegible (Took front (ByClient c made state commands ended)) = IsReadByClient made
 IsLegible (Took front (ByServer made run)) = IsReadByServer made
 IsLegible (SentOut c (Ok (sent.Dropped cause)) datagram) = ⊥
 IsLegible other = Unit {0}
@@ -178,12 +180,12 @@ abbrev pub ShownIsNewest : Type 0
 ShownIsNewest = (profile : Profile) (all : List Event) (c : ℕ) → IsChecked profile → AllByRecursion IsScheduled all → c < places
     → snapshot_in (kept_step (kept_then profile all) (events.Show c)).answer ≡ last_or None (since_then profile all c)
 
--- a client's next message may ask for a delta exactly where the snapshot of the newest message that it took was accepted, and no gamestate
--- was applied since
+-- a client's next message may ask for a delta exactly where the snapshot of the newest message that it took was accepted, no gamestate was
+-- applied since, and no recording of it waits for a whole snapshot
 abbrev pub AsksForAccepted : Type 0
-AsksForAccepted = (profile : Profile) (all : List Event) (c : ℕ) (client : ClientState) → IsChecked profile → AllByRecursion IsScheduled all
-    → c < places → client_at (kept_then profile all).ends c ≡ Some client
-    → (wants_delta client ≡ true) ↔ WasAccepted (since_then profile all c) client.gathering.taken
+AsksForAccepted = (profile : Profile) (all : List Event) (c : ℕ) (place : Place) → IsChecked profile → AllByRecursion IsScheduled all
+    → c < places → place_at (kept_then profile all).ends c ≡ Some place
+    → (wants_delta (asking place.client place.recording) ≡ true) ↔ (WasAccepted (since_then profile all c) place.client.gathering.taken × (waits_in place.recording ≡ false))
 
 -- each base against which a message was built is below it, at most by 28, was built itself and was accepted by the client
 abbrev pub BasesWereAccepted : Type 0

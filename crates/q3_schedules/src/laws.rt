@@ -70,13 +70,12 @@ pub fn shown_is_newest()
     world::bytes_follow_tags();
 }
 
-/// A client's next message may ask for a delta exactly where the snapshot of the newest message that it took was accepted, and no
-/// gamestate was applied since.
+/// A client's next message may ask for a delta exactly where the snapshot of the newest message that it took was accepted, no gamestate
+/// was applied since, and no recording of it waits for a whole snapshot.
 pub fn asks_for_accepted()
     ensures { AsksForAccepted }
 {
     world::bytes_follow_tags();
-    client::keeps_asking();
 }
 
 /// What a client's message asks for, what its slot writes against, and each base of a message were accepted by the client under the

@@ -39,6 +39,7 @@ demo_fault e = Demo e
 abbrev pub step_fault : StepError → Fault
 step_fault step.NoMemory = NoMemory
 step_fault step.WriteFault = Write
+step_fault step.FileFault = FileWrite
 
 -- why there are no words: memory ran out, or one of them is no text
 abbrev pub words_fault : ErrorKind → Fault

@@ -2,7 +2,8 @@
 use Rattle.std.specs.Prelude.{◌≡◌, ◌⊎◌, ℕ, ◌≤◌, List, [], ◌∷◌, ◌++◌, length, map, Option, Some, None, Result, Ok, Err}
 use Rattle.std.specs.Global.{Vec}
 use Rattle.q3_demo.specs.Running.{HasFrom}
-use Rattle.q3_io.specs.Told.{Told, File, Named, Lookup, Create, contents_of, contents_at, with_contents}
+use Rattle.q3_io.specs.Acts.{FileAct, Makes, Extends, after_acts}
+use Rattle.q3_io.specs.Told.{Told, Named, Lookup, Create, contents_of, contents_at}
 use Rattle.q3net.specs.declared.fault.Fault.{Fault}
 use Rattle.q3net.specs.declared.fault.Fault.TheVariants.{NoMemory, Read}
 use Rattle.q3net.specs.Faults.{IsEarly}
@@ -51,38 +52,37 @@ ReadsPieces most file (Some told) now result =
 abbrev pub looked_up : List ℕ → Named
 looked_up name = record { name = name; call = Lookup }
 
-abbrev pub created : File → Named
-created file = record { name = file.name; call = Create }
+-- the names of the files that are made
+unfoldable pub created : List FileAct → List Named
+created [] = []
+created (Makes name ∷ acts) = record { name = name; call = Create } ∷ created acts
+created (Extends name bytes ∷ acts) = created acts
 
--- the files, with these in the place of those of their names, one after the other
-abbrev pub with_files : List File → List File → List File
-with_files files [] = files
-with_files files (file ∷ others) = with_files (with_contents files file.name file.contents) others
-
--- these names were given, each with its call, in this order; the files that were made hold these bytes, and every other stays
-pub record Leaves (told now : Told) (names : List Named) (made : List File) : Type 0 where
+-- these names were given, each with its call, in this order; the files are as these acts leave them
+pub record Leaves (told now : Told) (names : List Named) (acts : List FileAct) : Type 0 where
   pub named : now.named ≡ told.named ++ names
-  pub files : now.files ≡ with_files told.files made
+  pub files : now.files ≡ (after_acts told acts).files
 
 -- the same where the files are told
-abbrev pub LeavesTold : Option Told → Option Told → List Named → List File → Type 0
-LeavesTold None now named made = now ≡ None
-LeavesTold (Some told) now named made = (after : Told) × (now ≡ Some after) × Leaves told after named made
+abbrev pub LeavesTold : Option Told → Option Told → List Named → List FileAct → Type 0
+LeavesTold None now named acts = now ≡ None
+LeavesTold (Some told) now named acts = (after : Told) × (now ≡ Some after) × Leaves told after named acts
 
--- of files that are made, the first ones as far as they are: each has a front of its bytes
-abbrev pub AreBegun : List File → List File → Type 0
-AreBegun [] made = Unit {0}
-AreBegun (begun ∷ others) [] = ⊥
-AreBegun (begun ∷ others) (file ∷ made) = (begun.name ≡ file.name) × IsFront begun.contents file.contents × AreBegun others made
+-- of acts the first ones; of the last of these, where it puts bytes behind those of a file, maybe a front of the bytes
+abbrev pub AreBegun : List FileAct → List FileAct → Type 0
+AreBegun begun acts =
+    IsFront begun acts
+    ⊎ ((first : List FileAct) × (name : List ℕ) × (added : List ℕ) × (bytes : List ℕ) × (begun ≡ first ++ Extends name added ∷ [])
+    × IsFront added bytes × IsFront (first ++ Extends name bytes ∷ []) acts)
 
--- only the first of the names, so many, maybe none, and of the files as much as was made by then
-abbrev pub LeavesFirst : Option Told → Option Told → List Named → List File → Type 0
-LeavesFirst told now named made =
-    (first : List Named) × (begun : List File) × IsFront first named × AreBegun begun made × LeavesTold told now first begun
+-- only the first of the names, so many, maybe none, and of the acts as many as were done by then
+abbrev pub LeavesFirst : Option Told → Option Told → List Named → List FileAct → Type 0
+LeavesFirst told now named acts =
+    (first : List Named) × (begun : List FileAct) × IsFront first named × AreBegun begun acts × LeavesTold told now first begun
 
 -- all of this, or, where something from outside ended it early, the first of it
-abbrev pub Touches : {A : Type 0} → Result A Fault → List Named → List File → Option Told → Option Told → Type 0
-Touches ended named made told now = LeavesTold told now named made ⊎ (IsEarly ended × LeavesFirst told now named made)
+abbrev pub Touches : {A : Type 0} → Result A Fault → List Named → List FileAct → Option Told → Option Told → Type 0
+Touches ended named acts told now = LeavesTold told now named acts ⊎ (IsEarly ended × LeavesFirst told now named acts)
 
 -- these names were given to `lookup`, once each and in this order; nothing was made, and every file stays
 abbrev pub LooksUpTold : Option Told → Option Told → List (List ℕ) → Type 0

@@ -1,8 +1,9 @@
 -- How a run goes: as its verdict says, or something from outside ends it early.
-use Rattle.std.specs.Prelude.{◌≡◌, ◌⊎◌, ℕ, ◌≤◌, true, false, List, [], ◌∷◌, ◌++◌, map, take, Option, Some, None, Result, Ok, Err}
+use Rattle.std.specs.Prelude.{◌≡◌, ◌⊎◌, ℕ, ◌≤◌, true, false, List, [], ◌∷◌, ◌++◌, map, take, Option, Some, None, OnOk, Result, Ok, Err}
 use Rattle.std.specs.List.{flat_map}
 use Rattle.q3_io.specs.Faults.{Rose}
 use Rattle.q3_io.specs.declared.address.Address.{Address}
+use Rattle.q3_io.specs.Acts.{FileAct, ActsOn}
 use Rattle.q3_io.specs.Told.{Told}
 use Rattle.q3_io.specs.Traffic.{Traffic}
 use Rattle.q3_node.specs.Node.{Turn, uses_wire, text_of}
@@ -10,6 +11,7 @@ use Rattle.q3_node.specs.Running.{wire_behind, at_bound, Leaves}
 use Rattle.q3_io.specs.Written.{Written, Wrote, NothingWaits}
 use Rattle.q3_report.specs.Answers.{Answered}
 use Rattle.q3_report.specs.AnswerLines.{lines_of}
+use Rattle.q3_world.specs.Files.{by_files}
 use Rattle.q3_world.specs.declared.told.StepError.{StepError}
 use Rattle.q3_world.specs.declared.told.StepError.TheVariants as step
 use Rattle.q3net.specs.Command.{Command, files_of}
@@ -60,7 +62,7 @@ Executes command told old now ended =
 
 -- what a command has done with the files by then: as its verdict says, or the first of it
 abbrev pub LeavesFiles : Option Command → Outside → Option Told → Result (Unit {0}) Fault → Type 0
-LeavesFiles command told now ended = (verdict : Verdict) × IsVerdict told command verdict × Touches ended verdict.named verdict.made told.files now
+LeavesFiles command told now ended = (verdict : Verdict) × IsVerdict told command verdict × Touches ended verdict.named verdict.acts told.files now
 
 -- a text of the program's own
 abbrev pub PrintsAll : List ℕ → Option Written → Option Written → Result (Unit {0}) Fault → Type 0
@@ -161,14 +163,14 @@ Settles (Err fault) before now settled = ((settled ≡ fault_status fault) × (n
 abbrev pub HasLeft : Option Command → Outside → Option Told → ℕ → Type 0
 HasLeft command told now status =
     (verdict : Verdict) × IsVerdict told command verdict
-    × (LeavesTold told.files now verdict.named verdict.made
-    ⊎ ((fault : Fault) × IsOutside fault × (status ≡ fault_status fault) × LeavesFirst told.files now verdict.named verdict.made))
+    × (LeavesTold told.files now verdict.named verdict.acts
+    ⊎ ((fault : Fault) × IsOutside fault × (status ≡ fault_status fault) × LeavesFirst told.files now verdict.named verdict.acts))
 
 -- the names of the command's words are looked up, once each and in this order, and then the files that the verdict makes are created, or
--- the first of these; of each file that is made there is a front, and every other stays
+-- the first of these; its acts are done, or the first of them, and every other file stays
 abbrev pub Touched : Option Command → Outside → Option Told → Type 0
 Touched command told now =
-    (verdict : Verdict) × IsVerdict told command verdict × LeavesFirst told.files now (map looked_up (files_of command) ++ map created verdict.made) verdict.made
+    (verdict : Verdict) × IsVerdict told command verdict × LeavesFirst told.files now (map looked_up (files_of command) ++ created verdict.acts) verdict.acts
 
 -- an address is bound only by a command that binds one
 abbrev pub MayBind : Option Command → Outside → Type 0
@@ -176,8 +178,15 @@ MayBind command told = (verdict : Verdict) × IsVerdict told command verdict × 
 
 -- ---- of the steps
 
--- the lines of all answers; those of the first of them, where memory runs out; a front of the lines, where the sink fails
+-- the lines of all answers; those of the first of them, where memory runs out or a file can't be written; a front of the lines, where the
+-- sink fails
 abbrev pub AddsLines : List Answered → Option Written → Option Written → Result (Unit {0}) StepError → Type 0
 AddsLines all old now (Ok x) = Wrote old now (flat_map lines_of all) true
 AddsLines all old now (Err step.NoMemory) = (k : ℕ) × Wrote old now (flat_map lines_of (take k all)) true
+AddsLines all old now (Err step.FileFault) = (k : ℕ) × Wrote old now (flat_map lines_of (take k all)) true
 AddsLines all old now (Err step.WriteFault) = Wrote old now (flat_map lines_of all) false
+
+-- what the first of these acts did, all of them where what comes behind the events is left
+abbrev pub DoesFirst : Option Told → Option Told → List FileAct → List FileAct → Result (Unit {0}) StepError → Type 0
+DoesFirst told now acts last result =
+    (done : List FileAct) × (rest : List FileAct) × (acts ≡ done ++ rest) × ActsOn told now done (by_files result) × OnOk result (rest ≡ last)

@@ -1,5 +1,5 @@
 -- What the input of a run decides: what is printed, and how the run ends.
-use Rattle.std.specs.Prelude.{◌≡◌, ℕ, Bool, true, false, List, [], ◌∷◌, map, Option, Some, None, Result, Ok, Err, ok_or}
+use Rattle.std.specs.Prelude.{◌≡◌, ℕ, Bool, true, false, List, [], ◌∷◌, ◌++◌, map, Option, Some, None, Result, Ok, Err, ok_or}
 use Rattle.std.specs.Result.{result_map_both}
 use Rattle.std.specs.Global.{Vec}
 use Rattle.q3_profile.specs.declared.profile.Profile.{Profile as ProfileValue}
@@ -10,7 +10,8 @@ use Rattle.q3_script.specs.declared.cause.ScriptKind.{ScriptKind}
 use Rattle.q3_script.specs.declared.cause.ScriptKind.TheVariants as kinds
 use Rattle.q3_script.specs.Script.{BadLine, script_at}
 use Rattle.q3_io.specs.declared.address.Address.{Address}
-use Rattle.q3_io.specs.Told.{Told, File, Named}
+use Rattle.q3_io.specs.Acts.{FileAct}
+use Rattle.q3_io.specs.Told.{Told, Named}
 use Rattle.q3_io.specs.Traffic.{Parcel, Traffic}
 use Rattle.q3_server.specs.Server.{places, new_server}
 use Rattle.q3_node.specs.Node.{Turn, most_turns, new_node, turns_of, did_end, text_of}
@@ -21,12 +22,14 @@ use Rattle.q3_demo.specs.Playing as demos
 use Rattle.q3_make.specs.Printed.{script_text}
 use Rattle.q3_make.specs.Generated.{generated}
 use Rattle.q3_world.specs.World.{opening, answers}
+use Rattle.q3_world.specs.Kept.{opening_kept}
+use Rattle.q3_world.specs.Files.{acts_from}
 use Rattle.q3_world.specs.Report.{report}
 use Rattle.q3_world.specs.Counts.{counts_of}
 use Rattle.q3net.specs.declared.command.Draws.{Draws}
 use Rattle.q3net.specs.Command.{Command, Help, Version, Replay, Make, Trial, Serve, Join, Play}
 use Rattle.q3net.specs.Faults.{Gets, demo_fault}
-use Rattle.q3net.specs.Input.{Holds, looked_up}
+use Rattle.q3net.specs.Input.{Holds, looked_up, created}
 use Rattle.q3net.specs.Lines.{help_text, version_text}
 use Rattle.q3net.specs.Summary.{summary_text}
 use Rattle.q3net.specs.declared.fault.Fault.{Fault}
@@ -46,13 +49,13 @@ pub record Stops : Type 0 where
   pub wire : Place
 
 -- what a command prints before any fault line; how it ends, done or by the first cause that its input decides; the names that it gives,
--- each with its call; the files that it makes, with their bytes; the address that it binds, if it binds one, and the turns that it has then;
+-- each with its call; what it does to files, one act after the other; the address that it binds, if it binds one, and the turns that it has then;
 -- and what may stop it early
 pub record Verdict : Type 0 where
   pub text : List ℕ
   pub ending : Result (Unit {0}) Fault
   pub named : List Named
-  pub made : List File
+  pub acts : List FileAct
   pub at : Option Address
   pub turns : List Turn
   pub stops : Stops
@@ -75,9 +78,13 @@ goes_on_wire = record { memory = First; reads = First; writes = Nowhere; wire = 
 abbrev pub goes_on_reading : Stops
 goes_on_reading = record { memory = First; reads = Anywhere; writes = Nowhere; wire = Nowhere }
 
--- of a command that makes no file: it looks up these names, and prints a text, and behind it may come a cause
+-- and what reads all that it reads before its first line, and then writes files
+abbrev pub goes_on_writing : Stops
+goes_on_writing = record { memory = Anywhere; reads = First; writes = Anywhere; wire = Nowhere }
+
+-- of a command that does nothing to files: it looks up these names, and prints a text, and behind it may come a cause
 abbrev pub printing : Stops → List (List ℕ) → List ℕ → Result (Unit {0}) Fault → Verdict
-printing stops names text ending = record { text = text; ending = ending; named = map looked_up names; made = []; at = None; turns = []; stops = stops }
+printing stops names text ending = record { text = text; ending = ending; named = map looked_up names; acts = []; at = None; turns = []; stops = stops }
 
 -- of one that has all its input before its first line: a text and nothing more, or a cause and no text
 abbrev pub settled : Stops → List (List ℕ) → Result (List ℕ) Fault → Verdict
@@ -96,12 +103,30 @@ events_in kind file = do
   bytes ← ok_or file Read
   result_map_both (λ events. events) (λ (bad : BadLine). Script bad.line bad.cause) (script_at kind bytes)
 
--- a replay of the script in one file by the profile in another
-abbrev pub replayed : Option (List ℕ) → Option (List ℕ) → Result (List ℕ) Fault
+-- a replay: by which profile, and of which events
+pub record Schedule : Type 0 where
+  pub by : ProfileValue
+  pub events : List Event
+
+-- that of the script in one file by the profile in another
+abbrev pub replayed : Option (List ℕ) → Option (List ℕ) → Result Schedule Fault
 replayed profile script = do
   by ← profile_in profile
   events ← events_in kinds.Replay script
-  Ok (report by events)
+  Ok (record { by = by; events = events })
+
+-- what its events do to files, with the ends of the recordings that go on behind the last one
+abbrev pub recorded : Schedule → List FileAct
+recorded replay = acts_from (opening_kept replay.by) replay.events
+
+-- what it prints is its report, and it records; of none, by a cause
+abbrev pub replay_done : List (List ℕ) → Result Schedule Fault → Verdict
+replay_done names (Ok replay) =
+    record (printing goes_on_writing names (report replay.by replay.events) (Ok tt)) {
+      named = map looked_up names ++ created (recorded replay);
+      acts = recorded replay;
+    }
+replay_done names (Err cause) = printing reads_first names [] (Err cause)
 
 -- the names that a replay gives: its script's only where the profile passed
 abbrev pub names_by : Result ProfileValue Fault → List ℕ → List ℕ → List (List ℕ)
@@ -178,7 +203,7 @@ IsVerdict told (Some Help) verdict = verdict ≡ settled stops_nowhere [] (Ok he
 IsVerdict told (Some Version) verdict = verdict ≡ settled stops_nowhere [] (Ok version_text)
 IsVerdict told (Some (Replay profile script)) verdict =
     (of_profile : Option (List ℕ)) × (of_script : Option (List ℕ)) × Holds told.files profile of_profile × Holds told.files script of_script
-    × (verdict ≡ settled reads_first (names_by (profile_in of_profile) profile script) (replayed of_profile of_script))
+    × (verdict ≡ replay_done (names_by (profile_in of_profile) profile script) (replayed of_profile of_script))
 IsVerdict told (Some (Make draws)) verdict = verdict ≡ settled takes_memory [] (Ok (script_text (generated draws.number draws.seed)))
 IsVerdict told (Some (Trial profile draws)) verdict =
     (of_profile : Option (List ℕ)) × Holds told.files profile of_profile × (verdict ≡ settled reads_first (profile ∷ []) (tried of_profile draws))

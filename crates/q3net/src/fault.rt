@@ -302,6 +302,7 @@ impl From<StepError> for Fault {
         match e {
             StepError::NoMemory => Fault::NoMemory,
             StepError::WriteFault => Fault::Write,
+            StepError::FileFault => Fault::FileWrite,
         }
     }
 }

@@ -3,14 +3,16 @@
 ghost use Rattle.std.specs.Prelude.{◌≡◌, ◌+◌, ◌<◌, All, length, Some};
 ghost use Rattle.q3_profile.specs.declared.profile.Profile.{Profile as ProfileValue};
 ghost use Rattle.q3_script.specs.Grammar.{IsReplayEvent};
+ghost use Rattle.q3_io.specs.Faults.{HasCause};
+ghost use Rattle.q3_world.specs.Files.{AreNumbered, acts_from, by_files, ending_acts};
 ghost use Rattle.q3_world.specs.Outcome.{HasStepCause};
 ghost use Rattle.q3_world.specs.Kept.{most_datagrams};
 ghost use Rattle.q3_world.specs.World.{Whole, answers};
 ghost use Rattle.q3_world.specs.StandsFor.{StandsFor};
 ghost use Rattle.q3net.specs.Command.{Replay};
-ghost use Rattle.q3net.specs.Faults.{ReadCause, WriteCause};
+ghost use Rattle.q3net.specs.Faults.{ReadCause, WriteCause, FileCause};
 ghost use Rattle.q3net.specs.Verdict.{of_files};
-ghost use Rattle.q3net.specs.Run.{Executes, LeavesFiles, AddsLines};
+ghost use Rattle.q3net.specs.Run.{Executes, LeavesFiles, AddsLines, DoesFirst};
 
 use crate::fault::Fault;
 use crate::input::{load_events, load_profile};
@@ -19,7 +21,7 @@ use q3_script::{Event, ScriptKind};
 use q3_world::{StepError, World};
 use std::alloc::Global;
 
-/// Replays the script of this name by the profile of that name, and prints its report.
+/// Replays the script of this name by the profile of that name, prints its report, and writes what clients record.
 pub fn replay<F: Files, O: Sink>(
     alloc: Global,
     profile: &str,
@@ -29,7 +31,7 @@ pub fn replay<F: Files, O: Sink>(
 ) -> Result<(), Fault>
     ensures executes { Executes (Some (Replay profile.now script.now)) (of_files (F.told files.old)) (O.written out.old) (O.written out.new) result }
     ensures gives { LeavesFiles (Some (Replay profile.now script.now)) (of_files (F.told files.old)) (F.told files.new) result }
-    ensures writes { F.write_faults files.new ≡ F.write_faults files.old }
+    ensures file_cause { FileCause (F.write_faults files.old) (F.write_faults files.new) result }
     ensures read_cause { ReadCause (F.faults files.old) (F.faults files.new) result }
     ensures write_cause { WriteCause (O.faults out.old) (O.faults out.new) result }
 {
@@ -38,10 +40,10 @@ pub fn replay<F: Files, O: Sink>(
     let events = load_events(alloc, ScriptKind::Replay, script, files)?;
     let mut world = World::new(alloc, &profile)?;
     step_all(&mut world, &events, files, out)?;
-    Ok(())
+    world.finish(files).map_err(|_| Fault::FileWrite)
 }
 
-/// Steps over the events, and prints their lines.
+/// Steps over the events: prints their lines, and writes what clients record.
 fn step_all<F: Files, O: Sink>(
     world: &mut World,
     events: &[Event],
@@ -50,10 +52,14 @@ fn step_all<F: Files, O: Sink>(
 ) -> Result<(), StepError>
     requires events { All IsReplayEvent events.now }
     requires few { length world.old.kept.datagrams + length events.now < most_datagrams }
+    requires numbered { AreNumbered (F.told files.old) (F.given files.old) world.old.numbers world.old.kept.ends }
     ensures adds { (profile : ProfileValue) (whole : Whole) → StandsFor profile world.old.kept whole
         → AddsLines (answers profile whole events.now) (O.written out.old) (O.written out.new) result }
     ensures cause { HasStepCause (O.faults out.old) (O.faults out.new) result }
-    ensures files { files.new ≡ files.old }
+    ensures files { DoesFirst (F.told files.old) (F.told files.new) (acts_from world.old.kept events.now) (ending_acts world.new.kept.ends) result }
+    ensures file_cause { HasCause (F.write_faults files.old) (F.write_faults files.new) (by_files result) }
+    ensures reads { F.faults files.new ≡ F.faults files.old }
+    ensures numbered { AreNumbered (F.told files.new) (F.given files.new) world.new.numbers world.new.kept.ends }
 {
     q3_io::laws::texts_follow();
     for event in events {
