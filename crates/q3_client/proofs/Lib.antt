@@ -1,4 +1,3 @@
 pub mod Applies
-pub mod Asks
 pub mod Begins
 pub mod Stays

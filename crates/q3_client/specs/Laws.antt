@@ -33,14 +33,6 @@ pub record ClientStays : Type 0 where
   pub receives : (client : ClientState) (number : ℕ) (bytes : List ℕ) (received : Reception) → number < 2 ^ 32 → IsApplied client.state → IsOutgoing client.issued
       → receive_bytes client number bytes ≡ Ok received → IsApplied received.application.state
 
--- a client that just joined doesn't ask for whole snapshots, and nothing but asking changes whether it does
-pub record KeepsAsking : Type 0 where
-  pub joins : (profile : Profile) (challenge qport dup : ℕ) → (new_client profile challenge qport dup).asks_whole ≡ false
-  pub moves : (client : ClientState) (one : Move) → (add_move_at client one).client.asks_whole ≡ client.asks_whole
-  pub types : (client : ClientState) (text : List ℕ) → (type_at client text).client.asks_whole ≡ client.asks_whole
-  pub emits : (client : ClientState) → (emit_at client).client.asks_whole ≡ client.asks_whole
-  pub takes : (client : ClientState) (datagram : List ℕ) → (take_at client datagram).client.asks_whole ≡ client.asks_whole
-
 -- what a client with this state, where the newest message taken had a number, made of a message that it applied: it keeps its bytes, cleared,
 -- and they do under its number, which is newer, what was answered, accepted and executed
 pub record WasApplied (before : AppliedState) (last : ℕ) (taken : Taken) (applied : Applied) : Type 0 where

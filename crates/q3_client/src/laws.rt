@@ -1,6 +1,6 @@
 //! Laws of a client's end, each the contract of a call that does nothing but cite the laws below it.
 
-ghost use Rattle.q3_client.specs.Laws.{AppliesItsMessage, BeginsSaid, ClientStays, KeepsAsking};
+ghost use Rattle.q3_client.specs.Laws.{AppliesItsMessage, BeginsSaid, ClientStays};
 
 use q3_clstate::laws as clstate;
 use q3_strings::laws as strings;
@@ -21,11 +21,6 @@ pub fn client_stays()
     clstate::apply_stays();
     window::stays_outgoing();
 }
-
-/// A client that just joined doesn't ask for whole snapshots, and nothing but asking changes whether it does.
-pub fn keeps_asking()
-    ensures { KeepsAsking }
-{}
 
 /// A message that a client applied is kept, cleared: its bytes do under its number, which is newer than all before, what was answered.
 #[tactic(auto, using(crate::proofs::Applies::was_applied))]

@@ -36,5 +36,5 @@ impl Files for NullFiles {
         Ok(())
     }
 
-    ghost numbered = { λ files t same. absurd cc };
+    ghost numbered = { λ files t same. absurd Prim.cc };
 }
