@@ -34,7 +34,7 @@ pub enum Stage {
     Waits,
     /// It goes on since the message of this number.
     Runs { first: u32 },
-    /// A message that it had to compose was too long.
+    /// It has its end: it was stopped, or a message that it had to compose was too long.
     Ended,
 }
 
@@ -45,7 +45,7 @@ pub enum Noted {
     Waits,
     /// The message was recorded.
     Wrote,
-    /// A message that had to be composed is too long: the recording ends before it, and its end was written.
+    /// The recording has its end: it was written before this message, which had to be composed and is too long, or the recording had it before.
     Ended,
 }
 
@@ -81,7 +81,7 @@ impl Recorder {
     ghost use Rattle.q3_rings.specs.Rings.{view_at};
     ghost use Rattle.q3_demo.specs.Recording.{begins, goes_on, recomposed, composed_whole, whole_of, front_at, end_bytes};
 
-    /// A recording that waits for a whole snapshot, into a file that is empty. `Err` is want of memory.
+    /// A recording that waits for a whole snapshot. The file of its calls is empty before the first of them. `Err` is want of memory.
     pub fn new(alloc: Global) -> Result<Recorder, NoMemory>
         ensures { IfOk result (λ made. made ≡ new_recorder) }
     {
