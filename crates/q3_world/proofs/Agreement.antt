@@ -8,6 +8,7 @@ use Rattle.q3_ends.specs.AtServer.{server_line}
 use Rattle.q3_world.specs.ByTags.{IsOwn}
 use Rattle.q3_world.proofs.Foreign.{bytes_seen, handed_seen, line_seen}
 use Rattle.q3_world.proofs.Ported.{holds_port}
+use Rattle.q3_world.proofs.Recorded.{holds_record, holds_stop}
 use Rattle.q3_world.proofs.StaysForeign.{stays_foreign}
 use Rattle.q3_profile.specs.declared.profile.Profile.{Profile}
 use Rattle.q3_script.specs.declared.event.Event.{Event}
@@ -15,7 +16,7 @@ use Rattle.q3_script.specs.declared.event.Event.TheVariants as events
 use Rattle.q3_script.specs.Grammar.{IsReplayEvent}
 use Rattle.q3_server.specs.Server.{emit_at}
 use Rattle.q3_world.specs.declared.places.Place.{Place}
-use Rattle.q3_world.specs.Ends.{Ends, EndsStep, place_at, hand_client, hand_server, join, set_port, to_server, type_text, add_move, line_of}
+use Rattle.q3_world.specs.Ends.{Ends, EndsStep, place_at, hand_client, hand_server, join, set_port, to_server, type_text, add_move, record_to, stop, line_of}
 use Rattle.q3_world.specs.Kept.{SentBytes, Kept, KeptStep, kept_ends, kept_step}
 use Rattle.q3_world.specs.World.{Whole, History, history_at, with_history, with_joined, with_spoken, with_typed, with_issued, noted, with_noted, step, whole_line, with_handed, bytes_of}
 use Rattle.q3_world.specs.StandsFor.{StandsFor}
@@ -67,6 +68,10 @@ steps_agree profile whole (events.Move c one) cited is own holds =
 steps_agree profile whole (events.Serve c) cited is own holds = served profile whole c cited (omega (arith, is)) holds
 steps_agree profile whole (events.Send c) cited is own holds = sends_agree profile whole c cited (omega (arith, is)) holds
 steps_agree profile whole (events.Deliver number) cited is own holds = delivers_agree profile whole number cited holds
+steps_agree profile whole (events.RecordTo c name) cited is own holds =
+    handed profile whole (record_to whole.ends c name) (holds_record profile whole c name (omega (arith, is.0)) holds)
+steps_agree profile whole (events.Stop c) cited is own holds =
+    handed profile whole (stop whole.ends c) (holds_stop profile whole c (omega (arith, is)) holds)
 steps_agree profile whole (events.Show c) cited is own holds = record { same = refl; holds = holds }
 steps_agree profile whole (events.Bytes number) cited is own holds = record { same = rw (bytes_seen whole.sent number) refl; holds = holds }
 steps_agree profile whole (events.Toclient c bytes) cited is own holds = absurd own

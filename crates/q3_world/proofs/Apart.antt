@@ -19,12 +19,13 @@ use Rattle.q3_report.specs.declared.answer.MoveRefused.TheVariants as refused
 use Rattle.q3_report.specs.declared.answer.TypeRefused.TheVariants as untyped
 use Rattle.q3_ends.specs.AtClient as at_client
 use Rattle.q3_ends.specs.AtClient.{ClientStep}
+use Rattle.q3_ends.specs.Recording.{asking, begin_at, new_recording, note_taken, stop_at}
 use Rattle.q3_ends.specs.AtServer.{server_line}
 use Rattle.q3_world.specs.declared.made.Direction.{Direction}
 use Rattle.q3_world.specs.declared.made.Direction.TheVariants.{ToClient, ToServer}
 use Rattle.q3_world.specs.declared.places.Place.{Place}
 use Rattle.q3_world.specs.Apart.{IsLeft, IsOfOther, IsOfOthers, SlotsApart}
-use Rattle.q3_world.specs.Ends.{Ends, client_takes, hand_server_of, joined, line_of, place_at, set_port_of, to_client, with_place}
+use Rattle.q3_world.specs.Ends.{Ends, client_takes, hand_server_of, joined, line_of, place_at, record_of, set_port_of, stop_of, to_client, with_place}
 use Rattle.q3_world.specs.Kept.{Kept, SentBytes, arrive_at, deliver_at, kept_send, kept_step}
 
 -- where frames are as they were
@@ -59,11 +60,21 @@ hands_in c d nobody line ends (Some place) ne = of_place c d ends (record place 
 
 sends : (kept : Kept) (c d : ℕ) (found : Option Place) → d ≢ c → IsLeft d kept.ends (kept_send kept c found).kept.ends
 sends kept c d None ne = nothing d kept.ends
-sends kept c d (Some place) ne = of_place c d kept.ends (record place { client = (speaks.emit_at place.client).client }) ne
+sends kept c d (Some place) ne = of_place c d kept.ends (record place { client = (speaks.emit_at (asking place.client place.recording)).client }) ne
 
 takes : (ends : Ends) (c d : ℕ) (front : Front) (bytes : List ℕ) (found : Option Place) → d ≢ c → IsLeft d ends (client_takes ends c front bytes found).ends
 takes ends c d front bytes None ne = nothing d ends
-takes ends c d front bytes (Some place) ne = of_place c d ends (record place { client = (take_at place.client bytes).client }) ne
+takes ends c d front bytes (Some place) ne =
+    let taken = take_at place.client bytes in
+    of_place c d ends (record place { client = taken.client; recording = (note_taken place.recording place.client taken).recording }) ne
+
+records : (c d : ℕ) (name : List ℕ) (ends : Ends) (found : Option Place) → d ≢ c → IsLeft d ends (record_of ends c name found).ends
+records c d name ends None ne = nothing d ends
+records c d name ends (Some place) ne = of_place c d ends (record place { recording = (begin_at place.client place.recording (new_recording name)).recording }) ne
+
+stops : (c d : ℕ) (ends : Ends) (found : Option Place) → d ≢ c → IsLeft d ends (stop_of ends c found).ends
+stops c d ends None ne = nothing d ends
+stops c d ends (Some place) ne = of_place c d ends (record place { recording = (stop_at place.recording).recording }) ne
 
 comes_to : calls.SlotsApart → (ends : Ends) (number d : ℕ) (sent : SentBytes) (direction : Direction) → IsOfOther ends d sent direction → IsLeft d ends (arrive_at ends number sent direction).ends
 comes_to laws ends number d sent ToClient other = takes ends sent.client d (fronts.Deliver number) sent.bytes (place_at ends sent.client) other
@@ -85,7 +96,7 @@ pub slots_apart : calls.SlotsApart → SlotsApart
 unfolding kept_step line_of server_line
 slots_apart laws kept (events.Client c challenge qport dup address) d ne =
     let added = add_client_at kept.ends.server c challenge qport address in
-    joins c d kept.ends added.server (record { client = new_client kept.profile challenge qport dup; address = address }) added.answer ne
+    joins c d kept.ends added.server (record { client = new_client kept.profile challenge qport dup; address = address; recording = None }) added.answer ne
     (laws.joins kept.ends.server c challenge qport d address ne)
 slots_apart laws kept (events.Port c port) d ne = ports c d port kept.ends (place_at kept.ends c) ne
 slots_apart laws kept (events.Map id feed) d ne = absurd ne
@@ -106,6 +117,8 @@ slots_apart laws kept (events.Move c one) d ne =
 slots_apart laws kept (events.Serve c) d ne = of_server d kept.ends (emit_at kept.ends.server c).server (laws.emits kept.ends.server c d ne)
 slots_apart laws kept (events.Send c) d ne = sends kept c d (place_at kept.ends c) ne
 slots_apart laws kept (events.Deliver number) d others = delivers laws kept.ends number d (slice_get kept.datagrams (number - 1)) others
+slots_apart laws kept (events.RecordTo c name) d ne = records c d name kept.ends (place_at kept.ends c) ne
+slots_apart laws kept (events.Stop c) d ne = stops c d kept.ends (place_at kept.ends c) ne
 slots_apart laws kept (events.Show c) d ne = nothing d kept.ends
 slots_apart laws kept (events.Bytes number) d ne = nothing d kept.ends
 slots_apart laws kept (events.Toclient c bytes) d ne = takes kept.ends c d (fronts.Toclient c) bytes (place_at kept.ends c) ne

@@ -47,6 +47,7 @@ use Rattle.q3_world.specs.Ends.{place_at, client_takes, server_takes}
 use Rattle.q3_world.specs.Kept.{kept_ends, arrive_at, deliver_at}
 use Rattle.q3_world.specs.World.{Tag, Whole, History, no_said, history_at, named, client_took, to_client, said_under, server_took, to_server, arrive, deliver, Played, game_in, texts_of, with_game, with_taken, with_heard, deliver_as, bytes_of}
 use Rattle.q3_world.specs.StandsFor.{BeginsMessages, KeepsSlot, IsPiece, IsSent, IsClient, IsWay, WasBuilt, WasAccepted, carried_built, acks_built, carried_said, acks_said, AreCommanded, messages_of, messages_said, KeepsClient, TakesBuilt}
+use Rattle.q3_world.proofs.Recorded.{with_recording}
 use Rattle.q3_world.proofs.MoveLists.{consecutive_issued}
 use Rattle.q3_world.proofs.Clients.{no_client, no_end, at_number, said_number, KeepsSlot-ran, KeepsSlot-acknowledged}
 use Rattle.q3_world.proofs.Joined.{TakesBuilt-gathered, TakesBuilt-passed, TakesBuilt-accepted, TakesBuilt-started, AreAsked-accepted}
@@ -55,7 +56,7 @@ use Rattle.q3_clstate.specs.Standing.{IsApplied}
 use Rattle.q3_world.proofs.Knowing.{KnownBase, known_base, was_built_is, holds_this}
 use Rattle.q3_world.proofs.Applying.{applies_message, applies_game_message}
 use Rattle.q3_world.proofs.Commanded.{ClientHears, client_hears, SlotHears, slot_hears}
-use Rattle.q3_world.proofs.Holding.{Holds, Has, has_slot, has_client}
+use Rattle.q3_world.proofs.Holding.{Holds, Has, has_slot, has_client, with_client_of}
 use Rattle.q3_world.proofs.Came.{TakesSo, Holds-taken, HearsSo, Holds-heard, tag_was_built, names_built}
 use Rattle.q3_svmsg.specs.Values.{Told}
 use Rattle.q3_text.specs.declared.text.Command.{Command}
@@ -260,12 +261,17 @@ nothing_noted history n time taken section accepted heard game =
 abbrev heard_state : AppliedState → List Command → AppliedState
 heard_state state commands = hearing state commands
 
+-- the world behind what a client took, as if nothing were recorded
+abbrev took_plain : Whole → ℕ → Place → ℕ → Told → Taken → Whole
+took_plain whole c place n section taken =
+    with_client_of whole c place taken.client (with_taken (history_at whole.histories c) n section taken) whole.sent
+
 -- what arrives of a piece: what holds stays
 pub holds_piece : (profile : Profile) (whole : Whole) (c datagram n : ℕ) (slot : SlotState) (place : Place) (took : Took) (built : Built) → Cited profile → c < places
     → n ≤ length (history_at whole.histories c).built → Has profile whole c slot place → PieceDoes place.client.gathering n (built_bytes profile built) took
     → Gathers (messages_of profile (history_at whole.histories c).built) (length (history_at whole.histories c).built) took.gathering
     → Named profile whole c n slot place.client built
-    → Holds profile whole → Holds profile (client_took whole datagram c place n built.message.section (take_gathered place.client took (λ k. Ok (receive_message place.client k built.message (plain_bytes profile built))))).whole
+    → Holds profile whole → Holds profile (took_plain whole c place n built.message.section (take_gathered place.client took (λ k. Ok (receive_message place.client k built.message (plain_bytes profile built)))))
 holds_piece profile whole c datagram n slot place took built cited lt within had does gathers named_is holds =
     let g = took.gathering in
     let map = whole.ends.server.map in
@@ -325,8 +331,8 @@ holds_piece profile whole c datagram n slot place took built cited lt within had
                       let since_is = since_more history.games history.accepted snapshot mapped.has in
                       let takes = TakesBuilt-accepted cited.rings profile place.client history.built history.accepted since g state' plain after place.client.moves snapshot (taken ∙ sym number_is) gathers one.are.few (named_is.was is.telling one)
                       (omega (arith, newer, number_is)) refl joined in
-                      subst (λ (t : Taken). Holds profile (client_took whole datagram c place n built.message.section t).whole) (sym (came_so ∙ ap applied_as accepted.1))
-                      (subst (λ (s : Told). Holds profile (client_took whole datagram c place n s (applied_as (heard_with state commands (accepts (hearing state commands) n (number_of built.base) snapshot)))).whole) (sym section)
+                      subst (λ (t : Taken). Holds profile (took_plain whole c place n built.message.section t)) (sym (came_so ∙ ap applied_as accepted.1))
+                      (subst (λ (s : Told). Holds profile (took_plain whole c place n s (applied_as (heard_with state commands (accepts (hearing state commands) n (number_of built.base) snapshot))))) (sym section)
                       (Holds-taken profile whole c slot place g state' plain after true false history.games (history.accepted ++ snapshot ∷ []) heard lt had does.side refl refl
                       (record { applied = subst (λ (a : Application). IsApplied a.state) accepted.1 applied; is = still; to_client = to_client; to_server = to_server })
                       (subst (λ (s : List Snapshot). TakesBuilt profile (taking.client_took place.client g state' plain after true false) history.built (history.accepted ++ snapshot ∷ []) s) (sym since_is) takes)
@@ -335,8 +341,8 @@ holds_piece profile whole c datagram n slot place took built cited lt within had
                       had.joined.since holds))
                   | inr skipped ↦
                       let state' = record (hearing state commands) { number = n } in
-                      subst (λ (t : Taken). Holds profile (client_took whole datagram c place n built.message.section t).whole) (sym (came_so ∙ ap applied_as skipped.2))
-                      (subst (λ (s : Told). Holds profile (client_took whole datagram c place n s (applied_as (heard_with state commands (passes (hearing state commands) n (Skipped (number_of built.base) (EntitiesGone skipped.0)))))).whole) (sym section)
+                      subst (λ (t : Taken). Holds profile (took_plain whole c place n built.message.section t)) (sym (came_so ∙ ap applied_as skipped.2))
+                      (subst (λ (s : Told). Holds profile (took_plain whole c place n s (applied_as (heard_with state commands (passes (hearing state commands) n (Skipped (number_of built.base) (EntitiesGone skipped.0))))))) (sym section)
                       (Holds-taken profile whole c slot place g state' plain after false false history.games history.accepted heard lt had does.side refl refl
                       (record { applied = subst (λ (a : Application). IsApplied a.state) skipped.2 applied; is = still; to_client = to_client; to_server = to_server })
                       (TakesBuilt-passed profile place.client history.built history.accepted since g state' plain after place.client.moves (omega (arith, taken, newer)) gathers refl joined) had.joined.asked
@@ -353,8 +359,8 @@ holds_piece profile whole c datagram n slot place took built cited lt within had
                 let games = history.games ++ played ∷ [] in
                 let since_is : accepted_since games history.accepted ≡ [] = since_none history.games history.accepted played refl in
                 let takes = TakesBuilt-started cited.rings profile place.client history.built history.accepted since g state' plain after [] (omega (arith, taken, newer)) gathers (subst (λ (k : ℕ). 512 ≤ k) (sym had.keeps.of_client.ring) cited.ring) refl joined in
-                subst (λ (t : Taken). Holds profile (client_took whole datagram c place n built.message.section t).whole) (sym (came_so ∙ ap applied_as (applies_game_message state n built is.telling game made.is)))
-                (subst (λ (s : Told). Holds profile (client_took whole datagram c place n s (applied_as (heard_with state commands (applies_game (hearing state commands) n game)))).whole) (sym section)
+                subst (λ (t : Taken). Holds profile (took_plain whole c place n built.message.section t)) (sym (came_so ∙ ap applied_as (applies_game_message state n built is.telling game made.is)))
+                (subst (λ (s : Told). Holds profile (took_plain whole c place n s (applied_as (heard_with state commands (applies_game (hearing state commands) n game))))) (sym section)
                 (Holds-taken profile whole c slot place g state' plain after false true games history.accepted heard lt had does.side refl refl
                 (record {
                   applied = subst (λ (a : Application). IsApplied a.state) (applies_game_message state n built is.telling game made.is) applied;
@@ -383,7 +389,8 @@ delivered_to profile whole number tag (Some place) cited is at holds =
       same = ap (λ (t : Taken). kept_ends (kept_of profile whole) (by_ends.client_took whole.ends tag.client (fronts.Deliver number) place t))
           (taken_by_bytes client tag.bytes took had.1.joined.of_client.legible (tag_is profile whole tag place cited is at holds)
           ∙ taken_alike profile client took tag.number built (received_alike profile whole tag.client tag.number had.0 place built cited had.1 named_is) does);
-      holds = holds_piece profile whole tag.client number tag.number had.0 place took built cited is.0 is.1.begun had.1 does (tag_gathers profile whole tag place cited is at holds) named_is holds;
+      holds = with_recording profile whole tag.client place _ _ _ whole.sent is.0 holds
+          (holds_piece profile whole tag.client number tag.number had.0 place took built cited is.0 is.1.begun had.1 does (tag_gathers profile whole tag place cited is at holds) named_is holds);
     }
 
 -- ---- delivering to the server

@@ -8,6 +8,7 @@ use Rattle.q3_profile.specs.declared.profile.Profile.{Profile}
 use Rattle.q3_chan.specs.Sending.{Piece}
 use Rattle.q3_server.specs.Server.{Emission, emit_at}
 use Rattle.q3_client.specs.Sending as speaks
+use Rattle.q3_ends.specs.Recording.{asking}
 use Rattle.q3_report.specs.Answers.{Answered}
 use Rattle.q3_world.specs.declared.made.Direction.{Direction}
 use Rattle.q3_world.specs.declared.made.Direction.TheVariants.{ToClient, ToServer}
@@ -31,7 +32,7 @@ said_seen profile whole c place emission = rw (length-map whole.sent bytes_of, m
 
 send_seen : (profile : Profile) (whole : Whole) (c : ℕ) (found : Option Place) → kept_send (kept_of profile whole) c found ≡ seen profile (send whole c found)
 send_seen profile whole c None = rw (length-map whole.sent bytes_of) refl
-send_seen profile whole c (Some place) = said_seen profile whole c place (speaks.emit_at place.client)
+send_seen profile whole c (Some place) = said_seen profile whole c place (speaks.emit_at (asking place.client place.recording))
 
 -- bytes that arrive
 delivers_seen : (profile : Profile) (whole : Whole) (number : ℕ) → whole.foreign ≡ true

@@ -135,7 +135,7 @@ with_new whole c qport address slot client =
     record whole {
       ends = record {
         server = with_slot whole.ends.server c slot;
-        clients = slice_set whole.ends.clients c (Some (record { client = client; address = address }));
+        clients = slice_set whole.ends.clients c (Some (record { client = client; address = address; recording = None }));
       };
       histories = with_history whole.histories c (record (history_at whole.histories c) { qport = qport; host = address.host });
     }
@@ -152,7 +152,7 @@ Holds-new laws windows profile whole c challenge qport dup address ring sends ga
     let client = new_client profile challenge qport dup in
     let history = history_at whole.histories c in
     let there = record history { qport = qport; host = address.host } in
-    let place : Place = record { client = client; address = address } in
+    let place : Place = record { client = client; address = address; recording = None } in
     let history_is : history ≡ no_history =
     no_client profile (place_at ends c) history
     (subst (λ (s : Option SlotState). IsClient profile s (place_at ends c) history) none (facts.each c lt)) in

@@ -1,7 +1,7 @@
 -- Both ends make datagrams by bytes as by tags.
-use Rattle.std.proofs.Common.{◌≡◌, ℕ, ◌+◌, ◌^◌, ◌<◌, Bool, false, List, length, Option, Some, None, refl, sym, subst, ◌∙◌, inl, inr, arith}
-use Rattle.std.specs.Prelude.{nat_le, nat_lt, ◌%◌, ◌≤◌, bit_xor, true}
-use Rattle.std.proofs.lemmas.List.{length-map, map_push}
+use Rattle.std.proofs.Common.{◌≡◌, ℕ, ◌+◌, ◌^◌, ◌<◌, Bool, false, List, length, Option, Some, None, Ok, refl, sym, subst, ◌∙◌, inl, inr, arith}
+use Rattle.std.specs.Prelude.{map, nat_le, nat_lt, ◌%◌, ◌≤◌, bit_xor, true}
+use Rattle.std.proofs.lemmas.List.{length-map, map_push, set-set}
 use Rattle.std.proofs.lemmas.Bool.{cases_Bool, cond_both, leb-false, ltb-false}
 use Rattle.q3_bits.specs.Bits.{message_bytes, message_length}
 use Rattle.q3_bits.specs.Laws.{MessageIsBytes}
@@ -32,12 +32,17 @@ use Rattle.q3_client.specs.Standing.{IsClient}
 use Rattle.q3_client.specs.Sending.{IsSaid}
 use Rattle.q3_world.proofs.Commanded.{MayName}
 use Rattle.q3_world.specs.declared.places.Place.{Place}
-use Rattle.q3_world.specs.Ends.{place_at}
-use Rattle.q3_world.specs.Kept.{kept_serve, kept_said, kept_send}
-use Rattle.q3_world.specs.World.{Whole, history_at, serve, say, send, with_built, bytes_of}
+use Rattle.q3_report.specs.Answers.{SentOut}
+use Rattle.q3_ends.specs.Recording.{asking}
+use Rattle.q3_world.specs.declared.made.Direction.TheVariants.{ToServer}
+use Rattle.q3_world.specs.Ends.{place_at, with_place}
+use Rattle.q3_world.specs.Kept.{datagrams_after, kept_serve, kept_said, kept_send}
+use Rattle.q3_world.specs.World.{Whole, history_at, serve, say, send, sent_after, with_built, with_history, with_said, bytes_of}
 use Rattle.q3_world.specs.Layers.{ScramblingLaws}
 use Rattle.q3_world.proofs.Clients.{slot_begun, client_begun, asked_has, next_base, next_number}
 use Rattle.q3_world.proofs.Holding.{Holds, has_slot, has_client, same_server, Has}
+use Rattle.q3_world.proofs.OnePlace.{set_there}
+use Rattle.q3_world.proofs.Recorded.{holds_asking}
 use Rattle.q3_world.proofs.Given.{joined_stays}
 use Rattle.q3_world.proofs.Begun.{Holds-handed, Holds-begun, Holds-too_long, handed_tag, Holds-goes, Holds-said, said_tag, executed_by_slot}
 use Rattle.q3_world.proofs.GamesMaps.{AreMapped-begun}
@@ -306,6 +311,32 @@ said_left profile whole c place (Some left) cited lt found some holds =
     let pushed = map_push bytes_of whole.sent (said_tag c (place.address) place.client left) in
     record { same = rw (count, pushed) refl; holds = Holds-goes profile whole c place left cited.sends lt found some holds }
 
+-- what a client makes at a place with another end of it is what it makes at its own place
+said_there : (profile : Profile) (whole : Whole) (c : ℕ) (place : Place) (client : ClientState) (emission : speaks.Emission)
+    → SaidSo profile (record whole { ends = with_place whole.ends c (record place { client = client }) }) c (record place { client = client }) emission
+    → SaidSo profile whole c place emission
+said_there profile whole c place client emission said =
+    let there : Place = record place { client = client } in
+    let then : Place = record place { client = emission.client } in
+    subst (λ (clients : List (Option Place)).
+    Agree profile
+    (record {
+      kept = record (kept_of profile whole) {
+        ends = record whole.ends { clients = clients };
+        datagrams = datagrams_after (map bytes_of whole.sent) c (ToServer place.address) emission.piece;
+      };
+      answer = SentOut c (Ok emission.answer) (length (map bytes_of whole.sent) + 1);
+    })
+    (record {
+      whole = record whole {
+        ends = record whole.ends { clients = clients };
+        histories = with_history whole.histories c (with_said (history_at whole.histories c) emission.began);
+        sent = sent_after whole.sent c (ToServer place.address) emission.piece;
+      };
+      answer = SentOut c (Ok emission.answer) (length whole.sent + 1);
+    }))
+    (set-set whole.ends.clients c (Some there) (Some then)) said
+
 pub sends_agree : (profile : Profile) (whole : Whole) (c : ℕ) → Cited profile → c < places → Holds profile whole
     → Agree profile (kept_send (kept_of profile whole) c (place_at whole.ends c)) (send whole c (place_at whole.ends c))
 unfolding speaks.emit_at
@@ -315,9 +346,14 @@ sends_agree profile whole c cited lt holds =
       | inl none ↦ rw (none, count) (record { same = refl; holds = holds })
       | inr found ↦
           let place = found.0 in
-          let client = place.client in
-          let had = has_client profile whole c place lt found.1 holds in
+          let client = asking place.client place.recording in
+          let there : Place = record place { client = client } in
+          let asks : Whole = record whole { ends = with_place whole.ends c there } in
+          let asked = holds_asking profile whole c place lt found.1 holds in
+          let at : place_at asks.ends c ≡ Some there = set_there whole.ends.clients c None (Some there) holds.facts.clients lt in
+          let had = has_client profile asks c there lt at asked in
           rw found.1
-          (subst (λ (dropped : Option Illegible). SaidSo profile whole c place (speaks.emit_unless client dropped)) (sym had.1.joined.of_client.legible)
-          (said_left profile whole c place client.sending.under_way cited lt found.1 refl holds))
+          (said_there profile whole c place client _
+          (subst (λ (dropped : Option Illegible). SaidSo profile asks c there (speaks.emit_unless client dropped)) (sym had.1.joined.of_client.legible)
+          (said_left profile asks c there client.sending.under_way cited lt at refl asked)))
     ]

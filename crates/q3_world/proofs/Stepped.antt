@@ -4,6 +4,7 @@ use Rattle.std.proofs.lemmas.List.{length_push}
 use Rattle.q3_chan.specs.Sending.{Piece}
 use Rattle.q3_server.specs.Server.{emit_at}
 use Rattle.q3_client.specs.Sending as speaks
+use Rattle.q3_ends.specs.Recording.{asking}
 use Rattle.q3_world.specs.declared.made.Direction.{Direction}
 use Rattle.q3_world.specs.declared.made.Direction.TheVariants.{ToClient, ToServer}
 use Rattle.q3_world.specs.declared.places.Place.{Place}
@@ -23,7 +24,7 @@ few_served kept c = few_made kept.datagrams c ToClient (emit_at kept.ends.server
 
 pub few_sent : (kept : Kept) (c : ℕ) (found : Option Place) → length (kept_send kept c found).kept.datagrams ≤ length kept.datagrams + 1
 few_sent kept c None = omega arith
-few_sent kept c (Some place) = few_made kept.datagrams c (ToServer place.address) (speaks.emit_at place.client).piece
+few_sent kept c (Some place) = few_made kept.datagrams c (ToServer place.address) (speaks.emit_at (asking place.client place.recording)).piece
 
 -- ---- an answer that is told
 
