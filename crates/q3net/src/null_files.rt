@@ -5,6 +5,7 @@ ghost use Rattle.std.specs.Prelude.{◌≡◌, None};
 use q3_io::{Failed, Files};
 
 /// Every name is that of one file, which takes all bytes, and is empty for whoever reads it.
+#[derive(Drop)]
 pub(crate) struct NullFiles;
 
 impl Files for NullFiles {
