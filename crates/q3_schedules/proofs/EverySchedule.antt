@@ -1,6 +1,6 @@
 -- Every list of events: what holds after it, and what it answers.
 use Rattle.std.proofs.Common.{◌≡◌, ◌+◌, ◌-◌, ◌<◌, List, length, get_or, true, false, Option, Some, None, Result, Ok, refl, sym, ap, subst, ◌∙◌, inl, inr, arith, Bool, ℕ}
-use Rattle.std.specs.Prelude.{slice_get, All, Contains, IfSome, MatchOption, ◌↔◌}
+use Rattle.std.specs.Prelude.{slice_get, not, ◌&&◌, All, Contains, IfSome, MatchOption, ◌↔◌}
 use Rattle.std.specs.List.{last_or}
 use Rattle.std.specs.Option.{option_map}
 use Rattle.std.specs.Result.{result_ok}
@@ -34,13 +34,13 @@ use Rattle.q3_report.specs.declared.answer.Front.TheVariants as fronts
 use Rattle.q3_report.specs.declared.answer.TakeRefused.{TakeRefused}
 use Rattle.q3_report.specs.Answers.{Answered, ByClient, ByServer, Shown, Took, Untaken, snapshot_in}
 use Rattle.q3_ends.specs.AtClient.{newest_of, showing_newest, taken_by_client}
+use Rattle.q3_ends.specs.Recording.{RecordingState, asking, note_taken, waits_in}
 use Rattle.q3_world.specs.declared.made.Direction.{Direction}
 use Rattle.q3_world.specs.declared.made.Direction.TheVariants.{ToClient, ToServer}
 use Rattle.q3_world.specs.Layers.{Layers}
 use Rattle.q3_built.specs.Built.{Built, number_of, IsNear, IsBuilt, built_bytes, plain_bytes}
 use Rattle.q3_slot.specs.Slot.{SlotState}
 use Rattle.q3_server.specs.Server.{places, slot_at}
-use Rattle.q3_client.specs.Laws.{KeepsAsking}
 use Rattle.q3_client.specs.Client.{ClientState, Taken, Reception, receive_message, take_answer, take_gathered}
 use Rattle.q3_lines.specs.ServerLines.{Run}
 use Rattle.q3_world.specs.declared.places.Place.{Place}
@@ -50,7 +50,6 @@ use Rattle.q3_world.specs.World.{Tag, Step, Whole, History, history_at, built_at
 use Rattle.q3_world.specs.StandsFor.{IsSent, WasBuilt, WasAccepted, Rise}
 use Rattle.q3_world.specs.ByTags.{kept_then, whole_then, BytesFollowTags}
 use Rattle.q3_world.specs.Answering.{outcome_of, applied_of, is_game, outcome_in}
-use Rattle.q3_schedules.proofs.Asking.{wants_by_delta}
 use Rattle.q3_schedules.specs.Schedules.{AcceptedWereBuilt, ShownWasBuilt, ShownIsNewest, AsksForAccepted, heard_of, Shows, AppliedWasBuilt, NewerIsAccepted, BasesWereAccepted, HeldIsAccepted, ViewsWereBuilt, ClientTookSo, StateIsOfGame}
 use Rattle.q3_world.proofs.Holding.{Holds, Has, has_client}
 use Rattle.q3_world.proofs.Agree.{Cited}
@@ -122,13 +121,28 @@ shown_is_newest law profile all c is are within =
     ∙ of_each profile (kept_then profile all) (whole_then profile all) c (λ slot found history. newest (option_map client_of found) ≡ last_or None (since_of history)) within stands
     refl (λ slot place had. had.joined.of_client.shows))
 
-pub asks_for_accepted : BytesFollowTags → KeepsAsking → AsksForAccepted
-asks_for_accepted law keeps profile all c client is are within found =
+-- what a client's next message asks for, by what it accepted and by its recording
+wants_both : (delta waits : Bool) (Was : Type 0) → (delta ≡ true) ↔ Was → ((delta && not waits) ≡ true) ↔ (Was × (waits ≡ false))
+wants_both delta waits Was is = (to delta waits is, from delta waits is)
+  where
+    to : (delta waits : Bool) → (delta ≡ true) ↔ Was → (delta && not waits) ≡ true → Was × (waits ≡ false)
+    to true false is so = (is.0 refl, refl)
+    to true true is so = absurd cc
+    to false waits is so = absurd cc
+
+    from : (delta waits : Bool) → (delta ≡ true) ↔ Was → Was × (waits ≡ false) → (delta && not waits) ≡ true
+    from true false is so = refl
+    from true true is so = let e = so.1 in absurd cc
+    from false waits is so = let e = is.1 so.0 in absurd cc
+
+pub asks_for_accepted : BytesFollowTags → AsksForAccepted
+asks_for_accepted law profile all c place is are within found =
     let stands : Then profile all = stood law profile all is are in
     let whole = whole_then profile all in
     let since = since_of (history_at whole.histories c) in
-    subst (λ (asks : Bool). (asks ≡ true) ↔ WasAccepted since client.gathering.taken) (sym (wants_by_delta keeps profile all c client found))
-    (of_there profile (kept_then profile all) whole c client (λ (client : ClientState). (client.delta ≡ true) ↔ WasAccepted since client.gathering.taken) within found stands
+    wants_both place.client.delta (waits_in place.recording) (WasAccepted since place.client.gathering.taken)
+    (of_there profile (kept_then profile all) whole c place.client (λ (client : ClientState). (client.delta ≡ true) ↔ WasAccepted since client.gathering.taken) within
+    (ap (λ (o : Option Place). option_map client_of o) found) stands
     (λ slot place had. had.joined.of_client.asks))
 
 -- ---- what a client holds
@@ -199,14 +213,20 @@ came_whole does_so profile whole tag client n count e =
     whole_is same = cc
 
 -- what a client's delivery answers
-abbrev pub delivered_so : ℕ → ℕ → Taken → Answered
-delivered_so number c taken = taken_by_client (fronts.Deliver number) c taken
+abbrev pub delivered_so : ℕ → ℕ → Taken → Bool → Answered
+delivered_so number c taken ended = taken_by_client (fronts.Deliver number) c taken ended
+
+-- and whether the client's recording ended by that
+abbrev pub ends_by : Place → Taken → Bool
+ends_by place taken = (note_taken place.recording place.client taken).ended
 
 pub answers_tag : (profile : Profile) (whole : Whole) (number : ℕ) (tag : Tag) (place : Place) → whole.foreign ≡ false → slice_get whole.sent (number - 1) ≡ Some tag
     → tag.direction ≡ ToClient → place_at whole.ends tag.client ≡ Some place
     → (step profile whole (events.Deliver number)).answer
     ≡ delivered_so number tag.client (take_gathered place.client (tagged place.client.gathering tag.number (built_bytes profile (named whole.histories tag)) tag.index)
     (λ n. Ok (receive_message place.client n (named whole.histories tag).message (plain_bytes profile (named whole.histories tag)))))
+    (ends_by place (take_gathered place.client (tagged place.client.gathering tag.number (built_bytes profile (named whole.histories tag)) tag.index)
+    (λ n. Ok (receive_message place.client n (named whole.histories tag).message (plain_bytes profile (named whole.histories tag))))))
 unfolding step line_of
 answers_tag profile whole number tag place own at way found = rw (own, at, way, found) refl
 
@@ -291,16 +311,17 @@ outcome profile whole c n slot place built cited had newer named_is =
 
 -- what is answered of a message that came whole, and what is executed of it
 pub whole_answer : (profile : Profile) (whole : Whole) (number c n : ℕ) (client now : ClientState) → Outcome profile whole c n client (built_at (history_at whole.histories c).built n)
-    → (count : ℕ)
-    → ClientTookSo (delivered_so number c (take_answer now (CameWhole n count) (λ k. Ok (receive_message client k (built_at (history_at whole.histories c).built n).message (plain_bytes profile (built_at (history_at whole.histories c).built n))))))
+    → (count : ℕ) (ended : Bool)
+    → ClientTookSo (delivered_so number c (take_answer now (CameWhole n count) (λ k. Ok (receive_message client k (built_at (history_at whole.histories c).built n).message (plain_bytes profile (built_at (history_at whole.histories c).built n))))) ended)
     number c (Applied (applied_now profile (history_at whole.histories c) n (built_at (history_at whole.histories c).built n))) (heard_of (history_at whole.histories c) n)
-whole_answer profile whole number c n client now out count =
+whole_answer profile whole number c n client now out count ended =
     let history = history_at whole.histories c in
     let built = built_at history.built n in
     let applied = apply_message client.state n built.message in (
       applied.state,
-      ap (λ (a : AppliedSo). Took (fronts.Deliver number) (ByClient c (Applied a) applied.state applied.heard)) out.answer
-          ∙ ap (λ (k : ℕ). Took (fronts.Deliver number) (ByClient c (Applied (applied_now profile history n built)) applied.state (fresh_of k built.message.commands))) out.executed,
+      ended,
+      ap (λ (a : AppliedSo). Took (fronts.Deliver number) (ByClient c (Applied a) applied.state applied.heard ended)) out.answer
+          ∙ ap (λ (k : ℕ). Took (fronts.Deliver number) (ByClient c (Applied (applied_now profile history n built)) applied.state (fresh_of k built.message.commands) ended)) out.executed,
     )
 
 pub newer_is_accepted : BytesFollowTags → Layers → NewerIsAccepted
@@ -331,29 +352,30 @@ newer_is_accepted law below profile all number n count sent client is are at way
     let so : ℕ → ℕ → Type 0 = λ c k.
     ClientTookSo (kept_step kept (events.Deliver number)).answer number c (Applied (applied_now profile (history_at whole.histories c) k (built_at (history_at whole.histories c).built k)))
     (heard_of (history_at whole.histories c) k) in
+    let ended = ends_by place (take_answer now took.answer (λ j. Ok (receive_message place.client j built.message (plain_bytes profile built)))) in
     let given : (kept_step kept (events.Deliver number)).answer
-    ≡ delivered_so number tag.0.client (take_answer now (CameWhole tag.0.number count) (λ j. Ok (receive_message place.client j built.message (plain_bytes profile built)))) =
+    ≡ delivered_so number tag.0.client (take_answer now (CameWhole tag.0.number count) (λ j. Ok (receive_message place.client j built.message (plain_bytes profile built)))) ended =
     ap (λ (s : KeptStep). s.answer) (delivers_same profile kept whole number cited stands)
     ∙ (answers_tag profile whole number tag.0 place stands.own tag.1 goes there.1
-    ∙ (ap (λ (a : Gathered). delivered_so number tag.0.client (take_answer now a (λ k. Ok (receive_message place.client k built.message (plain_bytes profile built))))) answer
-    ∙ ap (λ (k : ℕ). delivered_so number tag.0.client (take_answer now (CameWhole k count) (λ j. Ok (receive_message place.client j built.message (plain_bytes profile built))))) whole_is.0)) in
-    let by_tag = whole_answer profile whole number tag.0.client tag.0.number place.client now out count in
-    let here : so tag.0.client tag.0.number = (by_tag.0, given ∙ by_tag.1) in
+    ∙ (ap (λ (a : Gathered). delivered_so number tag.0.client (take_answer now a (λ k. Ok (receive_message place.client k built.message (plain_bytes profile built)))) ended) answer
+    ∙ ap (λ (k : ℕ). delivered_so number tag.0.client (take_answer now (CameWhole k count) (λ j. Ok (receive_message place.client j built.message (plain_bytes profile built)))) ended) whole_is.0)) in
+    let by_tag = whole_answer profile whole number tag.0.client tag.0.number place.client now out count ended in
+    let here : so tag.0.client tag.0.number = (by_tag.0, by_tag.1, given ∙ by_tag.2) in
     subst (λ (s : SentBytes). so s.client n) tag.2 (subst (λ (k : ℕ). so tag.0.client k) (sym whole_is.0) here)
 
 -- ---- what is applied
 
 -- two answers of a delivery
-same_delivered : (number c c' : ℕ) (took took' : ClientTook) (state state' : AppliedState) (commands commands' : List Command)
-    → Took (fronts.Deliver number) (ByClient c took state commands) ≡ Took (fronts.Deliver number) (ByClient c' took' state' commands') → (c ≡ c') × (took ≡ took')
-same_delivered number c c' took took' state state' commands commands' e = (cc, cc)
+same_delivered : (number c c' : ℕ) (took took' : ClientTook) (state state' : AppliedState) (commands commands' : List Command) (ended ended' : Bool)
+    → Took (fronts.Deliver number) (ByClient c took state commands ended) ≡ Took (fronts.Deliver number) (ByClient c' took' state' commands' ended') → (c ≡ c') × (took ≡ took')
+same_delivered number c c' took took' state state' commands commands' ended ended' e = (cc, cc)
 
 not_by_server : (number : ℕ) (took : ServerTook) (ran : Run) (c : ℕ) (took' : ClientTook) (commands : List Command)
     → ClientTookSo (Took (fronts.Deliver number) (ByServer took ran)) number c took' commands → ⊥
-not_by_server number took ran c took' commands so = let e = so.1 in absurd cc
+not_by_server number took ran c took' commands so = let e = so.2 in absurd cc
 
 not_untaken : {cause : TakeRefused} (number c : ℕ) (took : ClientTook) (commands : List Command) → ClientTookSo (Untaken (fronts.Deliver number) cause) number c took commands → ⊥
-not_untaken {cause} number c took commands so = let e = so.1 in absurd cc
+not_untaken {cause} number c took commands so = let e = so.2 in absurd cc
 
 -- what a delivery answers as applied
 abbrev Applies : Profile → List Tag → ℕ → Ends → Ends → ℕ → AppliedSo → History → Type 0
@@ -376,22 +398,23 @@ quiet_applies client gathered.Runt apply applied is e = is
 quiet_applies client gathered.Connectionless apply applied is e = is
 
 -- of a message that came whole
-applied_whole : (profile : Profile) (whole : Whole) (number c : ℕ) (applied : AppliedSo) (tag : Tag) (place : Place) (next : ClientState) → length whole.ends.clients ≡ places → tag.client < places
+applied_whole : (profile : Profile) (whole : Whole) (number c : ℕ) (applied : AppliedSo) (tag : Tag) (place : Place) (recording : Option RecordingState) (next : ClientState) → length whole.ends.clients ≡ places → tag.client < places
     → slice_get whole.sent (number - 1) ≡ Some tag → tag.direction ≡ ToClient
     → place_at whole.ends tag.client ≡ Some place → place.client.gathering.taken < tag.number
     → next.state ≡ (apply_message place.client.state tag.number (named whole.histories tag).message).state
     → Outcome profile whole tag.client tag.number place.client (named whole.histories tag)
     → (tag.client ≡ c) × (Applied (apply_message place.client.state tag.number (named whole.histories tag).message).answer ≡ Applied applied)
-    → Applies profile whole.sent number whole.ends (with_client whole.ends tag.client place next) c applied (history_at whole.histories c)
-applied_whole profile whole number c applied tag place next count lt at way found newer state_is out alike =
+    → Applies profile whole.sent number whole.ends (with_client whole.ends tag.client (record place { recording = recording }) next) c applied (history_at whole.histories c)
+applied_whole profile whole number c applied tag place recording next count lt at way found newer state_is out alike =
     let history = history_at whole.histories tag.client in
     let answer = (apply_message place.client.state tag.number (named whole.histories tag).message).answer in
     let same : answer ≡ applied = one_applied answer applied alike.1 in
     let is : applied_now profile history tag.number (named whole.histories tag) ≡ applied = sym out.answer ∙ same in
     let numbered : tag.number ≡ applied.number = ap (λ (a : AppliedSo). a.number) is in
-    let there : client_at (with_client whole.ends tag.client place next) tag.client ≡ Some next =
-    ap (λ (o : Option Place). option_map client_of o) (set_there whole.ends.clients tag.client None (Some (record place { client = next })) count lt) in
-    subst (λ (k : ℕ). Applies profile whole.sent number whole.ends (with_client whole.ends tag.client place next) k applied (history_at whole.histories k)) alike.0 (
+    let then : Place = record place { recording = recording } in
+    let there : client_at (with_client whole.ends tag.client then next) tag.client ≡ Some next =
+    ap (λ (o : Option Place). option_map client_of o) (set_there whole.ends.clients tag.client None (Some (record then { client = next })) count lt) in
+    subst (λ (k : ℕ). Applies profile whole.sent number whole.ends (with_client whole.ends tag.client then next) k applied (history_at whole.histories k)) alike.0 (
       (place.client, ap (λ (o : Option Place). option_map client_of o) found, omega (arith, numbered, newer)),
       sym is ∙ ap (λ (k : ℕ). applied_now profile history k (built_at history.built k)) numbered,
       (tag, at, way, refl, numbered),
@@ -427,15 +450,16 @@ applied_arrive profile whole number c applied tag (Some place) cited sent_at way
     let had = has_client profile whole tag.client place is.0 at holds in
     elim does.either [
       | inl waits ↦ λ commands so. absurd (quiet_applies now took.answer apply applied waits.quiet
-          (same_delivered number tag.client c given.answer (Applied applied) given.client.state so.0 given.heard commands so.1).1)
+          (same_delivered number tag.client c given.answer (Applied applied) given.client.state so.0 given.heard commands _ so.1 so.2).1)
       | inr came ↦
           let out = outcome profile whole tag.client tag.number had.0 place built cited had.1 came.newer (names profile whole tag had.0 place cited is had.1) in
           let taken = take_answer now (CameWhole tag.number (length (built_bytes profile built))) apply in
           let does_so : given ≡ taken = ap (λ (a : Gathered). take_answer now a apply) came.answer in
           λ commands so.
-          let alike = same_delivered number tag.client c given.answer (Applied applied) given.client.state so.0 given.heard commands so.1 in
-          subst (λ (t : Taken). Applies profile whole.sent number whole.ends (with_client whole.ends tag.client place t.client) c applied (history_at whole.histories c)) (sym does_so)
-          (applied_whole profile whole number c applied tag place taken.client holds.facts.clients is.0 sent_at way at came.newer refl out
+          let alike = same_delivered number tag.client c given.answer (Applied applied) given.client.state so.0 given.heard commands _ so.1 so.2 in
+          let recording = (note_taken place.recording client given).recording in
+          subst (λ (t : Taken). Applies profile whole.sent number whole.ends (with_client whole.ends tag.client (record place { recording = recording }) t.client) c applied (history_at whole.histories c)) (sym does_so)
+          (applied_whole profile whole number c applied tag place recording taken.client holds.facts.clients is.0 sent_at way at came.newer refl out
           (alike.0, ap (λ (t : Taken). t.answer) (sym does_so) ∙ alike.1))
     ]
 

@@ -39,7 +39,7 @@ use Rattle.q3_schedules.specs.Schedules.{heard_of, ArePieces, deliveries, InOrde
 use Rattle.q3_world.proofs.Clients.{at_number}
 use Rattle.q3_world.proofs.Holding.{Holds, has_client}
 use Rattle.q3_world.proofs.Arriving.{quiet_client, Named, names, is_sent, is_for}
-use Rattle.q3_schedules.proofs.EverySchedule.{outcome, delivered_so, answers_tag, applied_now}
+use Rattle.q3_schedules.proofs.EverySchedule.{outcome, delivered_so, ends_by, answers_tag, applied_now}
 use Rattle.q3_world.proofs.ByTags.{cited_of}
 use Rattle.q3_world.proofs.OnePlace.{set_there}
 use Rattle.q3_gamestate.specs.Values.{Gamestate}
@@ -223,14 +223,16 @@ last_answer profile whole c n last tag place applied heard own at way is_c found
     let took = tagged client.gathering tag.number (built_bytes profile built) tag.index in
     let read : ℕ → Result Reception Illegible = λ k. Ok (receive_message client k built.message (plain_bytes profile built)) in
     let behind = apply_message client.state n built.message in
-    let given : (step profile whole (events.Deliver last)).answer ≡ delivered_so last tag.client (take_answer (record client { gathering = took.gathering }) (CameWhole n (length (built_bytes profile built))) read) =
+    let ended = ends_by place (take_answer (record client { gathering = took.gathering }) took.answer read) in
+    let given : (step profile whole (events.Deliver last)).answer ≡ delivered_so last tag.client (take_answer (record client { gathering = took.gathering }) (CameWhole n (length (built_bytes profile built))) read) ended =
     answers_tag profile whole last tag place own at way found
-    ∙ ap (λ (a : Gathered). delivered_so last tag.client (take_answer (record client { gathering = took.gathering }) a read)) came in (
+    ∙ ap (λ (a : Gathered). delivered_so last tag.client (take_answer (record client { gathering = took.gathering }) a read) ended) came in (
       behind.state,
+      ended,
       given
-          ∙ (ap (λ (a : AppliedSo). Took (fronts.Deliver last) (ByClient tag.client (Applied a) behind.state behind.heard)) is
-          ∙ (ap (λ (l : List Command). Took (fronts.Deliver last) (ByClient tag.client (Applied applied) behind.state l)) heard_is
-          ∙ ap (λ (k : ℕ). Took (fronts.Deliver last) (ByClient k (Applied applied) behind.state heard)) is_c)),
+          ∙ (ap (λ (a : AppliedSo). Took (fronts.Deliver last) (ByClient tag.client (Applied a) behind.state behind.heard ended)) is
+          ∙ (ap (λ (l : List Command). Took (fronts.Deliver last) (ByClient tag.client (Applied applied) behind.state l ended)) heard_is
+          ∙ ap (λ (k : ℕ). Took (fronts.Deliver last) (ByClient k (Applied applied) behind.state heard ended)) is_c)),
     )
 
 pub in_order_is_accepted : BytesFollowTags → Layers → PiecesAreTagged → InOrderIsAccepted

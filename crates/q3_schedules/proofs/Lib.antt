@@ -1,5 +1,4 @@
 pub mod Stood
-pub mod Asking
 pub mod EverySchedule
 pub mod GamesLaws
 pub mod Usual
