@@ -1,13 +1,19 @@
 -- What calls do to files, as acts.
-use Rattle.std.proofs.Common.{◌≡◌, ℕ, ◌<◌, ◌≤◌, List, [], ◌∷◌, ◌++◌, length, Option, Some, None, Result, Ok, Err, refl, sym, ap, subst, ◌∙◌, inl, inr, arith}
+use Rattle.std.proofs.Common.{true, false, ◌≡◌, ℕ, ◌<◌, ◌≤◌, List, [], ◌∷◌, ◌++◌, length, Option, Some, None, Result, Ok, Err, refl, sym, ap, subst, ◌∙◌, inl, inr, arith}
 use Rattle.std.specs.Prelude.{slice_index_or, get_or}
+use Rattle.std.specs.Option.{is_some}
 use Rattle.std.proofs.lemmas.List.{get_or_append_left}
+use Rattle.std.proofs.Math.Seq.{get_or-append_seam}
 use Rattle.q3_io.specs.declared.sink.Failed.{Failed}
 use Rattle.q3_io.specs.Acts.{FileAct, Makes, Extends, ActsOn, after_act, after_acts}
 use Rattle.q3_io.specs.Faults.{HasCause}
 use Rattle.q3_io.specs.Told.{Told, Appends, Create, Creates, IsGiven, name_of, after_named}
 use Rattle.q3_demo.specs.Recorder.{AppendsBytes, done}
-use Rattle.q3_ends.specs.Recording.{StandsForName, WritesFiles, extends}
+use Rattle.std.proofs.lemmas.Bool.{cond_both}
+use Rattle.q3_client.specs.Client.{ClientState}
+use Rattle.q3_report.specs.declared.answer.RecordRefused.{RecordRefused}
+use Rattle.q3_report.specs.declared.answer.RecordRefused.TheVariants.{NoGame}
+use Rattle.q3_ends.specs.Recording.{RecordingState, RecordingStep, StandsForName, WritesFiles, extends, begin_at, begin_new}
 
 -- nothing is done
 none_done : (told : Option Told) → ActsOn told told [] (Ok tt)
@@ -18,11 +24,11 @@ none_done (Some told) = refl
 pub writes_nothing : (told : Option Told) (given faults write_faults : ℕ) → WritesFiles told told given given faults faults write_faults write_faults [] (Ok tt)
 writes_nothing told given faults write_faults = record {
   acts_on = none_done told;
-  some = λ failed. absurd failed;
+  some = λ failed none. absurd cc;
   numbers = omega arith;
   reads = refl;
   names = λ file name lt is. is;
-  cause = record { later = omega arith; failed = λ failed. absurd failed; ok = λ ok. refl };
+  cause = record { later = omega arith; failed = λ failed. absurd cc; ok = λ ok. refl };
 }
 
 -- ---- a file is made
@@ -54,7 +60,7 @@ pub makes_file : (told now : Option Told) (given behind faults faults' write_fau
     → WritesFiles told now given behind faults faults' write_faults write_faults' (Makes name ∷ []) (done result)
 makes_file told now given behind faults faults' write_faults write_faults' name result numbered gives is cause reads = record {
   acts_on = made_on told now name result is;
-  some = λ failed e. absurd cc;
+  some = λ failed none. absurd cc;
   numbers = no_less result gives;
   reads = reads;
   names = stands_made told now given name result numbered is;
@@ -66,9 +72,9 @@ makes_file told now given behind faults faults' write_faults write_faults' name 
     no_less (Err e) is = omega (arith, is)
 
 -- and its number stands for it
-pub stands_for_made : (told now : Option Told) (file : ℕ) (name : List ℕ) → ((t : Told) → now ≡ Some t → name_of t file ≡ name) → StandsForName now file name
-stands_for_made told None file name is = tt
-stands_for_made told (Some now) file name is = is now refl
+pub made_stands : (told now : Option Told) (file : ℕ) (name : List ℕ) → Creates told now name (Ok file) → StandsForName now file name
+made_stands None now file name is = rw is tt
+made_stands (Some told) now file name is = rw (is.1, is.0) (get_or-append_seam told.numbers name [] [])
 
 -- ---- bytes are put behind those of a file
 
@@ -109,7 +115,7 @@ pub extends_file : (told now : Option Told) (given behind faults faults' write_f
     → WritesFiles told now given behind faults faults' write_faults write_faults' (extends name bytes) result
 extends_file told now given behind faults faults' write_faults write_faults' file name bytes (Ok x) stands is same cause reads = record {
   acts_on = extended_on told now file name bytes (Ok x) stands is;
-  some = λ failed. absurd failed;
+  some = λ failed none. absurd cc;
   numbers = omega (arith, same);
   reads = reads;
   names = λ other n lt stands. stands_extended told now file bytes (Ok x) is other n stands;
@@ -123,3 +129,30 @@ extends_file told now given behind faults faults' write_faults write_faults' fil
   names = λ other n lt stands. stands_extended told now file bytes (Err e) is other n stands;
   cause = cause;
 }
+
+-- a cause is one of the answer without its value
+pub done_cause : {A : Type 0} (before now : ℕ) (result : Result A Failed) → HasCause before now result → HasCause before now (done result)
+done_cause before now (Ok x) cause = record { later = cause.later; failed = cause.failed; ok = cause.ok }
+done_cause before now (Err e) cause = record { later = cause.later; failed = cause.failed; ok = cause.ok }
+
+-- ---- nothing is done to files
+
+pub no_game : (client : ClientState) (recording : Option RecordingState) (fresh : RecordingState) → client.state.has_game ≡ false → (begin_at client recording fresh).acts ≡ []
+no_game client recording fresh is = rw is refl
+
+pub goes_already : (client : ClientState) (going fresh : RecordingState) → (begin_at client (Some going) fresh).acts ≡ []
+goes_already client going fresh =
+    cond_both client.state.has_game (begin_new (Some going) fresh) (record { recording = Some going; answer = Err NoGame; acts = [] })
+    (λ (step : RecordingStep RecordRefused). step.acts ≡ []) (λ has. refl) (λ none. refl)
+
+pub goes_some : (client : ClientState) (recording : Option RecordingState) (fresh : RecordingState) → is_some recording ≡ true → (begin_at client recording fresh).acts ≡ []
+goes_some client None fresh is = absurd cc
+goes_some client (Some going) fresh is = goes_already client going fresh
+
+pub none_goes : (recording : Option RecordingState) → is_some recording ≡ false → recording ≡ None
+none_goes None is = refl
+none_goes (Some going) is = absurd cc
+
+pub begins_new : (client : ClientState) (recording : Option RecordingState) (fresh : RecordingState) → client.state.has_game ≡ true → recording ≡ None
+    → (begin_at client recording fresh).acts ≡ Makes fresh.name ∷ []
+begins_new client recording fresh has none = rw (none, has) refl

@@ -64,20 +64,24 @@ stop_at (Some going) = record { recording = None; answer = Ok tt; acts = extends
 
 -- ---- it goes on
 
--- what a recording has of what a client took: a message that was applied is noted, with the gamestate that the client had before it
-abbrev pub noting_of : Stage → ClientState → Taken → ClientTook → Noting
-noting_of stage client taken (Applied applied) =
-    note_at stage (composed (game_bits client.state (issued_of client.issued))) taken.client.state applied taken.client.message
-noting_of stage client taken other = record { stage = stage; bytes = [] }
-
--- a recording that is so far, if it goes on
-abbrev pub going_on : List ℕ → Stage → Option RecordingState
-going_on name Ended = None
-going_on name stage = Some (record { name = name; stage = stage })
-
 abbrev pub is_ended : Stage → Bool
 is_ended Ended = true
 is_ended other = false
+
+-- how far a recording is behind what its client took, whether it ended by that, and what it adds to its file
+pub record RecorderTook : Type 0 where
+  pub stage : Stage
+  pub ended : Bool
+  pub bytes : List ℕ
+
+abbrev pub noted_by : Noting → RecorderTook
+noted_by noting = record { stage = noting.stage; ended = is_ended noting.stage; bytes = noting.bytes }
+
+-- a message that was applied is noted, with the gamestate that the client had before it
+abbrev pub recorder_took : Stage → ClientState → Taken → ClientTook → RecorderTook
+recorder_took stage client taken (Applied applied) =
+    noted_by (note_at stage (composed (game_bits client.state (issued_of client.issued))) taken.client.state applied taken.client.message)
+recorder_took stage client taken other = record { stage = stage; ended = false; bytes = [] }
 
 -- the recording behind what its client took, whether it ended by that, and what becomes of its file
 pub record RecordingTook : Type 0 where
@@ -85,12 +89,15 @@ pub record RecordingTook : Type 0 where
   pub ended : Bool
   pub acts : List FileAct
 
-abbrev pub noted_in : List ℕ → Noting → RecordingTook
-noted_in name noting = record { recording = going_on name noting.stage; ended = is_ended noting.stage; acts = extends name noting.bytes }
-
 abbrev pub note_taken : Option RecordingState → ClientState → Taken → RecordingTook
 note_taken None client taken = record { recording = None; ended = false; acts = [] }
-note_taken (Some going) client taken = noted_in going.name (noting_of going.stage client taken taken.answer)
+note_taken (Some going) client taken =
+    let took = recorder_took going.stage client taken taken.answer in
+    record {
+      recording = if took.ended then None else Some (record going { stage = took.stage });
+      ended = took.ended;
+      acts = extends going.name took.bytes;
+    }
 
 -- ---- files
 

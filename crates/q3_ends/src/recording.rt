@@ -11,7 +11,7 @@ ghost use Rattle.q3_client.specs.Client.{take_at};
 ghost use Rattle.q3_client.specs.Sending.{emit_at};
 ghost use Rattle.q3_demo.specs.Recorder.{done, AppendsBytes};
 ghost use Rattle.q3_demo.specs.Recording.{composed, game_bits, note_at, closing};
-ghost use Rattle.q3_ends.specs.Recording.{new_recording, waits_in, asking, begin_at, stop_at, noting_of, note_taken, is_ended, extends, HasFile, WritesFiles};
+ghost use Rattle.q3_ends.specs.Recording.{new_recording, waits_in, asking, begin_at, stop_at, recorder_took, note_taken, extends, HasFile, WritesFiles};
 
 use q3_bits::NoMemory;
 use q3_chan::Datagram;
@@ -64,12 +64,12 @@ impl Recording {
         ensures client { client.new ≡ (take_at client.old bytes.now).client }
         ensures log { log.new.commands ≡ (take_at client.old bytes.now).heard }
         ensures name { self.new.name ≡ self.old.name }
-        ensures stage { OnOk result (self.new.stage ≡ (noting_of self.old.stage client.old (take_at client.old bytes.now) (take_at client.old bytes.now).answer).stage) }
+        ensures stage { OnOk result (self.new.stage ≡ (recorder_took self.old.stage client.old (take_at client.old bytes.now) (take_at client.old bytes.now).answer).stage) }
         ensures answer { IfOk result (λ took. took ≡ ((take_at client.old bytes.now).answer,
-            is_ended (noting_of self.old.stage client.old (take_at client.old bytes.now) (take_at client.old bytes.now).answer).stage)) }
+            (recorder_took self.old.stage client.old (take_at client.old bytes.now) (take_at client.old bytes.now).answer).ended)) }
         ensures files { WritesFiles (F.told files.old) (F.told files.new) (F.given files.old) (F.given files.new) (F.faults files.old) (F.faults files.new)
             (F.write_faults files.old) (F.write_faults files.new)
-            (extends self.old.name (noting_of self.old.stage client.old (take_at client.old bytes.now) (take_at client.old bytes.now).answer).bytes) (done result) }
+            (extends self.old.name (recorder_took self.old.stage client.old (take_at client.old bytes.now) (take_at client.old bytes.now).answer).bytes) (done result) }
         ensures file { HasFile (F.told files.new) (F.given files.new) number (Some self.new) }
     {
         record_taken(&mut self.recorder, client, bytes, log, number, files)
@@ -109,11 +109,11 @@ fn record_taken<F: Files>(
     requires given { number < F.given files.old }
     ensures client { client.new ≡ (take_at client.old bytes.now).client }
     ensures log { log.new.commands ≡ (take_at client.old bytes.now).heard }
-    ensures stage { OnOk result (recorder.new.stage ≡ (noting_of recorder.old.stage client.old (take_at client.old bytes.now) (take_at client.old bytes.now).answer).stage) }
+    ensures stage { OnOk result (recorder.new.stage ≡ (recorder_took recorder.old.stage client.old (take_at client.old bytes.now) (take_at client.old bytes.now).answer).stage) }
     ensures answer { IfOk result (λ took. took ≡ ((take_at client.old bytes.now).answer,
-        is_ended (noting_of recorder.old.stage client.old (take_at client.old bytes.now) (take_at client.old bytes.now).answer).stage)) }
+        (recorder_took recorder.old.stage client.old (take_at client.old bytes.now) (take_at client.old bytes.now).answer).ended)) }
     ensures adds { AppendsBytes (F.told files.old) (F.told files.new) number
-        (noting_of recorder.old.stage client.old (take_at client.old bytes.now) (take_at client.old bytes.now).answer).bytes (done result) }
+        (recorder_took recorder.old.stage client.old (take_at client.old bytes.now) (take_at client.old bytes.now).answer).bytes (done result) }
     ensures given { F.given files.new ≡ F.given files.old }
     ensures cause { HasCause (F.write_faults files.old) (F.write_faults files.new) result }
     ensures others { F.faults files.new ≡ F.faults files.old }
