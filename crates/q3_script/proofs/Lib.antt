@@ -11,6 +11,7 @@ pub mod Unquoted
 pub mod Coming
 pub mod Rising
 pub mod Steps
+pub mod TurnLines
 pub mod NumberWords
 pub mod SpelledLines
 pub mod SpelledMoves

@@ -1,5 +1,5 @@
 -- Names of files against the test of a word.
-use Rattle.std.proofs.Common.{◌≡◌, ℕ, ◌<◌, ◌≤◌, Bool, true, false, leb, List, [], ◌∷◌, length, Option, Some, None, inl, inr, refl, sym, subst, arith}
+use Rattle.std.proofs.Common.{◌≡◌, ℕ, ◌≤◌, true, leb, List, [], ◌∷◌, length, Some, None, inl, inr, refl, subst}
 use Rattle.std.specs.Prelude.{All, ◌&&◌}
 use Rattle.std.specs.List.{list_all}
 use Rattle.std.proofs.lemmas.Bool.{cases_Bool, and_parts, leb-true, le-leb}
@@ -45,11 +45,11 @@ pub name_at-is : (word name : List ℕ) → name_at word ≡ Some name → WasNa
 unfolding name_at
 name_at-is word name e =
     elim (cases_Bool (is_name word)) [
-      | inl yes ↦
-          let same : Some word ≡ Some name = rw yes at e in
+      | inl passed ↦
+          let same : Some word ≡ Some name = rw passed at e in
           let same : word ≡ name = cc in
-          record { same = same; is = subst IsName same (named word yes) }
-      | inr no ↦ let none : None ≡ Some name = rw no at e in absurd cc
+          record { same = same; is = subst IsName same (named word passed) }
+      | inr failed ↦ let none : None ≡ Some name = rw failed at e in absurd cc
     ]
 
 -- and a name is read as itself

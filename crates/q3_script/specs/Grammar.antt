@@ -3,7 +3,6 @@ use Rattle.std.specs.Prelude.{◌≡◌, ℕ, ◌^◌, ◌<◌, ◌≤◌, Bool,
 use Rattle.std.specs.List.{AllByRecursion}
 use Rattle.q3_fields.specs.Places.{Change, AreRising}
 use Rattle.q3_fields.specs.States.{AreWords}
-use Rattle.q3_clmsg.specs.declared.moves.Move.{Move as MoveValue}
 use Rattle.q3_clmsg.specs.Moves.{IsHeldMove}
 use Rattle.q3_clmsg.specs.Report.{move_words}
 use Rattle.q3_entity.specs.declared.state.EntityState.{EntityState}

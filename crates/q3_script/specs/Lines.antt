@@ -277,6 +277,18 @@ Table = List (List ℕ × (List (List ℕ) → Result Event LineCause))
 abbrev pub line_in : Table → List ℕ → List (List ℕ) → Result Event LineCause
 line_in lines word others = option_map_or (λ line. line others) (lookup (λ text. bytes_eq text word) lines) (Err causes.Word)
 
+-- the lines of a replay by which its ends do something, and are looked at
+abbrev pub turn_lines : Table
+turn_lines =
+    (codes "serve", serve_line)
+    ∷ (codes "send", send_line)
+    ∷ (codes "deliver", deliver_line)
+    ∷ (codes "record", record_line)
+    ∷ (codes "stop", stop_line)
+    ∷ (codes "show", show_line)
+    ∷ (codes "bytes", bytes_line)
+    ∷ []
+
 -- the lines of a replay
 abbrev pub replay_lines : Table
 replay_lines =
@@ -295,14 +307,7 @@ replay_lines =
     ∷ (codes "say", say_line)
     ∷ (codes "type", type_line)
     ∷ (codes "move", move_line)
-    ∷ (codes "serve", serve_line)
-    ∷ (codes "send", send_line)
-    ∷ (codes "deliver", deliver_line)
-    ∷ (codes "record", record_line)
-    ∷ (codes "stop", stop_line)
-    ∷ (codes "show", show_line)
-    ∷ (codes "bytes", bytes_line)
-    ∷ []
+    ∷ turn_lines
 
 -- the lines of a server's script
 abbrev pub serve_lines : Table

@@ -2,7 +2,7 @@
 
 ghost use Rattle.std.specs.Prelude.{◌≡◌, ◌∷◌, IfOk};
 ghost use Rattle.q3_script.specs.Words.{words_of, words_left};
-ghost use Rattle.q3_script.specs.Lines.{client_line, port_line, map_line, entity_line, remove_line, baseline_line, player_line, area_line, time_line, config_at, config_line, command_at, say_line, type_line, serve_line, send_line, deliver_line, record_line, stop_line, show_line, bytes_line, hand_at, toclient_line, toserver_line, at_line, end_line, line_at};
+ghost use Rattle.q3_script.specs.Lines.{client_line, port_line, map_line, entity_line, remove_line, baseline_line, player_line, area_line, time_line, config_at, config_line, command_at, say_line, type_line, serve_line, send_line, deliver_line, record_line, stop_line, show_line, bytes_line, hand_at, toclient_line, toserver_line, at_line, end_line, turn_lines, line_in, line_at};
 
 use crate::address::read_address;
 use crate::area::{area_bytes, handed_bytes};
@@ -335,6 +335,29 @@ fn end(left: &[u8]) -> Result<Event, LineCause>
     })
 }
 
+/// The event of a replay's line by which an end does something or is looked at. `Err` is want of memory.
+fn turn_line(alloc: Global, word: &[u8], left: &[u8]) -> Result<Result<Event, LineCause>, NoMemory>
+    ensures { IfOk result (λ answer. answer ≡ line_in turn_lines word.now (words_left left.now)) }
+{
+    if is(word, b"serve") {
+        Ok(serve(left))
+    } else if is(word, b"send") {
+        Ok(send(left))
+    } else if is(word, b"deliver") {
+        Ok(deliver(left))
+    } else if is(word, b"record") {
+        record_to(alloc, left)
+    } else if is(word, b"stop") {
+        Ok(stop(left))
+    } else if is(word, b"show") {
+        Ok(show(left))
+    } else if is(word, b"bytes") {
+        Ok(bytes(left))
+    } else {
+        Ok(Err(LineCause::Word))
+    }
+}
+
 /// The event of a replay's line that begins with this word. `Err` is want of memory.
 #[tactic(auto, unfolding(crate::specs::Lines::line_at))]
 fn replay_line(
@@ -374,22 +397,8 @@ fn replay_line(
         Ok(type_text(left))
     } else if is(word, b"move") {
         Ok(move_line(left))
-    } else if is(word, b"serve") {
-        Ok(serve(left))
-    } else if is(word, b"send") {
-        Ok(send(left))
-    } else if is(word, b"deliver") {
-        Ok(deliver(left))
-    } else if is(word, b"record") {
-        record_to(alloc, left)
-    } else if is(word, b"stop") {
-        Ok(stop(left))
-    } else if is(word, b"show") {
-        Ok(show(left))
-    } else if is(word, b"bytes") {
-        Ok(bytes(left))
     } else {
-        Ok(Err(LineCause::Word))
+        turn_line(alloc, word, left)
     }
 }
 

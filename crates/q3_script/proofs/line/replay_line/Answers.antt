@@ -1,0 +1,26 @@
+use Rattle.std.proofs.Common.{◌≡◌, Result, IfOk, sym, subst, ◌∙◌}
+use Rattle.q3_script.specs.declared.event.Event.{Event}
+use Rattle.q3_script.specs.declared.cause.LineCause.{LineCause}
+use Rattle.q3_script.specs.Words.{words_left}
+use Rattle.q3_script.proofs.TurnLines.{others_turn}
+use Rattle.q3_script.proofs.line.replay_line.Goals as goal
+
+pub returns-else-is-15 : goal.returns-else-is-15
+returns-else-is-15 c =
+    let same = others_turn c.args.word.now (words_left c.args.left.now)
+    (sym c.is.ensures ∙ c.if-is.false)
+    (sym c.is-else-is.ensures ∙ c.if-is-2.false)
+    (sym c.is-else-is-2.ensures ∙ c.if-is-3.false)
+    (sym c.is-else-is-3.ensures ∙ c.if-is-4.false)
+    (sym c.is-else-is-4.ensures ∙ c.if-is-5.false)
+    (sym c.is-else-is-5.ensures ∙ c.if-is-6.false)
+    (sym c.is-else-is-6.ensures ∙ c.if-is-7.false)
+    (sym c.is-else-is-7.ensures ∙ c.if-is-8.false)
+    (sym c.is-else-is-8.ensures ∙ c.if-is-9.false)
+    (sym c.is-else-is-9.ensures ∙ c.if-is-10.false)
+    (sym c.is-else-is-10.ensures ∙ c.if-is-11.false)
+    (sym c.is-else-is-11.ensures ∙ c.if-is-12.false)
+    (sym c.is-else-is-12.ensures ∙ c.if-is-13.false)
+    (sym c.is-else-is-13.ensures ∙ c.if-is-14.false)
+    (sym c.is-else-is-14.ensures ∙ c.if-is-15.false) in
+    subst (λ (x : Result Event LineCause). IfOk c.turn_line.result (λ answer. answer ≡ x)) same c.turn_line.ensures
