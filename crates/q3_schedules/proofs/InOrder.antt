@@ -304,7 +304,7 @@ in_order_is_accepted law below pieces profile all c n last numbers client is are
     let by_bytes = ap (λ (s : KeptStep). s.answer) (delivers_same profile (kept_then profile all') now last cited stands) in
     let by_tag = last_answer profile now c n last tag reached.place (applied_now profile (history_at start.histories c) n (built_at built n)) (heard_of (history_at start.histories c) n) holds.own at tail.2 tail.3
     tag_found answer (out.answer ∙ applied_is) heard_is in
-    (by_tag.0, by_bytes ∙ by_tag.1)
+    (by_tag.0, by_tag.1, by_bytes ∙ by_tag.2)
   where
     ap_lt : {x y z : ℕ} → x ≡ y → x < z → y < z
     ap_lt {x = x} {y = y} {z = z} same lt = omega (arith, same, lt)
