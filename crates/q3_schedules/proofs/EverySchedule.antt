@@ -34,7 +34,7 @@ use Rattle.q3_report.specs.declared.answer.Front.TheVariants as fronts
 use Rattle.q3_report.specs.declared.answer.TakeRefused.{TakeRefused}
 use Rattle.q3_report.specs.Answers.{Answered, ByClient, ByServer, Shown, Took, Untaken, snapshot_in}
 use Rattle.q3_ends.specs.AtClient.{newest_of, showing_newest, taken_by_client}
-use Rattle.q3_ends.specs.Recording.{RecordingState, asking, note_taken, waits_in}
+use Rattle.q3_ends.specs.Recording.{RecordingState, note_taken, waits_in}
 use Rattle.q3_world.specs.declared.made.Direction.{Direction}
 use Rattle.q3_world.specs.declared.made.Direction.TheVariants.{ToClient, ToServer}
 use Rattle.q3_world.specs.Layers.{Layers}
